@@ -1,0 +1,133 @@
+ghost use Rattle.std.specs.Prelude.{◌≡◌};
+
+use std::marker::Model;
+
+/// How many activity queues each device has: `sync`, `noval`, and the queues of the async values
+/// `0` to `5`, in this order.
+pub const QUEUES: u8 = 8;
+
+/// A device, by its number from 0.
+#[derive(Clone, Copy, Debug, PartialEq, Eq)]
+pub struct DeviceId(u8);
+
+impl Model for DeviceId {
+    ghost use Rattle.std.specs.Prelude.{ℕ};
+
+    ghost Value = { ℕ };
+
+    ghost view = { λ d. d.0 };
+
+    ghost inverse = { λ n. record { 0 = n } };
+}
+
+impl DeviceId {
+    pub fn new(number: u8) -> Self
+        ensures { result ≡ number }
+    {
+        DeviceId(number)
+    }
+
+    pub fn number(self) -> u8
+        ensures { result ≡ self }
+    {
+        self.0
+    }
+}
+
+/// An activity queue of a device, by its place: 0 is `sync`, 1 is `noval`, 2 to 7 are those of the
+/// async values `0` to `5` (OpenACC API 3.0, 2.16, Asynchronous Behavior).
+#[derive(Clone, Copy, Debug, PartialEq, Eq)]
+pub struct QueueId(u8);
+
+impl Model for QueueId {
+    ghost use Rattle.std.specs.Prelude.{ℕ};
+
+    ghost Value = { ℕ };
+
+    ghost view = { λ q. q.0 };
+
+    ghost inverse = { λ n. record { 0 = n } };
+}
+
+impl QueueId {
+    /// The queue of a directive without an `async` clause.
+    pub const SYNC: QueueId = QueueId(0);
+
+    /// The queue of `acc_async_noval`.
+    pub const NOVAL: QueueId = QueueId(1);
+
+    pub fn new(number: u8) -> Self
+        ensures { result ≡ number }
+    {
+        QueueId(number)
+    }
+
+    pub fn number(self) -> u8
+        ensures { result ≡ self }
+    {
+        self.0
+    }
+}
+
+/// A host thread, by its number from 0.
+#[derive(Clone, Copy, Debug, PartialEq, Eq)]
+pub struct HostId(u8);
+
+impl Model for HostId {
+    ghost use Rattle.std.specs.Prelude.{ℕ};
+
+    ghost Value = { ℕ };
+
+    ghost view = { λ h. h.0 };
+
+    ghost inverse = { λ n. record { 0 = n } };
+}
+
+impl HostId {
+    pub fn new(number: u8) -> Self
+        ensures { result ≡ number }
+    {
+        HostId(number)
+    }
+
+    pub fn number(self) -> u8
+        ensures { result ≡ self }
+    {
+        self.0
+    }
+}
+
+/// A block of device memory: the n-th data lifetime opened on a device has block n, from 1.
+#[derive(Clone, Copy, Debug, PartialEq, Eq)]
+pub struct BlockId(u64);
+
+impl Model for BlockId {
+    ghost use Rattle.std.specs.Prelude.{ℕ};
+
+    ghost Value = { ℕ };
+
+    ghost view = { λ b. b.0 };
+
+    ghost inverse = { λ n. record { 0 = n } };
+}
+
+impl BlockId {
+    pub fn new(number: u64) -> Self
+        ensures { result ≡ number }
+    {
+        BlockId(number)
+    }
+
+    pub fn number(self) -> u64
+        ensures { result ≡ self }
+    {
+        self.0
+    }
+}
+
+/// A queue of a device.
+#[derive(Clone, Copy, Debug, PartialEq, Eq)]
+pub struct QueueAt {
+    pub device: DeviceId,
+    pub queue: QueueId,
+}
