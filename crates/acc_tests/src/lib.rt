@@ -1,8 +1,12 @@
-//! Tests of what no contract says: that calls succeed where memory is ample, what is printed, and what
-//! a caller of several crates sees.
+//! Tests of what no contract says: that calls succeed where memory is ample, what they answer where it
+//! is refused, and what is printed.
 #![tactic(auto)]
 
 #[cfg(test)]
 mod config;
 #[cfg(test)]
 mod fault;
+#[cfg(test)]
+mod refusal;
+#[cfg(test)]
+mod table;

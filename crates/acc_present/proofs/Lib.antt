@@ -1,0 +1,6 @@
+mod Counting
+mod Entering
+mod OneMore
+mod Opening
+mod Orders
+mod Searching

@@ -1,0 +1,70 @@
+-- The data lifetimes of one device, found in the list of all its marks, the latest first
+-- (OpenACC API 3.0, 2.6.3, Data Regions and Data Lifetimes, and 2.6.7, Reference Counters).
+use Rattle.std.specs.Prelude.{ℕ, ◌+◌, ◌-◌, Bool, true, false, ◌&&◌, ◌||◌, ◌==◌, not, nat_lt, List, [], ◌∷◌, ◌++◌, length, take, filter, if◌then◌else◌}
+use Rattle.std.specs.List.{list_any}
+use Rattle.acc_base.specs.declared.range.Range.{Range}
+use Rattle.acc_base.specs.Ranges.{range_contains}
+use Rattle.acc_present.specs.Marks.{Change, Dynamic_up, Dynamic_down, Mark, structured_count, dynamic_count}
+
+-- A lifetime has its range, its block (the n-th lifetime opened has block n, from 1), and how many marks came
+-- before the one that opened it.
+pub record Lifetime : Type 0 where
+  pub range : Range
+  pub block : ℕ
+  pub since : ℕ
+
+-- the marks from its opening mark on
+abbrev pub marks_since : List Mark → Lifetime → List Mark
+marks_since marks l = take (length marks - l.since) marks
+
+abbrev pub structured_of : List Mark → Lifetime → ℕ
+structured_of marks l = structured_count l.range (marks_since marks l)
+
+abbrev pub dynamic_of : List Mark → Lifetime → ℕ
+dynamic_of marks l = dynamic_count l.range (marks_since marks l)
+
+-- one of the range's counters is positive after these marks
+abbrev pub is_counted : Range → List Mark → Bool
+is_counted r marks = nat_lt 0 (structured_count r marks + dynamic_count r marks)
+
+-- and was so after each of them
+abbrev pub stays_counted : Range → List Mark → Bool
+stays_counted r [] = true
+stays_counted r (m ∷ before) = is_counted r (m ∷ before) && stays_counted r before
+
+-- A lifetime ends at the first mark after which both its counters are zero.
+abbrev pub lives : List Mark → Lifetime → Bool
+lives marks l = stays_counted l.range (marks_since marks l)
+
+-- an increment opens a lifetime where the range is absent
+abbrev pub can_open : Change → Bool
+can_open Dynamic_up = true
+can_open Dynamic_down = false
+
+-- ranges are listed by array, then by lower bound
+unfoldable pub is_before : Range → Range → Bool
+is_before a b = nat_lt a.array b.array || ((a.array == b.array) && nat_lt a.lo b.lo)
+
+abbrev pub placed_in : Lifetime → List Lifetime → List Lifetime
+placed_in l others =
+    filter (λ k. not (is_before l.range k.range)) others ++ l ∷ filter (λ k. is_before l.range k.range) others
+
+-- no lifetime that lives contains the range of the mark
+abbrev pub opens : Mark → List Mark → List Lifetime → Bool
+opens m before earlier =
+    can_open m.change && not (list_any (λ l. lives before l && range_contains l.range m.range) earlier)
+
+abbrev pub opened_by : Mark → List Mark → List Lifetime → List Lifetime
+opened_by m before earlier =
+    if opens m before earlier
+    then placed_in (record { range = m.range; block = length earlier + 1; since = length before }) earlier
+    else earlier
+
+-- All lifetimes that were ever opened.
+unfoldable pub opened : List Mark → List Lifetime
+opened [] = []
+opened (m ∷ before) = opened_by m before (opened before)
+
+-- Present means live.
+unfoldable pub live : List Mark → List Lifetime
+live marks = filter (lives marks) (opened marks)

@@ -1,0 +1,98 @@
+-- What one mark makes of a device's presences, and what a table answers.
+use Rattle.std.specs.Prelude.{◌≡◌, ℕ, ◌+◌, Bool, true, false, ◌&&◌, ◌||◌, ◌==◌, not, nat_lt, nat_le, List, [], ◌∷◌, ◌++◌, length, filter, map, Option, Some, None, if◌then◌else◌}
+use Rattle.std.specs.List.{list_all}
+use Rattle.acc_base.specs.declared.range.Range.{Range}
+use Rattle.acc_present.specs.declared.table.Counter.{Counter}
+use Rattle.acc_present.specs.declared.table.Counter.TheVariants.{Dynamic}
+use Rattle.acc_present.specs.declared.table.Entry.{Entry}
+use Rattle.acc_present.specs.declared.table.Look.{Look}
+use Rattle.acc_present.specs.declared.table.Look.TheVariants as look
+use Rattle.acc_present.specs.declared.table.Left.{Left}
+use Rattle.acc_present.specs.declared.table.Left.TheVariants as left
+use Rattle.acc_present.specs.Marks.{Change, Dynamic_up, Dynamic_down, Mark, dynamic_after, inside}
+use Rattle.acc_present.specs.Lifetimes.{is_before, can_open, opened}
+use Rattle.acc_present.specs.Presences.{Presence, presences, holder, is_present, is_partly_present}
+
+-- what an entry to a range changes, and what an exit from it does
+abbrev pub entry_change : Counter → Change
+entry_change Dynamic = Dynamic_up
+
+abbrev pub exit_change : Counter → Change
+exit_change Dynamic = Dynamic_down
+
+abbrev pub entry_mark : Counter → Range → Mark
+entry_mark counter r = record { change = entry_change counter; range = r }
+
+abbrev pub exit_mark : Counter → Range → Mark
+exit_mark counter r = record { change = exit_change counter; range = r }
+
+abbrev pub counter_of : Counter → Presence → ℕ
+counter_of Dynamic p = p.d
+
+abbrev pub stepped : Change → Presence → Presence
+stepped change p = record p { d = dynamic_after change p.d }
+
+-- a mark counts where it is inside
+abbrev pub presence_after : Mark → Presence → Presence
+presence_after m p = if inside p.range m then stepped m.change p else p
+
+abbrev pub has_count : Presence → Bool
+has_count p = nat_lt 0 (p.s + p.d)
+
+-- what stays after a mark: presences without a count have ended
+abbrev pub kept_after : Mark → List Presence → List Presence
+kept_after m ps = filter has_count (map (presence_after m) ps)
+
+abbrev pub presence_placed_in : Presence → List Presence → List Presence
+presence_placed_in p ps =
+    filter (λ k. not (is_before p.range k.range)) ps ++ p ∷ filter (λ k. is_before p.range k.range) ps
+
+abbrev pub opening : Mark → ℕ → Presence
+opening m block = stepped m.change (record { range = m.range; block = block; s = 0; d = 0 })
+
+-- What one mark makes of the presences, where a lifetime that it opens gets this block.
+abbrev pub presences_after : Mark → ℕ → List Presence → List Presence
+presences_after m block ps =
+    if can_open m.change && not (is_present ps m.range)
+    then presence_placed_in (opening m block) (kept_after m ps)
+    else kept_after m ps
+
+-- The presences after one more mark, found in the list of all marks, are what that mark makes of those before.
+abbrev pub OneMoreMark : Type 0
+OneMoreMark = (m : Mark) (before : List Mark)
+    → presences (m ∷ before) ≡ presences_after m (length (opened before) + 1) (presences before)
+
+-- the first range ends before the second begins
+abbrev pub ends_before : Range → Range → Bool
+ends_before a b = nat_lt a.array b.array || ((a.array == b.array) && nat_le (a.lo + a.len) b.lo)
+
+abbrev pub ends_before_all : Range → List Presence → Bool
+ends_before_all r ps = list_all (λ p. ends_before r p.range) ps
+
+-- Presences are in order and apart, and each has a cell and a count.
+abbrev pub is_table : List Presence → Bool
+is_table [] = true
+is_table (p ∷ ps) = (nat_lt 0 p.range.len && has_count p) && (ends_before_all p.range ps && is_table ps)
+
+-- what an entry of a table shows
+abbrev pub entry_presence : Entry → Presence
+entry_presence e = record { range = e.range; block = e.block; s = e.s; d = e.d }
+
+-- What a table shows: what is present, the device's capacity in cells, and how many entries it has memory for.
+pub record Present : Type 0 where
+  pub presences : List Presence
+  pub capacity : ℕ
+  pub room : ℕ
+
+-- the answer of a look at a range
+abbrev pub IsLook : List Presence → Range → Look → Type 0
+IsLook ps r look.Absent = (holder ps r ≡ None) × (is_partly_present ps r ≡ false)
+IsLook ps r look.Partly = is_partly_present ps r ≡ true
+IsLook ps r (look.Present e) = (holder ps r ≡ Some (entry_presence e)) × (is_partly_present ps r ≡ false)
+
+-- the answer of an exit from what the range was part of: at zero it takes no action
+abbrev pub left_of : Option Presence → Counter → Left
+left_of None counter = left.Nothing
+left_of (Some p) counter =
+    if counter_of counter p == 0 then left.Nothing
+    else (if has_count (stepped (exit_change counter) p) then left.Counted else left.Ended p.block)

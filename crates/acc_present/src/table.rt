@@ -1,0 +1,318 @@
+ghost use Rattle.std.specs.Prelude.{◌≡◌, ◌+◌, ◌^◌, ◌<◌, ◌≤◌, [], length, map, slice_get, true, false, None, if◌then◌else◌, IfSome, IfErr, OnOk, OnErr, IfNone};
+ghost use Rattle.std.specs.Option.{option_map, option_map_or, option_and_then};
+ghost use Rattle.std.specs.List.{position_or_len};
+ghost use Rattle.acc_base.specs.Ranges.{range_overlaps};
+ghost use Rattle.acc_present.specs.Lifetimes.{is_before};
+ghost use Rattle.acc_present.specs.Presences.{holder, is_present, is_partly_present, overlaps_any, used_cells};
+ghost use Rattle.acc_present.specs.Tables.{entry_mark, exit_mark, entry_change, exit_change, counter_of, stepped, opening, presences_after, kept_after, has_count, entry_presence, is_table, IsLook, left_of};
+
+use acc_base::{BlockId, Fault, Range};
+use std::alloc::Global;
+use std::marker::Model;
+
+/// A reference counter of present data (OpenACC API 3.0, 2.6.7).
+#[derive(Clone, Copy, Debug, PartialEq, Eq)]
+pub enum Counter {
+    /// Counts `enter data` and `exit data`, and the routines that act as these.
+    Dynamic,
+}
+
+/// A present range, its block, its structured and its dynamic counter.
+#[derive(Clone, Copy, Debug, PartialEq, Eq)]
+pub struct Entry {
+    pub range: Range,
+    pub block: BlockId,
+    pub s: u64,
+    pub d: u64,
+}
+
+/// What a table has of a range.
+#[derive(Clone, Copy, Debug, PartialEq, Eq)]
+pub enum Look {
+    Absent,
+    /// It overlaps a present range, and none contains it.
+    Partly,
+    /// This entry contains it.
+    Present(Entry),
+}
+
+/// What became of a range that was entered.
+#[derive(Clone, Copy, Debug, PartialEq, Eq)]
+pub enum Entered {
+    Counted,
+    /// It was absent: its data lifetime begins.
+    Opened,
+}
+
+/// What became of a range that was left.
+#[derive(Clone, Copy, Debug, PartialEq, Eq)]
+pub enum Left {
+    /// It was absent, or the counter was zero.
+    Nothing,
+    Counted,
+    /// Both counters are zero: the data lifetime with this block ends.
+    Ended(BlockId),
+}
+
+/// The present ranges of one device, by array, then by lower bound.
+#[derive(Drop)]
+pub struct Table {
+    entries: Vec<Entry>,
+    capacity: u64,
+    used: u64,
+}
+
+impl Model for Table {
+    ghost use Rattle.std.specs.Prelude.{map, vec_capacity};
+    ghost use Rattle.acc_present.specs.Tables.{Present, entry_presence};
+    ghost use Rattle.acc_present.specs.Invariants.{IsTable};
+
+    ghost Value = { Present };
+
+    ghost view = { λ t. record { presences = map entry_presence t.entries.items; capacity = t.capacity; room = vec_capacity t.entries } };
+
+    ghost invariant = { λ t. IsTable (map entry_presence t.entries.items) t.used t.capacity };
+}
+
+impl Table {
+    ghost use Rattle.acc_base.specs.declared.fault.Fault.TheVariants.{Memory};
+
+    /// A table without entries, for a device with this capacity in cells. Takes no memory.
+    pub fn new(alloc: Global, capacity: u64) -> Self
+        ensures presences { result.presences ≡ [] }
+        ensures capacity { result.capacity ≡ capacity }
+    {
+        Table {
+            entries: Vec::new(alloc),
+            capacity,
+            used: 0,
+        }
+    }
+
+    /// Makes room for this many new entries.
+    ///
+    /// # Errors
+    ///
+    /// `Memory` where the room was missing and memory is refused; then nothing changes.
+    pub fn spare(&mut self, count: usize) -> Result<(), Fault>
+        ensures presences { self.new.presences ≡ self.old.presences }
+        ensures capacity { self.new.capacity ≡ self.old.capacity }
+        ensures room { self.old.room ≤ self.new.room }
+        ensures ok { OnOk result (length self.new.presences + count ≤ self.new.room) }
+        ensures fault { IfErr result (λ fault. fault ≡ Memory) }
+        ensures missing { OnErr result (self.old.room < length self.old.presences + count) }
+    {
+        self.entries.reserve(count)?;
+        Ok(())
+    }
+
+    /// What the table has of a range.
+    pub fn look(&self, range: Range) -> Look
+        requires { 0 < range.len }
+        ensures { IsLook self.now.presences range result }
+    {
+        match place_of(self.entries.as_slice(), range) {
+            Some(i) => Look::Present(self.entries[i]),
+            None => {
+                if overlaps_any(self.entries.as_slice(), range) {
+                    Look::Partly
+                } else {
+                    Look::Absent
+                }
+            }
+        }
+    }
+
+    /// Counts an entry to a range, and opens its data lifetime where it was absent.
+    pub fn enter(&mut self, range: Range, counter: Counter, block: BlockId) -> Entered
+        requires cells { 0 < range.len }
+        requires whole { is_partly_present self.old.presences range ≡ false }
+        requires low { IfSome (holder self.old.presences range) (λ p. counter_of counter p < 2 ^ 63) }
+        requires capacity { holder self.old.presences range ≡ None → used_cells self.old.presences + range.len ≤ self.old.capacity }
+        requires room { holder self.old.presences range ≡ None → length self.old.presences < self.old.room }
+        ensures presences { self.new.presences ≡ presences_after (entry_mark counter range) block self.old.presences }
+        ensures capacity { self.new.capacity ≡ self.old.capacity }
+        ensures room { self.new.room ≡ self.old.room }
+        ensures result { result ≡ (if is_present self.old.presences range then Entered.Counted else Entered.Opened) }
+    {
+        match place_of(self.entries.as_slice(), range) {
+            Some(i) => {
+                self.entries[i] = counted_up(&self.entries[i], counter);
+                Entered::Counted
+            }
+            None => {
+                let at = place_behind(self.entries.as_slice(), range);
+                let _ = self.entries.insert(at, new_entry(range, counter, block));
+                self.used += u64::from(range.len);
+                Entered::Opened
+            }
+        }
+    }
+
+    /// Counts an exit from a range, and ends its data lifetime where both counters are zero.
+    pub fn leave(&mut self, range: Range, counter: Counter) -> Left
+        requires { 0 < range.len }
+        ensures presences { self.new.presences ≡ kept_after (exit_mark counter range) self.old.presences }
+        ensures capacity { self.new.capacity ≡ self.old.capacity }
+        ensures room { self.new.room ≡ self.old.room }
+        ensures result { result ≡ left_of (holder self.old.presences range) counter }
+    {
+        match place_of(self.entries.as_slice(), range) {
+            None => Left::Nothing,
+            Some(i) => {
+                let entry = self.entries[i];
+                if count_of(&entry, counter) == 0 {
+                    return Left::Nothing;
+                }
+                let after = counted_down(&entry, counter);
+                if has_count(&after) {
+                    self.entries[i] = after;
+                    return Left::Counted;
+                }
+                self.entries.remove(i);
+                self.used -= u64::from(entry.range.len);
+                Left::Ended(entry.block)
+            }
+        }
+    }
+
+    /// The structured and the dynamic counter of a present range.
+    pub fn counters(&self, range: Range) -> Option<(u64, u64)>
+        requires { 0 < range.len }
+        ensures { result ≡ option_map (λ p. (p.s, p.d)) (holder self.now.presences range) }
+    {
+        match place_of(self.entries.as_slice(), range) {
+            Some(i) => {
+                let entry = self.entries[i];
+                Some((entry.s, entry.d))
+            }
+            None => None,
+        }
+    }
+
+    /// How many cells the present ranges have together.
+    pub fn used_cells(&self) -> u64
+        ensures { result ≡ used_cells self.now.presences }
+    {
+        self.used
+    }
+
+    /// The entry at this place, by array, then by lower bound.
+    pub fn nth(&self, place: usize) -> Option<&Entry>
+        ensures { option_map (λ e. entry_presence e.now) result ≡ slice_get self.now.presences place }
+    {
+        self.entries.get(place)
+    }
+
+    /// Every table's presences are in order and apart, each with a cell and a count, and fit the capacity.
+    pub fn keeps_order(&self)
+        ensures table { is_table self.now.presences ≡ true }
+        ensures capacity { used_cells self.now.presences ≤ self.now.capacity }
+    {
+        let _ = &self.used;
+    }
+}
+
+// The first range begins before the second.
+#[tactic(auto, unfolding(crate::specs::Lifetimes::is_before))]
+fn stands_before(first: Range, second: Range) -> bool
+    ensures { result ≡ is_before first second }
+{
+    first.array < second.array || (first.array == second.array && first.lo < second.lo)
+}
+
+// The place of the first entry that begins behind the range's first cell, or the end.
+fn place_behind(entries: &[Entry], range: Range) -> usize
+    requires { is_table (map entry_presence entries.now) ≡ true }
+    ensures place { result ≡ position_or_len (λ p. is_before range p.range) (map entry_presence entries.now) }
+    ensures within { result ≤ length entries.now }
+{
+    entries.partition_point(|e| !stands_before(range, e.range))
+}
+
+// The place of the entry that contains the range: no other than the last that does not begin behind it.
+fn place_of(entries: &[Entry], range: Range) -> Option<usize>
+    requires table { is_table (map entry_presence entries.now) ≡ true }
+    requires cells { 0 < range.len }
+    ensures held { holder (map entry_presence entries.now) range ≡ option_and_then (slice_get (map entry_presence entries.now)) result }
+    ensures within { IfSome result (λ i. i < length entries.now) }
+{
+    let behind = place_behind(entries, range);
+    if behind == 0 {
+        return None;
+    }
+    if entries[behind - 1].range.contains(&range) {
+        Some(behind - 1)
+    } else {
+        None
+    }
+}
+
+// Only the entries on both sides of the range's first cell can overlap it first.
+fn overlaps_any(entries: &[Entry], range: Range) -> bool
+    requires { is_table (map entry_presence entries.now) ≡ true }
+    ensures { result ≡ overlaps_any (map entry_presence entries.now) range }
+{
+    let behind = place_behind(entries, range);
+    if behind == 0 {
+        return overlaps_at(entries, 0, range);
+    }
+    overlaps_at(entries, behind - 1, range) || overlaps_at(entries, behind, range)
+}
+
+// Whether there is an entry at this place, and it overlaps the range.
+fn overlaps_at(entries: &[Entry], at: usize, range: Range) -> bool
+    ensures { result ≡ option_map_or (λ p. range_overlaps p.range range) (slice_get (map entry_presence entries.now) at) false }
+{
+    at < entries.len() && entries[at].range.overlaps(&range)
+}
+
+// An entry for a range that was absent, counted once.
+fn new_entry(range: Range, counter: Counter, block: BlockId) -> Entry
+    ensures { entry_presence result ≡ opening (entry_mark counter range) block }
+{
+    let uncounted = Entry {
+        range,
+        block,
+        s: 0,
+        d: 0,
+    };
+    counted_up(&uncounted, counter)
+}
+
+fn counted_up(entry: &Entry, counter: Counter) -> Entry
+    requires { counter_of counter (entry_presence entry.now) < 2 ^ 63 }
+    ensures { entry_presence result ≡ stepped (entry_change counter) (entry_presence entry.now) }
+{
+    match counter {
+        Counter::Dynamic => Entry {
+            d: entry.d + 1,
+            ..*entry
+        },
+    }
+}
+
+fn counted_down(entry: &Entry, counter: Counter) -> Entry
+    ensures { entry_presence result ≡ stepped (exit_change counter) (entry_presence entry.now) }
+{
+    match counter {
+        Counter::Dynamic => Entry {
+            d: entry.d.saturating_sub(1),
+            ..*entry
+        },
+    }
+}
+
+fn count_of(entry: &Entry, counter: Counter) -> u64
+    ensures { result ≡ counter_of counter (entry_presence entry.now) }
+{
+    match counter {
+        Counter::Dynamic => entry.d,
+    }
+}
+
+fn has_count(entry: &Entry) -> bool
+    ensures { result ≡ has_count (entry_presence entry.now) }
+{
+    entry.s > 0 || entry.d > 0
+}

@@ -1,0 +1,116 @@
+ghost use Rattle.std.specs.Prelude.{◌≡◌, ◌<◌};
+
+use crate::refusal::Hoard;
+use acc_base::{BlockId, Fault, Range};
+use acc_present::{Counter, Entered, Left, Look, Table};
+use std::process::Abort;
+use std::test::Fail;
+
+const CELLS: u64 = 1_000_000;
+
+fn cells(lo: u32, len: u32) -> Range
+    ensures array { result.array ≡ 0 }
+    ensures lo { result.lo ≡ lo }
+    ensures len { result.len ≡ len }
+{
+    Range { array: 0, lo, len }
+}
+
+// Enters a range, with all that has to be tested before.
+fn entered_into(rt: &impl Abort, table: &mut Table, range: Range, block: u64) -> Entered
+    requires capacity { table.old.capacity ≡ CELLS }
+    requires cells { 0 < range.len }
+    ensures { table.new.capacity ≡ CELLS }
+{
+    assert!(rt; table.spare(1).is_ok());
+    let used = table.used_cells();
+    assert!(rt; used < CELLS - 1_000);
+    assert!(rt; range.len < 1_000);
+    match table.look(range) {
+        Look::Absent => table.enter(range, Counter::Dynamic, BlockId::new(block)),
+        Look::Present(entry) => {
+            assert!(rt; entry.d < 1_000);
+            table.enter(range, Counter::Dynamic, BlockId::new(block))
+        }
+        Look::Partly => {
+            assert!(rt; false, "partly present");
+            Entered::Counted
+        }
+    }
+}
+
+#[test]
+fn a_range_is_entered_and_left(rt: HostRuntime) -> Result<(), Fail> {
+    let mut table = Table::new(rt.alloc(), CELLS);
+    assert_eq!(rt; table.look(cells(2, 4)), Look::Absent);
+    assert_eq!(rt;
+        entered_into(&rt, &mut table, cells(2, 4), 7),
+        Entered::Opened
+    );
+    assert_eq!(rt;
+        entered_into(&rt, &mut table, cells(3, 2), 8),
+        Entered::Counted
+    );
+    assert_eq!(rt; table.look(cells(0, 3)), Look::Partly);
+    assert_eq!(rt; table.look(cells(5, 9)), Look::Partly);
+    assert_eq!(rt; table.look(cells(6, 1)), Look::Absent);
+    assert_eq!(rt; table.counters(cells(2, 1)), Some((0, 2)));
+    assert_eq!(rt; table.counters(cells(1, 1)), None);
+    assert_eq!(rt; table.used_cells(), 4);
+    let opened = table.nth(0).copied();
+    assert_eq!(rt;
+        opened.map(|e| (e.range, e.block, e.s, e.d)),
+        Some((cells(2, 4), BlockId::new(7), 0, 2))
+    );
+    assert_eq!(rt; table.nth(1).copied(), None);
+    assert_eq!(rt; table.leave(cells(6, 1), Counter::Dynamic), Left::Nothing);
+    assert_eq!(rt; table.leave(cells(5, 1), Counter::Dynamic), Left::Counted);
+    assert_eq!(rt;
+        table.leave(cells(2, 4), Counter::Dynamic),
+        Left::Ended(BlockId::new(7))
+    );
+    assert_eq!(rt; table.leave(cells(2, 4), Counter::Dynamic), Left::Nothing);
+    assert_eq!(rt; table.used_cells(), 0);
+    Ok(())
+}
+
+#[test]
+fn a_thousand_ranges_in_mixed_order(rt: HostRuntime) {
+    let mut table = Table::new(rt.alloc(), CELLS);
+    for i in 0..1_000u32 {
+        let place = i * 387 % 1_000;
+        assert_eq!(rt;
+            entered_into(&rt, &mut table, cells(place * 3, 2), u64::from(i)),
+            Entered::Opened
+        );
+    }
+    assert_eq!(rt; table.used_cells(), 2_000);
+    for place in 0..1_000u32 {
+        assert_eq!(rt;
+            table.nth(place as usize).map(|e| e.range),
+            Some(cells(place * 3, 2))
+        );
+    }
+    for i in 0..1_000u32 {
+        let place = i * 619 % 1_000;
+        match table.leave(cells(place * 3 + 1, 1), Counter::Dynamic) {
+            Left::Ended(_) => {}
+            other => assert!(rt; false, "{other:?} at {place}"),
+        }
+    }
+    assert_eq!(rt; table.used_cells(), 0);
+    assert_eq!(rt; table.nth(0).copied(), None);
+}
+
+#[test]
+fn room_is_refused_with_memory(rt: HostRuntime) -> Result<(), Fail> {
+    let mut table = Table::new(rt.alloc(), CELLS);
+    let mut hoard = Hoard::new(rt.alloc())?;
+    hoard.fill(rt.alloc());
+    let refused = table.spare(1_000);
+    hoard.free();
+    assert_eq!(rt; refused.err(), Some(Fault::Memory));
+    assert_eq!(rt; table.used_cells(), 0);
+    assert!(rt; table.spare(1_000).is_ok());
+    Ok(())
+}
