@@ -1,3 +1,3 @@
 mod Limits
 mod Rows
-mod Sets
+pub mod Sets

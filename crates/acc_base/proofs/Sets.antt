@@ -6,7 +6,7 @@ use Rattle.std.proofs.lemmas.Bool.Decides.{nat_tests}
 use Rattle.acc_base.specs.declared.range.Range.{Range}
 use Rattle.acc_base.specs.Ranges.{Includes, Meets, range_contains, range_overlaps}
 
-includes_from_test : (a b : Range) → range_contains a b ≡ true → Includes a b
+pub includes_from_test : (a b : Range) → range_contains a b ≡ true → Includes a b
 unfolding range_contains
 includes_from_test a b h = λ array cell p. let p0 = p.0 in let p1 = p.1 in let p2 = p.2 in
     (grind (arith, nat_tests, h, p0, p1, p2), grind (arith, nat_tests, h, p0, p1, p2), grind (arith, nat_tests, h, p0, p1, p2))

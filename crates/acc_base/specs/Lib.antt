@@ -1,3 +1,4 @@
 pub mod Configurations
 pub mod Faults
+pub mod Queues
 pub mod Ranges

@@ -11,11 +11,11 @@ use Rattle.acc_present.specs.Tables.{presence_after, stepped, has_count, kept_af
 use Rattle.acc_present.proofs.Orders.{table_parts, ends_before_at}
 
 -- of two ranges that are apart, only one contains a range with a cell
-apart_first : (a b r : Range) → ends_before a b ≡ true → 0 < r.len → range_contains a r ≡ true → range_contains b r ≡ false
+pub apart_first : (a b r : Range) → ends_before a b ≡ true → 0 < r.len → range_contains a r ≡ true → range_contains b r ≡ false
 unfolding range_contains
 apart_first a b r h cells has = grind (arith, nat_tests, h, has, cells)
 
-apart_second : (a b r : Range) → ends_before a b ≡ true → 0 < r.len → range_contains b r ≡ true → range_contains a r ≡ false
+pub apart_second : (a b r : Range) → ends_before a b ≡ true → 0 < r.len → range_contains b r ≡ true → range_contains a r ≡ false
 unfolding range_contains
 apart_second a b r h cells has = grind (arith, nat_tests, h, has, cells)
 
@@ -28,7 +28,7 @@ map_behind a m (p ∷ ps) h cells has =
     let ih = map_behind a m ps parts.1 cells has in
     rw (miss, ih) refl
 
-map_at : (m : Mark) (ps : List Presence) (i : ℕ) (x : Presence) → is_table ps ≡ true → i < length ps → x ≡ get_or ps i x → 0 < m.range.len → range_contains x.range m.range ≡ true
+pub map_at : (m : Mark) (ps : List Presence) (i : ℕ) (x : Presence) → is_table ps ≡ true → i < length ps → x ≡ get_or ps i x → 0 < m.range.len → range_contains x.range m.range ≡ true
     → map (presence_after m) ps ≡ set ps i (presence_after m x)
 map_at m [] i x t low is cells has = absurd (omega arith)
 map_at m (p ∷ ps) zero x t low is cells has =

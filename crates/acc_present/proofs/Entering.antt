@@ -28,10 +28,10 @@ shown es = map entry_presence es
 opens : (counter : Counter) → can_open (entry_change counter) ≡ true
 opens Dynamic = refl
 
-has_count-entered : (counter : Counter) (p : Presence) → has_count (stepped (entry_change counter) p) ≡ true
+pub has_count-entered : (counter : Counter) (p : Presence) → has_count (stepped (entry_change counter) p) ≡ true
 has_count-entered Dynamic p = lt-ltb 0 (p.s + (p.d + 1)) (omega arith)
 
-stepped-zero : (counter : Counter) (p : Presence) → counter_of counter p ≡ 0 → stepped (exit_change counter) p ≡ p
+pub stepped-zero : (counter : Counter) (p : Presence) → counter_of counter p ≡ 0 → stepped (exit_change counter) p ≡ p
 stepped-zero Dynamic p none = let e : p.d - 1 ≡ p.d = omega arith in ap (λ n. record p { d = n }) e
 
 -- ## The entry that a range is part of
@@ -59,7 +59,7 @@ pub record Becomes (ps want : List Presence) (used capacity : ℕ) : Type 0 wher
   pub same : ps ≡ want
   pub table : IsTable ps used capacity
 
-stays : (m : Mark) (block : ℕ) (ps : List Presence) → is_present ps m.range ≡ true → kept_after m ps ≡ presences_after m block ps
+pub stays : (m : Mark) (block : ℕ) (ps : List Presence) → is_present ps m.range ≡ true → kept_after m ps ≡ presences_after m block ps
 stays m block ps held = rw held (elim (cases_Bool (can_open m.change)) [ inl can ↦ rw can refl | inr cannot ↦ rw cannot refl ])
 
 -- a presence is replaced by another of the same range
@@ -107,7 +107,7 @@ map-remove [] (suc i) = refl
 map-remove (x ∷ es) zero = refl
 map-remove (x ∷ es) (suc i) = ap (λ r. entry_presence x ∷ r) (map-remove es i)
 
-no_overlap : (ps : List Presence) (r : Range) → is_present ps r ≡ false → is_partly_present ps r ≡ false → overlaps_any ps r ≡ false
+pub no_overlap : (ps : List Presence) (r : Range) → is_present ps r ≡ false → is_partly_present ps r ≡ false → overlaps_any ps r ≡ false
 no_overlap ps r absent whole = last (overlaps_any ps r) (rw absent at whole)
   where
     last : (b : Bool) → (b && true) ≡ false → b ≡ false

@@ -1,6 +1,9 @@
-mod Counting
-mod Entering
-mod OneMore
-mod Opening
-mod Orders
-mod Searching
+pub mod Counting
+pub mod Ending
+pub mod Entering
+pub mod Marking
+pub mod OneMore
+pub mod Opening
+pub mod Orders
+pub mod Searching
+pub mod Undoing

@@ -12,7 +12,7 @@ use Rattle.acc_present.specs.Lifetimes.{Lifetime, opens, placed_in, is_before, c
 use Rattle.acc_present.specs.Presences.{presence_of, presences, is_present}
 use Rattle.acc_present.specs.Tables.{presence_after, has_count, kept_after, presences_after, opening}
 
-marks_since-more : (m : Mark) (ms : List Mark) (l : Lifetime) → l.since ≤ length ms → marks_since (m ∷ ms) l ≡ m ∷ marks_since ms l
+pub marks_since-more : (m : Mark) (ms : List Mark) (l : Lifetime) → l.since ≤ length ms → marks_since (m ∷ ms) l ≡ m ∷ marks_since ms l
 marks_since-more m ms l h =
     let e : suc (length ms) - l.since ≡ suc (length ms - l.since) = omega arith in
     ap (λ k. take k (m ∷ ms)) e
@@ -34,7 +34,7 @@ presence_of-more m ms l h =
     rw (marks_since-more m ms l h, structured_count-more l.range m (marks_since ms l))
     (elim (cases_Bool (inside l.range m)) [ inl is_inside ↦ rw is_inside refl | inr is_outside ↦ rw is_outside refl ])
 
-lives-more : (m : Mark) (ms : List Mark) (l : Lifetime) → l.since ≤ length ms → lives (m ∷ ms) l ≡ (has_count (presence_after m (presence_of ms l)) && lives ms l)
+pub lives-more : (m : Mark) (ms : List Mark) (l : Lifetime) → l.since ≤ length ms → lives (m ∷ ms) l ≡ (has_count (presence_after m (presence_of ms l)) && lives ms l)
 lives-more m ms l h =
     rw (← presence_of-more m ms l h) (rw (marks_since-more m ms l h) refl)
 
@@ -83,7 +83,7 @@ Each-placed_in P l ls h k =
 abbrev new_lifetime : Mark → List Mark → Lifetime
 new_lifetime m ms = record { range = m.range; block = length (opened ms) + 1; since = length ms }
 
-opened_since : (ms : List Mark) → Each (IsSince (length ms)) (opened ms)
+pub opened_since : (ms : List Mark) → Each (IsSince (length ms)) (opened ms)
 unfolding opened
 opened_since [] = tt
 opened_since (m ∷ before) =
@@ -128,7 +128,7 @@ any-map-filter E L f f' c [] h = refl
 any-map-filter E L f f' c (x ∷ xs) h =
     let ih = any-map-filter E L f f' c xs h in let e = h x in grind (arith, ih, e)
 
-range_contains_itself : (r : Range) → range_contains r r ≡ true
+pub range_contains_itself : (r : Range) → range_contains r r ≡ true
 unfolding range_contains
 range_contains_itself r =
     let a = eq-eqb r.array r.array refl in let b = le-leb r.lo r.lo (omega arith) in let c = le-leb (r.lo + r.len) (r.lo + r.len) (omega arith) in grind (arith, a, b, c)
@@ -137,7 +137,7 @@ pub is_present-presences : (ms : List Mark) (r : Range) → is_present (presence
 unfolding presences live
 is_present-presences ms r = any-map-filter (presence_of ms) (lives ms) (λ l. l.range) (λ p. p.range) (λ q. range_contains q r) (opened ms) (λ l. refl)
 
-opens_with_one : (change : Change) → can_open change ≡ true → dynamic_after change 0 ≡ 1
+pub opens_with_one : (change : Change) → can_open change ≡ true → dynamic_after change 0 ≡ 1
 opens_with_one Dynamic_up can = refl
 opens_with_one Dynamic_down can = cc
 

@@ -31,7 +31,7 @@ all_behind p a (x ∷ xs) h k =
     let ih = all_behind p a xs h parts.1 in
     (rw b ih.0, rw b (ap (λ r. x ∷ r) ih.1))
 
-inserted_is_placed : (p : Presence) (ps : List Presence) → is_table ps ≡ true → inserted p ps ≡ presence_placed_in p ps
+pub inserted_is_placed : (p : Presence) (ps : List Presence) → is_table ps ≡ true → inserted p ps ≡ presence_placed_in p ps
 inserted_is_placed p [] t = refl
 inserted_is_placed p (x ∷ xs) t =
     let parts = table_parts x xs t in

@@ -10,3 +10,5 @@ mod fault;
 mod refusal;
 #[cfg(test)]
 mod table;
+#[cfg(test)]
+mod world;

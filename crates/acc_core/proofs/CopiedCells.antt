@@ -1,0 +1,100 @@
+-- Each copy that a history of accepted directives places has a cell.
+use Rattle.std.proofs.Common.{◌≡◌, ℕ, ◌<◌, Bool, true, false, List, [], ◌∷◌, ◌++◌, drop, map, refl, Some, None, Option}
+use Rattle.std.specs.Prelude.{All, not, nat_lt, nat_le, slice_index_or, if◌then◌else◌, slice_get, ◌+◌}
+use Rattle.std.specs.List.{flat_map}
+use Rattle.std.proofs.lemmas.Bool.{and_parts, ltb-true}
+use Rattle.std.proofs.lemmas.List.Elements.{All-nil, All-append, All-map}
+use Rattle.acc_base.specs.declared.fault.Fault.{Fault}
+use Rattle.acc_base.specs.declared.fault.Fault.TheVariants.{BadDevice, BadRange, TooMany}
+use Rattle.acc_base.specs.Configurations.{Configuration}
+use Rattle.acc_core.specs.declared.operation.Op.{Op}
+use Rattle.acc_core.specs.declared.operation.Op.TheVariants.{Make, CopyIn, CopyOut, Release}
+use Rattle.acc_core.specs.declared.directive.Directive.{Directive}
+use Rattle.acc_core.specs.declared.directive.PlaceEntry.{PlaceEntry}
+use Rattle.acc_core.specs.declared.directive.PlaceEntry.TheVariants as noted
+use Rattle.acc_core.specs.Accepting.{is_in_array, ends_within, first_fault, fault_where, fault_at, refusal, passes_a_limit}
+use Rattle.acc_core.specs.Batches.{copies_in, copies_out, opened_blocks, ended_blocks, makes, copy_ins, copy_outs, releases, grouped, batch_of, walk_at}
+use Rattle.acc_core.specs.Histories.{standing, after_walk}
+use Rattle.acc_core.specs.Labels.{ops_of}
+use Rattle.acc_core.specs.Legality.{AllAccepted}
+use Rattle.acc_core.specs.Standings.{Standing, Walk, walk_of, Visit, visits}
+use Rattle.acc_core.specs.Ties.{HasCells}
+use Rattle.acc_core.proofs.Queues.{ops_of-labelled}
+
+-- where no fault is found the first is none, and so are the others
+first_fault_none : (x : Option Fault) (xs : List (Option Fault)) → first_fault (x ∷ xs) ≡ None → (x ≡ None) × (first_fault xs ≡ None)
+first_fault_none None xs h = (refl, h)
+first_fault_none (Some f) xs h = cc
+
+-- a test whose failure would be a fault has passed where there is none
+no_fault_at : (b : Bool) (f : Fault) → fault_where (not b) f ≡ None → b ≡ true
+no_fault_at true f h = refl
+no_fault_at false f h = cc
+
+-- The range of each item that is visited has a cell.
+abbrev AllHaveCells : List Visit → Type 0
+AllHaveCells [] = Unit {0}
+AllHaveCells (v ∷ vs) = (0 < v.item.range.len) × AllHaveCells vs
+
+-- each of these ranges has a cell where no fault is found
+cells_of_visits : (config : Configuration) (vs : List Visit) → first_fault (map (fault_at config) vs) ≡ None → AllHaveCells vs
+cells_of_visits config [] h = tt
+cells_of_visits config (v ∷ vs) h =
+    let r = v.item.range in
+    let parts = first_fault_none (fault_at config v) (map (fault_at config) vs) h in
+    let here = first_fault_none (fault_where (not (is_in_array config.arrays r)) BadRange) _ parts.0 in
+    let inside = no_fault_at (is_in_array config.arrays r) BadRange here.0 in
+    let some = and_parts (nat_lt 0 r.len) (ends_within (slice_get config.arrays r.array) (r.lo + r.len)) inside in
+    (ltb-true 0 r.len some.0, cells_of_visits config vs parts.1)
+
+-- each range of an accepted directive has a cell
+cells_of_accepted : (config : Configuration) (st : Standing) (d : Directive) → refusal config st d ≡ None → AllHaveCells (visits (st.marks (walk_of d).device) (walk_of d).items)
+unfolding refusal
+cells_of_accepted config st d h =
+    let walk = walk_of d in
+    let items = map (fault_at config) (visits (st.marks walk.device) walk.items) in
+    let limits = fault_where (passes_a_limit st walk) TooMany in
+    let first = first_fault_none (fault_where (nat_le config.devices d.device) BadDevice) (limits ∷ items) h in
+    let second = first_fault_none limits items first.1 in
+    cells_of_visits config (visits (st.marks walk.device) walk.items) second.1
+
+-- operations of blocks have cells where each has
+of_blocks : (f : ℕ → Op) (bs : List ℕ) → ((b : ℕ) → HasCells (f b)) → All HasCells (map f bs)
+of_blocks f bs h = All-map HasCells f bs (λ k d low. h (slice_index_or bs k d))
+
+-- operations that are placed or not have cells where each has
+of_choice : (b : Bool) (ops : List Op) → All HasCells ops → All HasCells (if b then ops else [])
+of_choice true ops h = h
+of_choice false ops h = All-nil HasCells
+
+-- the operations of all visits have cells where those of each have
+of_visits : (f : Visit → List Op) (vs : List Visit) → ((v : Visit) → 0 < v.item.range.len → All HasCells (f v)) → AllHaveCells vs → All HasCells (flat_map f vs)
+of_visits f [] h some = All-nil HasCells
+of_visits f (v ∷ vs) h some = All-append HasCells (f v) (flat_map f vs) (h v some.0) (of_visits f vs h some.1)
+
+-- each copy of a batch has a cell where each of its items has
+cells_of_batch : (vs : List Visit) → AllHaveCells vs → All HasCells (grouped vs)
+cells_of_batch vs some =
+    let in_all = of_visits copy_ins vs (λ v low. of_choice (copies_in v.item.clause) (map (λ b. CopyIn b v.item.range) (opened_blocks v)) (of_blocks (λ b. CopyIn b v.item.range) (opened_blocks v) (λ b. low))) some in
+    let out_all = of_visits copy_outs vs (λ v low. of_choice (copies_out v.item.clause) (map (λ b. CopyOut b v.item.range) (ended_blocks v)) (of_blocks (λ b. CopyOut b v.item.range) (ended_blocks v) (λ b. low))) some in
+    let made_all = of_visits makes vs (λ v low. of_blocks (λ b. Make b v.item.range) (opened_blocks v) (λ b. tt)) some in
+    let over_all = of_visits releases vs (λ v low. of_blocks Release (ended_blocks v) (λ b. tt)) some in
+    All-append HasCells (flat_map makes vs) (flat_map copy_ins vs ++ (flat_map copy_outs vs ++ flat_map releases vs)) made_all
+    (All-append HasCells (flat_map copy_ins vs) (flat_map copy_outs vs ++ flat_map releases vs) in_all
+    (All-append HasCells (flat_map copy_outs vs) (flat_map releases vs) out_all over_all))
+
+-- one more walk places copies that have cells
+cells_more : (st : Standing) (host items_done : ℕ) (walk : Walk) → All HasCells (ops_of st.labels) → AllHaveCells (visits (st.marks walk.device) walk.items) → All HasCells (ops_of (after_walk st host items_done walk).labels)
+unfolding batch_of
+cells_more st host items_done walk h some =
+    let ops = grouped (visits (st.marks walk.device) walk.items) in
+    rw (ops_of-labelled (walk_at walk) host items_done st.labels ops)
+    (All-append HasCells (ops_of st.labels) ops h (cells_of_batch (visits (st.marks walk.device) walk.items) some))
+
+-- Each copy that accepted directives place has a cell.
+pub all_cells : (config : Configuration) (history : List PlaceEntry) (counts : List ℕ) → AllAccepted config history counts → All HasCells (ops_of (standing history counts).labels)
+unfolding standing
+all_cells config [] counts h = All-nil HasCells
+all_cells config (noted.Accepted host d ∷ before) counts h =
+    let st = standing before (drop 1 counts) in
+    cells_more st host (slice_index_or counts 0 0) (walk_of d) (all_cells config before (drop 1 counts) h.1) (cells_of_accepted config st d h.0)

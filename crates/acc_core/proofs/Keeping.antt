@@ -1,0 +1,107 @@
+-- The histories are legal at the start, and each step keeps them legal.
+use Rattle.std.proofs.Common.{◌≡◌, ℕ, List, [], ◌∷◌, ◌++◌, length, refl, ap, ◌∙◌, None}
+use Rattle.std.specs.Prelude.{IsTrue}
+use Rattle.acc_base.specs.declared.ids.QueueAt.{QueueAt}
+use Rattle.acc_core.specs.declared.directive.Directive.{Directive}
+use Rattle.acc_core.specs.declared.event.Event.{Event}
+use Rattle.acc_core.specs.declared.event.Reply.{Reply}
+use Rattle.acc_core.specs.declared.log.Shown.{Shown}
+use Rattle.acc_core.specs.declared.operation.Label.{Label}
+use Rattle.acc_core.specs.declared.operation.Op.{Op}
+use Rattle.acc_core.specs.declared.program.Host.{Host}
+use Rattle.acc_core.specs.Accepting.{refusal}
+use Rattle.acc_core.specs.Batches.{batch_of, next_number, walk_at}
+use Rattle.acc_core.specs.Histories.{standing}
+use Rattle.acc_core.specs.Labels.{on_queue, ops_of, batch_at}
+use Rattle.acc_core.specs.Legality.{Legal, ShowsTruth, IsStart}
+use Rattle.acc_core.specs.Logs.{performed, items_of, host_allows}
+use Rattle.acc_core.specs.Machine.{State, Step, Runs, standing_of, rest, with_item, with_op, accepting}
+use Rattle.acc_core.specs.Standings.{walk_of}
+use Rattle.acc_core.proofs.Changes.{Step-by, step_config}
+use Rattle.acc_core.proofs.Growing.{in_order-more, host_order-more}
+use Rattle.acc_core.proofs.Performing.{next_of_all, in_order_performed, next_uses_live}
+use Rattle.acc_core.proofs.Queues.{added, labelled_is}
+
+-- the histories are legal before the first event
+pub legal_start : (w : State) → IsStart w → Legal w
+legal_start w s = record {
+  accepted = rw s.history tt;
+  prefix = λ at. (let all = ops_of (on_queue at (standing_of w).labels) in (all, ap (λ r. r ++ all) (ap (performed at) s.work)));
+  host_order = rw s.work tt;
+  live_blocks = rw s.work tt;
+}
+
+-- other hosts leave them legal
+pub legal_hosts : (w : State) (hosts : List Host) → Legal w → Legal (record w { hosts = hosts })
+legal_hosts w hosts l = record { accepted = l.accepted; prefix = l.prefix; host_order = l.host_order; live_blocks = l.live_blocks }
+
+-- so do other counts of batches that were taken
+pub legal_taken : (w : State) (taken : List ℕ) → Legal w → Legal (record w { taken = taken })
+legal_taken w taken l = record { accepted = l.accepted; prefix = l.prefix; host_order = l.host_order; live_blocks = l.live_blocks }
+
+-- so does one more item that shows what is so
+pub legal_item : (w : State) (h : ℕ) (s : Shown) → Legal w → ShowsTruth w.config.arrays (standing_of w).labels s w.work → Legal (with_item w h s)
+legal_item w h s l truth = record { accepted = l.accepted; prefix = l.prefix; host_order = (truth, l.host_order); live_blocks = l.live_blocks }
+
+-- the labels that a directive adds
+abbrev pub more_labels : State → ℕ → Directive → List Label
+more_labels w h d =
+    added (walk_at (walk_of d)) (next_number (walk_at (walk_of d)) (standing_of w).labels) h (items_of h w.work) (batch_of (standing_of w) (walk_of d))
+
+-- these labels stand behind all others
+pub labels_accepted : (w : State) (h : ℕ) (host : Host) (d : Directive) → (standing_of (accepting w h host d)).labels ≡ (standing_of w).labels ++ more_labels w h d
+unfolding standing
+labels_accepted w h host d =
+    labelled_is (walk_at (walk_of d)) h (items_of h w.work) (standing_of w).labels (batch_of (standing_of w) (walk_of d))
+
+-- one more directive, without a fault, leaves the histories legal
+pub legal_accepted : (w : State) (h : ℕ) (host : Host) (d : Directive) → Legal w → refusal w.config (standing_of w) d ≡ None → Legal (accepting w h host d)
+legal_accepted w h host d l e =
+    let labels = (standing_of w).labels in
+    let same = labels_accepted w h host d in
+    record {
+      accepted = (e, l.accepted);
+      prefix = rw same (in_order-more labels (more_labels w h d) w.work l.prefix);
+      host_order = rw same (host_order-more w.config.arrays labels (more_labels w h d) w.work l.host_order);
+      live_blocks = l.live_blocks;
+    }
+
+-- so does one more operation, the next of its queue, that its host's items allow
+pub legal_performed : (w : State) (at : QueueAt) (op : Op) (ops : List Op) → w.config.devices ≡ 1 → Legal w → rest w (standing_of w).labels at ≡ op ∷ ops
+    → IsTrue (host_allows (batch_at (on_queue at (standing_of w).labels) (length (performed at w.work))) w.work) → Legal (with_op w at op)
+legal_performed w at op ops one l e allowed = record {
+  accepted = l.accepted;
+  prefix = in_order_performed (standing_of w).labels w.work at op l.prefix (next_of_all w at op ops l.prefix e);
+  host_order = (allowed, l.host_order);
+  live_blocks = (next_uses_live w at op ops one l e, l.live_blocks);
+}
+
+-- Each step keeps the histories legal.
+pub Step-legal : (old new : State) (e : Event) (r : Reply) → old.config.devices ≡ 1 → Legal old → Step old e r new → Legal new
+Step-legal old new e r one l s =
+    Step-by Legal old new e r
+    (record {
+      stays = l;
+      hosts = λ hosts. legal_hosts old hosts l;
+      item = λ hosts h s truth. legal_item (record old { hosts = hosts }) h s (legal_hosts old hosts l) truth;
+      accepted = λ h host d e. legal_accepted old h host d l e;
+      taken = λ taken. legal_taken old taken l;
+      performed = λ at op ops e allowed. legal_performed old at op ops one l e allowed;
+    })
+    s
+
+-- No run changes the configuration.
+pub runs_config : (events : List Event) (replies : List Reply) (old new : State) → Runs old events replies new → new.config ≡ old.config
+runs_config [] [] old new h = rw h refl
+runs_config [] (r ∷ replies) old new h = absurd h
+runs_config (e ∷ events) [] old new h = absurd h
+runs_config (e ∷ events) (r ∷ replies) old new h = runs_config events replies h.0 new h.2 ∙ step_config old h.0 e r h.1
+
+-- Each run keeps the histories legal.
+pub runs_legal : (events : List Event) (replies : List Reply) (old new : State) → old.config.devices ≡ 1 → Legal old → Runs old events replies new → Legal new
+runs_legal [] [] old new one l h = rw h l
+runs_legal [] (r ∷ replies) old new one l h = absurd h
+runs_legal (e ∷ events) [] old new one l h = absurd h
+runs_legal (e ∷ events) (r ∷ replies) old new one l h =
+    let still = ap (λ c. c.devices) (step_config old h.0 e r h.1) ∙ one in
+    runs_legal events replies h.0 new still (Step-legal old h.0 e r one l h.1) h.2

@@ -1,0 +1,95 @@
+-- The operation that a queue performs next is the next of all that were placed there, and uses live blocks.
+use Rattle.std.proofs.Common.{inl, inr, ◌≡◌, ℕ, zero, suc, List, [], ◌∷◌, ◌++◌, length, take, drop, refl, sym, ap, ◌∙◌}
+use Rattle.std.specs.Prelude.{ℤ}
+use Rattle.std.proofs.lemmas.Bool.{cases_Bool}
+use Rattle.std.proofs.lemmas.List.{append_assoc, append-nil, take-append-drop}
+use Rattle.acc_base.specs.declared.ids.QueueAt.{QueueAt}
+use Rattle.acc_base.specs.Queues.{same_queue}
+use Rattle.acc_core.specs.declared.log.WorkEntry.{WorkEntry}
+use Rattle.acc_core.specs.declared.log.WorkEntry.TheVariants as entry
+use Rattle.acc_core.specs.declared.operation.Label.{Label}
+use Rattle.acc_core.specs.declared.operation.Op.{Op}
+use Rattle.acc_core.specs.Labels.{on_queue, ops_of}
+use Rattle.acc_core.specs.Legality.{Legal, IsPrefix, InOrder, UsesLive}
+use Rattle.acc_core.specs.Logs.{performed, device_ops}
+use Rattle.acc_core.specs.Machine.{State, standing_of, taken_on, rest}
+use Rattle.acc_core.specs.Works.{sync}
+use Rattle.acc_core.proofs.Histories.{placed_use}
+use Rattle.acc_core.proofs.Queues.{AllAt, ops_of-append, on_queue_all, on_queue_none, same_queue_is, NoneElsewhere, none_elsewhere, device_ops_is}
+use Rattle.acc_core.proofs.Uses.{AllUse}
+
+-- The operations are those that were done, then this one, then more.
+pub record NextOp (done : List Op) (op : Op) (all : List Op) : Type 0 where
+  pub later : List Op
+  pub split : all ≡ done ++ op ∷ later
+
+-- where a list is cut in two ways, what the first part of one has behind all of the other comes next in the list
+next_in : (n first second more : List Op) (op : Op) (ops : List Op) {all : List Op} → n ++ more ≡ first ++ second → drop (length n) first ≡ op ∷ ops → all ≡ first ++ second → NextOp n op all
+next_in [] first second more op ops e f g = record { later = ops ++ second; split = g ∙ ap (λ r. r ++ second) f }
+next_in (x ∷ n) [] second more op ops e f g = cc
+next_in (x ∷ n) (y ∷ first) second more op ops e f g =
+    let same : x ≡ y = cc in
+    let rest_same : n ++ more ≡ first ++ second = cc in
+    let ih = next_in n first second more op ops rest_same f refl in
+    record { later = ih.later; split = g ∙ (ap (λ z. z ∷ first ++ second) (sym same) ∙ ap (λ r. x ∷ r) ih.split) }
+
+-- what isn't performed of the first batches begins with the next operation of all of them
+next_of_taken : (labels : List Label) (taken : ℕ) (done : List Op) (op : Op) (ops : List Op) → IsPrefix done (ops_of labels) → drop (length done) (ops_of (take taken labels)) ≡ op ∷ ops → NextOp done op (ops_of labels)
+next_of_taken labels taken done op ops p e =
+    let first = ops_of (take taken labels) in
+    let second = ops_of (drop taken labels) in
+    let cut : ops_of labels ≡ first ++ second = ap ops_of (sym (take-append-drop taken labels)) ∙ ops_of-append (take taken labels) (drop taken labels) in
+    next_in done first second p.0 op ops (p.1 ∙ cut) e cut
+
+-- the next operation of a queue
+pub next_of_all : (w : State) (at : QueueAt) (op : Op) (ops : List Op) → InOrder (standing_of w).labels w.work → rest w (standing_of w).labels at ≡ op ∷ ops
+    → NextOp (performed at w.work) op (ops_of (on_queue at (standing_of w).labels))
+next_of_all w at op ops h e = next_of_taken (on_queue at (standing_of w).labels) (taken_on w at) (performed at w.work) op ops (h at) e
+
+-- the queue that performs it has its prefix still, and so has each other queue
+pub in_order_performed : (labels : List Label) (work : List WorkEntry) (at : QueueAt) (op : Op) → InOrder labels work
+    → NextOp (performed at work) op (ops_of (on_queue at labels)) → InOrder labels (entry.Op at op ∷ work)
+in_order_performed labels work at op h next = λ other. elim (cases_Bool (same_queue at other)) [
+  | inl same ↦
+      let there : NextOp (performed other work) op (ops_of (on_queue other labels)) = rw (same_queue_is at other same) at next in
+      rw same (there.later, append_assoc (performed other work) (op ∷ []) there.later ∙ sym there.split)
+  | inr differ ↦ rw differ (h other)
+]
+
+-- the operation at a place uses live blocks
+use_at : (arrays : List (List ℤ)) (before xs : List Op) (op : Op) (ys : List Op) → AllUse arrays before (xs ++ op ∷ ys) → UsesLive arrays op (before ++ xs)
+use_at arrays before [] op ys h = rw (append-nil before) h.0
+use_at arrays before (x ∷ xs) op ys h = rw (← append_assoc before (x ∷ []) xs) (use_at arrays (before ++ x ∷ []) xs op ys h.1)
+
+-- nothing is left where nothing was placed
+no_rest : (taken n : ℕ) → drop n (ops_of (take taken [])) ≡ []
+no_rest zero zero = refl
+no_rest zero (suc n) = refl
+no_rest (suc taken) zero = refl
+no_rest (suc taken) (suc n) = refl
+
+-- a queue that has an operation left is queue sync where all batches are placed there
+at_sync : (labels : List Label) (taken n : ℕ) (at : QueueAt) (op : Op) (ops : List Op) → AllAt sync labels → drop n (ops_of (take taken (on_queue at labels))) ≡ op ∷ ops → at ≡ sync
+at_sync labels taken n at op ops h e = elim (cases_Bool (same_queue sync at)) [
+  | inl same ↦ sym (same_queue_is sync at same)
+  | inr differ ↦
+      let none : drop n (ops_of (take taken (on_queue at labels))) ≡ [] = ap (λ ls. drop n (ops_of (take taken ls))) (on_queue_none sync at labels h differ) ∙ no_rest taken n in
+      let f : op ∷ ops ≡ [] = sym e ∙ none in cc
+]
+
+-- the next operation of queue sync uses live blocks where all batches are placed there
+uses_on_sync : (arrays : List (List ℤ)) (labels : List Label) (work : List WorkEntry) (at : QueueAt) (op : Op) → at ≡ sync → AllAt sync labels → NoneElsewhere work → AllUse arrays [] (ops_of labels)
+    → NextOp (performed at work) op (ops_of (on_queue at labels)) → UsesLive arrays op (device_ops at.device work)
+uses_on_sync arrays labels work at op e on_sync quiet all next =
+    let here : NextOp (performed sync work) op (ops_of (on_queue sync labels)) = rw e at next in
+    let split : ops_of labels ≡ performed sync work ++ op ∷ here.later = ap ops_of (sym (on_queue_all sync labels on_sync)) ∙ here.split in
+    rw (e, device_ops_is work quiet) (use_at arrays [] (performed sync work) op here.later (rw split at all))
+
+-- The next operation of a queue uses live blocks.
+pub next_uses_live : (w : State) (at : QueueAt) (op : Op) (ops : List Op) → w.config.devices ≡ 1 → Legal w → rest w (standing_of w).labels at ≡ op ∷ ops
+    → UsesLive w.config.arrays op (device_ops at.device w.work)
+next_uses_live w at op ops one l e =
+    let labels = (standing_of w).labels in
+    let placed = placed_use w.config w.history w.counts one l.accepted in
+    uses_on_sync w.config.arrays labels w.work at op (at_sync labels (taken_on w at) (length (performed at w.work)) at op ops placed.on_sync e) placed.on_sync
+    (none_elsewhere labels w.work placed.on_sync l.prefix) placed.use_live (next_of_all w at op ops l.prefix e)

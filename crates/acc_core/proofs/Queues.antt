@@ -1,0 +1,128 @@
+-- The labels and the operations of a queue, and what holds where there is one queue alone.
+use Rattle.std.proofs.Common.{inl, inr, ◌≡◌, ℕ, Bool, true, false, List, [], ◌∷◌, ◌++◌, refl, sym, ap, ◌∙◌}
+use Rattle.std.specs.Prelude.{◌==◌}
+use Rattle.std.proofs.lemmas.Bool.{cases_Bool, and_parts, and_from, eq-eqb, eqb-true}
+use Rattle.std.proofs.lemmas.List.{append_assoc, append-nil}
+use Rattle.std.proofs.lemmas.List.Elements.{filter-append}
+use Rattle.acc_base.specs.declared.ids.QueueAt.{QueueAt}
+use Rattle.acc_base.specs.Queues.{same_queue}
+use Rattle.acc_core.specs.declared.operation.Op.{Op}
+use Rattle.acc_core.specs.declared.operation.Label.{Label}
+use Rattle.acc_core.specs.declared.log.WorkEntry.{WorkEntry}
+use Rattle.acc_core.specs.declared.log.WorkEntry.TheVariants as entry
+use Rattle.acc_core.specs.Batches.{labelled, next_number}
+use Rattle.acc_core.specs.Labels.{on_queue, ops_of}
+use Rattle.acc_core.specs.Legality.{InOrder}
+use Rattle.acc_core.specs.Logs.{one_more, performed, device_ops}
+use Rattle.acc_core.specs.Works.{sync}
+
+-- a queue is the same as itself
+pub same_queue_itself : (at : QueueAt) → same_queue at at ≡ true
+same_queue_itself at = and_from (at.device == at.device) (at.queue == at.queue) (eq-eqb at.device at.device refl) (eq-eqb at.queue at.queue refl)
+
+-- the test of two queues says that they are one
+pub same_queue_is : (a b : QueueAt) → same_queue a b ≡ true → a ≡ b
+same_queue_is a b h =
+    let parts = and_parts (a.device == b.device) (a.queue == b.queue) h in
+    let same_a : a ≡ record { device = b.device; queue = a.queue } = ap (λ x. record { device = x; queue = a.queue }) (eqb-true a.device b.device parts.0) in
+    let same_b : record { device = b.device; queue = a.queue } ≡ b = ap (λ x. record { device = b.device; queue = x }) (eqb-true a.queue b.queue parts.1) in
+    same_a ∙ same_b
+
+-- the operations of two lists of labels
+pub ops_of-append : (xs ys : List Label) → ops_of (xs ++ ys) ≡ ops_of xs ++ ops_of ys
+ops_of-append [] ys = refl
+ops_of-append (x ∷ xs) ys = rw (ops_of-append xs ys) (sym (append_assoc x.ops (ops_of xs) (ops_of ys)))
+
+-- a queue's labels of two lists of labels
+pub on_queue-append : (at : QueueAt) (xs ys : List Label) → on_queue at (xs ++ ys) ≡ on_queue at xs ++ on_queue at ys
+on_queue-append at xs ys = filter-append (λ l. same_queue l.at at) xs ys
+
+-- the labels that a batch adds: one, or none where it is empty
+abbrev pub added : QueueAt → ℕ → ℕ → ℕ → List Op → List Label
+added at number host items_done [] = []
+added at number host items_done (op ∷ ops) =
+    record { at = at; number = number; host = host; items_done = items_done; ops = op ∷ ops } ∷ []
+
+-- a batch adds its labels behind all others
+pub labelled_is : (at : QueueAt) (host items_done : ℕ) (labels : List Label) (ops : List Op)
+    → labelled at host items_done labels ops ≡ labels ++ added at (next_number at labels) host items_done ops
+labelled_is at host items_done labels [] = sym (append-nil labels)
+labelled_is at host items_done labels (op ∷ ops) = refl
+
+-- the labels that a batch adds hold its operations
+ops_of-added : (at : QueueAt) (number host items_done : ℕ) (ops : List Op) → ops_of (added at number host items_done ops) ≡ ops
+ops_of-added at number host items_done [] = refl
+ops_of-added at number host items_done (op ∷ ops) = append-nil (op ∷ ops)
+
+-- a batch's operations are placed behind all others
+pub ops_of-labelled : (at : QueueAt) (host items_done : ℕ) (labels : List Label) (ops : List Op)
+    → ops_of (labelled at host items_done labels ops) ≡ ops_of labels ++ ops
+ops_of-labelled at host items_done labels ops =
+    ap ops_of (labelled_is at host items_done labels ops)
+    ∙ (ops_of-append labels (added at (next_number at labels) host items_done ops)
+    ∙ ap (λ r. ops_of labels ++ r) (ops_of-added at (next_number at labels) host items_done ops))
+
+-- All these labels are of one queue.
+abbrev pub AllAt : QueueAt → List Label → Type 0
+AllAt at [] = Unit {0}
+AllAt at (l ∷ ls) = (l.at ≡ at) × AllAt at ls
+
+-- that queue has all of them
+pub on_queue_all : (at : QueueAt) (ls : List Label) → AllAt at ls → on_queue at ls ≡ ls
+on_queue_all at [] h = refl
+on_queue_all at (l ∷ ls) h =
+    let same : same_queue l.at at ≡ true = ap (λ q. same_queue q at) h.0 ∙ same_queue_itself at in
+    rw same (ap (λ r. l ∷ r) (on_queue_all at ls h.1))
+
+-- another queue has none of them
+pub on_queue_none : (at other : QueueAt) (ls : List Label) → AllAt at ls → same_queue at other ≡ false → on_queue other ls ≡ []
+on_queue_none at other [] h differ = refl
+on_queue_none at other (l ∷ ls) h differ =
+    let differs : same_queue l.at other ≡ false = ap (λ q. same_queue q other) h.0 ∙ differ in
+    rw differs (on_queue_none at other ls h.1 differ)
+
+-- one more batch on that queue leaves all labels there
+pub all_at_labelled : (at : QueueAt) (host items_done : ℕ) (labels : List Label) (ops : List Op) → AllAt at labels → AllAt at (labelled at host items_done labels ops)
+all_at_labelled at host items_done labels [] h = h
+all_at_labelled at host items_done labels (op ∷ ops) h = all_at_one labels (record { at = at; number = next_number at labels; host = host; items_done = items_done; ops = op ∷ ops }) h
+  where
+    all_at_one : (ls : List Label) (l : Label) → AllAt l.at ls → AllAt l.at (ls ++ l ∷ [])
+    all_at_one [] l h = (refl, tt)
+    all_at_one (x ∷ ls) l h = (h.0, all_at_one ls l h.1)
+
+-- the first of two lists is empty where both together are
+no_append : (xs ys : List Op) → xs ++ ys ≡ [] → xs ≡ []
+no_append [] ys h = refl
+no_append (x ∷ xs) ys h = cc
+
+-- where one more would leave none it was not added, and there was none
+one_more_none : (b : Bool) (ops : List Op) (op : Op) → one_more b ops op ≡ [] → (b ≡ false) × (ops ≡ [])
+one_more_none true [] op h = cc
+one_more_none true (x ∷ ops) op h = cc
+one_more_none false ops op h = (refl, h)
+
+-- no queue but sync has performed an operation
+abbrev pub NoneElsewhere : List WorkEntry → Type 0
+NoneElsewhere work = (other : QueueAt) → same_queue sync other ≡ false → performed other work ≡ []
+
+-- no other queue has performed an operation where all batches are placed on queue sync
+pub none_elsewhere : (labels : List Label) (work : List WorkEntry) → AllAt sync labels → InOrder labels work → NoneElsewhere work
+none_elsewhere labels work h prefix = λ other differ.
+    let p = prefix other in no_append (performed other work) p.0 (p.1 ∙ ap ops_of (on_queue_none sync other labels h differ))
+
+-- then the latest operation is one of queue sync
+only_sync : (at : QueueAt) (op : Op) (before : List WorkEntry) → NoneElsewhere (entry.Op at op ∷ before) → at ≡ sync
+only_sync at op before h = elim (cases_Bool (same_queue sync at)) [
+  | inl same ↦ sym (same_queue_is sync at same)
+  | inr differ ↦
+      let none = one_more_none (same_queue at at) (performed at before) op (h at differ) in
+      let f : true ≡ false = sym (same_queue_itself at) ∙ none.0 in cc
+]
+
+-- The operations of the first device are those of its queue sync.
+pub device_ops_is : (work : List WorkEntry) → NoneElsewhere work → device_ops 0 work ≡ performed sync work
+device_ops_is [] h = refl
+device_ops_is (entry.Op at op ∷ before) h =
+    let earlier : NoneElsewhere before = λ other differ. (one_more_none (same_queue at other) (performed other before) op (h other differ)).1 in
+    rw (only_sync at op before h) (ap (λ ops. ops ++ op ∷ []) (device_ops_is before earlier))
+device_ops_is (entry.Item host shown ∷ before) h = device_ops_is before h

@@ -1,0 +1,140 @@
+-- An item of a host joins the log of an accelerator.
+use Rattle.std.proofs.Common.{◌≡◌, ℕ, ◌+◌, ◌<◌, Bool, true, false, List, ◌∷◌, length, refl, sym, ap, subst, ◌∙◌, arith, None, Some}
+use Rattle.std.specs.Prelude.{ℤ, Result, Ok, Err, OnOk, OnErr}
+use Rattle.std.proofs.lemmas.Bool.{lt-leb}
+use Rattle.acc_base.specs.declared.fault.Fault.{Fault}
+use Rattle.acc_base.specs.declared.fault.Fault.TheVariants.{BadRange}
+use Rattle.acc_base.specs.declared.range.Range.{Range}
+use Rattle.acc_core.specs.declared.batch.Batch.{Batch}
+use Rattle.acc_core.specs.declared.log.Shown.{Shown}
+use Rattle.acc_core.specs.declared.log.Shown.TheVariants.{Print}
+use Rattle.acc_core.specs.declared.log.TheConstants.{MAX_HOST_ITEMS}
+use Rattle.acc_core.specs.declared.log.WorkEntry.{WorkEntry}
+use Rattle.acc_core.specs.declared.log.WorkEntry.TheVariants as entry
+use Rattle.acc_core.specs.Accepting.{is_in_array}
+use Rattle.acc_core.specs.Answers.{item_fault}
+use Rattle.acc_core.specs.Legality.{ShowsTruth}
+use Rattle.acc_core.specs.Logs.{all_items, value}
+use Rattle.acc_core.specs.Machine.{State}
+use Rattle.acc_core.specs.Memories.{Shows, held_blocks, lengths_of}
+use Rattle.acc_core.specs.Ties.{IsAccelerator, Remembers, labels_of}
+use Rattle.acc_core.specs.Works.{WorkView, HasRoom, HasShown, HasPrinted}
+use Rattle.acc_core.proofs.Advancing.{with_work}
+use Rattle.acc_core.proofs.Keeping.{legal_item}
+use Rattle.acc_core.proofs.Remembering.{remembers_shown, length_held, same_ends}
+
+-- more room leaves a memory what it shows
+remembers_roomier : {w : State} {v v' : WorkView} → Remembers w v → HasRoom v v' → Remembers w v'
+remembers_roomier {w = w} {v = v} {v' = v'} m h =
+    let was = value w.config.arrays w.work in
+    record {
+      shows =
+          subst (λ arrays. Shows (record { arrays = arrays; rows = v'.memory.rows; room = 0 }) was) (sym h.arrays)
+          (subst (λ rows. Shows (record { arrays = v.memory.arrays; rows = rows; room = 0 }) was) (sym h.rows) m.shows);
+      blocks = ap (λ rows. held_blocks (record { arrays = v.memory.arrays; rows = rows; room = 0 })) h.rows ∙ m.blocks;
+      lengths = ap lengths_of h.arrays ∙ m.lengths;
+    }
+
+-- more room leaves an accelerator what it is
+pub roomier : {w : State} {v v' : WorkView} {queue : List Batch} {t waiting queue_room : ℕ} → IsAccelerator w v queue t waiting queue_room → HasRoom v v' → IsAccelerator w v' queue t waiting queue_room
+roomier {v = v} {v' = v'} a h =
+    let q = a.parts in
+    record {
+      one_device = a.one_device;
+      legal = a.legal;
+      few_items = a.few_items;
+      held_low = a.held_low;
+      room = a.room;
+      parts = record {
+        single = q.single;
+        filled = q.filled;
+        queued = q.queued;
+        ready = q.ready;
+        taken_low = q.taken_low;
+        in_lane = h.lane ∙ q.in_lane;
+        of_batch = λ some.
+            let b = q.of_batch (omega (arith, some, ap length h.lane)) in
+            record {
+              earlier = b.earlier;
+              label = b.label;
+              later = b.later;
+              split = b.split;
+              is_last = b.is_last;
+              begun = b.begun;
+              of_host = b.of_host ∙ sym h.lane_host;
+              of_items = b.of_items ∙ sym h.lane_items;
+            };
+        performed_taken = q.performed_taken;
+        all_waiting = q.all_waiting;
+        log_room = omega (arith, q.log_room, h.room);
+        block_room = omega (arith, q.block_room, h.block_room, ap length h.rows);
+        hosts = q.hosts;
+        lane_host = rw h.lane_host q.lane_host;
+      };
+      memory = remembers_roomier a.memory h;
+    }
+
+-- a range lies in its array where the arrays are as long
+pub same_array : (xs ys : List (List ℤ)) (r : Range) → lengths_of xs ≡ lengths_of ys → is_in_array xs r ≡ is_in_array ys r
+same_array xs ys r e = rw (same_ends xs ys r.array (r.lo + r.len) e) refl
+
+-- an item that shows what is so, and finds room
+pub shown : (w : State) (v v' : WorkView) (queue : List Batch) (t waiting queue_room h : ℕ) (item : Shown) → IsAccelerator w v queue t waiting queue_room → v.work ≡ w.work → HasShown v v' h item
+    → length v.work + waiting < v.room → all_items w.work < MAX_HOST_ITEMS → ShowsTruth w.config.arrays (labels_of w) item w.work
+    → IsAccelerator (with_work w v') v' queue t waiting queue_room
+shown w v v' queue t waiting queue_room h item a same s room few truth =
+    let q = a.parts in
+    let work : v'.work ≡ entry.Item h item ∷ w.work = s.work ∙ ap (λ r. entry.Item h item ∷ r) same in
+    let rows : length v'.memory.rows ≡ length v.memory.rows = omega (arith, length_held v'.memory, length_held v.memory, ap length s.blocks) in
+    subst (λ work. IsAccelerator (record w { work = work }) v' queue t waiting queue_room) (sym work) (record {
+      one_device = a.one_device;
+      legal = legal_item w h item a.legal truth;
+      few_items = omega (arith, few);
+      held_low = a.held_low;
+      room = a.room;
+      parts = record {
+        single = q.single;
+        filled = q.filled;
+        queued = q.queued;
+        ready = q.ready;
+        taken_low = q.taken_low;
+        in_lane = s.lane ∙ q.in_lane;
+        of_batch = λ some.
+            let b = q.of_batch (omega (arith, some, ap length s.lane)) in
+            record {
+              earlier = b.earlier;
+              label = b.label;
+              later = b.later;
+              split = b.split;
+              is_last = b.is_last;
+              begun = b.begun;
+              of_host = b.of_host ∙ sym s.lane_host;
+              of_items = b.of_items ∙ sym s.lane_items;
+            };
+        performed_taken = q.performed_taken;
+        all_waiting = q.all_waiting;
+        log_room = omega (arith, room, s.room, ap length same);
+        block_room = omega (arith, q.block_room, s.block_room, rows);
+        hosts = q.hosts;
+        lane_host = rw s.lane_host q.lane_host;
+      };
+      memory = remembers_shown w v v' h item a.memory s;
+    })
+
+-- a range is printed, or memory is refused
+pub printed : (w : State) (v v' : WorkView) (queue : List Batch) (t waiting queue_room h : ℕ) (range : Range) (answer : Result (Unit {0}) Fault) → IsAccelerator w v queue t waiting queue_room → v.work ≡ w.work
+    → OnOk answer (HasPrinted v v' h range) → OnErr answer (v' ≡ v) → length v.work + waiting < v.room → all_items w.work < MAX_HOST_ITEMS → IsAccelerator (with_work w v') v' queue t waiting queue_room
+printed w v v' queue t waiting queue_room h range (Ok u) a same did kept room few =
+    shown w v v' queue t waiting queue_room h (Print range did.values) a same did.shown room few
+    (did.true_values (value w.config.arrays w.work) a.memory.shows)
+printed w v v' queue t waiting queue_room h range (Err f) a same did kept room few =
+    let work : v'.work ≡ w.work = ap (λ (u : WorkView). u.work) kept ∙ same in
+    subst (λ work. IsAccelerator (record w { work = work }) v' queue t waiting queue_room) (sym work) (rw kept a)
+
+-- an item has no fault where the run may have one more, in an array
+pub no_item_fault : (work : List WorkEntry) (in_array : Bool) → all_items work < MAX_HOST_ITEMS → in_array ≡ true → item_fault false work in_array ≡ None
+no_item_fault work in_array few inside = rw (lt-leb MAX_HOST_ITEMS (all_items work) few, inside) refl
+
+-- the fault of an item that is in no array
+pub bad_item : (work : List WorkEntry) (in_array : Bool) → all_items work < MAX_HOST_ITEMS → in_array ≡ false → item_fault false work in_array ≡ Some BadRange
+bad_item work in_array few outside = rw (lt-leb MAX_HOST_ITEMS (all_items work) few, outside) refl

@@ -1,0 +1,57 @@
+use Rattle.std.proofs.Common.{◌≡◌, ◌<◌, ◌≤◌, length, refl, sym, ◌∙◌, subst, arith, Some}
+use Rattle.std.specs.Prelude.{slice_get, slice_set}
+use Rattle.std.proofs.lemmas.List.{length-set}
+use Rattle.std.proofs.lemmas.List.Elements.{All-get_or, All-set}
+use Rattle.std.proofs.lemmas.Option.{slice_get_past, slice_get_read}
+use Rattle.acc_core.specs.declared.event.Event.TheVariants as event
+use Rattle.acc_core.specs.Machine.{Step}
+use Rattle.acc_core.specs.Worlds.{HasStatement}
+use Rattle.acc_core.proofs.WorldSteps.{still_world, takes, performs, host_goes_on, no_host}
+use Rattle.acc_core.proofs.world.World.step.Goals as goal
+
+pub host_step-requires-clause-statement : goal.host_step-requires-clause-statement
+host_step-requires-clause-statement c =
+    let hosts = c.self.inside.hosts.items in
+    let within : c.from-index.result < length hosts = omega arith in
+    subst HasStatement (sym c.index_mut.ensures.value)
+    (All-get_or HasStatement hosts c.from-index.result c.index_mut.result.now within c.self.invariant.statements)
+
+-- the host's step is the machine's
+goes_on : (c : goal.After-self-1) → Step (record c.self.inside.accelerator { hosts = c.self.inside.hosts.items }) (event.Host c.in-Host.number) c.host_step.result (record c.host_step.new.accelerator { hosts = slice_set c.self.inside.hosts.items c.from-index.result c.host_step.new.host })
+goes_on c =
+    let hosts = c.self.inside.hosts.items in
+    let host = c.index_mut.result.now in
+    let number = c.in-Host.number in
+    let same : c.from-index.result ≡ number = c.from-index.ensures ∙ c.number.ensures in
+    let within : c.from-index.result < length hosts = omega arith in
+    let here : slice_get hosts c.from-index.result ≡ Some host = slice_get_read hosts (length hosts) c.from-index.result host refl within c.index_mut.ensures.value in
+    let there : slice_get hosts number ≡ Some host = rw (← same) here in
+    rw same (host_goes_on c.self.inside.accelerator c.host_step.new.accelerator hosts number host c.host_step.new.host c.host_step.result there c.host_step.ensures.steps)
+
+pub invariant_of-self : goal.invariant_of-self
+invariant_of-self c =
+    let hosts = c.self.inside.hosts.items in
+    still_world (record c.self.inside.accelerator { hosts = hosts }) _ (event.Host c.in-Host.number) c.host_step.result _ _ c.self.invariant (length-set hosts c.from-index.result c.host_step.new.host)
+    (All-set HasStatement hosts c.from-index.result c.host_step.new.host c.host_step.ensures.statement c.self.invariant.statements) (goes_on c)
+
+pub invariant_of-self-in-Take : goal.invariant_of-self-in-Take
+invariant_of-self-in-Take c =
+    let hosts = c.self.inside.hosts.items in
+    still_world (record c.self.inside.accelerator { hosts = hosts }) (record c.take.new.self { hosts = hosts }) (event.Take c.in-Take.at) c.take.result _ _ c.self.invariant refl c.self.invariant.statements
+    (takes c.self.inside.accelerator c.take.new.self hosts c.in-Take.at c.take.result c.take.ensures)
+
+pub invariant_of-self-in-Perform : goal.invariant_of-self-in-Perform
+invariant_of-self-in-Perform c =
+    let hosts = c.self.inside.hosts.items in
+    still_world (record c.self.inside.accelerator { hosts = hosts }) (record c.perform.new.self { hosts = hosts }) (event.Perform c.in-Perform.at) c.perform.result _ _ c.self.invariant refl c.self.invariant.statements
+    (performs c.self.inside.accelerator c.perform.new.self hosts c.in-Perform.at c.perform.result c.perform.ensures)
+
+pub returns-then-index-len : goal.returns-then-index-len
+returns-then-index-len c = rw (← c.self.view_is, c.in-Host.is) (goes_on c)
+
+pub returns-else-index-len : goal.returns-else-index-len
+returns-else-index-len c =
+    let hosts = c.self.inside.hosts.items in
+    let same : c.from-index.result ≡ c.in-Host.number = c.from-index.ensures ∙ c.number.ensures in
+    let past : length hosts ≤ c.in-Host.number = omega arith in
+    rw (← c.self.view_is, c.in-Host.is) (no_host (record c.self.inside.accelerator { hosts = hosts }) c.in-Host.number (slice_get_past hosts c.in-Host.number past))

@@ -1,0 +1,57 @@
+-- What the core answers to a host: to a directive, and to an item.
+use Rattle.std.specs.Prelude.{◌≡◌, ℕ, Bool, true, false, not, nat_le, List, ◌∷◌, Option, Some, None, Result, Ok, Err, if◌then◌else◌}
+use Rattle.acc_base.specs.declared.fault.Fault.{Fault}
+use Rattle.acc_base.specs.declared.fault.Fault.TheVariants.{BadRange, TooMany, Memory, QueueFull}
+use Rattle.acc_core.specs.declared.directive.Directive.{Directive}
+use Rattle.acc_core.specs.declared.directive.PlaceEntry.TheVariants as noted
+use Rattle.acc_core.specs.declared.directive.Placed.{Placed}
+use Rattle.acc_base.specs.declared.range.Range.{Range}
+use Rattle.acc_core.specs.declared.log.Shown.{Shown}
+use Rattle.acc_core.specs.declared.log.Shown.TheVariants.{Print}
+use Rattle.acc_core.specs.declared.log.TheConstants.{MAX_HOST_ITEMS}
+use Rattle.acc_core.specs.declared.log.WorkEntry.{WorkEntry}
+use Rattle.acc_core.specs.Accepting.{refusal, is_in_array}
+use Rattle.acc_core.specs.Batches.{answer_of}
+use Rattle.acc_core.specs.Logs.{items_of, all_items, value, values_of}
+use Rattle.acc_core.specs.Machine.{State, standing_of, is_full, with_item}
+use Rattle.acc_core.specs.Standings.{walk_of}
+
+abbrev pub full_fault : Bool → Option Fault
+full_fault true = Some QueueFull
+full_fault false = None
+
+-- the fault of a directive, where memory is refused or not
+abbrev pub place_fault : Bool → State → Directive → Option Fault → Option Fault
+place_fault no_memory w d (Some fault) = Some fault
+place_fault no_memory w d None =
+    if no_memory then Some Memory else full_fault (is_full w (standing_of w) (walk_of d))
+
+abbrev pub fault_of_place : Bool → State → Directive → Option Fault
+fault_of_place no_memory w d = place_fault no_memory w d (refusal w.config (standing_of w) d)
+
+-- a directive joins the place history
+abbrev pub after_accept : State → ℕ → Directive → State
+after_accept w host d = record w { history = noted.Accepted host d ∷ w.history; counts = items_of host w.work ∷ w.counts }
+
+-- The directive is accepted with the defined answer, or refused with the defined fault, and then nothing changes.
+abbrev pub Places : State → ℕ → Directive → Result Placed Fault → State → Type 0
+Places old host d (Ok placed) new =
+    (fault_of_place false old d ≡ None) × (placed ≡ answer_of (standing_of old) (walk_of d)) × (new ≡ after_accept old host d)
+Places old host d (Err fault) new = (no_memory : Bool) × (fault_of_place no_memory old d ≡ Some fault) × (new ≡ old)
+
+-- the fault of an item
+abbrev pub item_fault : Bool → List WorkEntry → Bool → Option Fault
+item_fault no_memory work in_array =
+    if no_memory then Some Memory
+    else (if nat_le MAX_HOST_ITEMS (all_items work) then Some TooMany
+    else (if not in_array then Some BadRange else None))
+
+-- The item joins the log, or the host is refused with the defined fault, and then nothing changes.
+abbrev pub ItemAnswers : State → ℕ → Bool → Shown → Result (Unit {0}) Fault → State → Type 0
+ItemAnswers old host in_array item (Ok u) new = (item_fault false old.work in_array ≡ None) × (new ≡ with_item old host item)
+ItemAnswers old host in_array item (Err fault) new =
+    (no_memory : Bool) × (item_fault no_memory old.work in_array ≡ Some fault) × (new ≡ old)
+
+abbrev pub PrintAnswers : State → ℕ → Range → Result (Unit {0}) Fault → State → Type 0
+PrintAnswers old host range answer new =
+    ItemAnswers old host (is_in_array old.config.arrays range) (Print range (values_of (value old.config.arrays old.work) range)) answer new

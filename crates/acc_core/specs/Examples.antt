@@ -1,0 +1,147 @@
+-- The definitions computed on worked programs: the replies to some events, and the state after them.
+use Rattle.std.specs.Prelude.{◌≡◌, ℕ, false, List, [], ◌∷◌, ◌++◌, map, replicate, ℤ, pos}
+use Rattle.acc_base.specs.declared.range.Range.{Range}
+use Rattle.acc_base.specs.declared.fault.Fault.TheVariants.{PartlyPresent}
+use Rattle.acc_base.specs.declared.ids.QueueAt.{QueueAt}
+use Rattle.acc_base.specs.Configurations.{configuration}
+use Rattle.acc_present.specs.Presences.{Presence, presences}
+use Rattle.acc_core.specs.declared.directive.Clause.{Clause}
+use Rattle.acc_core.specs.declared.directive.Clause.TheVariants.{Copyin, Copyout, Delete}
+use Rattle.acc_core.specs.declared.directive.Kind.{Kind}
+use Rattle.acc_core.specs.declared.directive.Kind.TheVariants as kind
+use Rattle.acc_core.specs.declared.event.Event.{Event}
+use Rattle.acc_core.specs.declared.event.Event.TheVariants as event
+use Rattle.acc_core.specs.declared.event.Reply.{Reply}
+use Rattle.acc_core.specs.declared.event.Reply.TheVariants as reply
+use Rattle.acc_core.specs.declared.log.Shown.TheVariants as shown
+use Rattle.acc_core.specs.declared.log.WorkEntry.{WorkEntry}
+use Rattle.acc_core.specs.declared.log.WorkEntry.TheVariants as entry
+use Rattle.acc_core.specs.declared.operation.Op.TheVariants.{Make, CopyIn, CopyOut, Release}
+use Rattle.acc_core.specs.declared.program.Act.{Act}
+use Rattle.acc_core.specs.declared.program.Act.TheVariants as act
+use Rattle.acc_core.specs.declared.program.Host.{Host}
+use Rattle.acc_core.specs.declared.program.Phase.{Phase}
+use Rattle.acc_core.specs.declared.program.Phase.TheVariants as phase
+use Rattle.acc_core.specs.Machine.{State, Outcome, step, standing_of}
+use Rattle.acc_core.specs.Standings.{Standing}
+
+pub record Ran : Type 0 where
+  pub replies : List Reply
+  pub state : State
+
+abbrev pub ran_on : Ran → Outcome → Ran
+ran_on r o = record { replies = r.replies ++ o.reply ∷ []; state = o.state }
+
+-- events one after another, where memory is never refused
+abbrev pub all_from : List Event → Ran → Ran
+all_from [] r = r
+all_from (e ∷ es) r = all_from es (ran_on r (step false r.state e))
+
+-- one host with these acts, over these arrays
+abbrev pub world : List (List ℤ) → List Act → State
+world arrays acts =
+    record {
+      config = configuration 1 1 arrays 4194304 64;
+      history = [];
+      counts = [];
+      work = [];
+      taken = replicate 8 0;
+      hosts = record { statements = map (λ a. record { line = 1; act = a }) acts; ended = 0; phase = phase.Ready } ∷ [];
+    }
+
+abbrev pub cells : ℕ → ℕ → Range
+cells lo len = record { array = 0; lo = lo; len = len }
+
+abbrev pub place : Kind → Clause → Range → Act
+place k c r = act.Place (record { device = 0; kind = k; items = record { clause = c; range = r } ∷ [] })
+
+abbrev pub sync : QueueAt
+sync = record { device = 0; queue = 0 }
+
+abbrev pub host : Event
+host = event.Host 0
+
+abbrev pub take_batch : Event
+take_batch = event.Take sync
+
+abbrev pub perform : Event
+perform = event.Perform sync
+
+-- what is looked at in the end
+pub record Seen : Type 0 where
+  pub replies : List Reply
+  pub present : List Presence
+  pub work : List WorkEntry
+  pub ended : List ℕ
+  pub phases : List Phase
+
+abbrev pub seen_with : Ran → Standing → Seen
+seen_with r st =
+    record {
+      replies = r.replies;
+      present = presences (st.marks 0);
+      work = r.state.work;
+      ended = map (λ (h : Host). h.ended) r.state.hosts;
+      phases = map (λ (h : Host). h.phase) r.state.hosts;
+    }
+
+abbrev pub seen_in : Ran → Seen
+seen_in r = seen_with r (standing_of r.state)
+
+abbrev pub seen_after : List Event → State → Seen
+seen_after events w = seen_in (all_from events (record { replies = []; state = w }))
+
+abbrev pub first_batch_seen : WorkEntry
+first_batch_seen = entry.Item 0 (shown.Seen 0 (1 ∷ 0 ∷ 0 ∷ 0 ∷ 0 ∷ 0 ∷ 0 ∷ 0 ∷ []))
+
+abbrev pub second_batch_seen : WorkEntry
+second_batch_seen = entry.Item 0 (shown.Seen 0 (2 ∷ 0 ∷ 0 ∷ 0 ∷ 0 ∷ 0 ∷ 0 ∷ 0 ∷ []))
+
+-- a[4] enters twice and leaves once: one batch, and the dynamic counter is 1
+abbrev pub EnteredTwice : Type 0
+EnteredTwice =
+    seen_after
+    (host ∷ host ∷ take_batch ∷ take_batch ∷ perform ∷ perform ∷ perform ∷ host ∷ host ∷ host ∷ host ∷ [])
+    (world ((pos 0 ∷ pos 0 ∷ pos 0 ∷ pos 0 ∷ []) ∷ [])
+    (place kind.EnterData Copyin (cells 0 4) ∷ place kind.EnterData Copyin (cells 0 4) ∷ place kind.ExitData Delete (cells 0 4) ∷ []))
+    ≡ record {
+      replies = reply.Did ∷ reply.Idle ∷ reply.Did ∷ reply.Idle ∷ reply.Did ∷ reply.Did ∷ reply.Idle ∷ reply.Did ∷ reply.Did ∷ reply.Did ∷ reply.Idle ∷ [];
+      present = record { range = cells 0 4; block = 1; s = 0; d = 1 } ∷ [];
+      work = first_batch_seen ∷ entry.Op sync (CopyIn 1 (cells 0 4)) ∷ entry.Op sync (Make 1 (cells 0 4)) ∷ [];
+      ended = 3 ∷ [];
+      phases = phase.Ready ∷ [];
+    }
+
+-- of a[8] the first half enters, and then a range that overlaps it
+abbrev pub OverlapRefused : Type 0
+OverlapRefused =
+    seen_after
+    (host ∷ take_batch ∷ perform ∷ perform ∷ host ∷ host ∷ host ∷ [])
+    (world ((pos 0 ∷ pos 0 ∷ pos 0 ∷ pos 0 ∷ pos 0 ∷ pos 0 ∷ pos 0 ∷ pos 0 ∷ []) ∷ [])
+    (place kind.EnterData Copyin (cells 0 4) ∷ place kind.EnterData Copyin (cells 2 4) ∷ []))
+    ≡ record {
+      replies = reply.Did ∷ reply.Did ∷ reply.Did ∷ reply.Did ∷ reply.Did ∷ reply.Refused PartlyPresent ∷ reply.Idle ∷ [];
+      present = record { range = cells 0 4; block = 1; s = 0; d = 1 } ∷ [];
+      work = first_batch_seen ∷ entry.Op sync (CopyIn 1 (cells 0 4)) ∷ entry.Op sync (Make 1 (cells 0 4)) ∷ [];
+      ended = 1 ∷ [];
+      phases = phase.Refused PartlyPresent ∷ [];
+    }
+
+-- the host writes a[0] while the device holds a; the copy out brings the device's values back
+abbrev pub StaleHostCopy : Type 0
+StaleHostCopy =
+    seen_after
+    (host ∷ take_batch ∷ perform ∷ perform ∷ host ∷ host ∷ host ∷ take_batch ∷ perform ∷ perform ∷ host ∷ host ∷ [])
+    (world ((pos 1 ∷ pos 2 ∷ pos 3 ∷ pos 4 ∷ []) ∷ [])
+    (place kind.EnterData Copyin (cells 0 4) ∷ act.Write 0 0 (pos 9) ∷ place kind.ExitData Copyout (cells 0 4) ∷ act.Print (cells 0 4) ∷ []))
+    ≡ record {
+      replies = reply.Did ∷ reply.Did ∷ reply.Did ∷ reply.Did ∷ reply.Did ∷ reply.Did ∷ reply.Did ∷ reply.Did ∷ reply.Did ∷ reply.Did ∷ reply.Did ∷ reply.Did ∷ [];
+      present = [];
+      work =
+          entry.Item 0 (shown.Print (cells 0 4) (pos 1 ∷ pos 2 ∷ pos 3 ∷ pos 4 ∷ []))
+          ∷ second_batch_seen ∷ entry.Op sync (Release 1) ∷ entry.Op sync (CopyOut 1 (cells 0 4))
+          ∷ entry.Item 0 (shown.Write 0 0 (pos 9))
+          ∷ first_batch_seen ∷ entry.Op sync (CopyIn 1 (cells 0 4)) ∷ entry.Op sync (Make 1 (cells 0 4)) ∷ [];
+      ended = 4 ∷ [];
+      phases = phase.Ready ∷ [];
+    }

@@ -1,0 +1,174 @@
+-- What holds of the histories after any list of events.
+use Rattle.std.specs.Prelude.{◌≡◌, ◌↔◌, ℕ, ◌+◌, ◌-◌, ◌≤◌, Bool, true, false, ◌==◌, IsTrue, List, [], ◌∷◌, ◌++◌, length, map, take, drop, slice_index_or, Contains, None, ℤ}
+use Rattle.acc_base.specs.declared.ids.QueueAt.{QueueAt}
+use Rattle.acc_base.specs.declared.range.Range.{Range}
+use Rattle.acc_base.specs.Configurations.{Configuration}
+use Rattle.acc_base.specs.Ranges.{Includes}
+use Rattle.acc_core.specs.declared.directive.Directive.{Directive}
+use Rattle.acc_core.specs.declared.directive.Placed.{Placed}
+use Rattle.acc_core.specs.declared.directive.PlaceEntry.{PlaceEntry}
+use Rattle.acc_core.specs.declared.directive.PlaceEntry.TheVariants as noted
+use Rattle.acc_core.specs.declared.event.Event.{Event}
+use Rattle.acc_core.specs.declared.event.Reply.{Reply}
+use Rattle.acc_core.specs.declared.log.Shown.{Shown}
+use Rattle.acc_core.specs.declared.log.Shown.TheVariants.{Write, Print, Seen}
+use Rattle.acc_core.specs.declared.log.WorkEntry.{WorkEntry}
+use Rattle.acc_core.specs.declared.log.WorkEntry.TheVariants as entry
+use Rattle.acc_core.specs.declared.operation.Label.{Label}
+use Rattle.acc_core.specs.declared.operation.Op.{Op}
+use Rattle.acc_core.specs.declared.operation.Op.TheVariants.{Make, CopyIn, CopyOut, Release}
+use Rattle.acc_core.specs.declared.program.Host.{Host}
+use Rattle.acc_core.specs.declared.program.Phase.TheVariants as phase
+use Rattle.acc_core.specs.Accepting.{refusal, is_in_array}
+use Rattle.acc_core.specs.Batches.{answer_of}
+use Rattle.acc_core.specs.Histories.{standing}
+use Rattle.acc_core.specs.Labels.{on_queue, ops_of, batch_at, whole}
+use Rattle.acc_core.specs.Logs.{performed, device_ops, value, values_of, all_done, host_allows}
+use Rattle.acc_core.specs.Machine.{State, standing_of, Runs}
+use Rattle.acc_core.specs.Standings.{walk_of}
+use Rattle.acc_core.specs.Steps.{HostEntry, Gave, Had, Follows}
+
+-- Each directive was accepted after those before it.
+abbrev pub AllAccepted : Configuration → List PlaceEntry → List ℕ → Type 0
+AllAccepted config [] counts = Unit {0}
+AllAccepted config (noted.Accepted host d ∷ before) counts =
+    (refusal config (standing before (drop 1 counts)) d ≡ None) × AllAccepted config before (drop 1 counts)
+
+abbrev pub IsPrefix : List Op → List Op → Type 0
+IsPrefix xs ys = (more : List Op) × (xs ++ more ≡ ys)
+
+-- What a queue has performed is a prefix of what was placed on it, in order and once.
+abbrev pub InOrder : List Label → List WorkEntry → Type 0
+InOrder labels work = (at : QueueAt) → IsPrefix (performed at work) (ops_of (on_queue at labels))
+
+-- Each item of the hosts shows what is so at its place.
+abbrev pub ShowsTruth : List (List ℤ) → List Label → Shown → List WorkEntry → Type 0
+ShowsTruth opening labels (Write array cell new_value) before = Unit {0}
+ShowsTruth opening labels (Print range values) before = values ≡ values_of (value opening before) range
+ShowsTruth opening labels (Seen device counts) before = IsTrue (all_done labels before device 0 counts)
+
+-- Each operation stands behind its host's items, and each item shows the truth.
+abbrev pub InHostOrder : List (List ℤ) → List Label → List WorkEntry → Type 0
+InHostOrder opening labels [] = Unit {0}
+InHostOrder opening labels (entry.Op at op ∷ before) =
+    IsTrue (host_allows (batch_at (on_queue at labels) (length (performed at before))) before) × InHostOrder opening labels before
+InHostOrder opening labels (entry.Item host shown ∷ before) =
+    ShowsTruth opening labels shown before × InHostOrder opening labels before
+
+-- the blocks that were made, with their ranges, and those that were released
+pub record Made : Type 0 where
+  pub block : ℕ
+  pub range : Range
+
+abbrev pub made : List Op → List Made
+made [] = []
+made (Make b r ∷ ops) = record { block = b; range = r } ∷ made ops
+made (CopyIn b r ∷ ops) = made ops
+made (CopyOut b r ∷ ops) = made ops
+made (Release b ∷ ops) = made ops
+
+abbrev pub released : List Op → List ℕ
+released [] = []
+released (Make b r ∷ ops) = released ops
+released (CopyIn b r ∷ ops) = released ops
+released (CopyOut b r ∷ ops) = released ops
+released (Release b ∷ ops) = b ∷ released ops
+
+-- A block was made and not released, and the range lies in its range.
+pub record HoldsBlock (before : List Op) (block : ℕ) (range : Range) : Type 0 where
+  pub whole_range : Range
+  pub is_made : Contains (made before) (record { block = block; range = whole_range })
+  pub not_released : ¬ Contains (released before) block
+  pub inside : Includes whole_range range
+
+-- An operation of a device uses live blocks, where these operations came before it.
+abbrev pub UsesLive : List (List ℤ) → Op → List Op → Type 0
+UsesLive arrays (Make b r) before = ¬ Contains (map (λ m. m.block) (made before)) b × IsTrue (is_in_array arrays r)
+UsesLive arrays (CopyIn b r) before = HoldsBlock before b r
+UsesLive arrays (CopyOut b r) before = HoldsBlock before b r
+UsesLive arrays (Release b) before = (r : Range) × HoldsBlock before b r
+
+abbrev pub AllLive : List (List ℤ) → List WorkEntry → Type 0
+AllLive arrays [] = Unit {0}
+AllLive arrays (entry.Op at op ∷ before) = UsesLive arrays op (device_ops at.device before) × AllLive arrays before
+AllLive arrays (entry.Item host shown ∷ before) = AllLive arrays before
+
+pub record Legal (w : State) : Type 0 where
+  pub accepted : AllAccepted w.config w.history w.counts
+  pub prefix : InOrder (standing_of w).labels w.work
+  pub host_order : InHostOrder w.config.arrays (standing_of w).labels w.work
+  pub live_blocks : AllLive w.config.arrays w.work
+
+-- A host's items, and its directives with their answers and how many of its items came before each.
+abbrev pub one_item : Bool → HostEntry → List HostEntry → List HostEntry
+one_item true e es = es ++ e ∷ []
+one_item false e es = es
+
+abbrev pub items_shown : ℕ → List WorkEntry → List HostEntry
+items_shown host [] = []
+items_shown host (entry.Op at op ∷ before) = items_shown host before
+items_shown host (entry.Item h shown ∷ before) = one_item (h == host) (Had shown) (items_shown host before)
+
+pub record Own : Type 0 where
+  pub items_before : ℕ
+  pub directive : Directive
+  pub placed : Placed
+
+abbrev pub one_own : Bool → Own → List Own → List Own
+one_own true o os = os ++ o ∷ []
+one_own false o os = os
+
+abbrev pub own_of : ℕ → List PlaceEntry → List ℕ → List Own
+own_of host [] counts = []
+own_of host (noted.Accepted h d ∷ before) counts =
+    one_own (h == host)
+    (record { items_before = slice_index_or counts 0 0; directive = d; placed = answer_of (standing before (drop 1 counts)) (walk_of d) })
+    (own_of host before (drop 1 counts))
+
+-- the directives in their order, each behind as many items as its count says; `gone` items stand already
+abbrev pub merged : ℕ → List Own → List HostEntry → List HostEntry
+merged gone [] items = items
+merged gone (o ∷ os) items =
+    take (o.items_before - gone) items
+    ++ Gave o.directive o.placed ∷ merged o.items_before os (drop (o.items_before - gone) items)
+
+abbrev pub entries_of : State → ℕ → List HostEntry
+entries_of w host = merged 0 (own_of host w.history w.counts) (items_shown host w.work)
+
+-- Each host's entries follow its program.
+abbrev pub AllFollow : State → ℕ → List Host → Type 0
+AllFollow w h [] = Unit {0}
+AllFollow w h (host ∷ hosts) = Follows host.ended host.statements (entries_of w h) × AllFollow w (h + 1) hosts
+
+-- Before the first event there is one device, nothing is accepted, performed or shown, and each host is ready for its
+-- first statement.
+abbrev pub AllStart : List Host → Type 0
+AllStart [] = Unit {0}
+AllStart (host ∷ hosts) = (host.ended ≡ 0) × (host.phase ≡ phase.Ready) × AllStart hosts
+
+pub record IsStart (w : State) : Type 0 where
+  pub one_device : w.config.devices ≡ 1
+  pub history : w.history ≡ []
+  pub counts : w.counts ≡ []
+  pub work : w.work ≡ []
+  pub hosts : AllStart w.hosts
+
+-- A run is cut behind its first events, and the state there is legal.
+pub record LegalCut (old : State) (first second : List Event) (replies : List Reply) (new : State) : Type 0 where
+  pub mid : State
+  pub before : Runs old first (take (length first) replies) mid
+  pub legal : Legal mid
+  pub follow : AllFollow mid 0 mid.hosts
+  pub after : Runs mid second (drop (length first) replies) new
+
+-- After each prefix of a list of events the state is legal.
+abbrev pub LegalAfterEveryPrefix : Type 0
+LegalAfterEveryPrefix =
+    (old new : State) (first second : List Event) (replies : List Reply) → IsStart old
+    → Runs old (first ++ second) replies new → LegalCut old first second replies new
+
+-- The count of performed batches is the greatest n for which the operations of the first n batches are a prefix of what was performed.
+abbrev pub WholeIsGreatest : Type 0
+WholeIsGreatest =
+    (labels : List Label) (ops : List Op) (n : ℕ) → IsPrefix ops (ops_of labels)
+    → (n ≤ whole labels (length ops)) ↔ ((n ≤ length labels) × IsPrefix (ops_of (take n labels)) ops)

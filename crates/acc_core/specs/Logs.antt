@@ -1,0 +1,89 @@
+-- What a work log, the latest entry first, says of queues, hosts and cells.
+use Rattle.std.specs.Prelude.{ℕ, zero, suc, ◌+◌, Bool, true, false, ◌&&◌, ◌==◌, nat_le, List, [], ◌∷◌, ◌++◌, length, slice_get, Option, Some, None, ℤ, pos, if◌then◌else◌}
+use Rattle.acc_base.specs.declared.ids.QueueAt.{QueueAt}
+use Rattle.acc_base.specs.declared.range.Range.{Range}
+use Rattle.acc_base.specs.Queues.{same_queue}
+use Rattle.acc_core.specs.declared.log.Shown.{Shown}
+use Rattle.acc_core.specs.declared.log.Shown.TheVariants.{Write, Print, Seen}
+use Rattle.acc_core.specs.declared.log.WorkEntry.{WorkEntry}
+use Rattle.acc_core.specs.declared.log.WorkEntry.TheVariants as entry
+use Rattle.acc_core.specs.declared.operation.Op.{Op}
+use Rattle.acc_core.specs.declared.operation.Label.{Label}
+use Rattle.acc_core.specs.Labels.{on_queue, whole}
+use Rattle.acc_core.specs.Values.{Cell, Host_cell, Block_cell, after_op}
+
+abbrev pub one_more : Bool → List Op → Op → List Op
+one_more true ops op = ops ++ op ∷ []
+one_more false ops op = ops
+
+-- the operations of a queue, in order
+abbrev pub performed : QueueAt → List WorkEntry → List Op
+performed q [] = []
+performed q (entry.Op at op ∷ before) = one_more (same_queue at q) (performed q before) op
+performed q (entry.Item host shown ∷ before) = performed q before
+
+-- the operations of a device, in order
+abbrev pub device_ops : ℕ → List WorkEntry → List Op
+device_ops device [] = []
+device_ops device (entry.Op at op ∷ before) = one_more (at.device == device) (device_ops device before) op
+device_ops device (entry.Item host shown ∷ before) = device_ops device before
+
+abbrev pub if_one : Bool → ℕ → ℕ
+if_one true n = n + 1
+if_one false n = n
+
+-- how many items a host has, and how many all hosts have
+abbrev pub items_of : ℕ → List WorkEntry → ℕ
+items_of host [] = 0
+items_of host (entry.Op at op ∷ before) = items_of host before
+items_of host (entry.Item h shown ∷ before) = if_one (h == host) (items_of host before)
+
+abbrev pub all_items : List WorkEntry → ℕ
+all_items [] = 0
+all_items (entry.Op at op ∷ before) = all_items before
+all_items (entry.Item h shown ∷ before) = all_items before + 1
+
+abbrev pub after_item : Shown → (Cell → ℤ) → Cell → ℤ
+after_item (Write a i value) was (Host_cell array cell) =
+    if (array == a) && (cell == i) then value else was (Host_cell array cell)
+after_item (Write a i value) was (Block_cell d block cell) = was (Block_cell d block cell)
+after_item (Print range values) was c = was c
+after_item (Seen device counts) was c = was c
+
+abbrev pub or_empty : Option (List ℤ) → List ℤ
+or_empty None = []
+or_empty (Some zs) = zs
+
+abbrev pub or_zero : Option ℤ → ℤ
+or_zero None = pos 0
+or_zero (Some z) = z
+
+-- The value of a cell: what the latest entry that writes it wrote, else its opening value.
+abbrev pub value : List (List ℤ) → List WorkEntry → Cell → ℤ
+value opening [] (Host_cell array cell) = or_zero (slice_get (or_empty (slice_get opening array)) cell)
+value opening [] (Block_cell device block cell) = pos 0
+value opening (entry.Op at op ∷ before) c = after_op at.device op (value opening before) c
+value opening (entry.Item host shown ∷ before) c = after_item shown (value opening before) c
+
+abbrev pub values_from : (ℕ → ℤ) → ℕ → ℕ → List ℤ
+values_from at lo zero = []
+values_from at lo (suc n) = at lo ∷ values_from at (lo + 1) n
+
+-- what a print of a range shows
+abbrev pub values_of : (Cell → ℤ) → Range → List ℤ
+values_of at r = values_from (λ i. at (Host_cell r.array i)) r.lo r.len
+
+-- how many batches of a queue are performed
+abbrev pub done : List Label → List WorkEntry → QueueAt → ℕ
+done labels work at = whole (on_queue at labels) (length (performed at work))
+
+-- each queue of the device, from this one on, has performed its count
+abbrev pub all_done : List Label → List WorkEntry → ℕ → ℕ → List ℕ → Bool
+all_done labels work device q [] = true
+all_done labels work device q (n ∷ ns) =
+    nat_le n (done labels work (record { device = device; queue = q })) && all_done labels work device (q + 1) ns
+
+-- a host's items before its directive stand before the operations of its batch
+abbrev pub host_allows : Option Label → List WorkEntry → Bool
+host_allows None work = false
+host_allows (Some l) work = nat_le l.items_done (items_of l.host work)

@@ -1,0 +1,266 @@
+ghost use Rattle.std.specs.Prelude.{reverse, ◌≡◌, ◌+◌, ◌<◌, ◌≤◌, [], ◌∷◌, length, IfOk, IfErr, None, replicate, true, false, slice_get};
+ghost use Rattle.acc_core.specs.Accepting.{is_in_array};
+ghost use Rattle.acc_core.specs.Answers.{Places, ItemAnswers, PrintAnswers};
+ghost use Rattle.acc_core.specs.Logs.{done, all_done};
+ghost use Rattle.acc_core.specs.Machine.{step, standing_of};
+ghost use Rattle.std.specs.Option.{option_map};
+ghost use Rattle.acc_present.specs.Presences.{presences, holder};
+ghost use Rattle.acc_present.specs.Tables.{entry_presence};
+ghost use Rattle.acc_core.specs.Ties.{labels_of};
+
+use crate::batch::Batch;
+use crate::directive::{Directive, PlaceEntry, Placed};
+use crate::event::Reply;
+use crate::log::WorkEntry;
+use crate::place::{Place, Plan, is_in_array};
+use crate::task::Task;
+use crate::work::{Work, sync_queue};
+use acc_base::{Config, DeviceId, Fault, HostId, QueueAt, QueueId, Range};
+use acc_present::Entry;
+use std::alloc::Global;
+use std::collections::VecDeque;
+use std::marker::Model;
+
+/// The place side, the queue, and the work side of one device.
+#[derive(Drop)]
+pub struct Accelerator {
+    place: Place,
+    work: Work,
+    queue: VecDeque<Batch>,
+    taken: u64,
+    waiting: usize,
+}
+
+impl Model for Accelerator {
+    ghost use Rattle.std.specs.VecDeque.{deque_capacity};
+    ghost use Rattle.acc_core.specs.Machine.{State};
+    ghost use Rattle.acc_core.specs.Ties.{state_of, IsAccelerator};
+
+    ghost Value = { State };
+
+    ghost view = { λ a. state_of a.place a.work a.taken };
+
+    ghost invariant = { λ a. IsAccelerator (state_of a.place a.work a.taken) a.work a.queue.items a.taken a.waiting (deque_capacity a.queue) };
+}
+
+impl Accelerator {
+    ghost use Rattle.acc_base.specs.declared.fault.Fault.TheVariants.{Memory as no_memory};
+    ghost use Rattle.acc_core.specs.Machine.{State, Outcome};
+    ghost use Rattle.acc_core.specs.declared.event.Event.TheVariants as event;
+    ghost use Rattle.acc_core.specs.declared.log.Shown.TheVariants.{Write, Seen};
+
+    /// Nothing is accepted, performed or shown yet.
+    pub fn new(alloc: Global, config: Config) -> Result<Accelerator, Fault>
+        requires { config.devices ≡ 1 }
+        ensures opened { IfOk result (λ a. a ≡ record { config = config; history = []; counts = []; work = []; taken = replicate 8 0; hosts = [] }) }
+        ensures fault { IfErr result (λ f. f ≡ no_memory) }
+    {
+        let work = Work::new(alloc, &config)?;
+        let mut queue = VecDeque::new(alloc);
+        queue.reserve(config.room() as usize)?;
+        Ok(Accelerator {
+            place: Place::new(alloc, config)?,
+            work,
+            queue,
+            taken: 0,
+            waiting: 0,
+        })
+    }
+
+    /// Accepts a directive, and places its batch on the queue.
+    ///
+    /// # Errors
+    ///
+    /// The directive's first fault; else `Memory` for want of memory, or `QueueFull`.
+    pub fn place(&mut self, host: HostId, directive: &Directive) -> Result<Placed, Fault>
+        requires { host < 8 }
+        ensures { Places self.old host directive.now result self.new }
+    {
+        let Plan { directive, tasks } = self.place.plan(directive)?;
+        let items_done = self.work.items_of(host);
+        if tasks.is_empty() {
+            self.place.accept(host, items_done, directive, true);
+            return Ok(Placed { batch: None });
+        }
+        if self.queue.len() >= self.place.config().room() as usize {
+            return Err(Fault::QueueFull);
+        }
+        let waiting = match self.waiting.checked_add(tasks.len()) {
+            Some(waiting) => waiting,
+            None => return Err(Fault::Memory),
+        };
+        self.work.spare(waiting)?;
+        let number = self.place.accept(host, items_done, directive, false);
+        self.queue.push_back_reserved(Batch {
+            at: sync_queue(),
+            number,
+            host,
+            items_done,
+            tasks,
+        });
+        self.waiting = waiting;
+        Ok(Placed {
+            batch: Some((sync_queue(), number)),
+        })
+    }
+
+    /// A host writes a cell of a host array.
+    ///
+    /// # Errors
+    ///
+    /// `Memory` for want of memory, `TooMany` behind the last item of a run, `BadRange` for a cell that isn't there.
+    pub fn write(&mut self, host: HostId, array: u8, cell: u32, value: i64) -> Result<(), Fault>
+        requires { host < 8 }
+        ensures { ItemAnswers self.old host (is_in_array self.old.config.arrays (record { array = array; lo = cell; len = 1 })) (Write array cell value) result self.new }
+    {
+        let range = Range {
+            array,
+            lo: cell,
+            len: 1,
+        };
+        self.work.spare_item(self.waiting)?;
+        if !is_in_array(self.place.config(), range) {
+            return Err(Fault::BadRange);
+        }
+        self.work.write(host, array, cell, value);
+        Ok(())
+    }
+
+    /// A host prints a range of a host array.
+    ///
+    /// # Errors
+    ///
+    /// Those of `write`.
+    pub fn print(&mut self, host: HostId, range: Range) -> Result<(), Fault>
+        requires { host < 8 }
+        ensures { PrintAnswers self.old host range result self.new }
+    {
+        self.work.spare_item(self.waiting)?;
+        if !is_in_array(self.place.config(), range) {
+            return Err(Fault::BadRange);
+        }
+        self.work.print(host, range)
+    }
+
+    /// A host sees that each queue of a device has performed so many batches.
+    ///
+    /// # Errors
+    ///
+    /// `Memory` for want of memory, `TooMany` behind the last item of a run.
+    pub fn see(&mut self, host: HostId, device: DeviceId, counts: [u64; 8]) -> Result<(), Fault>
+        requires host { host < 8 }
+        requires reached { all_done (labels_of self.old) self.old.work device 0 counts ≡ true }
+        ensures { ItemAnswers self.old host true (Seen device counts) result self.new }
+    {
+        self.work.spare_item(self.waiting)?;
+        self.work.see(host, device, counts);
+        Ok(())
+    }
+
+    /// The structured and the dynamic counter of the range, or of the present range that contains it.
+    pub fn counters(&self, range: Range) -> Option<(u64, u64)>
+        requires { 0 < range.len }
+        ensures { result ≡ option_map (λ p. (p.s, p.d)) (holder (presences ((standing_of self.now).marks 0)) range) }
+    {
+        self.place.counters(range)
+    }
+
+    /// The present range at this place, by array, then by lower bound.
+    pub fn nth(&self, place: usize) -> Option<&Entry>
+        ensures { option_map (λ e. entry_presence e.now) result ≡ slice_get (presences ((standing_of self.now).marks 0)) place }
+    {
+        self.place.nth(place)
+    }
+
+    /// How many batches of a queue are performed.
+    pub fn done(&self, at: QueueAt) -> u64
+        ensures { result ≡ done (labels_of self.now) self.now.work at }
+    {
+        if !self.work.has_queue(at) {
+            return 0;
+        }
+        if self.work.left() > 0 {
+            self.taken - 1
+        } else {
+            self.taken
+        }
+    }
+
+    /// Whether each queue of a device has performed its count of batches.
+    pub fn reached(&self, device: DeviceId, counts: &[u64; 8]) -> bool
+        ensures { result ≡ all_done (labels_of self.now) self.now.work device 0 counts.now }
+    {
+        self.reached_from(device, 0, counts.as_slice())
+    }
+
+    // Whether each queue of a device, from this one on, has performed its count.
+    fn reached_from(&self, device: DeviceId, queue: u8, counts: &[u64]) -> bool
+        requires { queue + length counts.now ≤ 8 }
+        ensures { result ≡ all_done (labels_of self.now) self.now.work device queue counts.now }
+    {
+        match counts {
+            [] => true,
+            [count, rest @ ..] => {
+                let at = QueueAt {
+                    device,
+                    queue: QueueId::new(queue),
+                };
+                *count <= self.done(at) && self.reached_from(device, queue + 1, rest)
+            }
+        }
+    }
+
+    /// A queue takes a batch.
+    pub fn take(&mut self, at: QueueAt) -> Reply
+        ensures { step false self.old (event.Take at) ≡ record { reply = result; state = self.new } }
+    {
+        if !self.work.has_queue(at) {
+            return Reply::Idle;
+        }
+        if self.work.left() > 0 {
+            return Reply::Idle;
+        }
+        match self.queue.pop_front() {
+            None => Reply::Idle,
+            Some(batch) => {
+                let Batch {
+                    at: _,
+                    number: _,
+                    host,
+                    items_done,
+                    tasks,
+                } = batch;
+                self.work.offer(host, items_done, tasks);
+                self.taken += 1;
+                Reply::Did
+            }
+        }
+    }
+
+    /// A queue performs an operation.
+    pub fn perform(&mut self, at: QueueAt) -> Reply
+        ensures { step false self.old (event.Perform at) ≡ record { reply = result; state = self.new } }
+    {
+        if !self.work.has_queue(at) {
+            return Reply::Idle;
+        }
+        if self.work.perform() {
+            self.waiting -= 1;
+            Reply::Did
+        } else {
+            Reply::Idle
+        }
+    }
+
+    /// The configuration, the place history with its counts, and the work log, the latest last.
+    pub fn into_histories(self) -> (Config, Vec<PlaceEntry>, Vec<u64>, Vec<WorkEntry>)
+        ensures config { result.0 ≡ self.config }
+        ensures history { result.1.items ≡ reverse self.history }
+        ensures counts { result.2.items ≡ reverse self.counts }
+        ensures work { result.3.items ≡ reverse self.work }
+    {
+        let Accelerator { place, work, .. } = self;
+        let (config, history, counts) = place.into_histories();
+        (config, history, counts, work.into_log())
+    }
+}

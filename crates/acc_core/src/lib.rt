@@ -1,0 +1,24 @@
+//! The core: directives of hosts are placed, and queues perform them, one event at a time.
+#![tactic(auto)]
+
+mod accelerator;
+mod batch;
+mod directive;
+mod event;
+mod laws;
+mod log;
+mod memory;
+mod operation;
+mod place;
+mod program;
+mod task;
+mod work;
+mod world;
+
+pub use directive::{Clause, Directive, Item, Kind, MAX_DIRECTIVES, MAX_ITEMS, PlaceEntry, Placed};
+pub use event::{Event, Reply};
+pub use laws::worked_programs;
+pub use log::{MAX_HOST_ITEMS, Shown, WorkEntry};
+pub use operation::{Label, Op};
+pub use program::{Act, HostProgram, HostState, Statement};
+pub use world::{Outcome, World};

@@ -1,0 +1,21 @@
+use crate::operation::Op;
+use acc_base::{DeviceId, HostId, Listed, QueueAt, Range};
+
+/// The most items of all hosts in a run.
+pub const MAX_HOST_ITEMS: u64 = 1_099_511_627_776;
+
+/// An item of a host, with what it showed.
+#[derive(Drop)]
+pub enum Shown {
+    Write { array: u8, cell: u32, value: i64 },
+    Print { range: Range, values: Listed<i64> },
+    /// The host saw that each queue of the device had performed so many batches.
+    Seen { device: DeviceId, counts: [u64; 8] },
+}
+
+/// An entry of the work history.
+#[derive(Drop)]
+pub enum WorkEntry {
+    Op { at: QueueAt, what: Op },
+    Item { host: HostId, what: Shown },
+}

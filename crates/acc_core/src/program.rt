@@ -1,0 +1,55 @@
+use crate::directive::Directive;
+use acc_base::{DeviceId, Fault, HostId, Listed, Range};
+
+/// What a statement does.
+#[derive(Drop)]
+pub enum Act {
+    Place { directive: Directive },
+    Write { array: u8, cell: u32, value: i64 },
+    Print { range: Range },
+}
+
+/// A statement of a host's program, with the line that it stands in.
+#[derive(Drop)]
+pub struct Statement {
+    pub line: u32,
+    pub act: Act,
+}
+
+/// What a host does, statement by statement.
+#[derive(Drop)]
+pub struct HostProgram {
+    pub host: HostId,
+    pub statements: Listed<Statement>,
+}
+
+/// Where a host stands in its program; `ended` counts the statements that it has ended.
+#[derive(Clone, Copy, Debug, PartialEq, Eq)]
+pub enum HostState {
+    Running {
+        ended: usize,
+    },
+    Finished,
+    Refused {
+        ended: usize,
+        line: u32,
+        fault: Fault,
+    },
+}
+
+/// What a host does next.
+#[derive(Clone, Copy, Debug, PartialEq, Eq)]
+pub enum Phase {
+    Ready,
+    /// It waits until each queue of the device has performed so many batches.
+    Waits { device: DeviceId, counts: [u64; 8] },
+    Refused { fault: Fault },
+}
+
+/// A host: its statements, how many of them have ended, and what it does next.
+#[derive(Drop)]
+pub struct Host {
+    pub statements: Listed<Statement>,
+    pub ended: usize,
+    pub phase: Phase,
+}

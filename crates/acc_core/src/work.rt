@@ -1,0 +1,246 @@
+ghost use Rattle.std.specs.Prelude.{reverse, take, ◌≡◌, ◌+◌, ◌<◌, ◌≤◌, [], length, IfOk, IfErr, OnOk, OnErr, true, ℤ, Bool, Some};
+ghost use Rattle.acc_base.specs.Queues.{same_queue};
+ghost use Rattle.acc_core.specs.Accepting.{is_in_array};
+ghost use Rattle.acc_core.specs.Answers.{item_fault};
+ghost use Rattle.acc_core.specs.declared.log.TheConstants.{MAX_HOST_ITEMS};
+ghost use Rattle.acc_core.specs.Legality.{made};
+ghost use Rattle.acc_core.specs.Logs.{items_of, all_items, values_of};
+ghost use Rattle.acc_core.specs.Memories.{Shows, lengths_of};
+ghost use Rattle.acc_core.specs.Tasks.{op_of, ops_in, AllReady};
+ghost use Rattle.acc_core.specs.Values.{Cell};
+ghost use Rattle.acc_core.specs.Works.{WorkView, Performs, NextMayFollow, HasShown, HasRoom, sync};
+
+use crate::log::{MAX_HOST_ITEMS, Shown, WorkEntry};
+use crate::memory::Memory;
+use crate::operation::Op;
+use crate::task::Task;
+use acc_base::{Config, DeviceId, Fault, HostId, Listed, QueueAt, QueueId, Range};
+use std::alloc::Global;
+use std::collections::VecDeque;
+use std::marker::Model;
+
+/// The work side: the memory, the batch that is being performed, and the log of what was done.
+#[derive(Drop)]
+pub struct Work {
+    alloc: Global,
+    memory: Memory,
+    log: Vec<WorkEntry>,
+    lane: VecDeque<Task>,
+    lane_host: HostId,
+    lane_items: u64,
+    items: [u64; 8],
+    all_items: u64,
+}
+
+impl Model for Work {
+    ghost use Rattle.std.specs.Prelude.{reverse, vec_capacity};
+    ghost use Rattle.acc_core.specs.Tasks.{ops_in, AllReady};
+    ghost use Rattle.acc_core.specs.Works.{WorkView, IsWork};
+
+    ghost Value = { WorkView };
+
+    ghost view = { λ w. record { memory = w.memory; work = reverse w.log.items; room = vec_capacity w.log; lane = ops_in w.lane.items; lane_host = w.lane_host; lane_items = w.lane_items } };
+
+    ghost invariant = { λ w. IsWork (reverse w.log.items) w.items w.all_items × AllReady w.lane.items };
+}
+
+/// The queue that synchronous directives use.
+pub fn sync_queue() -> QueueAt
+    ensures { result ≡ sync }
+{
+    QueueAt {
+        device: DeviceId::new(0),
+        queue: QueueId::SYNC,
+    }
+}
+
+// The operation that a task performs.
+fn operation_of(task: &Task) -> Op
+    ensures { result ≡ op_of task.now }
+{
+    match task {
+        Task::Make { block, range, .. } => Op::Make {
+            block: *block,
+            range: *range,
+        },
+        Task::CopyIn { block, range } => Op::CopyIn {
+            block: *block,
+            range: *range,
+        },
+        Task::CopyOut { block, range } => Op::CopyOut {
+            block: *block,
+            range: *range,
+        },
+        Task::Release { block } => Op::Release { block: *block },
+    }
+}
+
+impl Work {
+    ghost use Rattle.acc_base.specs.declared.fault.Fault.TheVariants.{Memory as no_memory};
+    ghost use Rattle.acc_core.specs.declared.log.Shown.TheVariants.{Write, Print, Seen};
+    ghost use Rattle.acc_core.specs.declared.log.WorkEntry.TheVariants as entry;
+    ghost use Rattle.std.specs.Prelude.{◌∷◌, ◌^◌};
+    ghost use Rattle.acc_core.specs.Works.{HasPrinted};
+
+    pub fn new(alloc: Global, config: &Config) -> Result<Work, Fault>
+        ensures arrays { IfOk result (λ w. w.memory.arrays ≡ config.now.arrays) }
+        ensures rows { IfOk result (λ w. w.memory.rows ≡ []) }
+        ensures work { IfOk result (λ w. w.work ≡ []) }
+        ensures lane { IfOk result (λ w. w.lane ≡ []) }
+        ensures lane_host { IfOk result (λ w. w.lane_host < 8) }
+        ensures fault { IfErr result (λ f. f ≡ no_memory) }
+    {
+        let memory = Memory::new(alloc, config)?;
+        Ok(Work {
+            alloc,
+            memory,
+            log: Vec::new(alloc),
+            lane: VecDeque::new(alloc),
+            lane_host: HostId::new(0),
+            lane_items: 0,
+            items: [0; 8],
+            all_items: 0,
+        })
+    }
+
+    /// Makes room for so many more operations.
+    pub fn spare(&mut self, count: usize) -> Result<(), Fault>
+        ensures kept { HasRoom self.old self.new }
+        ensures log { OnOk result (length self.new.work + count ≤ self.new.room) }
+        ensures blocks { OnOk result (length self.new.memory.rows + count ≤ self.new.memory.room) }
+        ensures fault { IfErr result (λ f. f ≡ no_memory) }
+    {
+        self.memory.spare(count)?;
+        self.log.reserve(count)?;
+        Ok(())
+    }
+
+    /// Makes room for one more item of a host beside so many operations, if the run may have one more.
+    pub fn spare_item(&mut self, waiting: usize) -> Result<(), Fault>
+        ensures kept { HasRoom self.old self.new }
+        ensures room { OnOk result (length self.new.work + waiting < self.new.room) }
+        ensures few { OnOk result (all_items self.old.work < MAX_HOST_ITEMS) }
+        ensures fault { IfErr result (λ f. (lacks : Bool) × (item_fault lacks self.old.work true ≡ Some f)) }
+    {
+        if self.all_items >= MAX_HOST_ITEMS {
+            return Err(Fault::TooMany);
+        }
+        match waiting.checked_add(1) {
+            Some(count) => self.spare(count),
+            None => Err(Fault::Memory),
+        }
+    }
+
+    /// Whether it performs the operations of this queue.
+    pub fn has_queue(&self, at: QueueAt) -> bool
+        ensures { result ≡ same_queue at sync }
+    {
+        let _ = &self.lane;
+        at == sync_queue()
+    }
+
+    /// How many operations are left in the lane.
+    pub fn left(&self) -> usize
+        ensures { result ≡ length self.now.lane }
+    {
+        self.lane.len()
+    }
+
+    /// How many items a host has.
+    pub fn items_of(&self, host: HostId) -> u64
+        requires { host < 8 }
+        ensures { result ≡ items_of host self.now.work }
+    {
+        self.items[usize::from(host.number())]
+    }
+
+    /// Fills the empty lane.
+    pub fn offer(&mut self, host: HostId, items_done: u64, tasks: VecDeque<Task>)
+        requires { AllReady tasks.items }
+        ensures { self.new ≡ record self.old { lane = ops_in tasks.items; lane_host = host; lane_items = items_done } }
+    {
+        self.lane = tasks;
+        self.lane_host = host;
+        self.lane_items = items_done;
+    }
+
+    /// Performs the lane's next operation, if its host's items allow it.
+    pub fn perform(&mut self) -> bool
+        requires next { NextMayFollow self.old self.old.lane }
+        requires host { self.old.lane_host < 8 }
+        ensures { Performs self.old self.old.lane result self.new }
+    {
+        if self.items[usize::from(self.lane_host.number())] < self.lane_items {
+            return false;
+        }
+        match self.lane.pop_front() {
+            None => false,
+            Some(task) => {
+                let what = operation_of(&task);
+                self.memory.perform(task);
+                self.log.push_reserved(WorkEntry::Op {
+                    at: sync_queue(),
+                    what,
+                });
+                true
+            }
+        }
+    }
+
+    /// A host writes a cell.
+    pub fn write(&mut self, host: HostId, array: u8, cell: u32, value: i64)
+        requires host { host < 8 }
+        requires cell { is_in_array self.old.memory.arrays (record { array = array; lo = cell; len = 1 }) ≡ true }
+        requires room { length self.old.work < self.old.room }
+        requires few { all_items self.old.work < 2 ^ 63 }
+        ensures { HasShown self.old self.new host (Write array cell value) }
+    {
+        self.memory.write(array, cell, value);
+        self.push_item(host, Shown::Write { array, cell, value });
+    }
+
+    /// A host prints a range.
+    pub fn print(&mut self, host: HostId, range: Range) -> Result<(), Fault>
+        requires host { host < 8 }
+        requires range { is_in_array self.old.memory.arrays range ≡ true }
+        requires room { length self.old.work < self.old.room }
+        requires few { all_items self.old.work < 2 ^ 63 }
+        ensures shown { OnOk result (HasPrinted self.old self.new host range) }
+        ensures kept { OnErr result (self.new ≡ self.old) }
+        ensures fault { IfErr result (λ f. f ≡ no_memory) }
+    {
+        let values = Listed::from_vec(self.memory.print(self.alloc, range)?);
+        self.push_item(host, Shown::Print { range, values });
+        Ok(())
+    }
+
+    /// A host has seen that the queues of a device performed so many batches.
+    pub fn see(&mut self, host: HostId, device: DeviceId, counts: [u64; 8])
+        requires host { host < 8 }
+        requires room { length self.old.work < self.old.room }
+        requires few { all_items self.old.work < 2 ^ 63 }
+        ensures { HasShown self.old self.new host (Seen device counts) }
+    {
+        self.push_item(host, Shown::Seen { device, counts });
+    }
+
+    /// The log, the latest entry last.
+    pub fn into_log(self) -> Vec<WorkEntry>
+        ensures { result.items ≡ reverse self.work }
+    {
+        let Work { log, .. } = self;
+        log
+    }
+
+    fn push_item(&mut self, host: HostId, what: Shown)
+        requires host { host < 8 }
+        requires room { length self.old.work < self.old.room }
+        requires few { all_items self.old.work < 2 ^ 63 }
+        ensures { self.new ≡ record self.old { work = entry.Item host what ∷ self.old.work } }
+    {
+        let index = usize::from(host.number());
+        self.items[index] += 1;
+        self.all_items += 1;
+        self.log.push_reserved(WorkEntry::Item { host, what });
+    }
+}

@@ -1,0 +1,336 @@
+ghost use Rattle.std.specs.Prelude.{◌≡◌, ◌+◌, ◌<◌, ◌≤◌, [], length, map, All, reverse, slice_get, IfOk, IfErr, OnOk, OnErr, None, Some, true, false, Bool, ◌^◌};
+ghost use Rattle.std.specs.Option.{option_map};
+ghost use Rattle.acc_present.specs.Presences.{presences, holder};
+ghost use Rattle.acc_present.specs.Tables.{entry_presence};
+ghost use Rattle.acc_core.specs.Machine.{Step, standing_of};
+ghost use Rattle.acc_core.specs.Logs.{all_done};
+ghost use Rattle.acc_core.specs.Ties.{labels_of};
+ghost use Rattle.acc_core.specs.declared.log.Shown.TheVariants.{Seen};
+ghost use Rattle.acc_core.specs.Steps.{owed_by};
+ghost use Rattle.acc_core.specs.Worlds.{OnePerHost, world_fault, ready, opening, Ran, owed_in, after_answer, reply_to, Acts, Sees, HostSteps, HasStatement, state_of, line_of};
+
+use crate::accelerator::Accelerator;
+use crate::directive::{PlaceEntry, Placed};
+use crate::event::{Event, Reply};
+use crate::log::WorkEntry;
+use crate::program::{Act, Host, HostProgram, HostState, Phase};
+use acc_base::{Config, DeviceId, Fault, HostId, QueueId, Range};
+use acc_present::Entry;
+use std::alloc::Global;
+use std::marker::Model;
+
+/// What a run leaves: the configuration; the place history, with how many items the host of each directive
+/// had before it, and the work history, the latest entry last; and where each host stands.
+#[derive(Drop)]
+pub struct Outcome {
+    pub config: Config,
+    pub places: Vec<PlaceEntry>,
+    pub counts: Vec<u64>,
+    pub works: Vec<WorkEntry>,
+    pub hosts: Vec<HostState>,
+}
+
+/// The hosts, and the accelerator that they share.
+#[derive(Drop)]
+pub struct World {
+    alloc: Global,
+    accelerator: Accelerator,
+    hosts: Vec<Host>,
+    // Empty, with room for the state of each host, so that `outcome` takes no memory.
+    states: Vec<HostState>,
+}
+
+impl Model for World {
+    ghost use Rattle.std.specs.Prelude.{vec_capacity};
+    ghost use Rattle.acc_core.specs.Machine.{State};
+    ghost use Rattle.acc_core.specs.Worlds.{IsWorld};
+
+    ghost Value = { State };
+
+    ghost view = { λ w. record w.accelerator { hosts = w.hosts.items } };
+
+    ghost invariant = { λ w. IsWorld (record w.accelerator { hosts = w.hosts.items }) w.states.items (vec_capacity w.states) };
+}
+
+impl World {
+    ghost use Rattle.acc_base.specs.declared.fault.Fault.TheVariants.{Memory};
+
+    /// Nothing is accepted, performed or shown yet, and each host is ready for its first statement.
+    ///
+    /// # Errors
+    ///
+    /// The first of: `BadDevice` for more than one device, `TooMany` for more than one host, `Memory` for
+    /// want of memory.
+    pub fn new(alloc: Global, config: Config, programs: Vec<HostProgram>) -> Result<World, Fault>
+        requires { OnePerHost config programs.items }
+        ensures opened { IfOk result (λ w. w ≡ opening config programs.items) }
+        ensures allowed { OnOk result (world_fault false config ≡ None) }
+        ensures refused { IfErr result (λ fault. (no_memory : Bool) × (world_fault no_memory config ≡ Some fault)) }
+    {
+        config.keeps_limits();
+        if config.devices() > 1 {
+            return Err(Fault::BadDevice);
+        }
+        if config.hosts() > 1 {
+            return Err(Fault::TooMany);
+        }
+        World::open(alloc, config, programs)
+    }
+
+    // The world of one device, before the first step.
+    fn open(alloc: Global, config: Config, programs: Vec<HostProgram>) -> Result<World, Fault>
+        requires one_device { config.devices ≡ 1 }
+        requires few_hosts { length programs.items ≤ 8 }
+        ensures opened { IfOk result (λ w. w ≡ opening config programs.items) }
+        ensures refused { IfErr result (λ fault. fault ≡ Memory) }
+    {
+        let states = Vec::with_capacity(alloc, programs.len())?;
+        let hosts = ready_hosts(alloc, programs)?;
+        let accelerator = Accelerator::new(alloc, config)?;
+        Ok(World {
+            alloc,
+            accelerator,
+            hosts,
+            states,
+        })
+    }
+
+    /// One step: a host goes on, or a queue takes a batch or performs an operation. `Idle` where that is not
+    /// possible now, or there is no such host or queue.
+    pub fn step(&mut self, event: Event) -> Reply
+        ensures { Step self.old event result self.new }
+    {
+        match event {
+            Event::Host(number) => {
+                let index = usize::from(number.number());
+                if index < self.hosts.len() {
+                    host_step(&mut self.accelerator, number, &mut self.hosts[index])
+                } else {
+                    Reply::Idle
+                }
+            }
+            Event::Take(at) => self.accelerator.take(at),
+            Event::Perform(at) => self.accelerator.perform(at),
+        }
+    }
+
+    /// One step for each event, in order, with a reply to each.
+    ///
+    /// # Errors
+    ///
+    /// `Memory` for want of memory, before the first step.
+    pub fn run(&mut self, events: &[Event]) -> Result<Vec<Reply>, Fault>
+        ensures ran { IfOk result (λ replies. Ran self.old events.now replies.items self.new) }
+        ensures kept { OnErr result (self.new ≡ self.old) }
+        ensures refused { IfErr result (λ fault. fault ≡ Memory) }
+    {
+        let mut replies = Vec::with_capacity(self.alloc, events.len())?;
+        for event in events {
+            replies.push_reserved(self.step(*event));
+        }
+        Ok(replies)
+    }
+
+    /// The structured and the dynamic counter of the range, or of the present range that contains it.
+    pub fn counters(&self, range: Range) -> Option<(u64, u64)>
+        requires { 0 < range.len }
+        ensures { result ≡ option_map (λ p. (p.s, p.d)) (holder (presences ((standing_of self.now).marks 0)) range) }
+    {
+        self.accelerator.counters(range)
+    }
+
+    /// The present range at this place, by array, then by lower bound.
+    pub fn nth(&self, place: usize) -> Option<&Entry>
+        ensures { option_map (λ e. entry_presence e.now) result ≡ slice_get (presences ((standing_of self.now).marks 0)) place }
+    {
+        self.accelerator.nth(place)
+    }
+
+    /// What the run so far leaves. A host that was refused has the line of the statement that it stands at.
+    /// Takes no memory.
+    pub fn outcome(self) -> Outcome
+        ensures config { result.config ≡ self.config }
+        ensures places { result.places.items ≡ reverse self.history }
+        ensures counts { result.counts.items ≡ reverse self.counts }
+        ensures works { result.works.items ≡ reverse self.work }
+        ensures hosts { result.hosts.items ≡ map state_of self.hosts }
+        ensures lines { All HasStatement self.hosts }
+    {
+        let World {
+            alloc: _,
+            accelerator,
+            hosts,
+            mut states,
+        } = self;
+        for host in hosts.iter() {
+            states.push_reserved(state_of(host));
+        }
+        let (config, places, counts, works) = accelerator.into_histories();
+        Outcome {
+            config,
+            places,
+            counts,
+            works,
+            hosts: states,
+        }
+    }
+}
+
+// What a host waits for: each queue of the device has performed so many batches.
+#[derive(Clone, Copy)]
+struct Awaited {
+    device: DeviceId,
+    counts: [u64; 8],
+}
+
+// The hosts of these programs, each ready for its first statement.
+fn ready_hosts(alloc: Global, programs: Vec<HostProgram>) -> Result<Vec<Host>, Fault>
+    ensures hosts { IfOk result (λ hosts. hosts.items ≡ map ready programs.items) }
+    ensures refused { IfErr result (λ fault. fault ≡ Fault.Memory) }
+{
+    let mut hosts = Vec::with_capacity(alloc, programs.len())?;
+    for program in programs {
+        let HostProgram {
+            host: _,
+            statements,
+        } = program;
+        hosts.push_reserved(Host {
+            statements,
+            ended: 0,
+            phase: Phase::Ready,
+        });
+    }
+    Ok(hosts)
+}
+
+// The next step of a host.
+fn host_step(accelerator: &mut Accelerator, number: HostId, host: &mut Host) -> Reply
+    requires number { number < 8 }
+    requires statement { HasStatement host.old }
+    ensures steps { HostSteps accelerator.old number host.old result accelerator.new host.new }
+    ensures statement { HasStatement host.new }
+{
+    if host.ended >= host.statements.as_slice().len() {
+        return Reply::Idle;
+    }
+    match &host.phase {
+        Phase::Ready => {
+            let statement = &host.statements.as_slice()[host.ended];
+            let answer = act(accelerator, number, &statement.act);
+            settle(host, answer)
+        }
+        Phase::Waits { device, counts } => {
+            if !accelerator.reached(*device, counts) {
+                return Reply::Idle;
+            }
+            let answer = see(accelerator, number, *device, *counts);
+            settle(host, answer)
+        }
+        Phase::Refused { .. } => Reply::Idle,
+    }
+}
+
+// A host sees what it waited for.
+fn see(
+    accelerator: &mut Accelerator,
+    number: HostId,
+    device: DeviceId,
+    counts: [u64; 8],
+) -> Result<Option<Awaited>, Fault>
+    requires number { number < 8 }
+    requires reached { all_done (labels_of accelerator.old) accelerator.old.work device 0 counts ≡ true }
+    ensures { Sees accelerator.old number (Seen device counts) result accelerator.new }
+{
+    accelerator.see(number, device, counts)?;
+    Ok(None)
+}
+
+// Does a statement, and says what its host then waits for.
+fn act(accelerator: &mut Accelerator, number: HostId, act: &Act) -> Result<Option<Awaited>, Fault>
+    requires { number < 8 }
+    ensures { Acts accelerator.old number act.now result accelerator.new }
+{
+    match act {
+        Act::Place { directive } => match accelerator.place(number, directive) {
+            Ok(placed) => Ok(owed(placed)),
+            Err(fault) => Err(fault),
+        },
+        Act::Write { array, cell, value } => {
+            accelerator.write(number, *array, *cell, *value)?;
+            Ok(None)
+        }
+        Act::Print { range } => {
+            accelerator.print(number, *range)?;
+            Ok(None)
+        }
+    }
+}
+
+// A batch on queue sync is waited for.
+fn owed(placed: Placed) -> Option<Awaited>
+    ensures { owed_in result ≡ owed_by placed }
+{
+    match placed.batch {
+        Some((at, number)) if at.queue == QueueId::SYNC => {
+            let mut counts = [0; 8];
+            counts[0] = number;
+            Some(Awaited {
+                device: at.device,
+                counts,
+            })
+        }
+        _ => None,
+    }
+}
+
+// A host goes on by the answer to its statement.
+fn settle(host: &mut Host, answer: Result<Option<Awaited>, Fault>) -> Reply
+    requires { host.old.ended + 1 < 2 ^ 64 }
+    ensures host { host.new ≡ after_answer answer host.old }
+    ensures reply { result ≡ reply_to answer }
+{
+    match answer {
+        Ok(None) => {
+            host.ended += 1;
+            host.phase = Phase::Ready;
+            Reply::Did
+        }
+        Ok(Some(awaited)) => {
+            let counts = awaited.counts;
+            host.phase = Phase::Waits {
+                device: awaited.device,
+                counts,
+            };
+            Reply::Did
+        }
+        Err(fault) => {
+            host.phase = Phase::Refused { fault };
+            Reply::Refused(fault)
+        }
+    }
+}
+
+// The line of the statement that a host stands at.
+fn line_at(host: &Host) -> u32
+    ensures { result ≡ line_of (slice_get host.now.statements host.now.ended) }
+{
+    match host.statements.as_slice().get(host.ended) {
+        Some(statement) => statement.line,
+        None => 0,
+    }
+}
+
+// Where a host stands.
+fn state_of(host: &Host) -> HostState
+    ensures { result ≡ state_of host.now }
+{
+    match host.phase {
+        Phase::Ready if host.ended >= host.statements.as_slice().len() => HostState::Finished,
+        Phase::Refused { fault } => HostState::Refused {
+            ended: host.ended,
+            line: line_at(host),
+            fault,
+        },
+        _ => HostState::Running { ended: host.ended },
+    }
+}
