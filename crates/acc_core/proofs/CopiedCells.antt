@@ -1,10 +1,9 @@
 -- Each copy that a history of accepted directives places has a cell.
-use Rattle.std.proofs.Common.{◌≡◌, ℕ, ◌<◌, Bool, true, false, List, [], ◌∷◌, ◌++◌, drop, map, refl, Some, None, Option}
+use Rattle.std.proofs.Common.{◌≡◌, ℕ, ◌<◌, Bool, true, false, List, [], ◌∷◌, ◌++◌, drop, map, None}
 use Rattle.std.specs.Prelude.{All, not, nat_lt, nat_le, slice_index_or, if◌then◌else◌, slice_get, ◌+◌}
 use Rattle.std.specs.List.{flat_map}
 use Rattle.std.proofs.lemmas.Bool.{and_parts, ltb-true}
 use Rattle.std.proofs.lemmas.List.Elements.{All-nil, All-append, All-map}
-use Rattle.acc_base.specs.declared.fault.Fault.{Fault}
 use Rattle.acc_base.specs.declared.fault.Fault.TheVariants.{BadDevice, BadRange, TooMany}
 use Rattle.acc_base.specs.Configurations.{Configuration}
 use Rattle.acc_core.specs.declared.operation.Op.{Op}
@@ -19,17 +18,8 @@ use Rattle.acc_core.specs.Labels.{ops_of}
 use Rattle.acc_core.specs.Legality.{AllAccepted}
 use Rattle.acc_core.specs.Standings.{Standing, Walk, walk_of, Visit, visits}
 use Rattle.acc_core.specs.Ties.{HasCells}
+use Rattle.acc_core.proofs.Histories.{first_fault_none, no_fault_at}
 use Rattle.acc_core.proofs.Queues.{ops_of-labelled}
-
--- where no fault is found the first is none, and so are the others
-first_fault_none : (x : Option Fault) (xs : List (Option Fault)) → first_fault (x ∷ xs) ≡ None → (x ≡ None) × (first_fault xs ≡ None)
-first_fault_none None xs h = (refl, h)
-first_fault_none (Some f) xs h = cc
-
--- a test whose failure would be a fault has passed where there is none
-no_fault_at : (b : Bool) (f : Fault) → fault_where (not b) f ≡ None → b ≡ true
-no_fault_at true f h = refl
-no_fault_at false f h = cc
 
 -- The range of each item that is visited has a cell.
 abbrev AllHaveCells : List Visit → Type 0

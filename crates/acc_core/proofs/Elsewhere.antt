@@ -1,5 +1,5 @@
 -- Where all batches are placed on queue sync, no other queue takes a batch or performs an operation.
-use Rattle.std.proofs.Common.{inl, inr, ◌≡◌, ℕ, zero, suc, Bool, true, false, [], length, take, drop, refl, sym, ap, ◌∙◌, arith}
+use Rattle.std.proofs.Common.{inl, inr, ◌≡◌, Bool, true, false, [], length, take, drop, refl, sym, ap, ◌∙◌, arith}
 use Rattle.std.specs.Prelude.{nat_lt}
 use Rattle.std.proofs.lemmas.Bool.{cases_Bool, le-ltb}
 use Rattle.acc_base.specs.declared.ids.QueueAt.{QueueAt}
@@ -12,6 +12,7 @@ use Rattle.acc_core.specs.Machine.{State, Outcome, idle, is_there, held, rest, t
 use Rattle.acc_core.specs.Ties.{labels_of}
 use Rattle.acc_core.specs.Works.{sync}
 use Rattle.acc_core.proofs.Histories.{placed_use}
+use Rattle.acc_core.proofs.Performing.{no_rest}
 use Rattle.acc_core.proofs.Queues.{AllAt, on_queue_none, same_queue_is, same_queue_itself}
 
 -- a queue that isn't sync has no batch
@@ -24,15 +25,9 @@ none_placed w at one legal differ =
       | inr other ↦ on_queue_none sync at (labels_of w) all other
     ]
 
-no_ops : (taken n : ℕ) → drop n (ops_of (take taken [])) ≡ []
-no_ops zero zero = refl
-no_ops zero (suc n) = refl
-no_ops (suc taken) zero = refl
-no_ops (suc taken) (suc n) = refl
-
 none_left : (w : State) (at : QueueAt) → on_queue at (labels_of w) ≡ [] → rest w (labels_of w) at ≡ []
 none_left w at none =
-    ap (λ ls. drop (length (performed at w.work)) (ops_of (take (taken_on w at) ls))) none ∙ no_ops (taken_on w at) (length (performed at w.work))
+    ap (λ ls. drop (length (performed at w.work)) (ops_of (take (taken_on w at) ls))) none ∙ no_rest (taken_on w at) (length (performed at w.work))
 
 none_held : (w : State) (at : QueueAt) → on_queue at (labels_of w) ≡ [] → nat_lt 0 (held w (labels_of w) at) ≡ false
 none_held w at none = le-ltb 0 (held w (labels_of w) at) (omega (arith, ap length none))

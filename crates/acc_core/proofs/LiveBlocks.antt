@@ -1,5 +1,5 @@
 -- The blocks that are there after a log, against those that were made and released.
-use Rattle.std.proofs.Common.{inl, inr, ◌≡◌, ℕ, zero, suc, Bool, true, false, cond, List, [], ◌∷◌, ◌++◌, map, refl, sym, ap, ◌∙◌, arith, Some, None, Option}
+use Rattle.std.proofs.Common.{inl, inr, ◌≡◌, ℕ, Bool, true, false, cond, List, [], ◌∷◌, ◌++◌, map, refl, sym, ap, ◌∙◌, arith, Some, None, Option}
 use Rattle.std.specs.Prelude.{All, Contains, not, filter, nat_lt, ◌==◌, ℤ}
 use Rattle.std.specs.Option.{option_or}
 use Rattle.std.proofs.lemmas.Bool.{cases_Bool, eqb-true, eq-eqb, ne_eqb, le-ltb}
@@ -15,6 +15,8 @@ use Rattle.acc_core.specs.Legality.{Made, made, released, UsesLive, AllLive}
 use Rattle.acc_core.specs.Logs.{device_ops}
 use Rattle.acc_core.specs.Memories.{block_placed_in, blocks_after, find_block}
 use Rattle.acc_core.specs.Ties.{blocks_by, blocks_in}
+use Rattle.acc_core.proofs.Members.{no_member, member_one}
+use Rattle.acc_core.proofs.Uses.{made-append, released-append}
 
 -- one value behind a test, or else behind its contrary, is that value
 either_way : (t : Bool) (o : Option Made) → option_or (cond t o None) (cond (not t) o None) ≡ o
@@ -80,18 +82,9 @@ pub record Held (arrays : List (List ℤ)) (makings : List Made) (gone : List �
   pub absent : (b : ℕ) → (Contains (map (λ (m : Made). m.block) makings) b → ⊥) → find_block bs b ≡ None
   pub inside : (m : Made) → Contains makings m → is_in_array arrays m.range ≡ true
 
--- an empty list has no member
-no_member : {X : Type 0} (x : X) → Contains [] x → ⊥
-no_member x h = absurd (omega (arith, h.1))
-
 -- a list of one has that member
 member_only : {X : Type 0} (x : X) → Contains (x ∷ []) x
 member_only x = (0, omega arith, refl)
-
--- a member of a list of one is that one
-member_one : {X : Type 0} (x y : X) → Contains (y ∷ []) x → y ≡ x
-member_one x y (zero, low, e) = e
-member_one x y (suc k, low, e) = absurd (omega (arith, low))
 
 -- the number of a block that was made is among the numbers of those
 number_member : (makings : List Made) (m : Made) → Contains makings m → Contains (map (λ (x : Made). x.block) makings) m.block
@@ -142,22 +135,6 @@ held_release arrays makings gone bs b h = record {
   absent = λ c none. find_none b bs c (h.absent c none);
   inside = h.inside;
 }
-
--- what two lists of operations made
-made-append : (xs ys : List Op) → made (xs ++ ys) ≡ made xs ++ made ys
-made-append [] ys = refl
-made-append (Make b r ∷ xs) ys = ap (λ ms. record { block = b; range = r } ∷ ms) (made-append xs ys)
-made-append (CopyIn b r ∷ xs) ys = made-append xs ys
-made-append (CopyOut b r ∷ xs) ys = made-append xs ys
-made-append (Release b ∷ xs) ys = made-append xs ys
-
--- what two lists of operations released
-released-append : (xs ys : List Op) → released (xs ++ ys) ≡ released xs ++ released ys
-released-append [] ys = refl
-released-append (Make b r ∷ xs) ys = released-append xs ys
-released-append (CopyIn b r ∷ xs) ys = released-append xs ys
-released-append (CopyOut b r ∷ xs) ys = released-append xs ys
-released-append (Release b ∷ xs) ys = ap (λ bs. b ∷ bs) (released-append xs ys)
 
 -- the blocks after one more operation are what it makes of those before it
 pub blocks_by_more : (bs : List Made) (ops : List Op) (op : Op) → blocks_by bs (ops ++ op ∷ []) ≡ blocks_after op (blocks_by bs ops)

@@ -62,7 +62,7 @@ use_at arrays before [] op ys h = rw (append-nil before) h.0
 use_at arrays before (x ∷ xs) op ys h = rw (← append_assoc before (x ∷ []) xs) (use_at arrays (before ++ x ∷ []) xs op ys h.1)
 
 -- nothing is left where nothing was placed
-no_rest : (taken n : ℕ) → drop n (ops_of (take taken [])) ≡ []
+pub no_rest : (taken n : ℕ) → drop n (ops_of (take taken [])) ≡ []
 no_rest zero zero = refl
 no_rest zero (suc n) = refl
 no_rest (suc taken) zero = refl

@@ -152,7 +152,7 @@ queued_more w w' v v' queue b t waiting waiting' q e f k at host some ready more
     }
 
 -- the memory shows the same values where room was made
-remembers_room : (w w' : State) (v v' : WorkView) → Remembers w v → w'.config ≡ w.config → w'.work ≡ w.work → HasRoom v v' → Remembers w' v'
+pub remembers_room : (w w' : State) (v v' : WorkView) → Remembers w v → w'.config ≡ w.config → w'.work ≡ w.work → HasRoom v v' → Remembers w' v'
 remembers_room w w' v v' r c f k = record {
   shows = rw (c, f, k.arrays, k.rows) r.shows;
   blocks = rw (f, k.rows) r.blocks;

@@ -16,28 +16,17 @@ use Rattle.acc_core.specs.Answers.{item_fault}
 use Rattle.acc_core.specs.Legality.{ShowsTruth}
 use Rattle.acc_core.specs.Logs.{all_items, value}
 use Rattle.acc_core.specs.Machine.{State}
-use Rattle.acc_core.specs.Memories.{Shows, held_blocks, lengths_of}
-use Rattle.acc_core.specs.Ties.{IsAccelerator, Remembers, labels_of}
+use Rattle.acc_core.specs.Memories.{lengths_of}
+use Rattle.acc_core.specs.Ties.{IsAccelerator, labels_of}
 use Rattle.acc_core.specs.Works.{WorkView, HasRoom, HasShown, HasPrinted}
 use Rattle.acc_core.proofs.Advancing.{with_work}
 use Rattle.acc_core.proofs.Keeping.{legal_item}
+use Rattle.acc_core.proofs.Placing.{remembers_room}
 use Rattle.acc_core.proofs.Remembering.{remembers_shown, length_held, same_ends}
-
--- more room leaves a memory what it shows
-remembers_roomier : {w : State} {v v' : WorkView} → Remembers w v → HasRoom v v' → Remembers w v'
-remembers_roomier {w = w} {v = v} {v' = v'} m h =
-    let was = value w.config.arrays w.work in
-    record {
-      shows =
-          subst (λ arrays. Shows (record { arrays = arrays; rows = v'.memory.rows; room = 0 }) was) (sym h.arrays)
-          (subst (λ rows. Shows (record { arrays = v.memory.arrays; rows = rows; room = 0 }) was) (sym h.rows) m.shows);
-      blocks = ap (λ rows. held_blocks (record { arrays = v.memory.arrays; rows = rows; room = 0 })) h.rows ∙ m.blocks;
-      lengths = ap lengths_of h.arrays ∙ m.lengths;
-    }
 
 -- more room leaves an accelerator what it is
 pub roomier : {w : State} {v v' : WorkView} {queue : List Batch} {t waiting queue_room : ℕ} → IsAccelerator w v queue t waiting queue_room → HasRoom v v' → IsAccelerator w v' queue t waiting queue_room
-roomier {v = v} {v' = v'} a h =
+roomier {w = w} {v = v} {v' = v'} a h =
     let q = a.parts in
     record {
       one_device = a.one_device;
@@ -71,7 +60,7 @@ roomier {v = v} {v' = v'} a h =
         hosts = q.hosts;
         lane_host = rw h.lane_host q.lane_host;
       };
-      memory = remembers_roomier a.memory h;
+      memory = remembers_room w w v v' a.memory refl refl h;
     }
 
 -- a range lies in its array where the arrays are as long

@@ -176,13 +176,6 @@ impl Place {
         self.batches
     }
 
-    /// How many batches have been placed.
-    pub fn batches(&self) -> u64
-        ensures { result ≡ length (standing_in self.now).labels }
-    {
-        self.batches
-    }
-
     /// The structured and the dynamic counter of a range that is present on the device.
     pub fn counters(&self, range: Range) -> Option<(u64, u64)>
         requires { 0 < range.len }

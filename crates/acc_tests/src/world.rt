@@ -164,10 +164,18 @@ fn an_overlapping_range_is_refused(rt: HostRuntime) -> Result<(), Fail> {
     )?;
     let replies = world.run(&[host(), take(), perform(), perform(), host(), host(), host()])?;
     assert_eq!(rt;
-        replies.as_slice().get(5).copied(),
-        Some(Reply::Refused(Fault::PartlyPresent))
+        replies.as_slice(),
+        [
+            Reply::Did,
+            Reply::Did,
+            Reply::Did,
+            Reply::Did,
+            Reply::Did,
+            Reply::Refused(Fault::PartlyPresent),
+            Reply::Idle,
+        ]
+        .as_slice()
     );
-    assert_eq!(rt; replies.as_slice().get(6).copied(), Some(Reply::Idle));
     assert_eq!(rt; world.counters(cells(0, 4)), Some((0, 1)));
     assert_eq!(rt; world.counters(cells(2, 4)), None);
     let outcome = world.outcome();
