@@ -25,15 +25,15 @@ use Rattle.acc_core.specs.declared.program.Phase.TheVariants as phase
 use Rattle.acc_core.specs.Machine.{State, Outcome, step, standing_of}
 use Rattle.acc_core.specs.Standings.{Standing}
 
-pub record Ran : Type 0 where
+pub record Played : Type 0 where
   pub replies : List Reply
   pub state : State
 
-abbrev pub ran_on : Ran → Outcome → Ran
+abbrev pub ran_on : Played → Outcome → Played
 ran_on r o = record { replies = r.replies ++ o.reply ∷ []; state = o.state }
 
 -- events one after another, where memory is never refused
-abbrev pub all_from : List Event → Ran → Ran
+abbrev pub all_from : List Event → Played → Played
 all_from [] r = r
 all_from (e ∷ es) r = all_from es (ran_on r (step false r.state e))
 
@@ -68,15 +68,15 @@ abbrev pub perform : Event
 perform = event.Perform sync
 
 -- what is looked at in the end
-pub record Seen : Type 0 where
+pub record Look : Type 0 where
   pub replies : List Reply
   pub present : List Presence
   pub work : List WorkEntry
   pub ended : List ℕ
   pub phases : List Phase
 
-abbrev pub seen_with : Ran → Standing → Seen
-seen_with r st =
+abbrev pub look_with : Played → Standing → Look
+look_with r st =
     record {
       replies = r.replies;
       present = presences (st.marks 0);
@@ -85,11 +85,11 @@ seen_with r st =
       phases = map (λ (h : Host). h.phase) r.state.hosts;
     }
 
-abbrev pub seen_in : Ran → Seen
-seen_in r = seen_with r (standing_of r.state)
+abbrev pub look_in : Played → Look
+look_in r = look_with r (standing_of r.state)
 
-abbrev pub seen_after : List Event → State → Seen
-seen_after events w = seen_in (all_from events (record { replies = []; state = w }))
+abbrev pub look_after : List Event → State → Look
+look_after events w = look_in (all_from events (record { replies = []; state = w }))
 
 abbrev pub first_batch_seen : WorkEntry
 first_batch_seen = entry.Item 0 (shown.Seen 0 (1 ∷ 0 ∷ 0 ∷ 0 ∷ 0 ∷ 0 ∷ 0 ∷ 0 ∷ []))
@@ -100,7 +100,7 @@ second_batch_seen = entry.Item 0 (shown.Seen 0 (2 ∷ 0 ∷ 0 ∷ 0 ∷ 0 ∷ 0 
 -- a[4] enters twice and leaves once: one batch, and the dynamic counter is 1
 abbrev pub EnteredTwice : Type 0
 EnteredTwice =
-    seen_after
+    look_after
     (host ∷ host ∷ take_batch ∷ take_batch ∷ perform ∷ perform ∷ perform ∷ host ∷ host ∷ host ∷ host ∷ [])
     (world ((pos 0 ∷ pos 0 ∷ pos 0 ∷ pos 0 ∷ []) ∷ [])
     (place kind.EnterData Copyin (cells 0 4) ∷ place kind.EnterData Copyin (cells 0 4) ∷ place kind.ExitData Delete (cells 0 4) ∷ []))
@@ -115,7 +115,7 @@ EnteredTwice =
 -- of a[8] the first half enters, and then a range that overlaps it
 abbrev pub OverlapRefused : Type 0
 OverlapRefused =
-    seen_after
+    look_after
     (host ∷ take_batch ∷ perform ∷ perform ∷ host ∷ host ∷ host ∷ [])
     (world ((pos 0 ∷ pos 0 ∷ pos 0 ∷ pos 0 ∷ pos 0 ∷ pos 0 ∷ pos 0 ∷ pos 0 ∷ []) ∷ [])
     (place kind.EnterData Copyin (cells 0 4) ∷ place kind.EnterData Copyin (cells 2 4) ∷ []))
@@ -130,7 +130,7 @@ OverlapRefused =
 -- the host writes a[0] while the device holds a; the copy out brings the device's values back
 abbrev pub StaleHostCopy : Type 0
 StaleHostCopy =
-    seen_after
+    look_after
     (host ∷ take_batch ∷ perform ∷ perform ∷ host ∷ host ∷ host ∷ take_batch ∷ perform ∷ perform ∷ host ∷ host ∷ [])
     (world ((pos 1 ∷ pos 2 ∷ pos 3 ∷ pos 4 ∷ []) ∷ [])
     (place kind.EnterData Copyin (cells 0 4) ∷ act.Write 0 0 (pos 9) ∷ place kind.ExitData Copyout (cells 0 4) ∷ act.Print (cells 0 4) ∷ []))

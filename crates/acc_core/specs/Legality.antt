@@ -161,12 +161,6 @@ pub record LegalCut (old : State) (first second : List Event) (replies : List Re
   pub follow : AllFollow mid 0 mid.hosts
   pub after : Runs mid second (drop (length first) replies) new
 
--- After each prefix of a list of events the state is legal.
-abbrev pub LegalAfterEveryPrefix : Type 0
-LegalAfterEveryPrefix =
-    (old new : State) (first second : List Event) (replies : List Reply) → IsStart old
-    → Runs old (first ++ second) replies new → LegalCut old first second replies new
-
 -- The count of performed batches is the greatest n for which the operations of the first n batches are a prefix of what was performed.
 abbrev pub WholeIsGreatest : Type 0
 WholeIsGreatest =

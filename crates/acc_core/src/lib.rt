@@ -17,7 +17,7 @@ mod world;
 
 pub use directive::{Clause, Directive, Item, Kind, MAX_DIRECTIVES, MAX_ITEMS, PlaceEntry, Placed};
 pub use event::{Event, Reply};
-pub use laws::worked_programs;
+pub use laws::{whole_is_greatest, worked_programs};
 pub use log::{MAX_HOST_ITEMS, Shown, WorkEntry};
 pub use operation::{Label, Op};
 pub use program::{Act, HostProgram, HostState, Statement};
