@@ -91,10 +91,6 @@ ended_within zero statements past h = omega arith
 ended_within (suc ended) [] past h = absurd h
 ended_within (suc ended) (s ∷ statements) past h = omega (arith, ended_within ended statements h.1 h.4)
 
--- and so of a host that stands in its program
-pub Stands-within : (host : Host) (own : List Own) (items : List HostEntry) → Stands host own items → host.ended ≤ length host.statements
-Stands-within host own items s = ended_within host.ended host.statements s.past s.ended
-
 -- an item is owed
 owes_some : (o : Owed) (device : ℕ) (counts : List ℕ) → o ≡ owes_seen device counts → o ≡ nothing_owed → ⊥
 owes_some o device counts e f = cc

@@ -1,18 +1,14 @@
 -- An item of a host joins the log of an accelerator.
-use Rattle.std.proofs.Common.{◌≡◌, ℕ, ◌+◌, ◌<◌, Bool, true, false, List, ◌∷◌, length, refl, sym, ap, subst, ◌∙◌, arith, None, Some}
+use Rattle.std.proofs.Common.{◌≡◌, ℕ, ◌+◌, ◌<◌, List, ◌∷◌, length, refl, sym, ap, subst, ◌∙◌, arith}
 use Rattle.std.specs.Prelude.{ℤ, Result, Ok, Err, OnOk, OnErr}
-use Rattle.std.proofs.lemmas.Bool.{lt-leb}
 use Rattle.acc_base.specs.declared.fault.Fault.{Fault}
-use Rattle.acc_base.specs.declared.fault.Fault.TheVariants.{BadRange}
 use Rattle.acc_base.specs.declared.range.Range.{Range}
 use Rattle.acc_core.specs.declared.batch.Batch.{Batch}
 use Rattle.acc_core.specs.declared.log.Shown.{Shown}
 use Rattle.acc_core.specs.declared.log.Shown.TheVariants.{Print}
 use Rattle.acc_core.specs.declared.log.TheConstants.{MAX_HOST_ITEMS}
-use Rattle.acc_core.specs.declared.log.WorkEntry.{WorkEntry}
 use Rattle.acc_core.specs.declared.log.WorkEntry.TheVariants as entry
 use Rattle.acc_core.specs.Accepting.{is_in_array}
-use Rattle.acc_core.specs.Answers.{item_fault}
 use Rattle.acc_core.specs.Legality.{ShowsTruth}
 use Rattle.acc_core.specs.Logs.{all_items, value}
 use Rattle.acc_core.specs.Machine.{State}
@@ -119,11 +115,3 @@ printed w v v' queue t waiting queue_room h range (Ok u) a same did kept room fe
 printed w v v' queue t waiting queue_room h range (Err f) a same did kept room few =
     let work : v'.work ≡ w.work = ap (λ (u : WorkView). u.work) kept ∙ same in
     subst (λ work. IsAccelerator (record w { work = work }) v' queue t waiting queue_room) (sym work) (rw kept a)
-
--- an item has no fault where the run may have one more, in an array
-pub no_item_fault : (work : List WorkEntry) (in_array : Bool) → all_items work < MAX_HOST_ITEMS → in_array ≡ true → item_fault false work in_array ≡ None
-no_item_fault work in_array few inside = rw (lt-leb MAX_HOST_ITEMS (all_items work) few, inside) refl
-
--- the fault of an item that is in no array
-pub bad_item : (work : List WorkEntry) (in_array : Bool) → all_items work < MAX_HOST_ITEMS → in_array ≡ false → item_fault false work in_array ≡ Some BadRange
-bad_item work in_array few outside = rw (lt-leb MAX_HOST_ITEMS (all_items work) few, outside) refl

@@ -1,13 +1,11 @@
 -- The queue takes a batch.
-use Rattle.std.proofs.Common.{◌≡◌, ℕ, ◌+◌, ◌<◌, List, [], ◌∷◌, length, map, drop, refl, sym, ap, ◌∙◌, arith}
+use Rattle.std.proofs.Common.{◌≡◌, ℕ, ◌+◌, ◌<◌, List, [], ◌∷◌, length, map, drop, sym, ap, ◌∙◌, arith}
 use Rattle.std.specs.Prelude.{replicate}
-use Rattle.std.proofs.lemmas.Bool.{lt-ltb}
 use Rattle.std.proofs.lemmas.List.Elements.{All-head, All-drop}
 use Rattle.acc_core.specs.declared.operation.Label.{Label}
 use Rattle.std.proofs.lemmas.List.{length-drop, length-map}
 use Rattle.acc_core.specs.declared.batch.Batch.{Batch}
-use Rattle.acc_core.specs.declared.operation.Op.{Op}
-use Rattle.acc_core.specs.Machine.{State, held, rest, take_step, idle, did}
+use Rattle.acc_core.specs.Machine.{State, held, rest}
 use Rattle.acc_core.specs.Tasks.{ops_in}
 use Rattle.acc_core.specs.Ties.{Queued, label_of, labels_of, performed_count}
 use Rattle.acc_core.specs.Works.{WorkView, sync}
@@ -26,15 +24,6 @@ pub lane_is_rest : (w : State) (v : WorkView) (queue : List Batch) (t waiting : 
     → rest (with_taken w t) (labels_of w) sync ≡ v.lane
 lane_is_rest w v queue t waiting q =
     rw q.single (sym q.in_lane)
-
--- a lane that holds an operation isn't filled
-pub take_waits : (w : State) (v : WorkView) (queue : List Batch) (t waiting : ℕ) → Queued w v queue t waiting → 0 < length v.lane
-    → take_step (with_taken w t) (labels_of w) sync (rest (with_taken w t) (labels_of w) sync) ≡ idle (with_taken w t)
-take_waits w v queue t waiting q some = rw (lane_is_rest w v queue t waiting q) (waits v.lane some)
-  where
-    waits : (ops : List Op) → 0 < length ops → take_step (with_taken w t) (labels_of w) sync ops ≡ idle (with_taken w t)
-    waits [] none = absurd (omega (arith, none))
-    waits (op ∷ ops) some = refl
 
 pub held_is : (w : State) (v : WorkView) (queue : List Batch) (t waiting : ℕ) → Queued w v queue t waiting
     → held (with_taken w t) (labels_of w) sync ≡ length queue
@@ -61,14 +50,3 @@ taken_more w v b queue t waiting q none =
       hosts = q.hosts;
       lane_host = All-head (λ (l : Label). l.host < 8) (label_of b) (map label_of queue) (rw (← q.queued) at (All-drop (λ (l : Label). l.host < 8) t (labels_of w) q.hosts));
     }
-
-pub take_did : (w : State) (v : WorkView) (b : Batch) (queue : List Batch) (t waiting : ℕ) → Queued w v (b ∷ queue) t waiting → v.lane ≡ []
-    → take_step (with_taken w t) (labels_of w) sync (rest (with_taken w t) (labels_of w) sync) ≡ did (with_taken w (t + 1))
-take_did w v b queue t waiting q none =
-    let some = lt-ltb 0 (length (b ∷ queue)) (omega arith) in
-    rw (lane_is_rest w v (b ∷ queue) t waiting q, none, held_is w v (b ∷ queue) t waiting q, some) refl
-
-pub take_none : (w : State) (v : WorkView) (t waiting : ℕ) → Queued w v [] t waiting → v.lane ≡ []
-    → take_step (with_taken w t) (labels_of w) sync (rest (with_taken w t) (labels_of w) sync) ≡ idle (with_taken w t)
-take_none w v t waiting q none =
-    rw (lane_is_rest w v [] t waiting q, none, held_is w v [] t waiting q) refl

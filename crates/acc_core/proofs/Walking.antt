@@ -5,7 +5,6 @@ use Rattle.std.proofs.lemmas.Bool.{cases_Bool, eqb-true, eqb-false}
 use Rattle.std.proofs.lemmas.List.{set-get_or}
 use Rattle.std.proofs.Math.Seq.{take-length}
 use Rattle.acc_base.specs.declared.range.Range.{Range}
-use Rattle.acc_base.specs.declared.fault.Fault.{Fault}
 use Rattle.acc_base.specs.Ranges.{range_contains}
 use Rattle.acc_base.specs.Configurations.{Configuration}
 use Rattle.acc_present.specs.declared.table.Counter.TheVariants.{Dynamic}
@@ -32,11 +31,6 @@ pub first_fault-next : (config : Configuration) (kind : Kind) (h : Holding) (ite
     → first_fault_in config kind h items ≡ first_fault_in config kind (holding_after kind (get_or items 0 d).range h) (drop 1 items)
 first_fault-next config kind h [] d some none = absurd (omega arith)
 first_fault-next config kind h (i ∷ is) d some none = ap (λ f. fault_or f (first_fault_in config kind (holding_after kind i.range h) is)) none
-
-pub first_fault-here : (config : Configuration) (kind : Kind) (h : Holding) (items : List Item) (d : Item) (fault : Fault) → 1 ≤ length items → Some fault ≡ fault_in config kind h.presences (get_or items 0 d).range
-    → Some fault ≡ first_fault_in config kind h items
-first_fault-here config kind h [] d fault some is = absurd (omega arith)
-first_fault-here config kind h (i ∷ is) d fault some at_first = ap (λ f. fault_or f (first_fault_in config kind (holding_after kind i.range h) is)) at_first
 
 pub takings-next : (kind : Kind) (h : Holding) (items : List Item) (d : Item) → 1 ≤ length items
     → takings kind h items ≡ taken_in kind h (get_or items 0 d) ∷ takings kind (holding_after kind (get_or items 0 d).range h) (drop 1 items)
