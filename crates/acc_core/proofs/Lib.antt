@@ -25,6 +25,7 @@ mod Performing
 mod Places
 mod Placing
 mod Planning
+mod QueueTotals
 mod Queues
 mod Readiness
 mod Remembering

@@ -1,8 +1,8 @@
 -- The labels and the operations of a queue, and what holds where there is one queue alone.
-use Rattle.std.proofs.Common.{inl, inr, ◌≡◌, ℕ, Bool, true, false, List, [], ◌∷◌, ◌++◌, refl, sym, ap, ◌∙◌}
+use Rattle.std.proofs.Common.{inl, inr, ◌≡◌, ℕ, ◌+◌, Bool, true, false, List, [], ◌∷◌, ◌++◌, length, refl, sym, ap, ◌∙◌, arith}
 use Rattle.std.specs.Prelude.{◌==◌}
 use Rattle.std.proofs.lemmas.Bool.{cases_Bool, and_parts, and_from, eq-eqb, eqb-true}
-use Rattle.std.proofs.lemmas.List.{append_assoc, append-nil}
+use Rattle.std.proofs.lemmas.List.{append_assoc, append-nil, length-append}
 use Rattle.std.proofs.lemmas.List.Elements.{filter-append}
 use Rattle.acc_base.specs.declared.ids.QueueAt.{QueueAt}
 use Rattle.acc_base.specs.Queues.{same_queue}
@@ -13,7 +13,7 @@ use Rattle.acc_core.specs.declared.log.WorkEntry.TheVariants as entry
 use Rattle.acc_core.specs.Batches.{labelled, next_number}
 use Rattle.acc_core.specs.Labels.{on_queue, ops_of}
 use Rattle.acc_core.specs.Legality.{InOrder}
-use Rattle.acc_core.specs.Logs.{one_more, performed, device_ops}
+use Rattle.acc_core.specs.Logs.{one_more, performed, device_ops, all_items}
 use Rattle.acc_core.specs.Works.{sync}
 
 -- a queue is the same as itself
@@ -126,3 +126,11 @@ device_ops_is (entry.Op at op ∷ before) h =
     let earlier : NoneElsewhere before = λ other differ. (one_more_none (same_queue at other) (performed other before) op (h other differ)).1 in
     rw (only_sync at op before h) (ap (λ ops. ops ++ op ∷ []) (device_ops_is before earlier))
 device_ops_is (entry.Item host shown ∷ before) h = device_ops_is before h
+
+-- Each entry of the log is an operation of queue sync or an item.
+pub sync_or_item : (work : List WorkEntry) → NoneElsewhere work → length (performed sync work) + all_items work ≡ length work
+sync_or_item [] h = refl
+sync_or_item (entry.Op at op ∷ before) h =
+    let earlier : NoneElsewhere before = λ other differ. (one_more_none (same_queue at other) (performed other before) op (h other differ)).1 in
+    rw (only_sync at op before h) (omega (arith, length-append (performed sync before) (op ∷ []), sync_or_item before earlier))
+sync_or_item (entry.Item host shown ∷ before) h = omega (arith, sync_or_item before h)

@@ -11,6 +11,7 @@ pub mod Logs
 pub mod Machine
 pub mod Memories
 pub mod Places
+pub mod Present
 pub mod Plans
 pub mod Standings
 pub mod Steps

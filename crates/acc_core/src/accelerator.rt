@@ -1,7 +1,8 @@
-ghost use Rattle.std.specs.Prelude.{reverse, ◌≡◌, ◌+◌, ◌<◌, ◌≤◌, [], ◌∷◌, length, IfOk, IfErr, None, replicate, true, false, slice_get};
+ghost use Rattle.std.specs.Prelude.{reverse, ◌≡◌, ◌+◌, ◌<◌, ◌≤◌, [], ◌∷◌, length, IfOk, IfErr, OnSome, None, replicate, true, false, slice_get, ◌^◌};
 ghost use Rattle.acc_core.specs.Accepting.{is_in_array};
 ghost use Rattle.acc_core.specs.Answers.{Places, ItemAnswers, PrintAnswers};
-ghost use Rattle.acc_core.specs.Logs.{done, all_done};
+ghost use Rattle.acc_core.specs.Labels.{on_queue, ops_of};
+ghost use Rattle.acc_core.specs.Logs.{done, all_done, performed};
 ghost use Rattle.acc_core.specs.Machine.{step, standing_of};
 ghost use Rattle.std.specs.Option.{option_map};
 ghost use Rattle.acc_present.specs.Presences.{presences, holder};
@@ -14,6 +15,7 @@ use crate::event::Reply;
 use crate::log::WorkEntry;
 use crate::place::{Place, Plan, is_in_array};
 use crate::task::Task;
+use crate::totals::Totals;
 use crate::work::{Work, sync_queue};
 use acc_base::{Config, DeviceId, Fault, HostId, QueueAt, QueueId, Range};
 use acc_present::Entry;
@@ -167,9 +169,45 @@ impl Accelerator {
 
     /// The present range at this place, by array, then by lower bound.
     pub fn nth(&self, place: usize) -> Option<&Entry>
-        ensures { option_map (λ e. entry_presence e.now) result ≡ slice_get (presences ((standing_of self.now).marks 0)) place }
+        ensures entry { option_map (λ e. entry_presence e.now) result ≡ slice_get (presences ((standing_of self.now).marks 0)) place }
+        ensures next { OnSome result (place + 1 < 2 ^ 64) }
     {
         self.place.nth(place)
+    }
+
+    pub fn config(&self) -> &Config
+        ensures { result.now ≡ self.now.config }
+    {
+        self.place.config()
+    }
+
+    /// What was performed and shown so far, the first entry first.
+    pub fn log(&self) -> &[WorkEntry]
+        ensures { result.now ≡ reverse self.now.work }
+    {
+        self.work.log()
+    }
+
+    /// How many batches were placed on a queue, how many operations they have, and how many of these are
+    /// performed.
+    pub fn totals(&self, at: QueueAt) -> Totals
+        ensures batches { result.batches ≡ length (on_queue at (labels_of self.now)) }
+        ensures operations { result.operations ≡ length (ops_of (on_queue at (labels_of self.now))) }
+        ensures performed { result.performed ≡ length (performed at self.now.work) }
+    {
+        if !self.work.has_queue(at) {
+            return Totals {
+                batches: 0,
+                operations: 0,
+                performed: 0,
+            };
+        }
+        let performed = self.work.performed();
+        Totals {
+            batches: self.place.batches(),
+            operations: performed + self.waiting as u64,
+            performed,
+        }
     }
 
     /// How many batches of a queue are performed.

@@ -1,4 +1,4 @@
-ghost use Rattle.std.specs.Prelude.{reverse, ◌≡◌, ◌+◌, ◌<◌, ◌≤◌, ◌++◌, ◌==◌, [], ◌∷◌, length, true, None, Some, IfOk, OnOk, IfErr, IfNone, slice_get, vec_len, vec_capacity, is_some, ◌^◌, if◌then◌else◌};
+ghost use Rattle.std.specs.Prelude.{reverse, ◌≡◌, ◌+◌, ◌<◌, ◌≤◌, ◌++◌, ◌==◌, [], ◌∷◌, length, true, None, Some, IfOk, OnOk, IfErr, IfNone, OnSome, slice_get, vec_len, vec_capacity, is_some, ◌^◌, if◌then◌else◌};
 ghost use Rattle.std.specs.Option.{option_map};
 ghost use Rattle.std.specs.List.{flat_map};
 ghost use Rattle.acc_base.specs.declared.fault.Fault.TheVariants.{Memory};
@@ -186,9 +186,17 @@ impl Place {
 
     /// The entry of the device's table at this place, by array, then by lower bound.
     pub fn nth(&self, place: usize) -> Option<&Entry>
-        ensures { option_map (λ e. entry_presence e.now) result ≡ slice_get (presences ((standing_in self.now).marks 0)) place }
+        ensures entry { option_map (λ e. entry_presence e.now) result ≡ slice_get (presences ((standing_in self.now).marks 0)) place }
+        ensures next { OnSome result (place + 1 < 2 ^ 64) }
     {
         self.table.nth(place)
+    }
+
+    /// How many batches have been placed.
+    pub fn batches(&self) -> u64
+        ensures { result ≡ length (standing_in self.now).labels }
+    {
+        self.batches
     }
 
     pub fn config(&self) -> &Config

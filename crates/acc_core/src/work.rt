@@ -154,6 +154,21 @@ impl Work {
         self.items[usize::from(host.number())]
     }
 
+    /// How many operations are performed; the other entries of the log are items.
+    pub fn performed(&self) -> u64
+        ensures count { result + all_items self.now.work ≡ length self.now.work }
+        ensures room { self.now.room < 2 ^ 64 }
+    {
+        self.log.len() as u64 - self.all_items
+    }
+
+    /// The log, the first entry first.
+    pub fn log(&self) -> &[WorkEntry]
+        ensures { result.now ≡ reverse self.now.work }
+    {
+        self.log.as_slice()
+    }
+
     /// Fills the empty lane.
     pub fn offer(&mut self, host: HostId, items_done: u64, tasks: VecDeque<Task>)
         requires { AllReady tasks.items }

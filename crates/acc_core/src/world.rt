@@ -1,9 +1,10 @@
-ghost use Rattle.std.specs.Prelude.{◌≡◌, ◌+◌, ◌<◌, ◌≤◌, [], length, map, All, reverse, slice_get, IfOk, IfErr, OnOk, OnErr, None, Some, true, false, Bool, ◌^◌};
+ghost use Rattle.std.specs.Prelude.{◌≡◌, ◌+◌, ◌<◌, ◌≤◌, [], length, map, All, reverse, slice_get, IfOk, IfErr, OnOk, OnErr, OnSome, None, Some, true, false, Bool, ◌^◌};
 ghost use Rattle.std.specs.Option.{option_map};
 ghost use Rattle.acc_present.specs.Presences.{presences, holder};
 ghost use Rattle.acc_present.specs.Tables.{entry_presence};
 ghost use Rattle.acc_core.specs.Machine.{Step, standing_of};
-ghost use Rattle.acc_core.specs.Logs.{all_done};
+ghost use Rattle.acc_core.specs.Labels.{on_queue, ops_of};
+ghost use Rattle.acc_core.specs.Logs.{all_done, performed};
 ghost use Rattle.acc_core.specs.Ties.{labels_of};
 ghost use Rattle.acc_core.specs.declared.log.Shown.TheVariants.{Seen};
 ghost use Rattle.acc_core.specs.Steps.{owed_by};
@@ -14,7 +15,8 @@ use crate::directive::{PlaceEntry, Placed};
 use crate::event::{Event, Reply};
 use crate::log::WorkEntry;
 use crate::program::{Act, Host, HostProgram, HostState, Phase};
-use acc_base::{Config, DeviceId, Fault, HostId, QueueId, Range};
+use crate::totals::Totals;
+use acc_base::{Config, DeviceId, Fault, HostId, QueueAt, QueueId, Range};
 use acc_present::Entry;
 use std::alloc::Global;
 use std::marker::Model;
@@ -141,9 +143,51 @@ impl World {
 
     /// The present range at this place, by array, then by lower bound.
     pub fn nth(&self, place: usize) -> Option<&Entry>
-        ensures { option_map (λ e. entry_presence e.now) result ≡ slice_get (presences ((standing_of self.now).marks 0)) place }
+        ensures entry { option_map (λ e. entry_presence e.now) result ≡ slice_get (presences ((standing_of self.now).marks 0)) place }
+        ensures next { OnSome result (place + 1 < 2 ^ 64) }
     {
         self.accelerator.nth(place)
+    }
+
+    /// How many devices there are: one, until several devices come.
+    pub fn devices(&self) -> u8
+        ensures count { result ≡ self.now.config.devices }
+        ensures one { result ≡ 1 }
+    {
+        self.accelerator.config().devices()
+    }
+
+    /// How many hosts there are.
+    pub fn hosts(&self) -> u8
+        ensures count { result ≡ length self.now.hosts }
+        ensures few { result ≤ 8 }
+    {
+        self.hosts.len() as u8
+    }
+
+    /// What was performed and shown so far, in order.
+    pub fn log(&self) -> &[WorkEntry]
+        ensures { result.now ≡ reverse self.now.work }
+    {
+        self.accelerator.log()
+    }
+
+    /// Where a host stands; `None` where there is no such host.
+    pub fn state(&self, host: HostId) -> Option<HostState>
+        ensures { result ≡ option_map state_of (slice_get self.now.hosts host) }
+    {
+        let host = self.hosts.get(usize::from(host.number()))?;
+        Some(state_of(host))
+    }
+
+    /// How many batches were placed on a queue, how many operations they have, and how many of these are
+    /// performed.
+    pub fn totals(&self, at: QueueAt) -> Totals
+        ensures batches { result.batches ≡ length (on_queue at (labels_of self.now)) }
+        ensures operations { result.operations ≡ length (ops_of (on_queue at (labels_of self.now))) }
+        ensures performed { result.performed ≡ length (performed at self.now.work) }
+    {
+        self.accelerator.totals(at)
     }
 
     /// What the run so far leaves. A host that was refused has the line of the statement that it stands at.

@@ -1,4 +1,4 @@
-ghost use Rattle.std.specs.Prelude.{◌≡◌, ◌+◌, ◌^◌, ◌<◌, ◌≤◌, [], length, map, slice_get, true, false, None, if◌then◌else◌, IfSome, IfErr, OnOk, OnErr, IfNone};
+ghost use Rattle.std.specs.Prelude.{◌≡◌, ◌+◌, ◌^◌, ◌<◌, ◌≤◌, [], length, map, slice_get, true, false, None, if◌then◌else◌, IfSome, IfErr, OnOk, OnErr, OnSome, IfNone};
 ghost use Rattle.std.specs.Option.{option_map, option_map_or, option_and_then};
 ghost use Rattle.std.specs.List.{position_or_len};
 ghost use Rattle.acc_base.specs.Ranges.{range_overlaps};
@@ -199,7 +199,8 @@ impl Table {
 
     /// The entry at this place, by array, then by lower bound.
     pub fn nth(&self, place: usize) -> Option<&Entry>
-        ensures { option_map (λ e. entry_presence e.now) result ≡ slice_get self.now.presences place }
+        ensures entry { option_map (λ e. entry_presence e.now) result ≡ slice_get self.now.presences place }
+        ensures next { OnSome result (place + 1 < 2 ^ 64) }
     {
         self.entries.get(place)
     }

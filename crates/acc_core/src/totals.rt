@@ -1,0 +1,8 @@
+/// How many batches were placed on a queue, how many operations they have, and how many of these are
+/// performed.
+#[derive(Clone, Copy, Debug, PartialEq, Eq)]
+pub struct Totals {
+    pub batches: u64,
+    pub operations: u64,
+    pub performed: u64,
+}
