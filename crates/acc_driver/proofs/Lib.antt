@@ -1,0 +1,14 @@
+mod Digits
+mod Gaps
+mod LineEvents
+mod Names
+mod Pieces
+mod Putting
+mod RangeSpelling
+mod Repeating
+mod Replaying
+mod ScheduleExamples
+mod SplitExamples
+mod Splitting
+mod TokenSpelling
+mod Turns

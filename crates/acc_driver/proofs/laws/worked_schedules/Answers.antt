@@ -1,0 +1,18 @@
+use Rattle.acc_driver.proofs.ScheduleExamples as schedules
+use Rattle.acc_driver.proofs.SplitExamples as splits
+use Rattle.acc_driver.proofs.laws.worked_schedules.Goals as goal
+
+pub returns-clause-splits : goal.returns-clause-splits
+returns-clause-splits c = splits.split_texts
+
+pub returns-clause-twenty_rounds : goal.returns-clause-twenty_rounds
+returns-clause-twenty_rounds c = schedules.twenty_rounds
+
+pub returns-clause-one_round : goal.returns-clause-one_round
+returns-clause-one_round c = schedules.one_round
+
+pub returns-clause-wider_round : goal.returns-clause-wider_round
+returns-clause-wider_round c = schedules.wider_round
+
+pub returns-clause-faults : goal.returns-clause-faults
+returns-clause-faults c = schedules.faulty_lines

@@ -1,0 +1,8 @@
+use Rattle.acc_driver.specs.Puts.{Puts, sink}
+use Rattle.acc_driver.specs.Reports.{each_below, host_text}
+use Rattle.acc_driver.proofs.report.put_hosts.Given as goal
+
+abbrev pub invariant-loop-host : goal.invariant-loop-host
+invariant-loop-host g l =
+    Puts (sink (g.W.Write.contents l.fn.out) l.fn.failed) (sink (g.W.Write.contents l.out) l.failed)
+    (each_below l.host (host_text l.world))

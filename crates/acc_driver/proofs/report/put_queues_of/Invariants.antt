@@ -1,0 +1,8 @@
+use Rattle.acc_driver.specs.Puts.{Puts, sink}
+use Rattle.acc_driver.specs.Reports.{each_below, queue_text}
+use Rattle.acc_driver.proofs.report.put_queues_of.Given as goal
+
+abbrev pub invariant-loop-queue : goal.invariant-loop-queue
+invariant-loop-queue g l =
+    Puts (sink (g.W.Write.contents l.fn.out) l.fn.failed) (sink (g.W.Write.contents l.out) l.failed)
+    (each_below l.queue (λ q. queue_text l.world (record { device = l.device; queue = q })))

@@ -1,0 +1,65 @@
+-- How much of a text is read, and one text that holds a script and a schedule.
+use Rattle.std.specs.Prelude.{◌≡◌, ℕ, ◌+◌, ◌*◌, ◌≤◌, Bool, true, false, ◌&&◌, ◌==◌, nat_lt, List, [], ◌∷◌, ◌++◌, length, take, count_by, Option, Result, codes, bytes_eq, if◌then◌else◌}
+use Rattle.std.specs.Io.KnownBytes.{Consumes, IsAtEnd}
+use Rattle.acc_driver.specs.declared.fault.ReadFault.{ReadFault}
+use Rattle.acc_driver.specs.declared.fault.ReadKind.TheVariants.{Limit}
+use Rattle.acc_driver.specs.Faults.{fails}
+
+abbrev pub line_feeds : List ℕ → ℕ
+line_feeds text = count_by (λ b. b == 10) text
+
+-- A text that is too long is told by the line that its first bytes, up to the limit, end in.
+abbrev pub within : {A : Type 0} → ℕ → (List ℕ → Result A ReadFault) → List ℕ → Result A ReadFault
+within limit read text =
+    if nat_lt limit (length text) then fails (1 + line_feeds (take limit text)) Limit else read text
+
+-- What is read of a text with a limit: from one byte more it is seen that the text is too long.
+abbrev pub capped : ℕ → List ℕ → List ℕ
+capped limit text = take (limit + 1) text
+
+-- One turn of reading: the bytes that the reader gave, as many as there was room for at most, stand behind the text,
+-- and no more follow only at the reader's end.
+pub record ReadsTurn (left left_after : Option (List ℕ)) (text text_after : List ℕ) (room : ℕ) (more : Bool) : Type 0 where
+  pub part : List ℕ
+  pub grown : text_after ≡ text ++ part
+  pub short : length part ≤ room
+  pub given : Consumes left left_after part
+  pub ended : more ≡ false → IsAtEnd left_after
+
+pub record Parts : Type 0 where
+  pub script : List ℕ
+  pub schedule : List ℕ
+
+-- the line that begins here, without its line feed
+abbrev pub line_of : List ℕ → List ℕ
+line_of [] = []
+line_of (b ∷ bs) = if b == 10 then [] else b ∷ line_of bs
+
+-- what follows that line's line feed
+abbrev pub behind_line : List ℕ → List ℕ
+behind_line [] = []
+behind_line (b ∷ bs) = if b == 10 then bs else behind_line bs
+
+abbrev pub is_split_line : List ℕ → Bool
+is_split_line bs = bytes_eq (line_of bs) (codes "%%")
+
+abbrev pub with_front : ℕ → Parts → Parts
+with_front b others = record others { script = b ∷ others.script }
+
+-- The text is split at its first line that is exactly `%%`. The script stands before that line, and the schedule
+-- behind it. Whether a line begins at the first byte is given.
+abbrev pub parts_from : Bool → List ℕ → Parts
+parts_from at_start [] = record { script = []; schedule = [] }
+parts_from at_start (b ∷ bs) =
+    if at_start && is_split_line (b ∷ bs) then record { script = []; schedule = behind_line (b ∷ bs) }
+    else with_front b (parts_from (b == 10) bs)
+
+unfoldable pub parts : List ℕ → Parts
+parts text = parts_from true text
+
+-- A text that is cut at twice the limit and four bytes gives the reader of each part what the whole text gives
+-- it; behind a script that is too long the schedule does not count.
+pub record CutIsEnough (limit : ℕ) (text : List ℕ) : Type 0 where
+  pub script : capped limit (parts (take (2 * limit + 4) text)).script ≡ capped limit (parts text).script
+  pub schedule : length (parts text).script ≤ limit
+      → capped limit (parts (take (2 * limit + 4) text)).schedule ≡ capped limit (parts text).schedule

@@ -1,0 +1,134 @@
+-- From bytes to bytes: the texts are read, the machine runs, and the report of what it leaves is written.
+use Rattle.std.specs.Prelude.{◌≡◌, ◌≤◌, ℕ, zero, suc, Bool, true, false, ◌||◌, List, [], length, slice_get, Option, Some, None, Result, Ok, Err}
+use Rattle.std.specs.Io.KnownBytes.{Appends}
+use Rattle.std.specs.Option.{option_map}
+use Rattle.acc_base.specs.declared.config.TheConstants.{MAX_CAPACITY, MAX_ROOM}
+use Rattle.acc_base.specs.declared.fault.Fault.{Fault}
+use Rattle.acc_base.specs.Configurations.{Configuration, configuration, fault_of}
+use Rattle.acc_core.specs.declared.event.Event.{Event}
+use Rattle.acc_core.specs.declared.event.Reply.{Reply}
+use Rattle.acc_core.specs.declared.program.HostState.{HostState}
+use Rattle.acc_core.specs.declared.program.HostState.TheVariants as state
+use Rattle.acc_core.specs.Machine.{State, Runs}
+use Rattle.acc_core.specs.Worlds.{opening, state_of, world_fault}
+use Rattle.acc_driver.specs.declared.fault.DriverFault.{DriverFault}
+use Rattle.acc_driver.specs.declared.fault.DriverFault.TheVariants as fault
+use Rattle.acc_driver.specs.declared.fault.ReadFault.{ReadFault}
+use Rattle.acc_driver.specs.declared.options.Ended.{Ended}
+use Rattle.acc_driver.specs.declared.options.Options.{Options}
+use Rattle.acc_driver.specs.Inputs.{Parts}
+use Rattle.acc_driver.specs.Puts.{AppendsFront}
+use Rattle.acc_driver.specs.Reports.{report}
+use Rattle.acc_driver.specs.Schedules.{schedule_of}
+use Rattle.acc_driver.specs.Scripts.{Program, script_of}
+
+-- what the schedule says to a program
+abbrev pub events_in : Options → Program → List ℕ → Result (List Event) ReadFault
+events_in options program schedule = schedule_of (length program.programs) options.devices schedule
+
+abbrev pub configured : Options → Program → Configuration
+configured options program =
+    configuration options.devices (length program.programs) program.arrays options.cells options.room
+
+-- the first fault of the configuration, or of a world with it, want of memory apart
+abbrev pub fault_behind : Configuration → Option Fault → Option Fault
+fault_behind config (Some f) = Some f
+fault_behind config None = world_fault false config
+
+abbrev pub runtime_fault : Configuration → Option Fault
+runtime_fault config = fault_behind config (fault_of config)
+
+-- Why there is no world of a configuration.
+abbrev pub IsOpeningFault : Configuration → DriverFault → Type 0
+IsOpeningFault config fault.Memory = Unit {0}
+IsOpeningFault config (fault.Runtime f) = runtime_fault config ≡ Some f
+IsOpeningFault config fault.Input = ⊥
+IsOpeningFault config fault.Output = ⊥
+IsOpeningFault config (fault.Script f) = ⊥
+IsOpeningFault config (fault.Schedule f) = ⊥
+
+-- What the two texts say: a program, and the events of the schedule.
+pub record Says (options : Options) (texts : Parts) (program : Program) (events : List Event) : Type 0 where
+  pub script : script_of texts.script ≡ Ok program
+  pub schedule : events_in options program texts.schedule ≡ Ok events
+
+-- The script is read, and this is the schedule's fault.
+pub record SaysNoEvents (options : Options) (texts : Parts) (program : Program) (f : ReadFault) : Type 0 where
+  pub script : script_of texts.script ≡ Ok program
+  pub schedule : events_in options program texts.schedule ≡ Err f
+
+-- A run of the machine on the program and the events ends in this state.
+pub record EndsIn (options : Options) (program : Program) (events : List Event) (final : State) : Type 0 where
+  pub replies : List Reply
+  pub runs : Runs (opening (configured options program) program.programs) events replies final
+
+abbrev pub is_refused : Option HostState → Bool
+is_refused None = false
+is_refused (Some state.Finished) = false
+is_refused (Some (state.Running ended)) = false
+is_refused (Some (state.Refused ended line f)) = true
+
+-- whether one of the first n hosts was refused
+abbrev pub some_refused : State → ℕ → Bool
+some_refused w zero = false
+some_refused w (suc h) = some_refused w h || is_refused (option_map state_of (slice_get w.hosts h))
+
+-- the whole report of a run, and whether a host was refused
+pub record Reported (options : Options) (program : Program) (events : List Event) (old new : Option (List ℕ)) (refused : Bool) : Type 0 where
+  pub final : State
+  pub ends : EndsIn options program events final
+  pub written : Appends old new (report program.names final)
+  pub status : refused ≡ some_refused final (length final.hosts)
+
+-- the report of a run, up to where the writer failed
+pub record CutOff (options : Options) (program : Program) (events : List Event) (old new : Option (List ℕ)) : Type 0 where
+  pub final : State
+  pub ends : EndsIn options program events final
+  pub written : AppendsFront old new (report program.names final)
+
+-- What is answered to a program and events, and what the writer then holds.
+abbrev pub RunAnswers : Options → Program → List Event → Option (List ℕ) → Option (List ℕ) → Result Ended DriverFault → Type 0
+RunAnswers options program events old new (Ok ended) = Reported options program events old new ended.refused
+RunAnswers options program events old new (Err fault.Output) = CutOff options program events old new
+RunAnswers options program events old new (Err fault.Memory) = Appends old new []
+RunAnswers options program events old new (Err (fault.Runtime f)) =
+    (runtime_fault (configured options program) ≡ Some f) × Appends old new []
+RunAnswers options program events old new (Err (fault.Script f)) = ⊥
+RunAnswers options program events old new (Err (fault.Schedule f)) = ⊥
+RunAnswers options program events old new (Err fault.Input) = ⊥
+
+-- The texts say a program and events, and this is the answer to them.
+abbrev pub AnswersRun : Options → Parts → Option (List ℕ) → Option (List ℕ) → Result Ended DriverFault → Type 0
+AnswersRun options texts old new result =
+    (program : Program) × (events : List Event) × Says options texts program events × RunAnswers options program events old new result
+
+-- What is answered to the two texts, and what the writer then holds: for a fault of theirs nothing new.
+abbrev pub Answers : Options → Parts → Option (List ℕ) → Option (List ℕ) → Result Ended DriverFault → Type 0
+Answers options texts old new (Ok ended) = AnswersRun options texts old new (Ok ended)
+Answers options texts old new (Err fault.Output) = AnswersRun options texts old new (Err fault.Output)
+Answers options texts old new (Err (fault.Runtime f)) = AnswersRun options texts old new (Err (fault.Runtime f))
+Answers options texts old new (Err (fault.Script f)) = (script_of texts.script ≡ Err f) × Appends old new []
+Answers options texts old new (Err (fault.Schedule f)) =
+    ((program : Program) × SaysNoEvents options texts program f) × Appends old new []
+Answers options texts old new (Err fault.Input) = Appends old new []
+Answers options texts old new (Err fault.Memory) = Appends old new []
+
+-- options with which no configuration of a script is refused
+pub record AreUsable (options : Options) : Type 0 where
+  pub devices : options.devices ≡ 1
+  pub cells : (1 ≤ options.cells) × (options.cells ≤ MAX_CAPACITY)
+  pub room : (1 ≤ options.room) × (options.room ≤ MAX_ROOM)
+
+-- The configuration was not refused.
+abbrev pub IsRun : Result Ended DriverFault → Type 0
+IsRun (Ok ended) = Unit {0}
+IsRun (Err (fault.Script f)) = Unit {0}
+IsRun (Err (fault.Schedule f)) = Unit {0}
+IsRun (Err fault.Input) = Unit {0}
+IsRun (Err fault.Output) = Unit {0}
+IsRun (Err fault.Memory) = Unit {0}
+IsRun (Err (fault.Runtime f)) = ⊥
+
+-- the options where nothing else is said
+abbrev pub defaults : Options
+defaults = record { devices = 1; cells = 4194304; room = 64 }

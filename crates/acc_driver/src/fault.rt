@@ -1,0 +1,75 @@
+use acc_base::Fault;
+use std::alloc::{AllocError, AllocFailed};
+use thiserror::Error;
+
+/// What is wrong with a token of a script, or with a line of a schedule.
+#[derive(Clone, Copy, Debug, PartialEq, Eq)]
+pub enum ReadKind {
+    /// A byte at which nothing begins that can stand there.
+    Text,
+    /// The text ends where more is needed.
+    End,
+    /// A name that is not declared, is declared twice, or is too long.
+    Name,
+    /// A limit is passed.
+    Limit,
+    /// Any other token, word or number.
+    Form,
+}
+
+/// The first fault of a text, with its line, from 1.
+#[derive(Clone, Copy, Debug, PartialEq, Eq, Error)]
+#[error("line {line}: {kind:?}")]
+pub struct ReadFault {
+    pub line: u32,
+    pub kind: ReadKind,
+}
+
+/// Why a text was not read.
+#[derive(Clone, Copy, Debug, PartialEq, Eq)]
+pub enum ReadError {
+    Memory,
+    Fault(ReadFault),
+}
+
+impl From<AllocError> for ReadError {
+    ghost use Rattle.std.specs.Prelude.{◌≡◌};
+    ghost use Rattle.acc_driver.specs.declared.fault.ReadError.TheVariants.{Memory};
+
+    ghost from_gives = { λ _ error. error ≡ Memory };
+
+    fn from(_refused: AllocError) -> Self {
+        ReadError::Memory
+    }
+}
+
+impl<T: Drop> From<AllocFailed<T>> for ReadError {
+    ghost use Rattle.std.specs.Prelude.{◌≡◌};
+    ghost use Rattle.acc_driver.specs.declared.fault.ReadError.TheVariants.{Memory};
+
+    ghost from_gives = { λ _ error. error ≡ Memory };
+
+    fn from(_refused: AllocFailed<T>) -> Self {
+        ReadError::Memory
+    }
+}
+
+/// Why there is no report, or not the whole of it.
+#[derive(Clone, Copy, Debug, PartialEq, Eq, Error)]
+pub enum DriverFault {
+    #[error("script {0}")]
+    Script(ReadFault),
+    #[error("schedule {0}")]
+    Schedule(ReadFault),
+    /// The reader failed, or its turns ended.
+    #[error("cannot read")]
+    Input,
+    /// The writer failed, or took nothing.
+    #[error("cannot write")]
+    Output,
+    #[error("out of memory")]
+    Memory,
+    /// The configuration, or the run as a whole, was refused.
+    #[error("{0}")]
+    Runtime(Fault),
+}

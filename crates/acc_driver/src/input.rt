@@ -1,0 +1,144 @@
+ghost use Rattle.std.specs.Prelude.{◌≡◌, ℕ, ◌+◌, ◌≤◌, ◌<◌, false, List, length, take, ◌++◌, OnOk, IfOk, IfErr, IfSome, IsTrue, vec_len};
+ghost use Rattle.std.specs.Io.KnownBytes.{Consumes, IsAtEnd};
+ghost use Rattle.acc_driver.specs.Inputs.{ReadsTurn, line_feeds, is_split_line, behind_line, parts};
+
+use crate::fault::{ReadFault, ReadKind};
+use std::alloc::Global;
+use std::io::{ErrorKind, Read};
+
+/// Why a text was not read to its end.
+#[derive(Clone, Copy, Debug, PartialEq, Eq)]
+pub enum InputFault {
+    /// The reader failed, or its turns ended.
+    Read,
+    Memory,
+}
+
+/// How many bytes a script or a schedule can have.
+pub const MAX_TEXT: usize = 1_048_576;
+
+// How many bytes one turn asks for.
+const TURN: usize = 4096;
+
+// One turn: a call of `read` into the buffer, whose bytes are put behind the text. Answers whether more may
+// follow. A read that a signal interrupted gives none, and more may follow.
+fn read_turn<R: Read>(
+    reader: &mut R,
+    buffer: &mut [u8],
+    text: &mut Vec<u8>,
+) -> Result<bool, InputFault>
+    requires { 0 < length buffer.old }
+    ensures { IfOk result (ReadsTurn (R.remaining reader.old) (R.remaining reader.new) text.old.items text.new.items (length buffer.old)) }
+{
+    match reader.read(buffer) {
+        Ok(0) => Ok(false),
+        Ok(count) => {
+            let (part, _) = buffer.split_at(count);
+            match text.extend_from_slice(part) {
+                Ok(()) => Ok(true),
+                Err(_) => Err(InputFault::Memory),
+            }
+        }
+        Err(error) => {
+            if error.kind() == ErrorKind::Interrupted {
+                Ok(true)
+            } else {
+                Err(InputFault::Read)
+            }
+        }
+    }
+}
+
+/// The bytes that the reader gives, up to its end or the limit. One call of `read` is one turn, an interrupted one
+/// too.
+///
+/// # Errors
+///
+/// `Read` where the reader fails, or where no turn is left before its end or the limit is seen.
+pub fn read_text<R: Read>(
+    alloc: Global,
+    reader: &mut R,
+    limit: usize,
+    turns: u32,
+) -> Result<Vec<u8>, InputFault>
+    ensures bytes { IfOk result (λ text. IfSome (R.remaining reader.old) (λ bytes. text.items ≡ take limit bytes)) }
+    ensures within { IfOk result (λ text. vec_len text ≤ limit) }
+{
+    let mut text = Vec::new(alloc);
+    let mut buffer = [0u8; TURN];
+    for _ in 0..turns {
+        let room = limit - text.len();
+        if room == 0 {
+            return Ok(text);
+        }
+        let more = read_turn(reader, &mut buffer[..room.min(TURN)], &mut text)?;
+        if !more {
+            return Ok(text);
+        }
+    }
+    if text.len() == limit {
+        Ok(text)
+    } else {
+        Err(InputFault::Read)
+    }
+}
+
+/// Tests the length of a text.
+///
+/// # Errors
+///
+/// `Limit` where it has more than `MAX_TEXT` bytes, in the line that the first `MAX_TEXT` of them end in.
+pub fn check_length(text: &[u8]) -> Result<(), ReadFault>
+    ensures fits { OnOk result (length text.now ≤ 1048576) }
+    ensures long { IfErr result (λ fault. (1048576 < length text.now) × (fault ≡ record { line = 1 + line_feeds (take 1048576 text.now); kind = ReadKind.Limit })) }
+{
+    if text.len() <= MAX_TEXT {
+        return Ok(());
+    }
+    let (front, _) = text.split_at(MAX_TEXT);
+    let line_feeds = front.iter().filter(|byte| **byte == b'\n').count();
+    Err(ReadFault {
+        line: 1 + line_feeds as u32,
+        kind: ReadKind::Limit,
+    })
+}
+
+// Whether the line that begins here is the one at which a text is split.
+fn is_split_line(bytes: &[u8]) -> bool
+    ensures { result ≡ is_split_line bytes.now }
+{
+    match bytes {
+        [first, second] => *first == b'%' && *second == b'%',
+        [first, second, third, ..] => *first == b'%' && *second == b'%' && *third == b'\n',
+        _ => false,
+    }
+}
+
+// What follows that line.
+fn behind_split_line(bytes: &[u8]) -> &[u8]
+    requires { IsTrue (is_split_line bytes.now) }
+    ensures { result.now ≡ behind_line bytes.now }
+{
+    match bytes {
+        [_, _, _, behind @ ..] => behind,
+        _ => &[],
+    }
+}
+
+/// The script and the schedule of one text: it is split at its first line that is exactly `%%`, and without such a
+/// line it is all script.
+#[tactic(auto, unfolding(crate::specs::Inputs::parts))]
+pub fn split(text: &[u8]) -> (&[u8], &[u8])
+    ensures script { result.0.now ≡ (parts text.now).script }
+    ensures schedule { result.1.now ≡ (parts text.now).schedule }
+{
+    let mut at_start = true;
+    for (i, byte) in text.iter().enumerate() {
+        let (before, here) = text.split_at(i);
+        if at_start && is_split_line(here) {
+            return (before, behind_split_line(here));
+        }
+        at_start = *byte == b'\n';
+    }
+    (text, &[])
+}

@@ -1,0 +1,288 @@
+ghost use Rattle.std.specs.Prelude.{◌≡◌, ℕ, zero, ◌+◌, ◌*◌, ◌<◌, ◌≤◌, ◌==◌, not, nat_lt, bytes_eq, [], ◌∷◌, ◌++◌, length, map, None, Some, Ok, IfOk, OnOk, IfSome, MatchOption, if◌then◌else◌, vec_len};
+ghost use Rattle.std.specs.List.{flat_map, list_all, prefix_len, range_with_len};
+ghost use Rattle.acc_core.specs.declared.event.Event.TheVariants.{Host};
+ghost use Rattle.acc_driver.specs.Faults.{Gives};
+ghost use Rattle.acc_driver.specs.Schedules.{lines, is_space, words, with_first, is_skipped, is_plain, is_number, times_of, repeated, repeats, queue_turn, device_turn, turn_of, round_events, events_of, line_events, joined, events_behind, schedule_of};
+ghost use Rattle.acc_driver.specs.Tokens.{is_digit, value_behind};
+
+use crate::fault::{ReadError, ReadFault, ReadKind};
+use crate::input::check_length;
+use crate::token::is;
+use crate::word::value_of;
+use acc_base::{DeviceId, HostId, QUEUES, QueueAt, QueueId};
+use acc_core::Event;
+use std::alloc::Global;
+
+/// How many events a schedule can have.
+pub const MAX_EVENTS: usize = 1_000_000;
+
+/// How often one line's events can come.
+pub const MAX_TIMES: u32 = 10_000;
+
+// How many bytes stand before the first line feed.
+fn line_len(text: &[u8]) -> usize
+    ensures value { result ≡ prefix_len (λ b. not (b == 10)) text.now }
+    ensures within { result ≤ length text.now }
+{
+    text.iter().take_while(|byte| **byte != b'\n').count()
+}
+
+// The first line, and what is left behind its line feed, if it has one.
+fn next_line(text: &[u8]) -> (&[u8], Option<&[u8]>)
+    ensures lines { MatchOption result.1 (lines text.now ≡ result.0.now ∷ []) (λ others. lines text.now ≡ result.0.now ∷ lines others.now) }
+    ensures shorter { IfSome result.1 (λ others. length others.now < length text.now) }
+{
+    let (line, behind) = text.split_at(line_len(text));
+    match behind {
+        [] => (line, None),
+        [_, others @ ..] => (line, Some(others)),
+    }
+}
+
+fn is_space(byte: u8) -> bool
+    ensures { result ≡ is_space byte }
+{
+    byte == b' ' || byte == b'\t'
+}
+
+// Whether a byte can stand in a line.
+fn is_plain(byte: u8) -> bool
+    ensures { result ≡ is_plain byte }
+{
+    byte == b'\t' || 31 < byte && byte < 127
+}
+
+// Whether a line is empty or a comment.
+fn is_skipped(line: &[u8]) -> bool
+    ensures { result ≡ is_skipped line.now }
+{
+    match line {
+        [] => true,
+        [first, ..] => *first == b'#',
+    }
+}
+
+// How many spaces a line begins with.
+fn spaces_len(line: &[u8]) -> usize
+    ensures value { result ≡ prefix_len is_space line.now }
+    ensures within { result ≤ length line.now }
+{
+    line.iter().take_while(|byte| is_space(**byte)).count()
+}
+
+// How many bytes stand before the first space.
+fn word_len(line: &[u8]) -> usize
+    ensures value { result ≡ prefix_len (λ b. not (is_space b)) line.now }
+    ensures within { result ≤ length line.now }
+{
+    line.iter().take_while(|byte| !is_space(**byte)).count()
+}
+
+// The first word of a line, and what is left behind it. Without a word both are empty.
+fn next_word(line: &[u8]) -> (&[u8], &[u8])
+    ensures { words line.now ≡ with_first result.0.now (words result.1.now) }
+{
+    let (_, begun) = line.split_at(spaces_len(line));
+    begun.split_at(word_len(begun))
+}
+
+// Whether a word is decimal digits without a leading zero.
+fn is_number(word: &[u8]) -> bool
+    ensures { result ≡ is_number word.now }
+{
+    match word {
+        [] => false,
+        [first, others @ ..] => are_digits(word) && (*first != b'0' || others.is_empty()),
+    }
+}
+
+fn are_digits(word: &[u8]) -> bool
+    ensures { result ≡ list_all is_digit word.now }
+{
+    word.iter().all(|byte| 47 < *byte && *byte < 58)
+}
+
+// How often, as a word says it.
+#[tactic(auto, unfolding(crate::specs::Schedules::times_of))]
+fn times_of(word: &[u8]) -> Result<u32, ReadKind>
+    ensures times { result ≡ times_of word.now }
+    ensures few { IfOk result (λ times. times ≤ 10000) }
+{
+    if !is_number(word) {
+        return Err(ReadKind::Form);
+    }
+    match value_of(word, u64::from(MAX_TIMES)) {
+        None | Some(0) => Err(ReadKind::Limit),
+        Some(times) => Ok(times as u32),
+    }
+}
+
+// How often a `round` line's turn comes, by the words behind the first.
+#[tactic(auto, unfolding(crate::specs::Schedules::round_events))]
+fn round_times(others: &[u8]) -> Result<u32, ReadKind>
+    ensures events { (hosts devices : ℕ) → round_events hosts devices (words others.now) ≡ repeats (turn_of hosts devices) result }
+    ensures few { IfOk result (λ times. times ≤ 10000) }
+{
+    let (word, behind) = next_word(others);
+    let (more, _) = next_word(behind);
+    if word.is_empty() || !more.is_empty() {
+        return Err(ReadKind::Form);
+    }
+    times_of(word)
+}
+
+fn are_plain(line: &[u8]) -> bool
+    ensures { result ≡ list_all is_plain line.now }
+{
+    line.iter().all(|byte| is_plain(*byte))
+}
+
+// How often a line's turn comes.
+#[tactic(auto, unfolding(crate::specs::Schedules::events_of, crate::specs::Schedules::line_events))]
+fn line_times(line: &[u8]) -> Result<u32, ReadKind>
+    ensures events { (hosts devices : ℕ) → line_events hosts devices line.now ≡ repeats (turn_of hosts devices) result }
+    ensures few { IfOk result (λ times. times ≤ 10000) }
+{
+    if !are_plain(line) {
+        return Err(ReadKind::Text);
+    }
+    let (first, others) = next_word(line);
+    if is(first, b"round") {
+        round_times(others)
+    } else {
+        Err(ReadKind::Form)
+    }
+}
+
+fn push_hosts(events: &mut Vec<Event>, hosts: u8) -> Result<(), ReadError>
+    ensures { Gives (λ _. events.new.items) result (Ok (events.old.items ++ map Host (range_with_len 0 hosts))) }
+{
+    for host in 0..hosts {
+        events.push(Event::Host(HostId::new(host)))?;
+    }
+    Ok(())
+}
+
+fn queue_at(device: u8, queue: u8) -> QueueAt
+    ensures { result ≡ record { device = device; queue = queue } }
+{
+    QueueAt {
+        device: DeviceId::new(device),
+        queue: QueueId::new(queue),
+    }
+}
+
+fn push_queue(events: &mut Vec<Event>, device: u8, queue: u8) -> Result<(), ReadError>
+    ensures { Gives (λ _. events.new.items) result (Ok (events.old.items ++ queue_turn (record { device = device; queue = queue }))) }
+{
+    events.push(Event::Take(queue_at(device, queue)))?;
+    events.push(Event::Perform(queue_at(device, queue)))?;
+    Ok(())
+}
+
+fn push_device(events: &mut Vec<Event>, device: u8) -> Result<(), ReadError>
+    ensures { Gives (λ _. events.new.items) result (Ok (events.old.items ++ device_turn device)) }
+{
+    for queue in 0..QUEUES {
+        push_queue(events, device, queue)?;
+    }
+    Ok(())
+}
+
+fn push_devices(events: &mut Vec<Event>, devices: u8) -> Result<(), ReadError>
+    ensures { Gives (λ _. events.new.items) result (Ok (events.old.items ++ flat_map device_turn (range_with_len 0 devices))) }
+{
+    for device in 0..devices {
+        push_device(events, device)?;
+    }
+    Ok(())
+}
+
+// Puts one turn behind the events: first the hosts, then the queues.
+fn push_turn(events: &mut Vec<Event>, hosts: u8, devices: u8) -> Result<(), ReadError>
+    ensures { Gives (λ _. events.new.items) result (Ok (events.old.items ++ turn_of hosts devices)) }
+{
+    push_hosts(events, hosts)?;
+    push_devices(events, devices)
+}
+
+fn push_turns(events: &mut Vec<Event>, hosts: u8, devices: u8, times: u32) -> Result<(), ReadError>
+    ensures { Gives (λ _. events.new.items) result (Ok (events.old.items ++ repeated times (turn_of hosts devices))) }
+{
+    for _ in 0..times {
+        push_turn(events, hosts, devices)?;
+    }
+    Ok(())
+}
+
+// Whether turns behind so many events pass the limit.
+#[tactic(auto, using(crate::proofs::Repeating::repeated_turns))]
+fn are_too_many(count: usize, hosts: u8, devices: u8, times: u32) -> bool
+    requires count { count ≤ 1000000 }
+    requires times { times ≤ 10000 }
+    ensures { result ≡ nat_lt 1000000 (count + length (repeated times (turn_of hosts devices))) }
+{
+    let turn = usize::from(hosts) + 2 * usize::from(QUEUES) * usize::from(devices);
+    count + times as usize * turn > MAX_EVENTS
+}
+
+// Puts the events of one line behind those of the lines before it.
+#[tactic(auto, unfolding(crate::specs::Schedules::events_behind))]
+fn read_line(
+    events: &mut Vec<Event>,
+    hosts: u8,
+    devices: u8,
+    number: u32,
+    line: &[u8],
+) -> Result<(), ReadError>
+    requires room { vec_len events.old ≤ 1000000 }
+    ensures found { Gives (λ _. events.new.items) result (events_behind hosts devices number events.old.items line.now) }
+    ensures within { OnOk result (vec_len events.new ≤ 1000000) }
+{
+    if is_skipped(line) {
+        return Ok(());
+    }
+    match line_times(line) {
+        Err(kind) => Err(ReadError::Fault(ReadFault { line: number, kind })),
+        Ok(times) => {
+            if are_too_many(events.len(), hosts, devices, times) {
+                let kind = ReadKind::Limit;
+                return Err(ReadError::Fault(ReadFault { line: number, kind }));
+            }
+            push_turns(events, hosts, devices, times)
+        }
+    }
+}
+
+/// The events of a schedule, for hosts and devices by number.
+///
+/// # Errors
+///
+/// The first fault of the text, or `Memory`. A text of more than `MAX_TEXT` bytes, more than `MAX_EVENTS` events in
+/// all and a number that is not 1 to `MAX_TIMES` are `Limit`; a byte that is no tab and no printed character is
+/// `Text`; another word, count or form of number is `Form`.
+#[tactic(auto, unfolding(crate::specs::Schedules::schedule_of))]
+pub fn read_schedule(
+    alloc: Global,
+    text: &[u8],
+    hosts: u8,
+    devices: u8,
+) -> Result<Vec<Event>, ReadError>
+    ensures { Gives (λ events. events.items) result (schedule_of hosts devices text.now) }
+{
+    if let Err(fault) = check_length(text) {
+        return Err(ReadError::Fault(fault));
+    }
+    let mut events = Vec::new(alloc);
+    let mut rest = text;
+    let last = text.len() as u32 + 1;
+    for number in 1..last + 1 {
+        let (line, others) = next_line(rest);
+        read_line(&mut events, hosts, devices, number, line)?;
+        match others {
+            None => return Ok(events),
+            Some(others) => rest = others,
+        }
+    }
+    unreachable!()
+}
