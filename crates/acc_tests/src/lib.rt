@@ -9,6 +9,10 @@ mod fault;
 #[cfg(test)]
 mod refusal;
 #[cfg(test)]
+mod replay;
+#[cfg(test)]
+mod streams;
+#[cfg(test)]
 mod table;
 #[cfg(test)]
 mod world;

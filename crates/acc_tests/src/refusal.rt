@@ -42,3 +42,31 @@ impl Hoard {
         }
     }
 }
+
+/// Memory that is given back a little at a time.
+#[derive(Drop)]
+pub struct Purse {
+    bytes: Vec<u8>,
+}
+
+impl Purse {
+    /// How often a purse gives.
+    pub const GIFTS: u32 = 7_000;
+
+    /// A full purse. It has less than the amount for which an allocator takes a place of its own.
+    pub fn new(alloc: Global) -> Result<Purse, AllocError> {
+        Ok(Purse {
+            bytes: Vec::with_capacity(alloc, 120_000)?,
+        })
+    }
+
+    /// Gives back sixteen bytes, and answers whether they were there.
+    pub fn give(&mut self) -> bool {
+        let capacity = self.bytes.capacity();
+        if capacity < 16 {
+            return false;
+        }
+        self.bytes.shrink_to(capacity - 16);
+        self.bytes.capacity() < capacity
+    }
+}

@@ -4,7 +4,7 @@ use crate::refusal::Hoard;
 use acc_base::{BlockId, Config, DeviceId, Fault, HostId, Listed, QueueAt, QueueId, Range};
 use acc_core::{
     Act, Clause, Directive, Event, HostProgram, HostState, Item, Kind, Op, Reply, Shown, Statement,
-    WorkEntry, World,
+    Totals, WorkEntry, World,
 };
 use std::alloc::{AllocError, Global};
 use std::test::Fail;
@@ -143,6 +143,15 @@ fn entered_twice_and_left_once(rt: HostRuntime) -> Result<(), Fail> {
     assert_eq!(rt; world.counters(all), Some((0, 1)));
     assert_eq!(rt; world.nth(0).map(|e| e.range), Some(all));
     assert_eq!(rt; world.nth(1).copied(), None);
+    assert_eq!(rt; world.log().len(), 3);
+    assert_eq!(rt; world.state(HostId::new(0)), Some(HostState::Finished));
+    assert_eq!(rt; world.state(HostId::new(1)), None);
+    let totals = Totals {
+        batches: 1,
+        operations: 2,
+        performed: 2,
+    };
+    assert_eq!(rt; world.totals(sync()), totals);
     let outcome = world.outcome();
     assert_eq!(rt; outcome.places.len(), 3);
     assert_eq!(rt; outcome.works.len(), 3);
