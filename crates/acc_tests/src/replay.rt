@@ -1,7 +1,7 @@
 use crate::refusal::{Hoard, Purse};
-use crate::streams::{End, Narrow, Trickle};
+use crate::streams::{End, Late, Narrow, Trickle};
 use acc_base::Fault;
-use acc_driver::{DriverFault, Ended, Options, ReadFault, ReadKind, replay_one};
+use acc_driver::{DriverFault, Ended, INPUT_TURNS, Options, ReadFault, ReadKind, replay_one};
 use std::alloc::Global;
 use std::io::Read;
 use std::test::Fail;
@@ -174,8 +174,8 @@ fn faults_of_schedules_are_told(rt: HostRuntime) -> Result<(), Fail> {
     Ok(())
 }
 
-/// A reader that gives a byte a turn is read to its end; one that fails in mid-stream, or that is interrupted for
-/// good, is told as the input's fault, and nothing is written.
+/// A reader that gives a byte a turn is read to its end; one that then fails in place of ending, or that is interrupted
+/// for good, is told as the input's fault, and nothing is written.
 #[test]
 fn readers_are_slow_and_fail(rt: HostRuntime) -> Result<(), Fail> {
     let mut quiet = Trickle {
@@ -197,7 +197,56 @@ fn readers_are_slow_and_fail(rt: HostRuntime) -> Result<(), Fail> {
     Ok(())
 }
 
-/// A writer that takes two bytes at a time gets the whole report; one that fails, or takes nothing more, behind any
+/// An interrupted read is one turn. The last turns are for the text and its end.
+#[test]
+fn readers_are_interrupted(rt: HostRuntime) -> Result<(), Fail> {
+    let cases = [
+        (0, Ok(Ended { refused: false })),
+        (1, Ok(Ended { refused: false })),
+        (INPUT_TURNS - 2, Ok(Ended { refused: false })),
+        (INPUT_TURNS - 1, Err(DriverFault::Input)),
+        (INPUT_TURNS, Err(DriverFault::Input)),
+    ];
+    for (interrupts, wanted) in &cases {
+        let mut late = Late {
+            interrupts: *interrupts,
+            left: STALE.input,
+        };
+        let (answer, _written) = replayed(rt.alloc(), &mut late);
+        assert_eq!(rt; answer, *wanted);
+    }
+    Ok(())
+}
+
+/// Sixteen arrays of the most cells enter by one directive, leave by another, and one is printed whole.
+#[test]
+fn the_largest_arrays_are_replayed(rt: HostRuntime) -> Result<(), Fail> {
+    let alloc = rt.alloc();
+    let mut input = Vec::new(alloc);
+    for name in b"abcdefghijklmnop" {
+        input.extend_from_slice(b"long ")?;
+        input.push(*name)?;
+        input.extend_from_slice(b"[65536] = {7};\n")?;
+    }
+    input.extend_from_slice(
+        b"host {\n#pragma acc enter data copyin(a,b,c,d,e,f,g,h,i,j,k,l,m,n,o,p)\na[0] = 8;\n",
+    )?;
+    input.extend_from_slice(
+        b"#pragma acc exit data copyout(a,b,c,d,e,f,g,h,i,j,k,l,m,n,o,p)\nprint(a);\n}\n%%\nround 80\n",
+    )?;
+    let mut wanted = Vec::new(alloc);
+    wanted.extend_from_slice(b"host 0\n7")?;
+    for _ in 1..65_536u32 {
+        wanted.extend_from_slice(b" 0")?;
+    }
+    wanted.extend_from_slice(b"\ndone\nqueue 0 sync batches 2 operations 64 of 64\nend\n")?;
+    let (answer, written) = replayed(alloc, &mut input.as_slice());
+    assert_eq!(rt; answer, Ok(Ended { refused: false }));
+    assert!(rt; written.as_slice() == wanted.as_slice());
+    Ok(())
+}
+
+/// A writer that is interrupted, and takes two bytes at a time, gets the whole report; one that fails, or takes nothing more, behind any
 /// number of bytes has just these.
 #[test]
 fn writers_are_narrow_and_fail(rt: HostRuntime) -> Result<(), Fail> {
@@ -208,6 +257,7 @@ fn writers_are_narrow_and_fail(rt: HostRuntime) -> Result<(), Fail> {
                 taken: Vec::new(alloc),
                 room,
                 fails,
+                was_interrupted: false,
             };
             let mut input = STALE.input;
             let answer = replay_one(alloc, &mut input, Options::DEFAULT, &mut narrow);

@@ -37,17 +37,43 @@ impl<'a> Read for Trickle<'a> {
     }
 }
 
-/// A writer with room for some bytes, which it takes two at a time. It fails when it is full, or takes nothing
-/// more.
+/// A reader that is interrupted so often, and then gives its bytes.
+#[derive(Drop)]
+pub struct Late<'a> {
+    pub interrupts: u32,
+    pub left: &'a [u8],
+}
+
+impl<'a> Read for Late<'a> {
+    fn read(&mut self, buffer: &mut [u8]) -> Result<usize> {
+        if 0 < self.interrupts {
+            self.interrupts -= 1;
+            return Err(Error::from(ErrorKind::Interrupted));
+        }
+        let count = self.left.len().min(buffer.len());
+        let (given, left) = self.left.split_at(count);
+        buffer[..count].copy_from_slice(given);
+        self.left = left;
+        Ok(count)
+    }
+}
+
+/// A writer with room for some bytes, which it takes two at a time, and which is interrupted before each such
+/// pair. It fails when it is full, or takes nothing more.
 #[derive(Drop)]
 pub struct Narrow {
     pub taken: Vec<u8>,
     pub room: usize,
     pub fails: bool,
+    pub was_interrupted: bool,
 }
 
 impl Write for Narrow {
     fn write(&mut self, bytes: &[u8]) -> Result<usize> {
+        self.was_interrupted = !self.was_interrupted;
+        if self.was_interrupted {
+            return Err(Error::from(ErrorKind::Interrupted));
+        }
         let left = self.room.saturating_sub(self.taken.len());
         let count = left.min(bytes.len()).min(2);
         if count == 0 && self.fails {

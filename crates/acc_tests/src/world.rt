@@ -302,6 +302,21 @@ fn a_world_has_one_device_and_one_host(rt: HostRuntime) -> Result<(), Fail> {
         World::new(alloc, two_devices, Vec::new(alloc)).err(),
         Some(Fault::BadDevice)
     );
+    let two_hosts = Config::new(1, 2, Vec::new(alloc), 4, 64)?;
+    let programs = vec![in alloc;
+        HostProgram {
+            host: HostId::new(0),
+            statements: Listed::from_vec(Vec::new(alloc)),
+        },
+        HostProgram {
+            host: HostId::new(1),
+            statements: Listed::from_vec(Vec::new(alloc)),
+        },
+    ]?;
+    assert_eq!(rt;
+        World::new(alloc, two_hosts, programs).err(),
+        Some(Fault::TooMany)
+    );
     Ok(())
 }
 

@@ -1,4 +1,5 @@
-use crate::status::status_of;
+use crate::status::{status_of, told};
+use acc_driver::DriverFault;
 use std::io::{Error, ErrorKind, Read, Result, Write};
 use std::test::Fail;
 
@@ -95,12 +96,9 @@ fn words_are_refused(rt: HostRuntime) -> std::result::Result<(), Fail> {
     let status = status_of(alloc, true, &mut input, &mut output, &mut errors);
     assert_eq!(rt; status, 2);
     assert!(rt; output.is_empty());
-    let lines = errors
-        .as_slice()
-        .iter()
-        .filter(|byte| **byte == b'\n')
-        .count();
-    assert_eq!(rt; lines, 1);
+    let line: &'static [u8] =
+        b"accq: takes no words; it replays standard input: a script, a line %%, and a schedule\n";
+    assert_eq!(rt; errors.as_slice(), line);
     Ok(())
 }
 
