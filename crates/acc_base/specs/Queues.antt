@@ -2,6 +2,7 @@
 use Rattle.std.specs.Prelude.{ℕ, ◌+◌, ◌*◌, Bool, ◌&&◌, ◌==◌, List, [], ◌∷◌}
 use Rattle.acc_base.specs.declared.ids.QueueAt.{QueueAt}
 use Rattle.acc_base.specs.declared.ids.TheConstants.{QUEUES}
+use Rattle.acc_base.specs.Configurations.{Configuration}
 
 -- the queues of a device: sync, noval, and those of the async values 0 to 5
 abbrev pub every_queue : List ℕ
@@ -13,3 +14,7 @@ same_queue a b = (a.device == b.device) && (a.queue == b.queue)
 -- the place of a queue among those of all devices, by device, then in queue order
 abbrev pub seat : QueueAt → ℕ
 seat at = at.device * QUEUES + at.queue
+
+-- how many queues all devices of a configuration have
+abbrev pub queue_count : Configuration → ℕ
+queue_count config = config.devices * QUEUES

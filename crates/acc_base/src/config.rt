@@ -1,6 +1,6 @@
-ghost use Rattle.std.specs.Prelude.{◌≡◌, ◌<◌, ◌&&◌, ◌||◌, ◌==◌, nat_lt, IfOk, OnOk, IfErr, length, None, Some, slice_get};
+ghost use Rattle.std.specs.Prelude.{◌≡◌, ◌<◌, ◌&&◌, ◌==◌, nat_lt, IfOk, OnOk, IfErr, length, None, Some, slice_get};
 ghost use Rattle.std.specs.List.{list_any};
-ghost use Rattle.acc_base.specs.Configurations.{Configuration, configuration, rows, fault_of, passes_a_limit, is_outside, has_long_array, has_empty_array, IsWithinLimits};
+ghost use Rattle.acc_base.specs.Configurations.{configuration, rows, fault_of, passes_a_limit, is_outside, has_long_array, has_empty_array, IsWithinLimits};
 
 use crate::fault::Fault;
 use crate::ids::{DeviceId, HostId, QUEUES, QueueAt};

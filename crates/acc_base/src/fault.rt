@@ -39,7 +39,7 @@ pub enum Fault {
 }
 
 impl Fault {
-    /// From 1 to 14, in the order in which a call tests for them.
+    /// From 1 to 14.
     pub fn number(&self) -> u8
         ensures { result ≡ number_of self.now }
     {

@@ -30,7 +30,8 @@ impl DeviceId {
     pub fn number(self) -> u8
         ensures { result ≡ self }
     {
-        self.0
+        let DeviceId(number) = self;
+        number
     }
 }
 
@@ -65,7 +66,8 @@ impl QueueId {
     pub fn number(self) -> u8
         ensures { result ≡ self }
     {
-        self.0
+        let QueueId(number) = self;
+        number
     }
 }
 
@@ -93,7 +95,8 @@ impl HostId {
     pub fn number(self) -> u8
         ensures { result ≡ self }
     {
-        self.0
+        let HostId(number) = self;
+        number
     }
 }
 
@@ -121,7 +124,8 @@ impl BlockId {
     pub fn number(self) -> u64
         ensures { result ≡ self }
     {
-        self.0
+        let BlockId(number) = self;
+        number
     }
 }
 

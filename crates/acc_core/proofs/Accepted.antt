@@ -23,8 +23,8 @@ use Rattle.acc_core.specs.Batches.{batch_of, grouped, labelled, walk_at}
 use Rattle.acc_core.specs.Histories.{after_walk}
 use Rattle.acc_core.specs.Places.{IsTied}
 use Rattle.acc_core.specs.Standings.{Standing, Walk, visits, marks_after, all_asked, plain_walk, walk_by, walk_of, with_marks}
-use Rattle.acc_core.specs.Walks.{Holding, holding, holding_of, change_by, mark_by, opens_one, holding_after, holding_after_all, fault_or, limit_fault, first_fault_in, takings, ops_taken, AllLow, HasRoom, AllFine}
-use Rattle.acc_core.proofs.Visits.{faults_are, all_fine, marks_are, ops_are}
+use Rattle.acc_core.specs.Walks.{Holding, holding, change_by, mark_by, opens_one, holding_after, holding_after_all, fault_or, limit_fault, first_fault_in, all_marked, marked_ops, AllLow, HasRoomFor, AllFine}
+use Rattle.acc_core.proofs.Visits.{holding_of, faults_are, all_fine, marks_are, ops_are}
 use Rattle.acc_core.proofs.Walking.{AllLow-after, AllLow-fewer, opened-most}
 
 pub walk_is : (d : Directive) → walk_of d ≡ plain_walk d (Some (change_by d.kind))
@@ -110,22 +110,22 @@ fine_items config st d t blocks labels tied table one accepted =
 -- ## The batch
 
 pub batch_is : (config : Configuration) (st : Standing) (d : Directive) (t : Present) (blocks labels : ℕ) → IsTied st t blocks labels → is_table t.presences ≡ true → config.devices ≡ 1 → refusal config st d ≡ None
-    → batch_of st (walk_of d) ≡ ops_taken (takings d.kind (holding t.presences blocks) d.items)
+    → batch_of st (walk_of d) ≡ marked_ops (all_marked d.kind (holding t.presences blocks) d.items)
 unfolding batch_of
 batch_is config st d t blocks labels tied table one accepted =
     let zero = only_device d.device config.devices one (is_within config st.accepted d (no_limit config st d accepted)).here in
     let e = held_is st t blocks labels d.device zero tied in
     let fine = fine_items config st d t blocks labels tied table one accepted in
     ap (λ (w : Walk). grouped (visits (st.marks w.device) w.items)) (walk_is d)
-    ∙ (ops_are config.capacity d.kind (st.marks d.device) d.items (table_is st t blocks labels d.device zero tied table) (rw (← e) fine) ∙ ap (λ h. ops_taken (takings d.kind h d.items)) (sym e))
+    ∙ (ops_are config.capacity d.kind (st.marks d.device) d.items (table_is st t blocks labels d.device zero tied table) (rw (← e) fine) ∙ ap (λ h. marked_ops (all_marked d.kind h d.items)) (sym e))
 
 -- ## Room
 
-pub has_room : (st : Standing) (t : Present) (blocks labels n : ℕ) → IsTied st t blocks labels → n ≤ MAX_ITEMS → length t.presences + MAX_ITEMS ≤ t.room → HasRoom n t blocks
+pub has_room : (st : Standing) (t : Present) (blocks labels n : ℕ) → IsTied st t blocks labels → n ≤ MAX_ITEMS → length t.presences + MAX_ITEMS ≤ t.room → HasRoomFor n t blocks
 has_room st t blocks labels n tied short room =
     record {
       room = omega arith;
-      low = AllLow-fewer (16 * st.accepted) (2 ^ 63) 0 n t.presences (omega (arith, tied.few)) tied.low;
+      low = AllLow-fewer (MAX_ITEMS * st.accepted) (2 ^ 63) 0 n t.presences (omega (arith, tied.few)) tied.low;
       few = omega (arith, tied.few_blocks, tied.few);
     }
 
@@ -185,9 +185,9 @@ tied_after config st d host items_done t after blocks next labels batches is_emp
     let own : holding_of ((after_walk st host items_done (walk_of d)).marks 0) ≡ holding_of ms =
     ap (λ (w : Walk). holding_of (with_marks w.device (marks_after (st.marks w.device) w.items) st.marks 0)) (walk_is d) ∙ own_marks st.marks ms d.device zero in
     let all = held ∙ sym own in
-    let low = AllLow-all (16 * st.accepted + 16) d.kind (holding t.presences blocks) d.items (omega (arith, within.short))
-    (AllLow-fewer (16 * st.accepted) (16 * st.accepted + 16) 0 (length d.items) t.presences (omega (arith, within.short)) tied.low) in
-    let low2 : AllLow (16 * st.accepted + 16) 0 after.presences = rw (ap (λ (h : Holding). h.presences) is) low in
+    let low = AllLow-all (MAX_ITEMS * st.accepted + MAX_ITEMS) d.kind (holding t.presences blocks) d.items (omega (arith, within.short))
+    (AllLow-fewer (MAX_ITEMS * st.accepted) (MAX_ITEMS * st.accepted + MAX_ITEMS) 0 (length d.items) t.presences (omega (arith, within.short)) tied.low) in
+    let low2 : AllLow (MAX_ITEMS * st.accepted + MAX_ITEMS) 0 after.presences = rw (ap (λ (h : Holding). h.presences) is) low in
     record {
       presences = ap (λ (h : Holding). h.presences) all;
       opened = ap (λ (h : Holding). h.opened) all;
@@ -195,5 +195,5 @@ tied_after config st d host items_done t after blocks next labels batches is_emp
       few = omega (arith, within.few);
       few_blocks = omega (arith, ap (λ (h : Holding). h.opened) is, opened-all d.kind (holding t.presences blocks) d.items, within.short, tied.few_blocks);
       few_batches = omega (arith, counts, most_one is_empty labels, tied.few_batches);
-      low = AllLow-fewer (16 * st.accepted + 16) (16 * (st.accepted + 1)) 0 0 after.presences (omega arith) low2;
+      low = AllLow-fewer (MAX_ITEMS * st.accepted + MAX_ITEMS) (MAX_ITEMS * (st.accepted + 1)) 0 0 after.presences (omega arith) low2;
     }

@@ -12,9 +12,9 @@ use Rattle.acc_core.specs.Labels.{on_queue, ops_of, batch_at}
 use Rattle.acc_core.specs.Legality.{Legal, made}
 use Rattle.acc_core.specs.Logs.{performed, host_allows}
 use Rattle.acc_core.specs.Machine.{State, is_there, perform_step, step, idle, did, with_op}
-use Rattle.acc_core.specs.Ties.{IsAccelerator, Queued, HasCells, labels_of, performed_count}
+use Rattle.acc_core.specs.Ties.{IsAccelerator, Queued, labels_of, performed_count}
 use Rattle.acc_core.specs.Works.{WorkView, sync, lane_allows, Performs, HasPerformed, NextMayFollow}
-use Rattle.acc_core.proofs.CopiedCells.{all_cells}
+use Rattle.acc_core.proofs.CopiedCells.{HasCells, all_cells}
 use Rattle.acc_core.proofs.Keeping.{legal_performed}
 use Rattle.acc_core.proofs.Lanes.{batch_at_next, ops_of_all, ops_of-take-le, take_one_more}
 use Rattle.acc_core.proofs.Performing.{next_uses_live}

@@ -11,15 +11,21 @@ use Rattle.acc_core.specs.declared.operation.Op.TheVariants.{Make, CopyIn, CopyO
 use Rattle.acc_core.specs.declared.directive.Directive.{Directive}
 use Rattle.acc_core.specs.declared.directive.PlaceEntry.{PlaceEntry}
 use Rattle.acc_core.specs.declared.directive.PlaceEntry.TheVariants as noted
-use Rattle.acc_core.specs.Accepting.{is_in_array, ends_within, first_fault, fault_where, fault_at, refusal, passes_a_limit}
+use Rattle.acc_core.specs.Accepting.{is_in_array, ends_within, first_fault, fault_where, fault_at, refusal, has_too_many}
 use Rattle.acc_core.specs.Batches.{copies_in, copies_out, opened_blocks, ended_blocks, makes, copy_ins, copy_outs, releases, grouped, batch_of, walk_at}
 use Rattle.acc_core.specs.Histories.{standing, after_walk}
 use Rattle.acc_core.specs.Labels.{ops_of}
 use Rattle.acc_core.specs.Legality.{AllAccepted}
 use Rattle.acc_core.specs.Standings.{Standing, Walk, walk_of, Visit, visits}
-use Rattle.acc_core.specs.Ties.{HasCells}
 use Rattle.acc_core.proofs.Histories.{first_fault_none, no_fault_at}
 use Rattle.acc_core.proofs.Queues.{ops_of-labelled}
+
+-- a copy's range has a cell
+abbrev pub HasCells : Op → Type 0
+HasCells (Make b r) = Unit {0}
+HasCells (CopyIn b r) = 0 < r.len
+HasCells (CopyOut b r) = 0 < r.len
+HasCells (Release b) = Unit {0}
 
 -- The range of each item that is visited has a cell.
 abbrev AllHaveCells : List Visit → Type 0
@@ -43,7 +49,7 @@ unfolding refusal
 cells_of_accepted config st d h =
     let walk = walk_of d in
     let items = map (fault_at config) (visits (st.marks walk.device) walk.items) in
-    let limits = fault_where (passes_a_limit st walk) TooMany in
+    let limits = fault_where (has_too_many st walk) TooMany in
     let first = first_fault_none (fault_where (nat_le config.devices d.device) BadDevice) (limits ∷ items) h in
     let second = first_fault_none limits items first.1 in
     cells_of_visits config (visits (st.marks walk.device) walk.items) second.1

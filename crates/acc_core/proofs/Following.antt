@@ -12,8 +12,8 @@ use Rattle.acc_core.specs.declared.program.Phase.{Phase}
 use Rattle.acc_core.specs.declared.program.Phase.TheVariants as phase
 use Rattle.acc_core.specs.declared.program.Statement.{Statement}
 use Rattle.acc_core.specs.Following.{Ended, OwesFor, Behind, Rise, Stands, AllStand}
-use Rattle.acc_core.specs.Legality.{Own, own_of, items_shown, merged, one_item, AllFollow}
-use Rattle.acc_core.specs.Logs.{items_of, if_one}
+use Rattle.acc_core.specs.Legality.{Own, own_of, items_shown, merged, AllFollow}
+use Rattle.acc_core.specs.Logs.{one_more, items_of, if_one}
 use Rattle.acc_core.specs.Machine.{State}
 use Rattle.acc_core.specs.Steps.{HostEntry, Gave, Had, Owed, nothing_owed, owes_seen, owed_by, Begins, Ends, Follows}
 
@@ -67,7 +67,7 @@ pub items_length : (h : ℕ) (work : List WorkEntry) → length (items_shown h w
 items_length h [] = refl
 items_length h (entry.Op at op ∷ before) = items_length h before
 items_length h (entry.Item k shown ∷ before) =
-    elim (k == h) as (λ b. length (one_item b (Had shown) (items_shown h before)) ≡ if_one b (items_of h before))
+    elim (k == h) as (λ b. length (one_more b (items_shown h before) (Had shown)) ≡ if_one b (items_of h before))
     [ true ↦ length_push (items_shown h before) (Had shown) ∙ ap (λ n. n + 1) (items_length h before) | false ↦ items_length h before ]
 
 -- one more statement has ended
@@ -84,12 +84,6 @@ ended_more (suc ended) (t ∷ statements) s past last e ends h = (
   h.3,
   ended_more ended statements s h.1 last e ends h.4,
 )
-
--- no more statements have ended than there are
-pub ended_within : (ended : ℕ) (statements : List Statement) (past : List HostEntry) → Ended ended statements past → ended ≤ length statements
-ended_within zero statements past h = omega arith
-ended_within (suc ended) [] past h = absurd h
-ended_within (suc ended) (s ∷ statements) past h = omega (arith, ended_within ended statements h.1 h.4)
 
 -- an item is owed
 owes_some : (o : Owed) (device : ℕ) (counts : List ℕ) → o ≡ owes_seen device counts → o ≡ nothing_owed → ⊥

@@ -20,7 +20,7 @@ use Rattle.acc_core.specs.declared.directive.PlaceEntry.TheVariants as noted
 use Rattle.acc_core.specs.Standings.{Standing, Asked, Walk, walk_of, walk_by, Visit, visits, marks_after}
 use Rattle.acc_core.specs.Batches.{opened_blocks, ended_blocks, makes, copy_ins, copy_outs, releases, grouped, batch_of}
 use Rattle.acc_core.specs.Histories.{standing, after_walk, at_first}
-use Rattle.acc_core.specs.Accepting.{is_in_array, first_fault, fault_where, fault_at, refusal, passes_a_limit}
+use Rattle.acc_core.specs.Accepting.{is_in_array, first_fault, fault_where, fault_at, refusal, has_too_many}
 use Rattle.acc_core.specs.Legality.{made, Made, released, AllAccepted}
 use Rattle.acc_core.specs.Labels.{ops_of}
 use Rattle.acc_core.specs.Works.{sync}
@@ -148,7 +148,7 @@ unfolding refusal
 accepted_fits config st d h =
     let walk = walk_of d in
     let items = map (fault_at config) (visits (st.marks walk.device) walk.items) in
-    let limits = fault_where (passes_a_limit st walk) TooMany in
+    let limits = fault_where (has_too_many st walk) TooMany in
     let first = first_fault_none (fault_where (nat_le config.devices d.device) BadDevice) (limits ∷ items) h in
     let second = first_fault_none limits items first.1 in
     record {

@@ -10,14 +10,14 @@ use Rattle.acc_present.proofs.Searching.{is_present-some, is_present-none}
 use Rattle.acc_core.specs.declared.directive.Kind.{Kind}
 use Rattle.acc_core.specs.declared.directive.Kind.TheVariants.{EnterData, ExitData}
 use Rattle.acc_core.specs.Accepting.{is_in_array, ends_within, fault_where, first_fault}
-use Rattle.acc_core.specs.Walks.{fault_in, full_fault, opens_one, IsFine}
+use Rattle.acc_core.specs.Walks.{fault_in, capacity_fault, opens_one, IsFine}
 
 pub fault-present : (config : Configuration) (kind : Kind) (ps : List Presence) (r : Range) (p : Presence) → is_in_array config.arrays r ≡ true → is_partly_present ps r ≡ false → holder ps r ≡ Some p → None ≡ fault_in config kind ps r
 unfolding fault_in
 fault-present config EnterData ps r p inside whole held = rw (inside, whole, is_present-some ps r p held) refl
 fault-present config ExitData ps r p inside whole held = rw (inside, whole) refl
 
-pub fault-absent : (config : Configuration) (kind : Kind) (ps : List Presence) (r : Range) → is_in_array config.arrays r ≡ true → is_partly_present ps r ≡ false → holder ps r ≡ None → full_fault kind ps config.capacity r ≡ fault_in config kind ps r
+pub fault-absent : (config : Configuration) (kind : Kind) (ps : List Presence) (r : Range) → is_in_array config.arrays r ≡ true → is_partly_present ps r ≡ false → holder ps r ≡ None → capacity_fault kind ps config.capacity r ≡ fault_in config kind ps r
 unfolding fault_in
 fault-absent config EnterData ps r inside whole none =
     rw (inside, whole, is_present-none ps r none) (elim (nat_lt config.capacity (used_cells ps + r.len)) as (λ v. fault_where v DeviceFull ≡ first_fault (fault_where v DeviceFull ∷ [])) [ true ↦ refl | false ↦ refl ])

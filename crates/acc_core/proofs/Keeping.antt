@@ -1,5 +1,5 @@
 -- The histories are legal at the start, and each step keeps them legal.
-use Rattle.std.proofs.Common.{◌≡◌, ℕ, List, [], ◌∷◌, ◌++◌, length, refl, ap, ◌∙◌, None}
+use Rattle.std.proofs.Common.{◌≡◌, ℕ, List, [], ◌∷◌, ◌++◌, length, ap, ◌∙◌, None}
 use Rattle.std.specs.Prelude.{IsTrue}
 use Rattle.acc_base.specs.declared.ids.QueueAt.{QueueAt}
 use Rattle.acc_core.specs.declared.directive.Directive.{Directive}
@@ -13,7 +13,7 @@ use Rattle.acc_core.specs.Accepting.{refusal}
 use Rattle.acc_core.specs.Batches.{batch_of, next_number, walk_at}
 use Rattle.acc_core.specs.Histories.{standing}
 use Rattle.acc_core.specs.Labels.{on_queue, ops_of, batch_at}
-use Rattle.acc_core.specs.Legality.{Legal, ShowsTruth, IsStart}
+use Rattle.acc_core.specs.Legality.{Legal, ShowsTruth}
 use Rattle.acc_core.specs.Logs.{performed, items_of, host_allows}
 use Rattle.acc_core.specs.Machine.{State, Step, Runs, standing_of, rest, with_item, with_op, accepting}
 use Rattle.acc_core.specs.Standings.{walk_of}
@@ -21,6 +21,7 @@ use Rattle.acc_core.proofs.Changes.{Step-by, step_config}
 use Rattle.acc_core.proofs.Growing.{in_order-more, host_order-more}
 use Rattle.acc_core.proofs.Performing.{next_of_all, in_order_performed, next_uses_live}
 use Rattle.acc_core.proofs.Queues.{added, labelled_is}
+use Rattle.acc_core.proofs.Starts.{IsStart}
 
 -- the histories are legal before the first event
 pub legal_start : (w : State) → IsStart w → Legal w
@@ -89,13 +90,6 @@ Step-legal old new e r one l s =
       performed = λ at op ops e allowed. legal_performed old at op ops one l e allowed;
     })
     s
-
--- No run changes the configuration.
-pub runs_config : (events : List Event) (replies : List Reply) (old new : State) → Runs old events replies new → new.config ≡ old.config
-runs_config [] [] old new h = rw h refl
-runs_config [] (r ∷ replies) old new h = absurd h
-runs_config (e ∷ events) [] old new h = absurd h
-runs_config (e ∷ events) (r ∷ replies) old new h = runs_config events replies h.0 new h.2 ∙ step_config old h.0 e r h.1
 
 -- Each run keeps the histories legal.
 pub runs_legal : (events : List Event) (replies : List Reply) (old new : State) → old.config.devices ≡ 1 → Legal old → Runs old events replies new → Legal new

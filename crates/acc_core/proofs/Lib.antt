@@ -32,6 +32,7 @@ mod Remembering
 mod Rows
 mod Runs
 mod Showing
+mod Starts
 mod Stepping
 mod Taking
 mod Uses

@@ -12,7 +12,7 @@ use Rattle.acc_core.specs.declared.directive.PlaceEntry.TheVariants as noted
 use Rattle.acc_core.specs.declared.directive.TheConstants.{MAX_ITEMS, MAX_DIRECTIVES}
 use Rattle.acc_core.specs.declared.operation.Label.{Label}
 use Rattle.acc_core.specs.declared.operation.Op.{Op}
-use Rattle.acc_core.specs.Accepting.{fault_where, fault_at, refusal, passes_a_limit}
+use Rattle.acc_core.specs.Accepting.{fault_where, fault_at, refusal, has_too_many}
 use Rattle.acc_core.specs.Batches.{batch_of, labelled, next_number, walk_at}
 use Rattle.acc_core.specs.Histories.{standing}
 use Rattle.acc_core.specs.Legality.{AllAccepted}
@@ -25,10 +25,10 @@ unfolding refusal
 accepted_few config st d h =
     let walk = walk_of d in
     let items = map (fault_at config) (visits (st.marks walk.device) walk.items) in
-    let limits = fault_where (passes_a_limit st walk) TooMany in
+    let limits = fault_where (has_too_many st walk) TooMany in
     let first = first_fault_none (fault_where (nat_le config.devices d.device) BadDevice) (limits ∷ items) h in
     let second = first_fault_none limits items first.1 in
-    let none = no_fault (passes_a_limit st walk) TooMany second.0 in
+    let none = no_fault (has_too_many st walk) TooMany second.0 in
     let parts = or_parts (nat_lt MAX_ITEMS (length walk.items)) (nat_le MAX_DIRECTIVES st.accepted) none in
     leb-false MAX_DIRECTIVES st.accepted parts.1
 

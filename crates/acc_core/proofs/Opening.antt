@@ -1,21 +1,18 @@
 -- An accelerator before the first event.
-use Rattle.std.proofs.Common.{◌≡◌, ℕ, ◌<◌, ◌≤◌, List, [], length, replicate, refl, ap, arith}
+use Rattle.std.proofs.Common.{◌≡◌, ℕ, ◌<◌, ◌≤◌, List, [], length, refl, ap, arith}
 use Rattle.std.specs.Prelude.{ℤ, IsTrue}
 use Rattle.std.proofs.lemmas.List.Elements.{All-nil}
+use Rattle.acc_base.specs.declared.config.TheConstants.{MAX_HOSTS}
 use Rattle.acc_base.specs.Configurations.{Configuration}
 use Rattle.acc_core.specs.declared.operation.Label.{Label}
 use Rattle.acc_core.specs.Histories.{standing}
 use Rattle.acc_core.specs.Logs.{value}
-use Rattle.acc_core.specs.Machine.{State}
+use Rattle.acc_core.specs.Machine.{State, state_at_first}
 use Rattle.acc_core.specs.Memories.{Cells, Shows, is_held, cell_of, lengths_of}
 use Rattle.acc_core.specs.Ties.{Queued, Remembers, IsAccelerator}
 use Rattle.acc_core.specs.Values.{Cell, Host_cell, Block_cell}
 use Rattle.acc_core.specs.Works.{WorkView}
 use Rattle.acc_core.proofs.Keeping.{legal_start}
-
--- the state in which nothing is accepted, performed or shown
-abbrev pub opening : Configuration → State
-opening config = record { config = config; history = []; counts = []; work = []; taken = replicate 8 0; hosts = [] }
 
 -- without blocks a memory shows the values of its arrays
 shows_opening : (m : Cells) (arrays : List (List ℤ)) → m.arrays ≡ arrays → m.rows ≡ [] → Shows m (value arrays [])
@@ -26,7 +23,7 @@ shows_opening m arrays e none = λ cell. cases cell
     cases (Block_cell device block cell) held = rw none refl
 
 -- so it shows the values of the log
-remembers_opening : (config : Configuration) (v : WorkView) → v.memory.arrays ≡ config.arrays → v.memory.rows ≡ [] → Remembers (opening config) v
+remembers_opening : (config : Configuration) (v : WorkView) → v.memory.arrays ≡ config.arrays → v.memory.rows ≡ [] → Remembers (state_at_first config []) v
 remembers_opening config v e none = record {
   shows = shows_opening v.memory config.arrays e none;
   blocks = rw none refl;
@@ -34,7 +31,7 @@ remembers_opening config v e none = record {
 }
 
 -- an empty queue and an empty lane hold what is placed
-queued_opening : (config : Configuration) (v : WorkView) → v.memory.rows ≡ [] → v.lane ≡ [] → v.lane_host < 8 → Queued (opening config) v [] 0 0
+queued_opening : (config : Configuration) (v : WorkView) → v.memory.rows ≡ [] → v.lane ≡ [] → v.lane_host < MAX_HOSTS → Queued (state_at_first config []) v [] 0 0
 unfolding standing
 queued_opening config v no_rows no_lane low = record {
   single = refl;
@@ -48,17 +45,17 @@ queued_opening config v no_rows no_lane low = record {
   all_waiting = refl;
   log_room = omega arith;
   block_room = rw no_rows (omega arith);
-  hosts = All-nil (λ (l : Label). l.host < 8);
+  hosts = All-nil (λ (l : Label). l.host < MAX_HOSTS);
   lane_host = low;
 }
 
 -- What holds of an accelerator holds before the first event.
-pub is_opening : (config : Configuration) (w : State) (v : WorkView) (queue_room : ℕ) → w ≡ opening config → config.devices ≡ 1 → config.room ≤ queue_room
-    → v.memory.arrays ≡ config.arrays → v.memory.rows ≡ [] → v.lane ≡ [] → v.lane_host < 8 → IsAccelerator w v [] 0 0 queue_room
+pub is_opening : (config : Configuration) (w : State) (v : WorkView) (queue_room : ℕ) → w ≡ state_at_first config [] → config.devices ≡ 1 → config.room ≤ queue_room
+    → v.memory.arrays ≡ config.arrays → v.memory.rows ≡ [] → v.lane ≡ [] → v.lane_host < MAX_HOSTS → IsAccelerator w v [] 0 0 queue_room
 is_opening config w v queue_room is one room arrays no_rows no_lane low =
     rw is (record {
       one_device = one;
-      legal = legal_start (opening config) (record { one_device = one; history = refl; counts = refl; work = refl; hosts = tt });
+      legal = legal_start (state_at_first config []) (record { one_device = one; history = refl; counts = refl; work = refl; hosts = tt });
       few_items = omega arith;
       held_low = omega arith;
       room = room;

@@ -4,6 +4,7 @@ use Rattle.std.specs.Prelude.{◌==◌, ◌&&◌, not, Ok, Err}
 use Rattle.std.proofs.lemmas.Bool.{eq-eqb, ne_eqb, eqb-true, eqb-false}
 use Rattle.std.proofs.lemmas.List.{append_assoc, append-nil, length-append, length-map, map-append, take-append-le, drop-append-le}
 use Rattle.std.proofs.lemmas.List.Elements.{All-push}
+use Rattle.acc_base.specs.declared.config.TheConstants.{MAX_HOSTS}
 use Rattle.acc_core.specs.declared.batch.Batch.{Batch}
 use Rattle.acc_core.specs.declared.directive.Directive.{Directive}
 use Rattle.acc_core.specs.declared.operation.Label.{Label}
@@ -15,7 +16,7 @@ use Rattle.acc_base.specs.declared.fault.Fault.TheVariants.{QueueFull}
 use Rattle.acc_base.specs.declared.ids.QueueAt.{QueueAt}
 use Rattle.acc_base.specs.Queues.{same_queue}
 use Rattle.acc_core.specs.Accepting.{refusal}
-use Rattle.acc_core.specs.Answers.{Places, after_accept, fault_of_place, place_fault, full_fault}
+use Rattle.acc_core.specs.Answers.{Places, after_accept, fault_of_place, place_fault, queue_fault}
 use Rattle.acc_core.specs.Batches.{batch_of, answer_of, next_number, placed_batch, walk_at}
 use Rattle.acc_core.specs.Labels.{on_queue, ops_of}
 use Rattle.acc_core.specs.Legality.{Legal}
@@ -24,7 +25,7 @@ use Rattle.acc_core.specs.Machine.{State, standing_of, accepting, is_empty, is_f
 use Rattle.acc_core.specs.Standings.{walk_of}
 use Rattle.acc_core.specs.Tasks.{AllReady, op_of, ops_in}
 use Rattle.acc_core.specs.Ties.{Queued, Remembers, IsAccelerator, IsLaneOf, BatchesReady, label_of, labels_of, performed_count}
-use Rattle.acc_core.specs.Works.{WorkView, HasRoom, sync}
+use Rattle.acc_core.specs.Works.{WorkView, HasMadeRoom, sync}
 use Rattle.acc_core.proofs.Histories.{accepted_fits, walk_is}
 use Rattle.acc_core.proofs.Keeping.{legal_accepted, legal_hosts, labels_accepted, more_labels}
 use Rattle.acc_core.proofs.Queues.{added, on_queue-append, ops_of-append, same_queue_itself}
@@ -127,7 +128,7 @@ ops_more ls l = ops_of-append ls (l ∷ []) ∙ ap (λ r. ops_of ls ++ r) (appen
 
 -- One more batch joins the queue, where there is room for its operations.
 queued_more : (w w' : State) (v v' : WorkView) (queue : List Batch) (b : Batch) (t waiting waiting' : ℕ) → Queued w v queue t waiting
-    → labels_of w' ≡ labels_of w ++ label_of b ∷ [] → w'.work ≡ w.work → HasRoom v v' → b.at ≡ sync → b.host < 8
+    → labels_of w' ≡ labels_of w ++ label_of b ∷ [] → w'.work ≡ w.work → HasMadeRoom v v' → b.at ≡ sync → b.host < MAX_HOSTS
     → 0 < length (ops_in b.tasks.items) → AllReady b.tasks.items → waiting' ≡ waiting + length (ops_in b.tasks.items)
     → length w.work + waiting' ≤ v'.room → length v'.memory.rows + waiting' ≤ v'.memory.room
     → Queued w' v' (queue ++ b ∷ []) t waiting'
@@ -147,12 +148,12 @@ queued_more w w' v v' queue b t waiting waiting' q e f k at host some ready more
       all_waiting = rw (e, f, ops_more ls l) (omega (arith, more, q.all_waiting, length-append (ops_of ls) l.ops));
       log_room = rw f log_room;
       block_room = block_room;
-      hosts = rw e (All-push (λ (x : Label). x.host < 8) ls l q.hosts host);
+      hosts = rw e (All-push (λ (x : Label). x.host < MAX_HOSTS) ls l q.hosts host);
       lane_host = rw k.lane_host q.lane_host;
     }
 
 -- the memory shows the same values where room was made
-pub remembers_room : (w w' : State) (v v' : WorkView) → Remembers w v → w'.config ≡ w.config → w'.work ≡ w.work → HasRoom v v' → Remembers w' v'
+pub remembers_room : (w w' : State) (v v' : WorkView) → Remembers w v → w'.config ≡ w.config → w'.work ≡ w.work → HasMadeRoom v v' → Remembers w' v'
 remembers_room w w' v v' r c f k = record {
   shows = rw (c, f, k.arrays, k.rows) r.shows;
   blocks = rw (f, k.rows) r.blocks;
@@ -200,8 +201,8 @@ label_is w w' host d b single at is i =
 
 -- An accelerator that accepted a directive and put its batch on the queue.
 pub keeps_batch : (w w' : State) (v v' : WorkView) (queue : List Batch) (b : Batch) (t waiting waiting' room room' host : ℕ) (d : Directive)
-    → IsAccelerator w v queue t waiting room → refusal w.config (standing_of w) d ≡ None → w' ≡ after_accept w host d → HasRoom v v'
-    → IsBatchOf w w' host d b → host < 8 → length queue < w.config.room → waiting' ≡ waiting + length b.tasks.items → length w.work + waiting' ≤ v'.room
+    → IsAccelerator w v queue t waiting room → refusal w.config (standing_of w) d ≡ None → w' ≡ after_accept w host d → HasMadeRoom v v'
+    → IsBatchOf w w' host d b → host < MAX_HOSTS → length queue < w.config.room → waiting' ≡ waiting + length b.tasks.items → length w.work + waiting' ≤ v'.room
     → length v'.memory.rows + waiting' ≤ v'.memory.room → room ≤ room' → IsAccelerator w' v' (queue ++ b ∷ []) t waiting' room'
 keeps_batch w w' v v' queue b t waiting waiting' room room' host d a e is k i low fits more log_room block_room wider =
     let at = acts_on_sync w d a.one_device e in
@@ -239,9 +240,9 @@ full_at w v queue t waiting d q at some =
 -- the fault is by that
 fault_is : (w : State) (v : WorkView) (queue : List Batch) (t waiting : ℕ) (d : Directive) → Queued w v queue t waiting → w.config.devices ≡ 1
     → refusal w.config (standing_of w) d ≡ None → 0 < length (batch_of (standing_of w) (walk_of d))
-    → fault_of_place false (with_taken w t) d ≡ full_fault (length queue == w.config.room)
+    → fault_of_place false (with_taken w t) d ≡ queue_fault (length queue == w.config.room)
 fault_is w v queue t waiting d q one e some =
-    ap (place_fault false (with_taken w t) d) e ∙ ap full_fault (full_at w v queue t waiting d q (acts_on_sync w d one e) some)
+    ap (place_fault false (with_taken w t) d) e ∙ ap queue_fault (full_at w v queue t waiting d q (acts_on_sync w d one e) some)
 
 -- A directive with an empty batch is answered without one.
 pub places_empty : (w w' : State) (host : ℕ) (d : Directive) → refusal w.config (standing_of w) d ≡ None → batch_of (standing_of w) (walk_of d) ≡ []
@@ -254,7 +255,7 @@ pub places_full : (w w' : State) (v : WorkView) (queue : List Batch) (t waiting 
     → refusal w.config (standing_of w) d ≡ None → 0 < length (batch_of (standing_of w) (walk_of d)) → length queue ≡ w.config.room
     → w' ≡ with_taken w t → Places (with_taken w t) host d (Err QueueFull) w'
 places_full w w' v queue t waiting host d q one e some full is =
-    (false, fault_is w v queue t waiting d q one e some ∙ ap full_fault (eq-eqb (length queue) w.config.room full), is)
+    (false, fault_is w v queue t waiting d q one e some ∙ ap queue_fault (eq-eqb (length queue) w.config.room full), is)
 
 -- A directive with a batch is answered with queue sync, and with the batch's number there.
 pub places_batch : (w w' : State) (v : WorkView) (queue : List Batch) (t waiting host number : ℕ) (d : Directive) → Queued w v queue t waiting → w.config.devices ≡ 1
@@ -265,7 +266,7 @@ unfolding answer_of
 places_batch w w' v queue t waiting host number d q one e some room n is =
     let at = acts_on_sync w d one e in
     let number_of : number ≡ next_number sync (labels_of w) = n ∙ (ap (λ x. length (labels_of x)) is ∙ number_is (with_taken w t) host d q.single at some) in (
-      fault_is w v queue t waiting d q one e some ∙ ap full_fault (ne_eqb (length queue) w.config.room room),
+      fault_is w v queue t waiting d q one e some ∙ ap queue_fault (ne_eqb (length queue) w.config.room room),
       rw (number_of, at, placed_some sync (labels_of w) (batch_of (standing_of w) (walk_of d)) some) refl,
       is,
     )

@@ -18,7 +18,7 @@ use Rattle.acc_core.specs.Histories.{standing, after_walk}
 use Rattle.acc_core.specs.Places.{IsPlace, HasRooms}
 use Rattle.acc_core.specs.Plans.{PlaceView, standing_in, IsRefusal}
 use Rattle.acc_core.specs.Standings.{Standing, walk_of}
-use Rattle.acc_core.specs.Walks.{holding, holding_after_all, limit_fault, first_fault_in, HasRoom}
+use Rattle.acc_core.specs.Walks.{holding, holding_after_all, limit_fault, first_fault_in, HasRoomFor}
 use Rattle.acc_core.proofs.Accepted.{refused_by_limit, refused_by_items, is_within, no_limit, has_room, tied_after, grows_by}
 
 pub reverse-push : {X : Type 0} (xs : List X) (x : X) → reverse (xs ++ x ∷ []) ≡ x ∷ reverse xs
@@ -51,7 +51,7 @@ memory_as given f none is = rw none is
 pub short_items : (p : PlaceView) (t : Present) (blocks labels n : ℕ) (d : Directive) → IsPlace p t blocks labels → n ≡ length p.history → None ≡ limit_fault p.config n d → length d.items ≤ MAX_ITEMS
 short_items p t blocks labels n d h is none = (is_within p.config n d (sym none)).short
 
-pub room_for : (p : PlaceView) (t : Present) (blocks labels n : ℕ) → IsPlace p t blocks labels → n ≤ MAX_ITEMS → length t.presences + MAX_ITEMS ≤ t.room → HasRoom n t blocks
+pub room_for : (p : PlaceView) (t : Present) (blocks labels n : ℕ) → IsPlace p t blocks labels → n ≤ MAX_ITEMS → length t.presences + MAX_ITEMS ≤ t.room → HasRoomFor n t blocks
 room_for p t blocks labels n h short room = has_room (standing_in p) t blocks labels n h.tied short room
 
 -- ## A directive that is accepted

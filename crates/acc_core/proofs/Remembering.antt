@@ -13,8 +13,9 @@ use Rattle.acc_core.specs.Legality.{Made, made, UsesLive, AllLive, HoldsBlock}
 use Rattle.acc_core.specs.Logs.{device_ops, value}
 use Rattle.acc_core.specs.Machine.{State, with_op, with_item}
 use Rattle.acc_core.specs.Memories.{Cells, held_blocks, blocks_after, lengths_of, HasRange, has_array, find_block, MayPerform}
-use Rattle.acc_core.specs.Ties.{Remembers, HasCells}
+use Rattle.acc_core.specs.Ties.{Remembers}
 use Rattle.acc_core.specs.Works.{WorkView, HasPerformed, HasShown, sync}
+use Rattle.acc_core.proofs.CopiedCells.{HasCells}
 use Rattle.acc_core.proofs.LiveBlocks.{held_in, blocks_by_more}
 
 -- The memory shows the values of the log after an operation is performed.

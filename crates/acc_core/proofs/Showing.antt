@@ -14,14 +14,14 @@ use Rattle.acc_core.specs.Logs.{all_items, value}
 use Rattle.acc_core.specs.Machine.{State}
 use Rattle.acc_core.specs.Memories.{lengths_of}
 use Rattle.acc_core.specs.Ties.{IsAccelerator, labels_of}
-use Rattle.acc_core.specs.Works.{WorkView, HasRoom, HasShown, HasPrinted}
+use Rattle.acc_core.specs.Works.{WorkView, HasMadeRoom, HasShown, HasPrinted}
 use Rattle.acc_core.proofs.Advancing.{with_work}
 use Rattle.acc_core.proofs.Keeping.{legal_item}
 use Rattle.acc_core.proofs.Placing.{remembers_room}
 use Rattle.acc_core.proofs.Remembering.{remembers_shown, length_held, same_ends}
 
 -- more room leaves an accelerator what it is
-pub roomier : {w : State} {v v' : WorkView} {queue : List Batch} {t waiting queue_room : ℕ} → IsAccelerator w v queue t waiting queue_room → HasRoom v v' → IsAccelerator w v' queue t waiting queue_room
+pub roomier : {w : State} {v v' : WorkView} {queue : List Batch} {t waiting queue_room : ℕ} → IsAccelerator w v queue t waiting queue_room → HasMadeRoom v v' → IsAccelerator w v' queue t waiting queue_room
 roomier {w = w} {v = v} {v' = v'} a h =
     let q = a.parts in
     record {

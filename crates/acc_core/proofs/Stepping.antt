@@ -26,12 +26,13 @@ use Rattle.acc_core.specs.Accepting.{refusal}
 use Rattle.acc_core.specs.Batches.{answer_of}
 use Rattle.acc_core.specs.Following.{Owes, OwesFor, Behind, Rise, Stands, StandsIn, AllStand}
 use Rattle.acc_core.specs.Labels.{on_queue, batch_at}
-use Rattle.acc_core.specs.Legality.{Own, own_of, items_shown, merged, IsStart, AllStart}
+use Rattle.acc_core.specs.Legality.{Own, own_of, items_shown, merged}
 use Rattle.acc_core.specs.Logs.{performed, items_of, all_items, value, values_of, all_done, host_allows}
 use Rattle.acc_core.specs.Machine.{State, Outcome, Step, Runs, standing_of, is_there, taken_on, held, rest, with_host, in_phase, refused, next_statement, with_item, item_step, accepting, after_place, is_full, place_step, act_step, statement_step, host_step, named_step, take_step, perform_step, queue_step, with_op, step}
 use Rattle.acc_core.specs.Standings.{walk_of}
 use Rattle.acc_core.specs.Steps.{HostEntry, Gave, Had, Owed, nothing_owed, owes_seen, owed_by, settled, Ends}
 use Rattle.acc_core.proofs.Following.{rise_more, rise_push, merged_item, merged_directive, items_length, ended_more}
+use Rattle.acc_core.proofs.Starts.{IsStart, AllStart}
 
 -- what stands behind is a case of what stands behind a host that was refused
 refused_next : (p : Phase) (fault : Fault) (next : Option Statement) (behind : List HostEntry) → Behind p next behind → Behind (phase.Refused fault) next behind

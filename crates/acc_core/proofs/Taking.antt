@@ -1,7 +1,9 @@
 -- The queue takes a batch.
-use Rattle.std.proofs.Common.{◌≡◌, ℕ, ◌+◌, ◌<◌, List, [], ◌∷◌, length, map, drop, sym, ap, ◌∙◌, arith}
+use Rattle.std.proofs.Common.{◌≡◌, ℕ, ◌+◌, ◌-◌, ◌<◌, List, [], ◌∷◌, length, map, drop, sym, ap, ◌∙◌, arith}
 use Rattle.std.specs.Prelude.{replicate}
 use Rattle.std.proofs.lemmas.List.Elements.{All-head, All-drop}
+use Rattle.acc_base.specs.declared.config.TheConstants.{MAX_HOSTS}
+use Rattle.acc_base.specs.Queues.{queue_count}
 use Rattle.acc_core.specs.declared.operation.Label.{Label}
 use Rattle.std.proofs.lemmas.List.{length-drop, length-map}
 use Rattle.acc_core.specs.declared.batch.Batch.{Batch}
@@ -13,7 +15,7 @@ use Rattle.acc_core.proofs.Lanes.{lane_filled}
 
 -- the state with so many batches taken
 abbrev pub with_taken : State → ℕ → State
-with_taken w t = record w { taken = t ∷ replicate 7 0 }
+with_taken w t = record w { taken = t ∷ replicate (queue_count w.config - 1) 0 }
 
 -- the work side with this batch in its lane
 abbrev pub filled_with : WorkView → Batch → WorkView
@@ -48,5 +50,5 @@ taken_more w v b queue t waiting q none =
       log_room = q.log_room;
       block_room = q.block_room;
       hosts = q.hosts;
-      lane_host = All-head (λ (l : Label). l.host < 8) (label_of b) (map label_of queue) (rw (← q.queued) at (All-drop (λ (l : Label). l.host < 8) t (labels_of w) q.hosts));
+      lane_host = All-head (λ (l : Label). l.host < MAX_HOSTS) (label_of b) (map label_of queue) (rw (← q.queued) at (All-drop (λ (l : Label). l.host < MAX_HOSTS) t (labels_of w) q.hosts));
     }

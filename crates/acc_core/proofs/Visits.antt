@@ -24,13 +24,17 @@ use Rattle.acc_core.specs.declared.directive.Kind.{Kind}
 use Rattle.acc_core.specs.declared.directive.Kind.TheVariants.{EnterData, ExitData}
 use Rattle.acc_core.specs.declared.operation.Op.{Op}
 use Rattle.acc_core.specs.declared.operation.Op.TheVariants as op
-use Rattle.acc_core.specs.declared.place.Group.TheVariants.{Makes, CopyIns, CopyOuts, Releases}
-use Rattle.acc_core.specs.declared.place.Taken.{Taken}
+use Rattle.acc_core.specs.declared.plan.Group.TheVariants.{Makes, CopyIns, CopyOuts, Releases}
+use Rattle.acc_core.specs.declared.judge.Marked.{Marked}
 use Rattle.acc_core.specs.Accepting.{fault_at, first_fault, fault_where, is_in_array, has_opened}
 use Rattle.acc_core.specs.Batches.{opened_block, opened_blocks, ended_blocks, makes, copy_ins, copy_outs, releases, grouped, copies_in, copies_out}
 use Rattle.acc_core.specs.Standings.{Visit, visits, marked, marks_after, all_asked}
-use Rattle.acc_core.specs.Walks.{Holding, holding, holding_of, change_by, mark_by, opens_one, opened_after, holding_after, holding_after_all, fault_in, fault_or, first_fault_in, block_opened, ended_by, taken_in, takings, where_so, group_ops, ops_taken, AllFine}
+use Rattle.acc_core.specs.Walks.{Holding, holding, change_by, mark_by, opens_one, opened_after, holding_after, holding_after_all, fault_in, fault_or, first_fault_in, block_opened, ended_by, marked_in, all_marked, where_so, group_ops, marked_ops, AllFine}
 use Rattle.acc_core.proofs.Judging.{fine_item}
+
+-- what a device has after these marks
+abbrev pub holding_of : List Mark → Holding
+holding_of marks = holding (presences marks) (length (opened marks))
 
 abbrev pub visit_of : Kind → List Mark → Item → Visit
 visit_of kind ms i = record { item = i; before = ms; after = marked ms i.range (Some (change_by kind)) }
@@ -182,7 +186,7 @@ marks_are capacity kind ms (i ∷ is) t fine =
 
 -- ## Operations
 
-pub record OpsAlike (vs : List Visit) (ts : List Taken) : Type 0 where
+pub record OpsAlike (vs : List Visit) (ts : List Marked) : Type 0 where
   pub made : flat_map makes vs ≡ flat_map (group_ops Makes) ts
   pub filled : flat_map copy_ins vs ≡ flat_map (group_ops CopyIns) ts
   pub copied : flat_map copy_outs vs ≡ flat_map (group_ops CopyOuts) ts
@@ -195,9 +199,9 @@ where_clause false f bs o is = refl
 both : (xs ys zs ws : List Op) → xs ≡ ys → zs ≡ ws → xs ++ zs ≡ ys ++ ws
 both xs ys zs ws e f = ap (λ us. us ++ zs) e ∙ ap (λ us. ys ++ us) f
 
-ops_first : (kind : Kind) (ms : List Mark) (i : Item) (vs : List Visit) (ts : List Taken) → is_table (presences ms) ≡ true → 0 < i.range.len → OpsAlike vs ts
-    → OpsAlike (visit_of kind ms i ∷ vs) (taken_in kind (holding_of ms) i ∷ ts)
-unfolding taken_in
+ops_first : (kind : Kind) (ms : List Mark) (i : Item) (vs : List Visit) (ts : List Marked) → is_table (presences ms) ≡ true → 0 < i.range.len → OpsAlike vs ts
+    → OpsAlike (visit_of kind ms i ∷ vs) (marked_in kind (holding_of ms) i ∷ ts)
+unfolding marked_in
 ops_first kind ms i vs ts t cells rest =
     let v = visit_of kind ms i in
     let opens = opened_blocks_are kind ms i t in
@@ -212,19 +216,19 @@ ops_first kind ms i vs ts t cells rest =
     }
 
 ops_alike : (capacity : ℕ) (kind : Kind) (ms : List Mark) (items : List Item) → is_table (presences ms) ≡ true → AllFine capacity kind (holding_of ms) items
-    → OpsAlike (visits ms (all_asked (Some (change_by kind)) items)) (takings kind (holding_of ms) items)
+    → OpsAlike (visits ms (all_asked (Some (change_by kind)) items)) (all_marked kind (holding_of ms) items)
 ops_alike capacity kind ms [] t fine = record { made = refl; filled = refl; copied = refl; released = refl }
 ops_alike capacity kind ms (i ∷ is) t fine =
     let e = after_is kind ms i.range t in
     let after = marked ms i.range (Some (change_by kind)) in
     let rest = ops_alike capacity kind after is (table_after kind ms i.range t fine.0.cells fine.0.whole) (rw e fine.1) in
-    ops_first kind ms i (visits after (all_asked (Some (change_by kind)) is)) (takings kind (holding_after kind i.range (holding_of ms)) is) t fine.0.cells (rw e at rest)
+    ops_first kind ms i (visits after (all_asked (Some (change_by kind)) is)) (all_marked kind (holding_after kind i.range (holding_of ms)) is) t fine.0.cells (rw e at rest)
 
 pub ops_are : (capacity : ℕ) (kind : Kind) (ms : List Mark) (items : List Item) → is_table (presences ms) ≡ true → AllFine capacity kind (holding_of ms) items
-    → grouped (visits ms (all_asked (Some (change_by kind)) items)) ≡ ops_taken (takings kind (holding_of ms) items)
-unfolding ops_taken
+    → grouped (visits ms (all_asked (Some (change_by kind)) items)) ≡ marked_ops (all_marked kind (holding_of ms) items)
+unfolding marked_ops
 ops_are capacity kind ms items t fine =
     let vs = visits ms (all_asked (Some (change_by kind)) items) in
-    let ts = takings kind (holding_of ms) items in
+    let ts = all_marked kind (holding_of ms) items in
     let a = ops_alike capacity kind ms items t fine in
     both (flat_map makes vs) _ _ _ a.made (both (flat_map copy_ins vs) _ _ _ a.filled (both (flat_map copy_outs vs) _ _ _ a.copied a.released))

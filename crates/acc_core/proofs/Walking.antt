@@ -1,4 +1,4 @@
--- One item of a walk: it can be taken, there is room for the others then, and its mark can be taken back.
+-- One item of a walk: it can be marked, there is room for the others then, and its mark can be taken back.
 use Rattle.std.proofs.Common.{◌≡◌, ℕ, suc, ◌+◌, ◌-◌, ◌^◌, ◌<◌, ◌≤◌, Bool, true, false, cond, eqb, List, [], ◌∷◌, ◌++◌, length, map, set, remove, get_or, drop, take, Some, None, refl, sym, ap, ◌∙◌, arith, inl, inr}
 use Rattle.std.specs.Prelude.{◌&&◌, not, filter, IfSome, is_some}
 use Rattle.std.proofs.lemmas.Bool.{cases_Bool, eqb-true, eqb-false}
@@ -22,8 +22,8 @@ use Rattle.acc_present.proofs.Undoing.{undone_entry, returns}
 use Rattle.acc_core.specs.declared.directive.Item.{Item}
 use Rattle.acc_core.specs.declared.directive.Kind.{Kind}
 use Rattle.acc_core.specs.declared.directive.Kind.TheVariants.{EnterData, ExitData}
-use Rattle.acc_core.specs.declared.place.Taken.{Taken}
-use Rattle.acc_core.specs.Walks.{Holding, holding, mark_by, opens_one, opened_after, holding_after, holding_after_all, fault_in, fault_or, first_fault_in, block_opened, taken_in, takings, AllLow, HasRoom, CanTake, IsFine, AllFine, undone, CanUndo}
+use Rattle.acc_core.specs.declared.judge.Marked.{Marked}
+use Rattle.acc_core.specs.Walks.{Holding, holding, mark_by, opens_one, opened_after, holding_after, holding_after_all, fault_in, fault_or, first_fault_in, block_opened, marked_in, all_marked, AllLow, HasRoomFor, CanMark, IsFine, AllFine, undone, CanUndo}
 
 -- ## The first item, and the others
 
@@ -32,10 +32,10 @@ pub first_fault-next : (config : Configuration) (kind : Kind) (h : Holding) (ite
 first_fault-next config kind h [] d some none = absurd (omega arith)
 first_fault-next config kind h (i ∷ is) d some none = ap (λ f. fault_or f (first_fault_in config kind (holding_after kind i.range h) is)) none
 
-pub takings-next : (kind : Kind) (h : Holding) (items : List Item) (d : Item) → 1 ≤ length items
-    → takings kind h items ≡ taken_in kind h (get_or items 0 d) ∷ takings kind (holding_after kind (get_or items 0 d).range h) (drop 1 items)
-takings-next kind h [] d some = absurd (omega arith)
-takings-next kind h (i ∷ is) d some = refl
+pub all_marked-next : (kind : Kind) (h : Holding) (items : List Item) (d : Item) → 1 ≤ length items
+    → all_marked kind h items ≡ marked_in kind h (get_or items 0 d) ∷ all_marked kind (holding_after kind (get_or items 0 d).range h) (drop 1 items)
+all_marked-next kind h [] d some = absurd (omega arith)
+all_marked-next kind h (i ∷ is) d some = refl
 
 pub holding-next : (kind : Kind) (h : Holding) (items : List Item) (d : Item) → 1 ≤ length items
     → holding_after_all kind h items ≡ holding_after_all kind (holding_after kind (get_or items 0 d).range h) (drop 1 items)
@@ -55,13 +55,13 @@ is_some-opened : (b : Bool) (n : ℕ) → is_some (block_opened b n) ≡ b
 is_some-opened true n = refl
 is_some-opened false n = refl
 
--- what the table and the count are, once the item was taken
-pub holding_is : (kind : Kind) (ps after : List Presence) (n next : ℕ) (item : Item) (taken : Taken) → after ≡ presences_after (mark_by kind item.range) (n + 1) ps → taken ≡ taken_in kind (holding ps n) item
-    → next ≡ opened_after (is_some taken.opened) n → holding after next ≡ holding_after kind item.range (holding ps n)
-unfolding holding_after taken_in
-holding_is kind ps after n next item taken is took counts =
+-- what the table and the count are, once the item is marked
+pub holding_is : (kind : Kind) (ps after : List Presence) (n next : ℕ) (item : Item) (mark : Marked) → after ≡ presences_after (mark_by kind item.range) (n + 1) ps → mark ≡ marked_in kind (holding ps n) item
+    → next ≡ opened_after (is_some mark.opened) n → holding after next ≡ holding_after kind item.range (holding ps n)
+unfolding holding_after marked_in
+holding_is kind ps after n next item mark is made counts =
     let b = opens_one kind ps item.range in
-    let e : next ≡ opened_after b n = counts ∙ (ap (λ (t : Taken). opened_after (is_some t.opened) n) took ∙ ap (λ v. opened_after v n) (is_some-opened b n)) in
+    let e : next ≡ opened_after b n = counts ∙ (ap (λ (m : Marked). opened_after (is_some m.opened) n) made ∙ ap (λ v. opened_after v n) (is_some-opened b n)) in
     ap (λ qs. holding qs next) is ∙ ap (holding (presences_after (mark_by kind item.range) (n + 1) ps)) e
 
 -- ## Counters stay low
@@ -120,14 +120,14 @@ low_holder limit n (p ∷ ps) r low =
     elim (range_contains p.range r) as (λ v. IfSome (cond v (Some p) (holder ps r)) (λ q. q.d < limit))
     [ true ↦ omega (arith, low.0) | false ↦ low_holder limit n ps r low.1 ]
 
--- ## It can be taken
+-- ## It can be marked
 
 opens_where_none : (ps : List Presence) (r : Range) → holder ps r ≡ None → opens_one EnterData ps r ≡ true
 opens_where_none ps r none = rw (is_present-none ps r none) refl
 
-pub can_take : (kind : Kind) (t : Present) (r : Range) (capacity opened n : ℕ) → IsFine capacity kind t.presences r → t.capacity ≡ capacity → HasRoom n t opened → 1 ≤ n → CanTake kind r t
-can_take ExitData t r capacity opened n fine same room some = fine.cells
-can_take EnterData t r capacity opened n fine same room some =
+pub can_mark : (kind : Kind) (t : Present) (r : Range) (capacity opened n : ℕ) → IsFine capacity kind t.presences r → t.capacity ≡ capacity → HasRoomFor n t opened → 1 ≤ n → CanMark kind r t
+can_mark ExitData t r capacity opened n fine same room some = fine.cells
+can_mark EnterData t r capacity opened n fine same room some =
     record {
       cells = fine.cells;
       whole = fine.whole;
@@ -141,8 +141,8 @@ opened-most true n = omega arith
 opened-most false n = omega arith
 
 -- and leaves room for the others
-pub room_after : (kind : Kind) (t after : Present) (r : Range) (n opened next : ℕ) (b : Bool) → HasRoom (suc n) t opened → after.presences ≡ presences_after (mark_by kind r) (opened + 1) t.presences → after.room ≡ t.room
-    → next ≡ opened_after b opened → HasRoom n after next
+pub room_after : (kind : Kind) (t after : Present) (r : Range) (n opened next : ℕ) (b : Bool) → HasRoomFor (suc n) t opened → after.presences ≡ presences_after (mark_by kind r) (opened + 1) t.presences → after.room ≡ t.room
+    → next ≡ opened_after b opened → HasRoomFor n after next
 room_after kind t after r n opened next b room is same counts =
     let m = mark_by kind r in
     let len : length after.presences ≤ length t.presences + 1 = omega (arith, ap length is, length-after m (opened + 1) t.presences) in
@@ -152,8 +152,8 @@ room_after kind t after r n opened next b room is same counts =
       few = omega (arith, room.few, counts, opened-most b opened);
     }
 
-pub room_rest : (kind : Kind) (t after : Present) (r : Range) (items : List Item) (opened next : ℕ) (b : Bool) → HasRoom (length items) t opened → 1 ≤ length items
-    → after.presences ≡ presences_after (mark_by kind r) (opened + 1) t.presences → after.room ≡ t.room → next ≡ opened_after b opened → HasRoom (length (drop 1 items)) after next
+pub room_rest : (kind : Kind) (t after : Present) (r : Range) (items : List Item) (opened next : ℕ) (b : Bool) → HasRoomFor (length items) t opened → 1 ≤ length items
+    → after.presences ≡ presences_after (mark_by kind r) (opened + 1) t.presences → after.room ≡ t.room → next ≡ opened_after b opened → HasRoomFor (length (drop 1 items)) after next
 room_rest kind t after r [] opened next b room some is same counts = absurd (omega arith)
 room_rest kind t after r (i ∷ is) opened next b room some at_t same counts = room_after kind t after r (length is) opened next b room at_t same counts
 

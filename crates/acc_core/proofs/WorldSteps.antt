@@ -3,6 +3,7 @@ use Rattle.std.proofs.Common.{◌≡◌, ℕ, ◌≤◌, Bool, true, false, cond
 use Rattle.std.specs.Prelude.{All, nat_lt, slice_get, slice_set}
 use Rattle.std.proofs.lemmas.List.{length-map}
 use Rattle.std.proofs.lemmas.List.Elements.{All-nil, All-cons}
+use Rattle.acc_base.specs.declared.config.TheConstants.{MAX_HOSTS}
 use Rattle.acc_base.specs.Configurations.{Configuration}
 use Rattle.acc_base.specs.declared.ids.QueueAt.{QueueAt}
 use Rattle.acc_core.specs.declared.event.Event.{Event}
@@ -16,7 +17,7 @@ use Rattle.acc_core.specs.declared.program.HostProgram.{HostProgram}
 use Rattle.acc_core.specs.declared.program.HostState.{HostState}
 use Rattle.acc_core.specs.Following.{AllStand}
 use Rattle.acc_core.specs.Labels.{on_queue, batch_at}
-use Rattle.acc_core.specs.Legality.{Legal, AllStart, IsStart}
+use Rattle.acc_core.specs.Legality.{Legal}
 use Rattle.acc_core.specs.Logs.{performed, host_allows}
 use Rattle.acc_core.specs.Machine.{State, Outcome, Step, Runs, standing_of, is_there, held, rest, take_step, perform_step, queue_step, step}
 use Rattle.acc_core.specs.Worlds.{ready, opening, IsWorld, Ran, HostSteps, HasStatement}
@@ -25,6 +26,7 @@ use Rattle.acc_core.proofs.Following.{AllStand-follow}
 use Rattle.acc_core.proofs.HostSteps.{ready_stands}
 use Rattle.acc_core.proofs.Keeping.{legal_start, Step-legal, runs_legal}
 use Rattle.acc_core.proofs.Runs.{Runs-cut}
+use Rattle.acc_core.proofs.Starts.{IsStart, AllStart}
 use Rattle.acc_core.proofs.Stepping.{stands_start, Step-stands, runs_stand}
 
 -- each host is ready
@@ -38,7 +40,7 @@ all_ready (program ∷ programs) =
     All-cons HasStatement (ready program) (map ready programs) (ready_stands (slice_get program.statements 0)) (all_ready programs)
 
 -- a world opens
-pub opens : (config : Configuration) (programs : List HostProgram) (states : List HostState) (room : ℕ) → config.devices ≡ 1 → length programs ≤ 8 → states ≡ [] → length programs ≤ room → IsWorld (opening config programs) states room
+pub opens : (config : Configuration) (programs : List HostProgram) (states : List HostState) (room : ℕ) → config.devices ≡ 1 → length programs ≤ MAX_HOSTS → states ≡ [] → length programs ≤ room → IsWorld (opening config programs) states room
 opens config programs states room one few none enough =
     let start : IsStart (opening config programs) = record { one_device = one; history = refl; counts = refl; work = refl; hosts = all_start programs } in
     record {

@@ -42,14 +42,14 @@ faults_at config v =
 abbrev pub fault_at : Configuration → Visit → Option Fault
 fault_at config v = first_fault (faults_at config v)
 
-abbrev pub passes_a_limit : Standing → Walk → Bool
-passes_a_limit st walk = nat_lt MAX_ITEMS (length walk.items) || nat_le MAX_DIRECTIVES st.accepted
+abbrev pub has_too_many : Standing → Walk → Bool
+has_too_many st walk = nat_lt MAX_ITEMS (length walk.items) || nat_le MAX_DIRECTIVES st.accepted
 
 abbrev pub refusal_on : Configuration → Standing → Directive → Walk → Option Fault
 refusal_on config st d walk =
     first_fault (
     fault_where (nat_le config.devices d.device) BadDevice
-    ∷ fault_where (passes_a_limit st walk) TooMany
+    ∷ fault_where (has_too_many st walk) TooMany
     ∷ map (fault_at config) (visits (st.marks walk.device) walk.items)
     )
 

@@ -16,15 +16,15 @@ use Rattle.acc_core.specs.Logs.{items_of, all_items, value, values_of}
 use Rattle.acc_core.specs.Machine.{State, standing_of, is_full, with_item}
 use Rattle.acc_core.specs.Standings.{walk_of}
 
-abbrev pub full_fault : Bool → Option Fault
-full_fault true = Some QueueFull
-full_fault false = None
+abbrev pub queue_fault : Bool → Option Fault
+queue_fault true = Some QueueFull
+queue_fault false = None
 
 -- the fault of a directive, where memory is refused or not
 abbrev pub place_fault : Bool → State → Directive → Option Fault → Option Fault
 place_fault no_memory w d (Some fault) = Some fault
 place_fault no_memory w d None =
-    if no_memory then Some Memory else full_fault (is_full w (standing_of w) (walk_of d))
+    if no_memory then Some Memory else queue_fault (is_full w (standing_of w) (walk_of d))
 
 abbrev pub fault_of_place : Bool → State → Directive → Option Fault
 fault_of_place no_memory w d = place_fault no_memory w d (refusal w.config (standing_of w) d)

@@ -1,8 +1,7 @@
 -- The definitions computed on worked programs: the replies to some events, and the state after them.
-use Rattle.std.specs.Prelude.{◌≡◌, ℕ, false, List, [], ◌∷◌, ◌++◌, map, replicate, ℤ, pos}
+use Rattle.std.specs.Prelude.{◌≡◌, ℕ, false, List, [], ◌∷◌, ◌++◌, map, ℤ, pos}
 use Rattle.acc_base.specs.declared.range.Range.{Range}
 use Rattle.acc_base.specs.declared.fault.Fault.TheVariants.{PartlyPresent}
-use Rattle.acc_base.specs.declared.ids.QueueAt.{QueueAt}
 use Rattle.acc_base.specs.Configurations.{configuration}
 use Rattle.acc_present.specs.Presences.{Presence, presences}
 use Rattle.acc_core.specs.declared.directive.Clause.{Clause}
@@ -24,6 +23,8 @@ use Rattle.acc_core.specs.declared.program.Phase.{Phase}
 use Rattle.acc_core.specs.declared.program.Phase.TheVariants as phase
 use Rattle.acc_core.specs.Machine.{State, Outcome, step, standing_of}
 use Rattle.acc_core.specs.Standings.{Standing}
+use Rattle.acc_core.specs.Works.{sync}
+use Rattle.acc_core.specs.Worlds.{opening}
 
 pub record Played : Type 0 where
   pub replies : List Reply
@@ -40,23 +41,14 @@ all_from (e ∷ es) r = all_from es (ran_on r (step false r.state e))
 -- one host with these acts, over these arrays
 abbrev pub world : List (List ℤ) → List Act → State
 world arrays acts =
-    record {
-      config = configuration 1 1 arrays 4194304 64;
-      history = [];
-      counts = [];
-      work = [];
-      taken = replicate 8 0;
-      hosts = record { statements = map (λ a. record { line = 1; act = a }) acts; ended = 0; phase = phase.Ready } ∷ [];
-    }
+    opening (configuration 1 1 arrays 4194304 64)
+    (record { host = 0; statements = map (λ a. record { line = 1; act = a }) acts } ∷ [])
 
 abbrev pub cells : ℕ → ℕ → Range
 cells lo len = record { array = 0; lo = lo; len = len }
 
 abbrev pub place : Kind → Clause → Range → Act
 place k c r = act.Place (record { device = 0; kind = k; items = record { clause = c; range = r } ∷ [] })
-
-abbrev pub sync : QueueAt
-sync = record { device = 0; queue = 0 }
 
 abbrev pub host : Event
 host = event.Host 0

@@ -1,5 +1,5 @@
 -- What holds of the histories after any list of events.
-use Rattle.std.specs.Prelude.{◌≡◌, ◌↔◌, ℕ, ◌+◌, ◌-◌, ◌≤◌, Bool, true, false, ◌==◌, IsTrue, List, [], ◌∷◌, ◌++◌, length, map, take, drop, slice_index_or, Contains, None, ℤ}
+use Rattle.std.specs.Prelude.{◌≡◌, ◌↔◌, ℕ, ◌+◌, ◌-◌, ◌≤◌, ◌==◌, IsTrue, List, [], ◌∷◌, ◌++◌, length, map, take, drop, slice_index_or, Contains, None, ℤ}
 use Rattle.acc_base.specs.declared.ids.QueueAt.{QueueAt}
 use Rattle.acc_base.specs.declared.range.Range.{Range}
 use Rattle.acc_base.specs.Configurations.{Configuration}
@@ -18,12 +18,11 @@ use Rattle.acc_core.specs.declared.operation.Label.{Label}
 use Rattle.acc_core.specs.declared.operation.Op.{Op}
 use Rattle.acc_core.specs.declared.operation.Op.TheVariants.{Make, CopyIn, CopyOut, Release}
 use Rattle.acc_core.specs.declared.program.Host.{Host}
-use Rattle.acc_core.specs.declared.program.Phase.TheVariants as phase
 use Rattle.acc_core.specs.Accepting.{refusal, is_in_array}
 use Rattle.acc_core.specs.Batches.{answer_of}
 use Rattle.acc_core.specs.Histories.{standing}
 use Rattle.acc_core.specs.Labels.{on_queue, ops_of, batch_at, whole}
-use Rattle.acc_core.specs.Logs.{performed, device_ops, value, values_of, all_done, host_allows}
+use Rattle.acc_core.specs.Logs.{one_more, performed, device_ops, value, values_of, all_done, host_allows}
 use Rattle.acc_core.specs.Machine.{State, standing_of, Runs}
 use Rattle.acc_core.specs.Standings.{walk_of}
 use Rattle.acc_core.specs.Steps.{HostEntry, Gave, Had, Follows}
@@ -100,30 +99,22 @@ pub record Legal (w : State) : Type 0 where
   pub live_blocks : AllLive w.config.arrays w.work
 
 -- A host's items, and its directives with their answers and how many of its items came before each.
-abbrev pub one_item : Bool → HostEntry → List HostEntry → List HostEntry
-one_item true e es = es ++ e ∷ []
-one_item false e es = es
-
 abbrev pub items_shown : ℕ → List WorkEntry → List HostEntry
 items_shown host [] = []
 items_shown host (entry.Op at op ∷ before) = items_shown host before
-items_shown host (entry.Item h shown ∷ before) = one_item (h == host) (Had shown) (items_shown host before)
+items_shown host (entry.Item h shown ∷ before) = one_more (h == host) (items_shown host before) (Had shown)
 
 pub record Own : Type 0 where
   pub items_before : ℕ
   pub directive : Directive
   pub placed : Placed
 
-abbrev pub one_own : Bool → Own → List Own → List Own
-one_own true o os = os ++ o ∷ []
-one_own false o os = os
-
 abbrev pub own_of : ℕ → List PlaceEntry → List ℕ → List Own
 own_of host [] counts = []
 own_of host (noted.Accepted h d ∷ before) counts =
-    one_own (h == host)
-    (record { items_before = slice_index_or counts 0 0; directive = d; placed = answer_of (standing before (drop 1 counts)) (walk_of d) })
+    one_more (h == host)
     (own_of host before (drop 1 counts))
+    (record { items_before = slice_index_or counts 0 0; directive = d; placed = answer_of (standing before (drop 1 counts)) (walk_of d) })
 
 -- the directives in their order, each behind as many items as its count says; `gone` items stand already
 abbrev pub merged : ℕ → List Own → List HostEntry → List HostEntry
@@ -139,19 +130,6 @@ entries_of w host = merged 0 (own_of host w.history w.counts) (items_shown host 
 abbrev pub AllFollow : State → ℕ → List Host → Type 0
 AllFollow w h [] = Unit {0}
 AllFollow w h (host ∷ hosts) = Follows host.ended host.statements (entries_of w h) × AllFollow w (h + 1) hosts
-
--- Before the first event there is one device, nothing is accepted, performed or shown, and each host is ready for its
--- first statement.
-abbrev pub AllStart : List Host → Type 0
-AllStart [] = Unit {0}
-AllStart (host ∷ hosts) = (host.ended ≡ 0) × (host.phase ≡ phase.Ready) × AllStart hosts
-
-pub record IsStart (w : State) : Type 0 where
-  pub one_device : w.config.devices ≡ 1
-  pub history : w.history ≡ []
-  pub counts : w.counts ≡ []
-  pub work : w.work ≡ []
-  pub hosts : AllStart w.hosts
 
 -- A run is cut behind its first events, and the state there is legal.
 pub record LegalCut (old : State) (first second : List Event) (replies : List Reply) (new : State) : Type 0 where

@@ -1,5 +1,6 @@
 pub mod Accepting
 pub mod Answers
+pub mod BatchExamples
 pub mod Batches
 pub mod Blocks
 pub mod Examples
@@ -11,8 +12,9 @@ pub mod Logs
 pub mod Machine
 pub mod Memories
 pub mod Places
-pub mod Present
 pub mod Plans
+pub mod Present
+pub mod RefusalExamples
 pub mod Standings
 pub mod Steps
 pub mod Tasks

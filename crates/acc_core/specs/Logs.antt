@@ -12,9 +12,10 @@ use Rattle.acc_core.specs.declared.operation.Label.{Label}
 use Rattle.acc_core.specs.Labels.{on_queue, whole}
 use Rattle.acc_core.specs.Values.{Cell, Host_cell, Block_cell, after_op}
 
-abbrev pub one_more : Bool → List Op → Op → List Op
-one_more true ops op = ops ++ op ∷ []
-one_more false ops op = ops
+-- one more behind these, or not
+abbrev pub one_more : {X : Type 0} → Bool → List X → X → List X
+one_more true xs x = xs ++ x ∷ []
+one_more false xs x = xs
 
 -- the operations of a queue, in order
 abbrev pub performed : QueueAt → List WorkEntry → List Op

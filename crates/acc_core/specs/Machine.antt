@@ -1,11 +1,11 @@
 -- The core as a machine. One step is determined but for a refusal of memory, which is the machine's free choice.
-use Rattle.std.specs.Prelude.{◌≡◌, ℕ, ◌+◌, ◌-◌, Bool, true, false, ◌&&◌, not, nat_lt, nat_le, ◌==◌, List, [], ◌∷◌, length, take, drop, slice_get, slice_set, slice_index_or, Option, Some, None, if◌then◌else◌}
+use Rattle.std.specs.Prelude.{◌≡◌, ℕ, ◌+◌, ◌-◌, ◌<◌, Bool, true, false, ◌&&◌, not, nat_lt, nat_le, ◌==◌, List, [], ◌∷◌, length, replicate, take, drop, slice_get, slice_set, slice_index_or, Option, Some, None, if◌then◌else◌}
 use Rattle.acc_base.specs.declared.ids.QueueAt.{QueueAt}
 use Rattle.acc_base.specs.declared.ids.TheConstants.{QUEUES}
 use Rattle.acc_base.specs.declared.fault.Fault.{Fault}
 use Rattle.acc_base.specs.declared.fault.Fault.TheVariants.{BadRange, TooMany, Memory, QueueFull}
 use Rattle.acc_base.specs.Configurations.{Configuration}
-use Rattle.acc_base.specs.Queues.{seat}
+use Rattle.acc_base.specs.Queues.{seat, queue_count}
 use Rattle.acc_core.specs.declared.directive.Directive.{Directive}
 use Rattle.acc_core.specs.declared.directive.PlaceEntry.{PlaceEntry}
 use Rattle.acc_core.specs.declared.directive.PlaceEntry.TheVariants as noted
@@ -34,7 +34,7 @@ use Rattle.acc_core.specs.Logs.{performed, items_of, all_items, value, values_of
 use Rattle.acc_core.specs.Standings.{Standing, Walk, walk_of}
 use Rattle.acc_core.specs.Steps.{Owed, nothing_owed, owes_seen, owed_by}
 
--- The histories, the latest entry first; the number of batches that were taken, queue by queue; the hosts.
+-- The histories, the latest entry first; the number of batches that were taken, queue by queue of each device; the hosts.
 pub record State : Type 0 where
   pub config : Configuration
   pub history : List PlaceEntry
@@ -42,6 +42,11 @@ pub record State : Type 0 where
   pub work : List WorkEntry
   pub taken : List ℕ
   pub hosts : List Host
+
+-- Nothing is accepted, performed, taken or shown yet.
+abbrev pub state_at_first : Configuration → List Host → State
+state_at_first config hosts =
+    record { config = config; history = []; counts = []; work = []; taken = replicate (queue_count config) 0; hosts = hosts }
 
 abbrev pub standing_of : State → Standing
 standing_of w = standing w.history w.counts
@@ -51,6 +56,12 @@ is_there w at = nat_lt at.device w.config.devices && nat_lt at.queue QUEUES
 
 abbrev pub taken_on : State → QueueAt → ℕ
 taken_on w at = slice_index_or w.taken (seat at) 0
+
+-- Each queue of each device has a count of its own, whatever the number of devices.
+abbrev pub EachQueueIsCounted : Type 0
+EachQueueIsCounted =
+    (config : Configuration) (a b : QueueAt) → a.device < config.devices → a.queue < QUEUES → b.queue < QUEUES
+    → (seat a < queue_count config) × (seat a ≡ seat b → (a.device ≡ b.device) × (a.queue ≡ b.queue))
 
 -- the batches of these labels that were placed and not taken
 abbrev pub held : State → List Label → QueueAt → ℕ

@@ -14,9 +14,9 @@ pub record IsTied (st : Standing) (t : Present) (blocks labels : ℕ) : Type 0 w
   pub opened : blocks ≡ length (opened (st.marks 0))
   pub batches : labels ≡ length st.labels
   pub few : st.accepted ≤ MAX_DIRECTIVES
-  pub few_blocks : blocks ≤ 16 * st.accepted
+  pub few_blocks : blocks ≤ MAX_ITEMS * st.accepted
   pub few_batches : labels ≤ st.accepted
-  pub low : AllLow (16 * st.accepted) 0 t.presences
+  pub low : AllLow (MAX_ITEMS * st.accepted) 0 t.presences
 
 pub record IsPlace (p : PlaceView) (t : Present) (blocks batches : ℕ) : Type 0 where
   pub one : p.config.devices ≡ 1

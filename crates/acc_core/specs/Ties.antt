@@ -1,10 +1,11 @@
 -- How the running parts of the core stand to its histories.
-use Rattle.std.specs.Prelude.{◌≡◌, ℕ, ◌+◌, ◌<◌, ◌≤◌, List, [], ◌∷◌, ◌++◌, length, map, take, drop, replicate, All}
+use Rattle.std.specs.Prelude.{◌≡◌, ℕ, ◌+◌, ◌-◌, ◌<◌, ◌≤◌, List, [], ◌∷◌, ◌++◌, length, map, take, drop, replicate, All}
+use Rattle.acc_base.specs.declared.config.TheConstants.{MAX_HOSTS}
+use Rattle.acc_base.specs.Queues.{queue_count}
 use Rattle.acc_core.specs.declared.batch.Batch.{Batch}
 use Rattle.acc_core.specs.declared.log.WorkEntry.{WorkEntry}
 use Rattle.acc_core.specs.declared.operation.Label.{Label}
 use Rattle.acc_core.specs.declared.operation.Op.{Op}
-use Rattle.acc_core.specs.declared.operation.Op.TheVariants.{Make, CopyIn, CopyOut, Release}
 use Rattle.acc_core.specs.Labels.{on_queue, ops_of}
 use Rattle.acc_core.specs.Legality.{Legal, Made}
 use Rattle.acc_core.specs.Logs.{performed, device_ops, value, all_items}
@@ -26,10 +27,17 @@ BatchesReady (b ∷ bs) = AllReady b.tasks.items × BatchesReady bs
 abbrev pub labels_of : State → List Label
 labels_of w = (standing_of w).labels
 
--- the state of the core without its hosts, where so many batches were taken from queue sync
-abbrev pub state_of : PlaceView → WorkView → ℕ → State
-state_of p v taken =
-    record { config = p.config; history = p.history; counts = p.counts; work = v.work; taken = taken ∷ replicate 7 0; hosts = [] }
+-- the state of the core without its hosts, where so many batches were taken from queue sync and none from the others
+abbrev pub state_of_parts : PlaceView → WorkView → ℕ → State
+state_of_parts p v taken =
+    record {
+      config = p.config;
+      history = p.history;
+      counts = p.counts;
+      work = v.work;
+      taken = taken ∷ replicate (queue_count p.config - 1) 0;
+      hosts = [];
+    }
 
 -- how many operations are performed
 abbrev pub performed_count : State → ℕ
@@ -43,13 +51,6 @@ blocks_by bs (op ∷ ops) = blocks_by (blocks_after op bs) ops
 -- the blocks that are there after a log
 abbrev pub blocks_in : List WorkEntry → List Made
 blocks_in work = blocks_by [] (device_ops 0 work)
-
--- a copy's range has a cell
-abbrev pub HasCells : Op → Type 0
-HasCells (Make b r) = Unit {0}
-HasCells (CopyIn b r) = 0 < r.len
-HasCells (CopyOut b r) = 0 < r.len
-HasCells (Release b) = Unit {0}
 
 -- The batch that the lane was filled from: the last one that was taken.
 pub record IsLaneOf (labels : List Label) (taken done_ops host items_done : ℕ) : Type 0 where
@@ -76,8 +77,8 @@ pub record Queued (w : State) (v : WorkView) (queue : List Batch) (taken waiting
   pub all_waiting : waiting + performed_count w ≡ length (ops_of (labels_of w))
   pub log_room : length w.work + waiting ≤ v.room
   pub block_room : length v.memory.rows + waiting ≤ v.memory.room
-  pub hosts : All (λ (l : Label). l.host < 8) (labels_of w)
-  pub lane_host : v.lane_host < 8
+  pub hosts : All (λ (l : Label). l.host < MAX_HOSTS) (labels_of w)
+  pub lane_host : v.lane_host < MAX_HOSTS
 
 -- The memory shows the values of the log.
 pub record Remembers (w : State) (v : WorkView) : Type 0 where

@@ -12,8 +12,8 @@ use Rattle.acc_present.specs.declared.table.Left.TheVariants as left
 use Rattle.acc_present.specs.declared.table.Look.{Look}
 use Rattle.acc_present.specs.declared.table.Look.TheVariants as look
 use Rattle.acc_present.specs.Marks.{Change, Dynamic_up, Dynamic_down, Mark}
-use Rattle.acc_present.specs.Lifetimes.{can_open, opened}
-use Rattle.acc_present.specs.Presences.{Presence, presences, holder, is_present, is_partly_present, used_cells}
+use Rattle.acc_present.specs.Lifetimes.{can_open}
+use Rattle.acc_present.specs.Presences.{Presence, holder, is_present, is_partly_present, used_cells}
 use Rattle.acc_present.specs.Tables.{Present, entry_mark, exit_mark, kept_after, presences_after, left_of}
 use Rattle.acc_core.specs.declared.directive.Directive.{Directive}
 use Rattle.acc_core.specs.declared.directive.Item.{Item}
@@ -22,9 +22,9 @@ use Rattle.acc_core.specs.declared.directive.Kind.TheVariants.{EnterData, ExitDa
 use Rattle.acc_core.specs.declared.directive.TheConstants.{MAX_ITEMS, MAX_DIRECTIVES}
 use Rattle.acc_core.specs.declared.operation.Op.{Op}
 use Rattle.acc_core.specs.declared.operation.Op.TheVariants as op
-use Rattle.acc_core.specs.declared.place.Group.{Group}
-use Rattle.acc_core.specs.declared.place.Group.TheVariants.{Makes, CopyIns, CopyOuts, Releases}
-use Rattle.acc_core.specs.declared.place.Taken.{Taken}
+use Rattle.acc_core.specs.declared.plan.Group.{Group}
+use Rattle.acc_core.specs.declared.plan.Group.TheVariants.{Makes, CopyIns, CopyOuts, Releases}
+use Rattle.acc_core.specs.declared.judge.Marked.{Marked}
 use Rattle.acc_core.specs.Accepting.{is_in_array, fault_where, first_fault}
 use Rattle.acc_core.specs.Batches.{copies_in, copies_out}
 
@@ -35,9 +35,6 @@ pub record Holding : Type 0 where
 
 abbrev pub holding : List Presence → ℕ → Holding
 holding ps n = record { presences = ps; opened = n }
-
-abbrev pub holding_of : List Mark → Holding
-holding_of marks = holding (presences marks) (length (opened marks))
 
 abbrev pub change_by : Kind → Change
 change_by EnterData = Dynamic_up
@@ -76,8 +73,8 @@ fault_in config kind ps r =
     )
 
 -- the fault of an item that is absent
-abbrev pub full_fault : Kind → List Presence → ℕ → Range → Option Fault
-full_fault kind ps capacity r = fault_where (can_open (change_by kind) && nat_lt capacity (used_cells ps + r.len)) DeviceFull
+abbrev pub capacity_fault : Kind → List Presence → ℕ → Range → Option Fault
+capacity_fault kind ps capacity r = fault_where (can_open (change_by kind) && nat_lt capacity (used_cells ps + r.len)) DeviceFull
 
 -- The faults of a directive that don't depend on its ranges.
 unfoldable pub limit_fault : Configuration → ℕ → Directive → Option Fault
@@ -112,17 +109,17 @@ abbrev pub ended_by : Kind → List Presence → Range → Option ℕ
 ended_by EnterData ps r = None
 ended_by ExitData ps r = block_ended (left_of (holder ps r) Dynamic)
 
-unfoldable pub taken_in : Kind → Holding → Item → Taken
-taken_in kind h i =
+unfoldable pub marked_in : Kind → Holding → Item → Marked
+marked_in kind h i =
     record {
       item = i;
       opened = block_opened (opens_one kind h.presences i.range) h.opened;
       ended = ended_by kind h.presences i.range;
     }
 
-abbrev pub takings : Kind → Holding → List Item → List Taken
-takings kind h [] = []
-takings kind h (i ∷ is) = taken_in kind h i ∷ takings kind (holding_after kind i.range h) is
+abbrev pub all_marked : Kind → Holding → List Item → List Marked
+all_marked kind h [] = []
+all_marked kind h (i ∷ is) = marked_in kind h i ∷ all_marked kind (holding_after kind i.range h) is
 
 -- ## The operations
 
@@ -131,7 +128,7 @@ where_so true block = block
 where_so false block = None
 
 -- the block that an item's operation of a group is for
-abbrev pub block_in : Group → Taken → Option ℕ
+abbrev pub block_in : Group → Marked → Option ℕ
 block_in Makes t = t.opened
 block_in CopyIns t = where_so (copies_in t.item.clause) t.opened
 block_in CopyOuts t = where_so (copies_out t.item.clause) t.ended
@@ -143,11 +140,11 @@ op_for CopyIns b r = op.CopyIn b r
 op_for CopyOuts b r = op.CopyOut b r
 op_for Releases b r = op.Release b
 
-abbrev pub group_ops : Group → Taken → List Op
+abbrev pub group_ops : Group → Marked → List Op
 group_ops g t = map (λ b. op_for g b t.item.range) (option_to_list (block_in g t))
 
-unfoldable pub ops_taken : List Taken → List Op
-ops_taken ts =
+unfoldable pub marked_ops : List Marked → List Op
+marked_ops ts =
     flat_map (group_ops Makes) ts ++ (flat_map (group_ops CopyIns) ts ++ (flat_map (group_ops CopyOuts) ts ++ flat_map (group_ops Releases) ts))
 
 -- ## Room
@@ -158,7 +155,7 @@ AllLow limit n [] = Unit {0}
 AllLow limit n (p ∷ ps) = (p.d + n ≤ limit) × AllLow limit n ps
 
 -- a table has room for so many items
-pub record HasRoom (n : ℕ) (t : Present) (opened : ℕ) : Type 0 where
+pub record HasRoomFor (n : ℕ) (t : Present) (opened : ℕ) : Type 0 where
   pub room : length t.presences + n ≤ t.room
   pub low : AllLow (2 ^ 63) n t.presences
   pub few : opened + n ≤ 2 ^ 63
@@ -171,9 +168,9 @@ pub record CanEnter (t : Present) (r : Range) : Type 0 where
   pub capacity : holder t.presences r ≡ None → used_cells t.presences + r.len ≤ t.capacity
   pub room : holder t.presences r ≡ None → length t.presences < t.room
 
-abbrev pub CanTake : Kind → Range → Present → Type 0
-CanTake EnterData r t = CanEnter t r
-CanTake ExitData r t = 0 < r.len
+abbrev pub CanMark : Kind → Range → Present → Type 0
+CanMark EnterData r t = CanEnter t r
+CanMark ExitData r t = 0 < r.len
 
 -- The items have no fault, on a device of this capacity.
 pub record IsFine (capacity : ℕ) (kind : Kind) (ps : List Presence) (r : Range) : Type 0 where

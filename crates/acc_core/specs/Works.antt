@@ -1,5 +1,6 @@
 -- What a work side shows: the memory, the batch that is being performed, and the log.
 use Rattle.std.specs.Prelude.{◌≡◌, ℕ, ◌<◌, ◌≤◌, nat_le, Bool, true, false, MatchBool, List, [], ◌∷◌, length, slice_index_or, ℤ}
+use Rattle.acc_base.specs.declared.config.TheConstants.{MAX_HOSTS}
 use Rattle.acc_base.specs.declared.ids.QueueAt.{QueueAt}
 use Rattle.acc_base.specs.declared.range.Range.{Range}
 use Rattle.acc_core.specs.declared.log.Shown.{Shown}
@@ -74,7 +75,7 @@ pub record HasPrinted (old new : WorkView) (host : ℕ) (range : Range) : Type 0
   pub true_values : (was : Cell → ℤ) → Shows old.memory was → values ≡ values_of was range
 
 -- Room was made, and nothing else changed.
-pub record HasRoom (old new : WorkView) : Type 0 where
+pub record HasMadeRoom (old new : WorkView) : Type 0 where
   pub work : new.work ≡ old.work
   pub lane : new.lane ≡ old.lane
   pub lane_host : new.lane_host ≡ old.lane_host
@@ -89,6 +90,6 @@ abbrev pub AreCounted : List ℕ → List WorkEntry → Type 0
 AreCounted items work = (h : ℕ) → h < length items → slice_index_or items h 0 ≡ items_of h work
 
 pub record IsWork (work : List WorkEntry) (items : List ℕ) (all : ℕ) : Type 0 where
-  pub counters : length items ≡ 8
+  pub counters : length items ≡ MAX_HOSTS
   pub counted : AreCounted items work
   pub all_counted : all ≡ all_items work

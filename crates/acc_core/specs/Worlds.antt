@@ -1,5 +1,6 @@
 -- The hosts with the accelerator that they share: how a run begins, what it gives, and what it leaves.
-use Rattle.std.specs.Prelude.{◌≡◌, ℕ, ◌+◌, ◌≤◌, Bool, true, nat_le, nat_lt, List, [], ◌∷◌, ◌++◌, length, map, All, replicate, slice_get, slice_set, Option, Some, None, Result, Ok, Err, if◌then◌else◌}
+use Rattle.std.specs.Prelude.{◌≡◌, ℕ, ◌+◌, ◌≤◌, Bool, true, nat_le, nat_lt, List, [], ◌∷◌, ◌++◌, length, map, All, slice_get, slice_set, Option, Some, None, Result, Ok, Err, if◌then◌else◌}
+use Rattle.acc_base.specs.declared.config.TheConstants.{MAX_HOSTS}
 use Rattle.acc_base.specs.declared.fault.Fault.{Fault}
 use Rattle.acc_base.specs.declared.fault.Fault.TheVariants.{BadDevice, TooMany, Memory}
 use Rattle.acc_base.specs.Configurations.{Configuration}
@@ -18,7 +19,7 @@ use Rattle.acc_core.specs.declared.program.Statement.{Statement}
 use Rattle.acc_core.specs.declared.world.Awaited.{Awaited}
 use Rattle.acc_core.specs.Following.{AllStand}
 use Rattle.acc_core.specs.Legality.{Legal, LegalCut}
-use Rattle.acc_core.specs.Machine.{State, standing_of, in_phase, after_place, item_step, act_step, host_step, Runs}
+use Rattle.acc_core.specs.Machine.{State, state_at_first, standing_of, in_phase, after_place, item_step, act_step, host_step, Runs}
 use Rattle.acc_core.specs.Steps.{Owed, nothing_owed, owes_seen}
 
 -- The programs are those of hosts n, n + 1 and so on.
@@ -44,8 +45,7 @@ ready program = record { statements = program.statements; ended = 0; phase = pha
 
 -- Nothing is accepted, performed, taken or shown, and each host is ready for its first statement.
 abbrev pub opening : Configuration → List HostProgram → State
-opening config programs =
-    record { config = config; history = []; counts = []; work = []; taken = replicate 8 0; hosts = map ready programs }
+opening config programs = state_at_first config (map ready programs)
 
 -- A host that waits, and one that was refused, stands at a statement; one that is ready may have ended them all.
 abbrev pub StandsAt : Option Statement → Phase → Type 0
@@ -60,7 +60,7 @@ HasStatement host = StandsAt (slice_get host.statements host.ended) host.phase
 -- What holds of a world between two steps; `states` has room for a state of each host.
 pub record IsWorld (w : State) (states : List HostState) (room : ℕ) : Type 0 where
   pub one_device : w.config.devices ≡ 1
-  pub few_hosts : length w.hosts ≤ 8
+  pub few_hosts : length w.hosts ≤ MAX_HOSTS
   pub legal : Legal w
   pub stand : AllStand w 0 w.hosts
   pub statements : All HasStatement w.hosts

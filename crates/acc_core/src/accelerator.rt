@@ -1,9 +1,11 @@
-ghost use Rattle.std.specs.Prelude.{reverse, ◌≡◌, ◌+◌, ◌<◌, ◌≤◌, [], ◌∷◌, length, IfOk, IfErr, OnSome, None, replicate, true, false, slice_get, ◌^◌};
+ghost use Rattle.std.specs.Prelude.{reverse, ◌≡◌, ◌+◌, ◌<◌, ◌≤◌, [], length, IfOk, IfErr, OnSome, true, false, slice_get, ◌^◌};
+ghost use Rattle.acc_base.specs.declared.config.TheConstants.{MAX_HOSTS};
+ghost use Rattle.acc_base.specs.declared.ids.TheConstants.{QUEUES};
 ghost use Rattle.acc_core.specs.Accepting.{is_in_array};
 ghost use Rattle.acc_core.specs.Answers.{Places, ItemAnswers, PrintAnswers};
 ghost use Rattle.acc_core.specs.Labels.{on_queue, ops_of};
 ghost use Rattle.acc_core.specs.Logs.{done, all_done, performed};
-ghost use Rattle.acc_core.specs.Machine.{step, standing_of};
+ghost use Rattle.acc_core.specs.Machine.{state_at_first, step, standing_of};
 ghost use Rattle.std.specs.Option.{option_map};
 ghost use Rattle.acc_present.specs.Presences.{presences, holder};
 ghost use Rattle.acc_present.specs.Tables.{entry_presence};
@@ -12,8 +14,10 @@ ghost use Rattle.acc_core.specs.Ties.{labels_of};
 use crate::batch::Batch;
 use crate::directive::{Directive, PlaceEntry, Placed};
 use crate::event::Reply;
+use crate::judge::is_in_array;
 use crate::log::WorkEntry;
-use crate::place::{Place, Plan, is_in_array};
+use crate::place::Place;
+use crate::plan::Plan;
 use crate::task::Task;
 use crate::totals::Totals;
 use crate::work::{Work, sync_queue};
@@ -36,25 +40,24 @@ pub struct Accelerator {
 impl Model for Accelerator {
     ghost use Rattle.std.specs.VecDeque.{deque_capacity};
     ghost use Rattle.acc_core.specs.Machine.{State};
-    ghost use Rattle.acc_core.specs.Ties.{state_of, IsAccelerator};
+    ghost use Rattle.acc_core.specs.Ties.{state_of_parts, IsAccelerator};
 
     ghost Value = { State };
 
-    ghost view = { λ a. state_of a.place a.work a.taken };
+    ghost view = { λ a. state_of_parts a.place a.work a.taken };
 
-    ghost invariant = { λ a. IsAccelerator (state_of a.place a.work a.taken) a.work a.queue.items a.taken a.waiting (deque_capacity a.queue) };
+    ghost invariant = { λ a. IsAccelerator (state_of_parts a.place a.work a.taken) a.work a.queue.items a.taken a.waiting (deque_capacity a.queue) };
 }
 
 impl Accelerator {
     ghost use Rattle.acc_base.specs.declared.fault.Fault.TheVariants.{Memory as no_memory};
-    ghost use Rattle.acc_core.specs.Machine.{State, Outcome};
     ghost use Rattle.acc_core.specs.declared.event.Event.TheVariants as event;
     ghost use Rattle.acc_core.specs.declared.log.Shown.TheVariants.{Write, Seen};
 
     /// Nothing is accepted, performed or shown yet.
     pub fn new(alloc: Global, config: Config) -> Result<Accelerator, Fault>
         requires { config.devices ≡ 1 }
-        ensures opened { IfOk result (λ a. a ≡ record { config = config; history = []; counts = []; work = []; taken = replicate 8 0; hosts = [] }) }
+        ensures opened { IfOk result (λ a. a ≡ state_at_first config []) }
         ensures fault { IfErr result (λ f. f ≡ no_memory) }
     {
         let work = Work::new(alloc, &config)?;
@@ -75,7 +78,7 @@ impl Accelerator {
     ///
     /// The directive's first fault; else `Memory` for want of memory, or `QueueFull`.
     pub fn place(&mut self, host: HostId, directive: &Directive) -> Result<Placed, Fault>
-        requires { host < 8 }
+        requires { host < MAX_HOSTS }
         ensures { Places self.old host directive.now result self.new }
     {
         let Plan { directive, tasks } = self.place.plan(directive)?;
@@ -112,7 +115,7 @@ impl Accelerator {
     ///
     /// `Memory` for want of memory, `TooMany` behind the last item of a run, `BadRange` for a cell that isn't there.
     pub fn write(&mut self, host: HostId, array: u8, cell: u32, value: i64) -> Result<(), Fault>
-        requires { host < 8 }
+        requires { host < MAX_HOSTS }
         ensures { ItemAnswers self.old host (is_in_array self.old.config.arrays (record { array = array; lo = cell; len = 1 })) (Write array cell value) result self.new }
     {
         let range = Range {
@@ -134,7 +137,7 @@ impl Accelerator {
     ///
     /// Those of `write`.
     pub fn print(&mut self, host: HostId, range: Range) -> Result<(), Fault>
-        requires { host < 8 }
+        requires { host < MAX_HOSTS }
         ensures { PrintAnswers self.old host range result self.new }
     {
         self.work.spare_item(self.waiting)?;
@@ -150,7 +153,7 @@ impl Accelerator {
     ///
     /// `Memory` for want of memory, `TooMany` behind the last item of a run.
     pub fn see(&mut self, host: HostId, device: DeviceId, counts: [u64; 8]) -> Result<(), Fault>
-        requires host { host < 8 }
+        requires host { host < MAX_HOSTS }
         requires reached { all_done (labels_of self.old) self.old.work device 0 counts ≡ true }
         ensures { ItemAnswers self.old host true (Seen device counts) result self.new }
     {
@@ -159,19 +162,23 @@ impl Accelerator {
         Ok(())
     }
 
-    /// The structured and the dynamic counter of the range, or of the present range that contains it.
-    pub fn counters(&self, range: Range) -> Option<(u64, u64)>
-        requires { 0 < range.len }
-        ensures { result ≡ option_map (λ p. (p.s, p.d)) (holder (presences ((standing_of self.now).marks 0)) range) }
+    /// The structured and the dynamic counter on a device of the range, or of the present range that contains it.
+    pub fn counters(&self, device: DeviceId, range: Range) -> Option<(u64, u64)>
+        requires device { device < self.now.config.devices }
+        requires cells { 0 < range.len }
+        ensures { result ≡ option_map (λ p. (p.s, p.d)) (holder (presences ((standing_of self.now).marks device)) range) }
     {
+        let _ = device;
         self.place.counters(range)
     }
 
-    /// The present range at this place, by array, then by lower bound.
-    pub fn nth(&self, place: usize) -> Option<&Entry>
-        ensures entry { option_map (λ e. entry_presence e.now) result ≡ slice_get (presences ((standing_of self.now).marks 0)) place }
+    /// The present range at this place on a device, by array, then by lower bound.
+    pub fn nth(&self, device: DeviceId, place: usize) -> Option<&Entry>
+        requires { device < self.now.config.devices }
+        ensures entry { option_map (λ e. entry_presence e.now) result ≡ slice_get (presences ((standing_of self.now).marks device)) place }
         ensures next { OnSome result (place + 1 < 2 ^ 64) }
     {
+        let _ = device;
         self.place.nth(place)
     }
 
@@ -233,7 +240,7 @@ impl Accelerator {
 
     // Whether each queue of a device, from this one on, has performed its count.
     fn reached_from(&self, device: DeviceId, queue: u8, counts: &[u64]) -> bool
-        requires { queue + length counts.now ≤ 8 }
+        requires { queue + length counts.now ≤ QUEUES }
         ensures { result ≡ all_done (labels_of self.now) self.now.work device queue counts.now }
     {
         match counts {

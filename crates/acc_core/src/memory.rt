@@ -1,4 +1,4 @@
-ghost use Rattle.std.specs.Prelude.{◌≡◌, ℕ, ◌+◌, ◌-◌, ◌<◌, ◌≤◌, ℤ, pos, [], length, map, replicate, slice_get, is_some, true, None, IfOk, IfErr, OnOk, OnErr};
+ghost use Rattle.std.specs.Prelude.{◌≡◌, ◌+◌, ◌-◌, ◌<◌, ◌≤◌, ℤ, pos, [], length, map, replicate, is_some, true, None, IfOk, IfErr, OnOk, OnErr};
 ghost use Rattle.acc_core.specs.Accepting.{is_in_array};
 ghost use Rattle.acc_core.specs.Blocks.{row_of};
 ghost use Rattle.acc_core.specs.Logs.{after_item, values_of};

@@ -1,14 +1,12 @@
-ghost use Rattle.std.specs.Prelude.{reverse, take, ◌≡◌, ◌+◌, ◌<◌, ◌≤◌, [], length, IfOk, IfErr, OnOk, OnErr, true, ℤ, Bool, Some};
+ghost use Rattle.std.specs.Prelude.{reverse, ◌≡◌, ◌+◌, ◌<◌, ◌≤◌, [], length, IfOk, IfErr, OnOk, OnErr, true, Bool, Some};
 ghost use Rattle.acc_base.specs.Queues.{same_queue};
+ghost use Rattle.acc_base.specs.declared.config.TheConstants.{MAX_HOSTS};
 ghost use Rattle.acc_core.specs.Accepting.{is_in_array};
 ghost use Rattle.acc_core.specs.Answers.{item_fault};
 ghost use Rattle.acc_core.specs.declared.log.TheConstants.{MAX_HOST_ITEMS};
-ghost use Rattle.acc_core.specs.Legality.{made};
-ghost use Rattle.acc_core.specs.Logs.{items_of, all_items, values_of};
-ghost use Rattle.acc_core.specs.Memories.{Shows, lengths_of};
+ghost use Rattle.acc_core.specs.Logs.{items_of, all_items};
 ghost use Rattle.acc_core.specs.Tasks.{op_of, ops_in, AllReady};
-ghost use Rattle.acc_core.specs.Values.{Cell};
-ghost use Rattle.acc_core.specs.Works.{WorkView, Performs, NextMayFollow, HasShown, HasRoom, sync};
+ghost use Rattle.acc_core.specs.Works.{Performs, NextMayFollow, HasShown, HasMadeRoom, sync};
 
 use crate::log::{MAX_HOST_ITEMS, Shown, WorkEntry};
 use crate::memory::Memory;
@@ -77,7 +75,7 @@ fn operation_of(task: &Task) -> Op
 
 impl Work {
     ghost use Rattle.acc_base.specs.declared.fault.Fault.TheVariants.{Memory as no_memory};
-    ghost use Rattle.acc_core.specs.declared.log.Shown.TheVariants.{Write, Print, Seen};
+    ghost use Rattle.acc_core.specs.declared.log.Shown.TheVariants.{Write, Seen};
     ghost use Rattle.acc_core.specs.declared.log.WorkEntry.TheVariants as entry;
     ghost use Rattle.std.specs.Prelude.{◌∷◌, ◌^◌};
     ghost use Rattle.acc_core.specs.Works.{HasPrinted};
@@ -87,7 +85,7 @@ impl Work {
         ensures rows { IfOk result (λ w. w.memory.rows ≡ []) }
         ensures work { IfOk result (λ w. w.work ≡ []) }
         ensures lane { IfOk result (λ w. w.lane ≡ []) }
-        ensures lane_host { IfOk result (λ w. w.lane_host < 8) }
+        ensures lane_host { IfOk result (λ w. w.lane_host < MAX_HOSTS) }
         ensures fault { IfErr result (λ f. f ≡ no_memory) }
     {
         let memory = Memory::new(alloc, config)?;
@@ -105,7 +103,7 @@ impl Work {
 
     /// Makes room for so many more operations.
     pub fn spare(&mut self, count: usize) -> Result<(), Fault>
-        ensures kept { HasRoom self.old self.new }
+        ensures kept { HasMadeRoom self.old self.new }
         ensures log { OnOk result (length self.new.work + count ≤ self.new.room) }
         ensures blocks { OnOk result (length self.new.memory.rows + count ≤ self.new.memory.room) }
         ensures fault { IfErr result (λ f. f ≡ no_memory) }
@@ -117,7 +115,7 @@ impl Work {
 
     /// Makes room for one more item of a host beside so many operations, if the run may have one more.
     pub fn spare_item(&mut self, waiting: usize) -> Result<(), Fault>
-        ensures kept { HasRoom self.old self.new }
+        ensures kept { HasMadeRoom self.old self.new }
         ensures room { OnOk result (length self.new.work + waiting < self.new.room) }
         ensures few { OnOk result (all_items self.old.work < MAX_HOST_ITEMS) }
         ensures fault { IfErr result (λ f. (lacks : Bool) × (item_fault lacks self.old.work true ≡ Some f)) }
@@ -148,7 +146,7 @@ impl Work {
 
     /// How many items a host has.
     pub fn items_of(&self, host: HostId) -> u64
-        requires { host < 8 }
+        requires { host < MAX_HOSTS }
         ensures { result ≡ items_of host self.now.work }
     {
         self.items[usize::from(host.number())]
@@ -182,7 +180,7 @@ impl Work {
     /// Performs the lane's next operation, if its host's items allow it.
     pub fn perform(&mut self) -> bool
         requires next { NextMayFollow self.old self.old.lane }
-        requires host { self.old.lane_host < 8 }
+        requires host { self.old.lane_host < MAX_HOSTS }
         ensures { Performs self.old self.old.lane result self.new }
     {
         if self.items[usize::from(self.lane_host.number())] < self.lane_items {
@@ -204,7 +202,7 @@ impl Work {
 
     /// A host writes a cell.
     pub fn write(&mut self, host: HostId, array: u8, cell: u32, value: i64)
-        requires host { host < 8 }
+        requires host { host < MAX_HOSTS }
         requires cell { is_in_array self.old.memory.arrays (record { array = array; lo = cell; len = 1 }) ≡ true }
         requires room { length self.old.work < self.old.room }
         requires few { all_items self.old.work < 2 ^ 63 }
@@ -216,7 +214,7 @@ impl Work {
 
     /// A host prints a range.
     pub fn print(&mut self, host: HostId, range: Range) -> Result<(), Fault>
-        requires host { host < 8 }
+        requires host { host < MAX_HOSTS }
         requires range { is_in_array self.old.memory.arrays range ≡ true }
         requires room { length self.old.work < self.old.room }
         requires few { all_items self.old.work < 2 ^ 63 }
@@ -231,7 +229,7 @@ impl Work {
 
     /// A host has seen that the queues of a device performed so many batches.
     pub fn see(&mut self, host: HostId, device: DeviceId, counts: [u64; 8])
-        requires host { host < 8 }
+        requires host { host < MAX_HOSTS }
         requires room { length self.old.work < self.old.room }
         requires few { all_items self.old.work < 2 ^ 63 }
         ensures { HasShown self.old self.new host (Seen device counts) }
@@ -248,7 +246,7 @@ impl Work {
     }
 
     fn push_item(&mut self, host: HostId, what: Shown)
-        requires host { host < 8 }
+        requires host { host < MAX_HOSTS }
         requires room { length self.old.work < self.old.room }
         requires few { all_items self.old.work < 2 ^ 63 }
         ensures { self.new ≡ record self.old { work = entry.Item host what ∷ self.old.work } }

@@ -1,7 +1,8 @@
-ghost use Rattle.std.specs.Prelude.{◌≡◌, ◌+◌, ◌<◌, ◌≤◌, [], length, map, All, reverse, slice_get, IfOk, IfErr, OnOk, OnErr, OnSome, None, Some, true, false, Bool, ◌^◌};
+ghost use Rattle.std.specs.Prelude.{◌≡◌, ◌+◌, ◌<◌, ◌≤◌, length, map, All, reverse, slice_get, IfOk, IfErr, OnOk, OnErr, OnSome, None, Some, true, false, Bool, ◌^◌};
 ghost use Rattle.std.specs.Option.{option_map};
 ghost use Rattle.acc_present.specs.Presences.{presences, holder};
 ghost use Rattle.acc_present.specs.Tables.{entry_presence};
+ghost use Rattle.acc_base.specs.declared.config.TheConstants.{MAX_HOSTS};
 ghost use Rattle.acc_core.specs.Machine.{Step, standing_of};
 ghost use Rattle.acc_core.specs.Labels.{on_queue, ops_of};
 ghost use Rattle.acc_core.specs.Logs.{all_done, performed};
@@ -82,7 +83,7 @@ impl World {
     // The world of one device, before the first step.
     fn open(alloc: Global, config: Config, programs: Vec<HostProgram>) -> Result<World, Fault>
         requires one_device { config.devices ≡ 1 }
-        requires few_hosts { length programs.items ≤ 8 }
+        requires few_hosts { length programs.items ≤ MAX_HOSTS }
         ensures opened { IfOk result (λ w. w ≡ opening config programs.items) }
         ensures refused { IfErr result (λ fault. fault ≡ Memory) }
     {
@@ -133,26 +134,27 @@ impl World {
         Ok(replies)
     }
 
-    /// The structured and the dynamic counter of the range, or of the present range that contains it.
-    pub fn counters(&self, range: Range) -> Option<(u64, u64)>
-        requires { 0 < range.len }
-        ensures { result ≡ option_map (λ p. (p.s, p.d)) (holder (presences ((standing_of self.now).marks 0)) range) }
+    /// The structured and the dynamic counter on a device of the range, or of the present range that contains it.
+    pub fn counters(&self, device: DeviceId, range: Range) -> Option<(u64, u64)>
+        requires device { device < self.now.config.devices }
+        requires cells { 0 < range.len }
+        ensures { result ≡ option_map (λ p. (p.s, p.d)) (holder (presences ((standing_of self.now).marks device)) range) }
     {
-        self.accelerator.counters(range)
+        self.accelerator.counters(device, range)
     }
 
-    /// The present range at this place, by array, then by lower bound.
-    pub fn nth(&self, place: usize) -> Option<&Entry>
-        ensures entry { option_map (λ e. entry_presence e.now) result ≡ slice_get (presences ((standing_of self.now).marks 0)) place }
+    /// The present range at this place on a device, by array, then by lower bound.
+    pub fn nth(&self, device: DeviceId, place: usize) -> Option<&Entry>
+        requires { device < self.now.config.devices }
+        ensures entry { option_map (λ e. entry_presence e.now) result ≡ slice_get (presences ((standing_of self.now).marks device)) place }
         ensures next { OnSome result (place + 1 < 2 ^ 64) }
     {
-        self.accelerator.nth(place)
+        self.accelerator.nth(device, place)
     }
 
-    /// How many devices there are: one, until several devices come.
+    /// How many devices there are.
     pub fn devices(&self) -> u8
-        ensures count { result ≡ self.now.config.devices }
-        ensures one { result ≡ 1 }
+        ensures { result ≡ self.now.config.devices }
     {
         self.accelerator.config().devices()
     }
@@ -160,7 +162,7 @@ impl World {
     /// How many hosts there are.
     pub fn hosts(&self) -> u8
         ensures count { result ≡ length self.now.hosts }
-        ensures few { result ≤ 8 }
+        ensures few { result ≤ MAX_HOSTS }
     {
         self.hosts.len() as u8
     }
@@ -249,7 +251,7 @@ fn ready_hosts(alloc: Global, programs: Vec<HostProgram>) -> Result<Vec<Host>, F
 
 // The next step of a host.
 fn host_step(accelerator: &mut Accelerator, number: HostId, host: &mut Host) -> Reply
-    requires number { number < 8 }
+    requires number { number < MAX_HOSTS }
     requires statement { HasStatement host.old }
     ensures steps { HostSteps accelerator.old number host.old result accelerator.new host.new }
     ensures statement { HasStatement host.new }
@@ -281,7 +283,7 @@ fn see(
     device: DeviceId,
     counts: [u64; 8],
 ) -> Result<Option<Awaited>, Fault>
-    requires number { number < 8 }
+    requires number { number < MAX_HOSTS }
     requires reached { all_done (labels_of accelerator.old) accelerator.old.work device 0 counts ≡ true }
     ensures { Sees accelerator.old number (Seen device counts) result accelerator.new }
 {
@@ -291,7 +293,7 @@ fn see(
 
 // Does a statement, and says what its host then waits for.
 fn act(accelerator: &mut Accelerator, number: HostId, act: &Act) -> Result<Option<Awaited>, Fault>
-    requires { number < 8 }
+    requires { number < MAX_HOSTS }
     ensures { Acts accelerator.old number act.now result accelerator.new }
 {
     match act {

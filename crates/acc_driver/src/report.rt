@@ -1,4 +1,4 @@
-ghost use Rattle.std.specs.Prelude.{◌≡◌, ◌++◌, [], codes, length, slice_index_or};
+ghost use Rattle.std.specs.Prelude.{◌≡◌, ◌<◌, ◌++◌, [], codes, length, slice_index_or};
 ghost use Rattle.std.specs.Fmt.{signed_decimal};
 ghost use Rattle.std.specs.List.{flat_map};
 ghost use Rattle.acc_core.specs.Present.{entry_presence};
@@ -151,7 +151,7 @@ fn put_presences<W: Write>(out: &mut W, failed: &mut bool, names: &[&[u8]], worl
     }
 }
 
-// What is present on a device; until several devices come, a world shows those of the first.
+// What is present on a device.
 fn put_device<W: Write>(
     out: &mut W,
     failed: &mut bool,
@@ -159,11 +159,11 @@ fn put_device<W: Write>(
     world: &World,
     device: DeviceId,
 )
-    requires { device ≡ 0 }
+    requires { device < world.now.config.devices }
     ensures { Puts (sink (W.contents out.old) failed.old) (sink (W.contents out.new) failed.new) (device_text (texts names.now) world.now device) }
 {
     let mut place = 0;
-    while let Some(entry) = world.nth(place) {
+    while let Some(entry) = world.nth(device, place) {
         put_presence(out, failed, names, device, entry);
         place += 1;
     }

@@ -140,9 +140,9 @@ fn entered_twice_and_left_once(rt: HostRuntime) -> Result<(), Fail> {
         ]
         .as_slice()
     );
-    assert_eq!(rt; world.counters(all), Some((0, 1)));
-    assert_eq!(rt; world.nth(0).map(|e| e.range), Some(all));
-    assert_eq!(rt; world.nth(1).copied(), None);
+    assert_eq!(rt; world.counters(DeviceId::new(0), all), Some((0, 1)));
+    assert_eq!(rt; world.nth(DeviceId::new(0), 0).map(|e| e.range), Some(all));
+    assert_eq!(rt; world.nth(DeviceId::new(0), 1).copied(), None);
     assert_eq!(rt; world.log().len(), 3);
     assert_eq!(rt; world.state(HostId::new(0)), Some(HostState::Finished));
     assert_eq!(rt; world.state(HostId::new(1)), None);
@@ -185,8 +185,8 @@ fn an_overlapping_range_is_refused(rt: HostRuntime) -> Result<(), Fail> {
         ]
         .as_slice()
     );
-    assert_eq!(rt; world.counters(cells(0, 4)), Some((0, 1)));
-    assert_eq!(rt; world.counters(cells(2, 4)), None);
+    assert_eq!(rt; world.counters(DeviceId::new(0), cells(0, 4)), Some((0, 1)));
+    assert_eq!(rt; world.counters(DeviceId::new(0), cells(2, 4)), None);
     let outcome = world.outcome();
     assert_eq!(rt; outcome.places.len(), 1);
     assert_eq!(rt; outcome.works.len(), 3);
@@ -243,7 +243,7 @@ fn a_copy_out_brings_back_what_the_device_holds(rt: HostRuntime) -> Result<(), F
     for reply in replies.as_slice() {
         assert_eq!(rt; *reply, Reply::Did);
     }
-    assert_eq!(rt; world.counters(all), None);
+    assert_eq!(rt; world.counters(DeviceId::new(0), all), None);
     let outcome = world.outcome();
     let works = outcome.works.as_slice();
     assert_eq!(rt; works.len(), 9);
@@ -364,7 +364,8 @@ fn three_hundred_rounds_of_sixteen_ranges(rt: HostRuntime) -> Result<(), Fail> {
         assert_eq!(rt; world.step(host()), Reply::Did);
     }
     assert_eq!(rt; world.step(host()), Reply::Idle);
-    assert_eq!(rt; world.nth(0).copied(), None);
+    assert_eq!(rt; world.devices(), 1);
+    assert_eq!(rt; world.nth(DeviceId::new(0), 0).copied(), None);
     let outcome = world.outcome();
     assert_eq!(rt; outcome.places.len(), 600);
     assert_eq!(rt; outcome.works.len(), 600 * 33);
@@ -394,7 +395,7 @@ fn seventeen_ranges_are_too_many(rt: HostRuntime) -> Result<(), Fail> {
         vec![in alloc; statement(1, Act::Place { directive })]?,
     )?;
     assert_eq!(rt; world.step(host()), Reply::Refused(Fault::TooMany));
-    assert_eq!(rt; world.nth(0).copied(), None);
+    assert_eq!(rt; world.nth(DeviceId::new(0), 0).copied(), None);
     Ok(())
 }
 
@@ -419,7 +420,8 @@ fn memory_is_refused_to_each_call_that_takes_it(rt: HostRuntime) -> Result<(), F
     let refused = world.run(many.as_slice());
     hoard.free();
     assert_eq!(rt; refused.err(), Some(Fault::Memory));
-    assert_eq!(rt; world.nth(0).copied(), None);
+    assert_eq!(rt; world.devices(), 1);
+    assert_eq!(rt; world.nth(DeviceId::new(0), 0).copied(), None);
 
     // Queues perform without memory what was placed with it.
     assert_eq!(rt; world.step(host()), Reply::Did);
@@ -437,7 +439,8 @@ fn memory_is_refused_to_each_call_that_takes_it(rt: HostRuntime) -> Result<(), F
     hoard.free();
     assert_eq!(rt; refused, Reply::Refused(Fault::Memory));
     assert_eq!(rt; world.step(host()), Reply::Idle);
-    assert_eq!(rt; world.counters(all), Some((0, 1)));
+    assert_eq!(rt; world.devices(), 1);
+    assert_eq!(rt; world.counters(DeviceId::new(0), all), Some((0, 1)));
 
     // The outcome takes no memory.
     hoard.fill(alloc);

@@ -10,13 +10,12 @@ use Rattle.acc_driver.proofs.report.put_device.Goals as goal
 pub loop-entry-preserved : goal.loop-entry-preserved
 loop-entry-preserved g c =
     let text = presence_text (texts c.args.names.now) c.args.device in
-    let present = presences ((standing_of c.args.world.now).marks 0) in
+    let present = presences ((standing_of c.args.world.now).marks c.args.device) in
     puts_next text present c.loop-entry.place (entry_presence c.in-Some.entry.now) (sym c.in-Some.ensures.entry) c.loop-entry.invariant c.put_presence.ensures
 
 pub returns : goal.returns
 unfolding device_text
 returns g c =
     let text = presence_text (texts c.args.names.now) c.args.device in
-    let present = presences ((standing_of c.args.world.now).marks 0) in
-    let puts = puts_all text present c.loop-entry.place (sym c.in_default.ensures.entry) c.loop-entry.invariant in
-    rw c.requires (rw c.requires at puts)
+    let present = presences ((standing_of c.args.world.now).marks c.args.device) in
+    puts_all text present c.loop-entry.place (sym c.in_default.ensures.entry) c.loop-entry.invariant

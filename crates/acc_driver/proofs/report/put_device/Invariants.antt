@@ -10,7 +10,7 @@ use Rattle.acc_driver.proofs.report.put_device.Given as goal
 abbrev pub invariant-loop-entry : goal.invariant-loop-entry
 invariant-loop-entry g l =
     Puts (sink (g.W.Write.contents l.fn.out) l.fn.failed) (sink (g.W.Write.contents l.out) l.failed)
-    (flat_map (presence_text (texts l.names) l.device) (take l.place (presences ((standing_of l.world).marks 0))))
+    (flat_map (presence_text (texts l.names) l.device) (take l.place (presences ((standing_of l.world).marks l.device))))
 
 abbrev pub decreases-loop-entry : goal.decreases-loop-entry
-decreases-loop-entry g l = length (presences ((standing_of l.world).marks 0)) - l.place
+decreases-loop-entry g l = length (presences ((standing_of l.world).marks l.device)) - l.place

@@ -1,6 +1,6 @@
 use Rattle.std.proofs.Common.{sym, ap, ◌∙◌}
 use Rattle.acc_core.specs.Memories.{lengths_of}
-use Rattle.acc_core.specs.Ties.{state_of}
+use Rattle.acc_core.specs.Ties.{state_of_parts}
 use Rattle.acc_core.proofs.Showing.{roomier, same_array, printed}
 use Rattle.acc_core.proofs.accelerator.Accelerator.print.Goals as goal
 
@@ -13,5 +13,5 @@ print-requires-clause-range c =
 pub invariant_of-self-2 : goal.invariant_of-self-2
 invariant_of-self-2 c =
     let spared = c.in_ok-spare_item.ensures in
-    printed (state_of c.self.inside.place c.self.inside.work c.self.inside.taken) c.spare_item.new.self c.print.new.self c.self.inside.queue.items c.self.inside.taken c.self.inside.waiting _ c.args.host c.args.range c.print.result
+    printed (state_of_parts c.self.inside.place c.self.inside.work c.self.inside.taken) c.spare_item.new.self c.print.new.self c.self.inside.queue.items c.self.inside.taken c.self.inside.waiting _ c.args.host c.args.range c.print.result
     (roomier c.self.invariant spared.kept) spared.kept.work c.print.ensures.shown c.print.ensures.kept spared.room spared.few

@@ -1,24 +1,24 @@
 use Rattle.std.proofs.Common.{length, sym, ap, ◌∙◌, arith}
-use Rattle.acc_core.specs.Ties.{state_of}
+use Rattle.acc_core.specs.Ties.{state_of_parts}
 use Rattle.acc_core.proofs.Elsewhere.{none_placed, same_is}
 use Rattle.acc_core.proofs.QueueTotals.{performed_beside_items, operations_are, no_operations, none_performed}
 use Rattle.acc_core.proofs.accelerator.Accelerator.totals.Goals as goal
 
 pub returns-then-not-has_queue-clause-batches : goal.returns-then-not-has_queue-clause-batches
 returns-then-not-has_queue-clause-batches c =
-    rw (← c.self.view_is) (sym (ap length (none_placed (state_of c.self.inside.place c.self.inside.work c.self.inside.taken) c.args.at c.self.invariant.one_device c.self.invariant.legal (sym c.has_queue.ensures ∙ c.if-not-has_queue.true))))
+    rw (← c.self.view_is) (sym (ap length (none_placed (state_of_parts c.self.inside.place c.self.inside.work c.self.inside.taken) c.args.at c.self.invariant.one_device c.self.invariant.legal (sym c.has_queue.ensures ∙ c.if-not-has_queue.true))))
 
 pub returns-then-not-has_queue-clause-operations : goal.returns-then-not-has_queue-clause-operations
 returns-then-not-has_queue-clause-operations c =
-    rw (← c.self.view_is) (sym (no_operations (state_of c.self.inside.place c.self.inside.work c.self.inside.taken) c.args.at c.self.invariant.one_device c.self.invariant.legal (sym c.has_queue.ensures ∙ c.if-not-has_queue.true)))
+    rw (← c.self.view_is) (sym (no_operations (state_of_parts c.self.inside.place c.self.inside.work c.self.inside.taken) c.args.at c.self.invariant.one_device c.self.invariant.legal (sym c.has_queue.ensures ∙ c.if-not-has_queue.true)))
 
 pub returns-then-not-has_queue-clause-performed : goal.returns-then-not-has_queue-clause-performed
 returns-then-not-has_queue-clause-performed c =
-    rw (← c.self.view_is) (sym (none_performed (state_of c.self.inside.place c.self.inside.work c.self.inside.taken) c.args.at c.self.invariant.one_device c.self.invariant.legal (sym c.has_queue.ensures ∙ c.if-not-has_queue.true)))
+    rw (← c.self.view_is) (sym (none_performed (state_of_parts c.self.inside.place c.self.inside.work c.self.inside.taken) c.args.at c.self.invariant.one_device c.self.invariant.legal (sym c.has_queue.ensures ∙ c.if-not-has_queue.true)))
 
 pub returns-clause-operations : goal.returns-clause-operations
 returns-clause-operations c =
-    let w = state_of c.self.inside.place c.self.inside.work c.self.inside.taken in
+    let w = state_of_parts c.self.inside.place c.self.inside.work c.self.inside.taken in
     let at = same_is c.args.at (sym c.has_queue.ensures ∙ c.if-not-has_queue.false) in
     let performed = performed_beside_items w c.self.invariant.one_device c.self.invariant.legal in
     let all = operations_are w c.self.inside.work c.self.inside.queue.items c.self.inside.taken c.self.inside.waiting c.self.invariant.parts in
@@ -26,6 +26,6 @@ returns-clause-operations c =
 
 pub returns-clause-performed : goal.returns-clause-performed
 returns-clause-performed c =
-    let w = state_of c.self.inside.place c.self.inside.work c.self.inside.taken in
+    let w = state_of_parts c.self.inside.place c.self.inside.work c.self.inside.taken in
     let at = same_is c.args.at (sym c.has_queue.ensures ∙ c.if-not-has_queue.false) in
     rw (← c.self.view_is, at) (omega (arith, performed_beside_items w c.self.invariant.one_device c.self.invariant.legal, c.performed-performed.ensures.count))

@@ -1,7 +1,7 @@
 use Rattle.std.proofs.Common.{sym, ap, ◌∙◌}
 use Rattle.acc_base.specs.declared.range.Range.{Range}
 use Rattle.acc_core.specs.Memories.{lengths_of}
-use Rattle.acc_core.specs.Ties.{state_of}
+use Rattle.acc_core.specs.Ties.{state_of_parts}
 use Rattle.acc_core.proofs.Showing.{roomier, same_array, shown}
 use Rattle.acc_core.proofs.accelerator.Accelerator.write.Goals as goal
 
@@ -15,5 +15,5 @@ write-requires-clause-cell c =
 pub invariant_of-self-2 : goal.invariant_of-self-2
 invariant_of-self-2 c =
     let spared = c.in_ok-spare_item.ensures in
-    shown (state_of c.self.inside.place c.self.inside.work c.self.inside.taken) c.spare_item.new.self c.write.new.self c.self.inside.queue.items c.self.inside.taken c.self.inside.waiting _ c.args.host
+    shown (state_of_parts c.self.inside.place c.self.inside.work c.self.inside.taken) c.spare_item.new.self c.write.new.self c.self.inside.queue.items c.self.inside.taken c.self.inside.waiting _ c.args.host
     _ (roomier c.self.invariant spared.kept) spared.kept.work c.write.ensures spared.room spared.few tt

@@ -3,7 +3,7 @@ use Rattle.std.specs.Prelude.{reverse}
 use Rattle.std.proofs.lemmas.Result.{err_from_is_err_and}
 use Rattle.acc_core.specs.Accepting.{refusal}
 use Rattle.acc_core.specs.Plans.{PlaceView, standing_in}
-use Rattle.acc_core.specs.Walks.{ops_taken}
+use Rattle.acc_core.specs.Walks.{marked_ops}
 use Rattle.acc_core.proofs.Planning.{counted_by, limit_refuses, judged, refused_as, memory_as, short_items, room_for}
 use Rattle.acc_core.proofs.Accepted.{batch_is}
 use Rattle.acc_core.proofs.place.Place.plan.Goals as goal
@@ -73,4 +73,4 @@ returns-clause-tasks c =
     let e = judged p w.table w.opened w.batches c.len.result c.args.directive.now c.self.invariant.0 c.keeps_order.ensures.table n c.in_default.ensures in
     let h = c.self.invariant.0 in
     let batch = batch_is p.config (standing_in p) c.args.directive.now w.table w.opened w.batches h.tied c.keeps_order.ensures.table h.one (e ∙ sym c.in_default-found.ensures.fault) in
-    rw (← c.self.view_is) (c.in_ok-plan.ensures.tasks ∙ (ap ops_taken (c.as_slice.ensures.value ∙ c.in_default-found.ensures.steps) ∙ sym batch))
+    rw (← c.self.view_is) (c.in_ok-plan.ensures.tasks ∙ (ap marked_ops (c.as_slice.ensures.value ∙ c.in_default-found.ensures.steps) ∙ sym batch))

@@ -2,7 +2,7 @@ use Rattle.std.proofs.Common.{◌≡◌, ◌++◌, take}
 use Rattle.std.specs.List.{flat_map}
 use Rattle.acc_core.specs.Tasks.{ops_in, AllReady}
 use Rattle.acc_core.specs.Walks.{group_ops}
-use Rattle.acc_core.proofs.place.add_group.Given as goal
+use Rattle.acc_core.proofs.plan.add_group.Given as goal
 
 abbrev pub invariant-loop-step : goal.invariant-loop-step
 invariant-loop-step l =

@@ -1,5 +1,5 @@
 use Rattle.acc_core.proofs.Readiness.{AllReady-push}
-use Rattle.acc_core.proofs.place.add_task.Goals as goal
+use Rattle.acc_core.proofs.plan.add_task.Goals as goal
 
 pub returns-in_ok-push_back-in-Some-clause-ready : goal.returns-in_ok-push_back-in-Some-clause-ready
 returns-in_ok-push_back-in-Some-clause-ready c =

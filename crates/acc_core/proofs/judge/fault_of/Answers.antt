@@ -1,8 +1,8 @@
 use Rattle.std.proofs.Common.{◌≡◌, true, ap, ◌∙◌}
 use Rattle.acc_core.specs.Accepting.{is_in_array}
-use Rattle.acc_core.specs.Walks.{full_fault}
+use Rattle.acc_core.specs.Walks.{capacity_fault}
 use Rattle.acc_core.proofs.Judging.{fault-present, fault-absent}
-use Rattle.acc_core.proofs.place.fault_of.Goals as goal
+use Rattle.acc_core.proofs.judge.fault_of.Goals as goal
 
 pub returns-in-Present : goal.returns-in-Present
 returns-in-Present c =
@@ -14,4 +14,4 @@ pub returns-in-Absent : goal.returns-in-Absent
 returns-in-Absent c =
     let inside : is_in_array c.args.config.now.arrays c.args.range ≡ true = cc in
     let looks = c.in-Absent.ensures in
-    c.full_fault.ensures ∙ (ap (λ n. full_fault c.args.kind c.args.table.now.presences n c.args.range) c.capacity.ensures ∙ fault-absent c.args.config.now c.args.kind c.args.table.now.presences c.args.range inside looks.1 looks.0)
+    c.capacity_fault.ensures ∙ (ap (λ n. capacity_fault c.args.kind c.args.table.now.presences n c.args.range) c.capacity.ensures ∙ fault-absent c.args.config.now c.args.kind c.args.table.now.presences c.args.range inside looks.1 looks.0)
