@@ -7,10 +7,9 @@ use Rattle.acc_core.specs.declared.event.Event.{Event}
 use Rattle.acc_driver.specs.declared.fault.ReadError.{ReadError}
 use Rattle.acc_driver.specs.declared.fault.ReadKind.{ReadKind}
 use Rattle.acc_driver.specs.declared.fault.ReadKind.TheVariants.{Limit, Form}
+use Rattle.acc_driver.specs.declared.schedule.TheConstants.{MAX_EVENTS}
 use Rattle.acc_driver.specs.Faults.{fails, Gives}
-use Rattle.acc_driver.specs.Inputs.{capped}
-use Rattle.acc_driver.specs.Schedules.{lines, words, with_first, is_skipped, is_plain, turn_of, repeated, round_events, events_of, line_events, events_behind, events_from, schedule_of}
-use Rattle.acc_driver.proofs.Splitting.{capped_is_enough}
+use Rattle.acc_driver.specs.Schedules.{words, with_first, is_skipped, is_plain, turn_of, repeated, round_events, events_of, line_events, events_behind}
 
 module _ (hosts devices : ℕ) where
   pub round_line : (line first others : List ℕ) (defined : Result (List Event) ReadKind)
@@ -29,14 +28,14 @@ module _ (hosts devices : ℕ) where
 
   pub too_many_behind : (number times count : ℕ) (events : List Event) (line : List ℕ)
       → is_skipped line ≡ false → line_events hosts devices line ≡ Ok (repeated times (turn_of hosts devices)) → count ≡ length events
-      → nat_lt 1000000 (count + length (repeated times (turn_of hosts devices))) ≡ true
+      → nat_lt MAX_EVENTS (count + length (repeated times (turn_of hosts devices))) ≡ true
       → events_behind hosts devices number events line ≡ fails number Limit
   unfolding events_behind
   too_many_behind number times count events line read found is many = rw (read, found, ← is, many) refl
 
   pub turns_behind : (number times count : ℕ) (events : List Event) (line : List ℕ)
       → is_skipped line ≡ false → line_events hosts devices line ≡ Ok (repeated times (turn_of hosts devices)) → count ≡ length events
-      → nat_lt 1000000 (count + length (repeated times (turn_of hosts devices))) ≡ false
+      → nat_lt MAX_EVENTS (count + length (repeated times (turn_of hosts devices))) ≡ false
       → events_behind hosts devices number events line ≡ Ok (events ++ repeated times (turn_of hosts devices))
   unfolding events_behind
   turns_behind number times count events line read found is few = rw (read, found, ← is, few) refl
@@ -48,13 +47,8 @@ given (Err error) items defined then gives = tt
 
 -- the events behind a line are few enough
 pub few_behind : (length_new count : ℕ) (old turns new : List Event) → length_new ≡ length new → count ≡ length old
-    → nat_lt 1000000 (count + length turns) ≡ false → new ≡ old ++ turns → length_new ≤ 1000000
+    → nat_lt MAX_EVENTS (count + length turns) ≡ false → new ≡ old ++ turns → length_new ≤ MAX_EVENTS
 few_behind length_new count old turns new is was few e =
     let all : length new ≡ length old + length turns = ap (λ (es : List Event). length es) e ∙ length-append old turns in
-    let bound = ltb-false 1000000 (count + length turns) few in
+    let bound = ltb-false MAX_EVENTS (count + length turns) few in
     omega arith
-
--- Of a schedule one byte more than its limit is enough.
-pub schedule_capped : (hosts devices : ℕ) (text : List ℕ) → schedule_of hosts devices (capped 1048576 text) ≡ schedule_of hosts devices text
-unfolding schedule_of
-schedule_capped hosts devices text = capped_is_enough 1048576 (λ (text : List ℕ). events_from hosts devices 1 [] (lines text)) text

@@ -6,6 +6,7 @@ use Rattle.std.proofs.lemmas.List.{map-append, length-append, length-map, get_or
 use Rattle.std.proofs.lemmas.List.Elements.{All-nil, All-cons, All-append}
 use Rattle.indexmap.specs.IndexSet.{insert_key}
 use Rattle.std.specs.List.{list_any, position, position_or_len}
+use Rattle.acc_base.specs.declared.config.TheConstants.{MAX_ARRAYS, MAX_CELLS}
 use Rattle.acc_base.specs.Configurations.{rows}
 use Rattle.acc_driver.specs.Arrays.{Declared, IsDeclared, texts}
 
@@ -28,11 +29,11 @@ one_more_name names after name fresh is =
     rw (is, absent) (map-append (λ name. name.now) names (name ∷ []))
 
 -- an array more keeps the limits of what is declared
-pub one_more_declared : (old : Declared) (name : List ℕ) (cells : List ℤ) → IsDeclared old → length old.names < 64
-    → (1 ≤ length cells) × (length cells ≤ 65536)
+pub one_more_declared : (old : Declared) (name : List ℕ) (cells : List ℤ) → IsDeclared old → length old.names < MAX_ARRAYS
+    → (1 ≤ length cells) × (length cells ≤ MAX_CELLS)
     → IsDeclared (record { names = old.names ++ name ∷ []; cells = old.cells ++ cells ∷ [] })
 one_more_declared old name cells is few size =
-    let IsFilled : List ℤ → Type 0 = λ cells. (1 ≤ length cells) × (length cells ≤ 65536) in
+    let IsFilled : List ℤ → Type 0 = λ cells. (1 ≤ length cells) × (length cells ≤ MAX_CELLS) in
     record {
       one_each = rw (length-append old.cells (cells ∷ []), length-append old.names (name ∷ []), is.one_each) refl;
       few = rw (length-append old.names (name ∷ [])) (omega (arith, few));
@@ -42,7 +43,7 @@ one_more_declared old name cells is few size =
 -- an array has no more cells than the most
 pub short_array : {Z : Type 0} (arrays : List (Vec ℤ Z)) (names : List (List ℕ)) (i : ℕ) (row : Vec ℤ Z)
     → IsDeclared (record { names = names; cells = rows arrays }) → i < length (rows arrays)
-    → row ≡ get_or arrays i row → length row.items ≤ 65536
+    → row ≡ get_or arrays i row → length row.items ≤ MAX_CELLS
 short_array arrays names i row is within here =
     let low : i < length arrays = rw (length-map arrays (λ v. v.items)) at within in
     let same : get_or (rows arrays) i row.items ≡ row.items =

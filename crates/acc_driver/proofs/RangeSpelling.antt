@@ -8,18 +8,19 @@ use Rattle.std.proofs.lemmas.List.Sums.{position_or_len_is}
 use Rattle.std.proofs.lemmas.Slice.Eq.{bytes_eq-Decides}
 use Rattle.acc_driver.specs.Arrays.{Declared, array_of, size_of}
 use Rattle.acc_driver.specs.RangeSpellings.{AreNames, spelled, RangeIsReadAgain}
-use Rattle.acc_driver.specs.Statements.{range_at, range_behind, bounds_at, bound_at}
+use Rattle.acc_driver.specs.Statements.{index_limit, range_at, range_behind, bounds_at, bound_at}
+use Rattle.acc_driver.specs.declared.word.TheConstants.{MAX_NAME}
 use Rattle.acc_driver.specs.Tokens.{Spot, front, is_letter, is_digit, exactly, expect, number_of, name_of}
 use Rattle.acc_driver.proofs.TokenSpelling.{IsNumber, is_number, number_token, word_token, opening_bracket, colon, closing_bracket}
 
 -- a bound, before a byte that ends it
-bound_here : (in_directive : Bool) (line n : ℕ) (rest : List ℕ) → n ≤ 4294967295 → prefix_len is_digit rest ≡ 0 → is_letter (front rest) ≡ false
+bound_here : (in_directive : Bool) (line n : ℕ) (rest : List ℕ) → n ≤ index_limit → prefix_len is_digit rest ≡ 0 → is_letter (front rest) ≡ false
     → bound_at in_directive (record { line = line; bytes = decimal n ++ rest }) ≡ Ok (Some n, record { line = line; bytes = rest })
 unfolding bound_at number_of
 bound_here in_directive line n rest small ends apart = by (decimal n) (is_number n (omega arith))
   where
     by : (ds : List ℕ) → IsNumber n ds → bound_at in_directive (record { line = line; bytes = ds ++ rest }) ≡ Ok (Some n, record { line = line; bytes = rest })
-    by ds is = rw (number_token in_directive line n ds rest is ends apart, is.is, is.digit, is.value, le-ltb 4294967295 n small) refl
+    by ds is = rw (number_token in_directive line n ds rest is ends apart, is.is, is.digit, is.value, le-ltb index_limit n small) refl
 
 -- the place of a name among names that differ
 place_of_name : (names : List (List ℕ)) (i : ℕ) → AreNames names → i < length names → position (bytes_eq (slice_index_or names i [])) names ≡ Some i
@@ -36,10 +37,10 @@ array_named : (arrays : Declared) (i line : ℕ) (after : Spot) → AreNames arr
 unfolding array_of name_of
 array_named arrays i line after are within =
     let is = are.each i [] within in
-    rw (is.first, is.free, le-ltb 32 (length (slice_index_or arrays.names i [])) is.short, place_of_name arrays.names i are within) refl
+    rw (is.first, is.free, le-ltb MAX_NAME (length (slice_index_or arrays.names i [])) is.short, place_of_name arrays.names i are within) refl
 
 -- what stands behind the opening bracket
-bounds_here : (in_directive : Bool) (array size line lo len : ℕ) (rest : List ℕ) → lo ≤ 4294967295 → len ≤ 4294967295
+bounds_here : (in_directive : Bool) (array size line lo len : ℕ) (rest : List ℕ) → lo ≤ index_limit → len ≤ index_limit
     → bounds_at in_directive array size (record { line = line; bytes = decimal lo ++ 58 ∷ (decimal len ++ 93 ∷ rest) })
     ≡ Ok (record { array = array; lo = lo; len = len }, record { line = line; bytes = rest })
 unfolding bounds_at expect exactly

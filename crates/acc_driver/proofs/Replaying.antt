@@ -8,18 +8,18 @@ use Rattle.std.proofs.lemmas.Bool.Decides.{nat_tests}
 use Rattle.acc_base.specs.declared.config.TheConstants.{MAX_ARRAYS, MAX_CELLS, MAX_HOSTS, MAX_CAPACITY, MAX_ROOM}
 use Rattle.acc_base.specs.Configurations.{is_outside, has_long_array, has_empty_array}
 use Rattle.acc_driver.specs.Arrays.{IsDeclared}
-use Rattle.acc_core.specs.declared.event.Event.{Event}
 use Rattle.acc_driver.specs.declared.fault.DriverFault.{DriverFault}
 use Rattle.acc_driver.specs.declared.fault.DriverFault.TheVariants as fault
 use Rattle.acc_driver.specs.declared.fault.ReadFault.{ReadFault}
 use Rattle.acc_driver.specs.declared.input.TheConstants.{MAX_TEXT}
 use Rattle.acc_driver.specs.declared.options.Ended.{Ended}
 use Rattle.acc_driver.specs.declared.options.Options.{Options}
-use Rattle.acc_driver.specs.Inputs.{Parts, parts, within, capped}
-use Rattle.acc_driver.specs.Replays.{events_in, configured, runtime_fault, IsOpeningFault, Says, RunAnswers, AnswersRun, Answers, AreUsable, IsRun}
+use Rattle.acc_driver.specs.declared.replay.TheConstants.{INPUT_LIMIT}
+use Rattle.acc_driver.specs.Inputs.{parts, within}
+use Rattle.acc_driver.specs.Replays.{events_in, configured, runtime_fault, IsOpeningFault, AnswersRun, Answers, AreUsable, IsRun}
 use Rattle.acc_driver.specs.Schedules.{events_from, lines, schedule_of}
 use Rattle.acc_driver.specs.Scripts.{Program, program_at, script_of}
-use Rattle.acc_driver.proofs.Splitting.{cut_is_enough, capped_is_enough}
+use Rattle.acc_driver.proofs.Splitting.{capped, cut_is_enough, capped_is_enough}
 
 -- What is read of a text with a limit, up to a byte more, says what is read of it.
 within_capped : {A : Type 0} (limit : ℕ) (read : List ℕ → Result A ReadFault) (a b : List ℕ)
@@ -37,7 +37,7 @@ within_reads limit read a x is = elim (cases_lt limit (length a)) [
 
 -- the bytes that are read of a text that holds a script and a schedule
 abbrev cut : List ℕ → List ℕ
-cut text = take 2097156 text
+cut text = take INPUT_LIMIT text
 
 same_script : (text : List ℕ) → script_of (parts (cut text)).script ≡ script_of (parts text).script
 unfolding script_of
@@ -48,7 +48,7 @@ same_schedule : (options : Options) (program : Program) (text : List ℕ) → sc
 unfolding script_of schedule_of
 same_schedule options program text is =
     let short = within_reads MAX_TEXT (λ (text : List ℕ). program_at (record { line = 1; bytes = text })) (parts text).script program is in
-    within_capped 1048576 (λ (text : List ℕ). events_from (length program.programs) options.devices 1 [] (lines text)) (parts (cut text)).schedule (parts text).schedule
+    within_capped MAX_TEXT (λ (text : List ℕ). events_from (length program.programs) options.devices 1 [] (lines text)) (parts (cut text)).schedule (parts text).schedule
     ((cut_is_enough MAX_TEXT text).schedule short)
 
 -- What is answered to a text that is cut is the answer to the whole text.
@@ -71,17 +71,6 @@ answers_whole options text old new (Err (fault.Schedule f)) answers =
     ((program, record { script = script; schedule = sym (same_schedule options program text script) ∙ says.schedule }), answers.1)
 answers_whole options text old new (Err fault.Input) answers = answers
 answers_whole options text old new (Err fault.Memory) answers = answers
-
--- The texts say this program and these events, so the answer to them is the answer to the texts.
-pub answers_run : (options : Options) (texts : Parts) (program : Program) (events : List Event) (old new : Option (List ℕ)) (result : Result Ended DriverFault)
-    → Says options texts program events → RunAnswers options program events old new result → Answers options texts old new result
-answers_run options texts program events old new (Ok ended) says run = (program, events, says, run)
-answers_run options texts program events old new (Err fault.Output) says run = (program, events, says, run)
-answers_run options texts program events old new (Err (fault.Runtime f)) says run = (program, events, says, run)
-answers_run options texts program events old new (Err fault.Memory) says run = run
-answers_run options texts program events old new (Err (fault.Script f)) says run = absurd run
-answers_run options texts program events old new (Err (fault.Schedule f)) says run = absurd run
-answers_run options texts program events old new (Err fault.Input) says run = absurd run
 
 -- What is read of an input is a front of it, and the answer to that is the answer to the whole.
 pub whole_input : (remaining : Option (List ℕ)) (read : List ℕ) (options : Options) (old new : Option (List ℕ)) (result : Result Ended DriverFault)

@@ -1,12 +1,13 @@
 -- Where a text is split, and how much of it is read.
-use Rattle.std.proofs.Common.{◌≡◌, ℕ, zero, suc, ◌+◌, ◌-◌, ◌*◌, ◌<◌, ◌≤◌, Bool, true, false, List, [], ◌∷◌, length, take, drop, Result, refl, sym, ap, ◌∙◌, arith}
+use Rattle.std.proofs.Common.{◌≡◌, ℕ, zero, suc, ◌+◌, ◌-◌, ◌*◌, ◌<◌, ◌≤◌, Bool, true, false, List, [], ◌∷◌, ◌++◌, length, take, drop, drop-drop, take-add, append-nil, append_assoc, Result, refl, sym, ap, ◌∙◌, arith}
 use Rattle.std.proofs.lemmas.Bool.{and_parts, lt-ltb, ltb-true, ltb-false}
-use Rattle.std.proofs.lemmas.List.{take_all, take-take, drop-take, length-take-le}
-use Rattle.std.specs.Prelude.{◌==◌, ◌&&◌, nat_lt, bytes_eq, codes, if◌then◌else◌}
+use Rattle.std.proofs.lemmas.List.{take_all, drop_all, take-take, drop-take, length-take-le}
+use Rattle.std.specs.Prelude.{◌==◌, ◌&&◌, not, nat_lt, bytes_eq, codes, if◌then◌else◌}
+use Rattle.std.specs.List.{prefix_len}
 use Rattle.acc_driver.specs.declared.fault.ReadFault.{ReadFault}
 use Rattle.acc_driver.specs.declared.fault.ReadKind.TheVariants.{Limit}
 use Rattle.acc_driver.specs.Faults.{fails}
-use Rattle.acc_driver.specs.Inputs.{line_of, behind_line, is_split_line, with_front, parts_from, parts, line_feeds, within, capped, CutIsEnough}
+use Rattle.acc_driver.specs.Inputs.{Parts, line_of, behind_line, is_split_line, with_front, parts_from, parts, line_feeds, within}
 
 -- ## The line `%%`
 
@@ -69,17 +70,89 @@ split_line-take (a ∷ b ∷ c ∷ cs) k =
 
 -- ## The parts
 
-pub splits_here : (bs : List ℕ) → is_split_line bs ≡ true → parts_from true bs ≡ record { script = []; schedule = behind_line bs }
-splits_here [] split = cc
-splits_here (b ∷ bs) split = rw split refl
-
 parts_from-split : (at_start : Bool) (b : ℕ) (bs : List ℕ) → at_start && is_split_line (b ∷ bs) ≡ true → parts_from at_start (b ∷ bs) ≡ record { script = []; schedule = behind_line (b ∷ bs) }
 parts_from-split at_start b bs e = rw e refl
 
 parts_from-other : (at_start : Bool) (b : ℕ) (bs : List ℕ) → at_start && is_split_line (b ∷ bs) ≡ false → parts_from at_start (b ∷ bs) ≡ with_front b (parts_from (b == 10) bs)
 parts_from-other at_start b bs e = rw e refl
 
+-- ## Line by line
+
+abbrev line_len : List ℕ → ℕ
+line_len bs = prefix_len (λ b. not (b == 10)) bs
+
+abbrev with_line : List ℕ → Parts → Parts
+with_line line others = record others { script = line ++ others.script }
+
+-- from within a line, which belongs to the script, the next one begins behind its line feed
+line-passes : (bs : List ℕ) → parts_from false bs ≡ with_line (take (line_len bs + 1) bs) (parts_from true (drop (line_len bs + 1) bs))
+line-passes [] = refl
+line-passes (b ∷ bs) = by_byte (b == 10) refl (line-passes bs)
+  where
+    by_byte : (v : Bool) → (b == 10) ≡ v
+        → parts_from false bs ≡ with_line (take (line_len bs + 1) bs) (parts_from true (drop (line_len bs + 1) bs))
+        → parts_from false (b ∷ bs) ≡ with_line (take (line_len (b ∷ bs) + 1) (b ∷ bs)) (parts_from true (drop (line_len (b ∷ bs) + 1) (b ∷ bs)))
+    by_byte true e rest = rw e refl
+    by_byte false e rest =
+        let one : line_len (b ∷ bs) + 1 ≡ suc (line_len bs + 1) = rw e (omega arith) in
+        rw (one, e) (ap (with_front b) rest)
+
+other_line : (bs : List ℕ) → is_split_line bs ≡ false → parts_from true bs ≡ parts_from false bs
+other_line [] other = refl
+other_line (b ∷ bs) other = rw other refl
+
+splits_here : (bs : List ℕ) → is_split_line bs ≡ true → parts_from true bs ≡ record { script = []; schedule = behind_line bs }
+splits_here [] split = cc
+splits_here (b ∷ bs) split = rw split refl
+
+-- A line begins here, and no line before it is `%%`.
+pub record LineBegins (text : List ℕ) (start : ℕ) : Type 0 where
+  pub script : (parts text).script ≡ take start text ++ (parts_from true (drop start text)).script
+  pub schedule : (parts text).schedule ≡ (parts_from true (drop start text)).schedule
+
+pub first_line : (text : List ℕ) → LineBegins text 0
+unfolding parts
+first_line text = record { script = refl; schedule = refl }
+
+pub next_line : (text here : List ℕ) (start len : ℕ) → LineBegins text start → here ≡ drop start text → is_split_line here ≡ false
+    → len ≡ line_len here → LineBegins text (start + (len + 1))
+next_line text here start len begins from other is =
+    let passed : parts_from true here ≡ with_line (take (len + 1) here) (parts_from true (drop (len + 1) here)) =
+    other_line here other ∙ rw is (line-passes here) in
+    record {
+      script = begins.script ∙ ap (λ (p : Parts). take start text ++ p.script) (rw from at passed) ∙ sym (append_assoc (take start text) (take (len + 1) (drop start text)) _)
+          ∙ rw (take-add start (len + 1) text, drop-drop (len + 1) start text) refl;
+      schedule = begins.schedule ∙ ap (λ (p : Parts). p.schedule) (rw from at passed) ∙ rw (drop-drop (len + 1) start text) refl;
+    }
+
+pub split_script : (text here : List ℕ) (start : ℕ) → LineBegins text start → here ≡ drop start text → is_split_line here ≡ true → (parts text).script ≡ take start text
+split_script text here start begins is split =
+    begins.script ∙ ap (λ (p : Parts). take start text ++ p.script) (splits_here (drop start text) (rw is at split)) ∙ append-nil (take start text)
+
+pub split_schedule : (text here : List ℕ) (start : ℕ) → LineBegins text start → here ≡ drop start text → is_split_line here ≡ true → (parts text).schedule ≡ behind_line here
+split_schedule text here start begins is split =
+    begins.schedule ∙ ap (λ (p : Parts). p.schedule) (splits_here (drop start text) (rw is at split)) ∙ ap behind_line (sym is)
+
+-- without a line `%%` the text is all script
+pub whole_script : (text : List ℕ) (start : ℕ) → LineBegins text start → length text ≤ start → (parts text).script ≡ text
+whole_script text start begins ends =
+    begins.script ∙ ap (λ (bs : List ℕ). take start text ++ (parts_from true bs).script) (drop_all start text ends) ∙ append-nil (take start text) ∙ take_all start text ends
+
+pub no_schedule : (text : List ℕ) (start : ℕ) → LineBegins text start → length text ≤ start → (parts text).schedule ≡ []
+no_schedule text start begins ends = begins.schedule ∙ ap (λ (bs : List ℕ). (parts_from true bs).schedule) (drop_all start text ends)
+
 -- ## A text that is cut
+
+-- What is read of a text with a limit: from one byte more it is seen that the text is too long.
+abbrev pub capped : ℕ → List ℕ → List ℕ
+capped limit text = take (limit + 1) text
+
+-- A text that is cut at twice the limit and four bytes gives the reader of each part what the whole text gives
+-- it; behind a script that is too long the schedule does not count.
+pub record CutIsEnough (limit : ℕ) (text : List ℕ) : Type 0 where
+  pub script : capped limit (parts (take (2 * limit + 4) text)).script ≡ capped limit (parts text).script
+  pub schedule : length (parts text).script ≤ limit
+      → capped limit (parts (take (2 * limit + 4) text)).schedule ≡ capped limit (parts text).schedule
 
 -- the line at a cut that is three bytes off, or more
 split_line-cut : (b : ℕ) (bs : List ℕ) (k : ℕ) → 2 ≤ k → is_split_line (b ∷ take k bs) ≡ is_split_line (b ∷ bs)

@@ -1,19 +1,20 @@
 -- Tokens that are spelled out are read again.
-use Rattle.std.proofs.Common.{◌≡◌, ℕ, ◌+◌, ◌-◌, ◌*◌, ◌/◌, ◌%◌, ◌^◌, ◌<◌, ◌≤◌, Bool, true, false, List, [], ◌∷◌, ◌++◌, length, Ok, refl, ◌∙◌, arith, ⊎_elim, add-one, eq-eqb, length-append}
-use Rattle.std.specs.Prelude.{◌==◌, ◌&&◌, ◌||◌, nat_lt, All, codes}
-use Rattle.std.specs.List.{prefix_len}
+use Rattle.std.proofs.Common.{◌≡◌, ℕ, ◌+◌, ◌-◌, ◌*◌, ◌/◌, ◌%◌, ◌^◌, ◌<◌, ◌≤◌, Bool, true, false, List, [], ◌∷◌, ◌++◌, length, drop, get_or, Ok, refl, sym, ap, ◌∙◌, arith, ⊎_elim, add-one, eq-eqb, length-append}
+use Rattle.std.specs.Prelude.{◌==◌, ◌&&◌, ◌||◌, not, nat_lt, bytes_eq, All, codes}
+use Rattle.std.specs.List.{list_any, prefix_len}
 use Rattle.std.specs.Fmt.{decimal}
-use Rattle.std.proofs.lemmas.Bool.{and_left, and_right, and_parts, false≢true, ltb-true, le-ltb, lt-ltb, ne_eqb, cases_lt}
+use Rattle.std.proofs.lemmas.Bool.{and_left, and_right, and_parts, or_parts, eqb-true, false≢true, ltb-true, le-ltb, lt-ltb, ne_eqb, cases_lt}
 use Rattle.std.proofs.lemmas.Bool.Decides.{nat_tests}
 use Rattle.std.proofs.lemmas.Fmt.{decimal_by_steps}
 use Rattle.std.proofs.lemmas.List.Elements.{All-tail}
 use Rattle.std.proofs.lemmas.List.Folds.{prefix_len-append}
 use Rattle.std.proofs.lemmas.List.Sums.{prefix_len_is}
+use Rattle.std.proofs.lemmas.Slice.Eq.{bytes_eq-Decides}
 use Rattle.std.proofs.Math.Seq.{take-append_seam, drop-append_seam}
 use Rattle.acc_driver.proofs.Gaps.{gap_stops}
 use Rattle.acc_driver.specs.declared.token.Gap.TheVariants.{Plain}
 use Rattle.acc_driver.specs.declared.token.Step.TheVariants.{Stop}
-use Rattle.acc_driver.specs.Tokens.{front, is_letter, is_digit, is_word_byte, is_pair, is_sign, step_of, number_len, token_len, token_at, value_behind}
+use Rattle.acc_driver.specs.Tokens.{front, is_letter, is_digit, is_word_byte, is_blank, is_pair, is_sign, step_of, gap_at, number_len, token_len, token_at, exactly, expect, value_behind}
 
 -- ## A token at the front
 
@@ -52,30 +53,83 @@ not_second : (b : Bool) → (b && false || false) ≡ false
 not_second true = refl
 not_second false = refl
 
--- a sign that no other sign begins with
+-- a sign that isn't a pair's first byte
 sign_token : (in_directive : Bool) (line sign : ℕ) (rest : List ℕ) → step_of Plain in_directive sign ≡ Stop → (sign == 10) ≡ false
     → is_letter sign ≡ false → is_digit sign ≡ false
-    → ((next : ℕ) → is_pair sign next ≡ false) → is_sign sign ≡ true
+    → is_pair sign (front rest) ≡ false → is_sign sign ≡ true
     → token_at in_directive (record { line = line; bytes = sign ∷ rest })
     ≡ Ok (record { text = sign ∷ []; line = line; after = record { line = line; bytes = rest } })
 unfolding token_len
 sign_token in_directive line sign rest stops plain letter digit pair is =
-    token_here in_directive line sign [] rest stops plain (rw (letter, digit, pair (front rest), is) refl)
+    token_here in_directive line sign [] rest stops plain (rw (letter, digit, pair, is) refl)
+
+-- what no sign is
+abbrev is_other : ℕ → Bool
+is_other b = is_letter b || (is_digit b || (b == 10 || (is_blank b || b == 47)))
+
+no_member : (p : ℕ → Bool) (bytes : List ℕ) (b : ℕ) → list_any p bytes ≡ false → list_any (λ s. s == b) bytes ≡ true → p b ≡ false
+no_member p [] b none is = absurd (false≢true is)
+no_member p (s ∷ bytes) b none is = by (s == b) refl (no_member p bytes b (or_parts (p s) (list_any p bytes) none).1)
+  where
+    by : (v : Bool) → (s == b) ≡ v → (list_any (λ s. s == b) bytes ≡ true → p b ≡ false) → p b ≡ false
+    by true e rest = rw (eqb-true s b e) at (or_parts (p s) (list_any p bytes) none).0
+    by false e rest = rest (rw e at is)
+
+-- a sign that is expected, and stands at once
+expected_sign : (in_directive : Bool) (line sign : ℕ) (rest : List ℕ) → is_sign sign ≡ true → is_pair sign (front rest) ≡ false
+    → expect in_directive (sign ∷ []) (record { line = line; bytes = sign ∷ rest }) ≡ Ok (record { line = line; bytes = rest })
+unfolding expect exactly
+expected_sign in_directive line sign rest is single =
+    let other = no_member is_other (codes "#{}()[],;:=+-*<>?") sign refl is in
+    let letter = or_parts (is_letter sign) _ other in
+    let digit = or_parts (is_digit sign) _ letter.1 in
+    let plain = or_parts (sign == 10) _ digit.1 in
+    let blank = or_parts (is_blank sign) (sign == 47) plain.1 in
+    let stops : step_of Plain in_directive sign ≡ Stop = rw (plain.0, blank.0, blank.1) refl in
+    rw (sign_token in_directive line sign rest stops plain.0 letter.0 digit.0 single is, eq-eqb sign sign refl) refl
+
+-- the same of a text and the bytes that are left
+pub sign_at_once : (in_directive : Bool) (line : ℕ) (text bytes : List ℕ) → 1 ≤ length bytes
+    → (bytes_eq text (get_or bytes 0 0 ∷ []) && is_sign (get_or bytes 0 0) && not (is_pair (get_or bytes 0 0) (front (drop 1 bytes)))) ≡ true
+    → expect in_directive text (record { line = line; bytes = bytes }) ≡ Ok (record { line = line; bytes = drop 1 bytes })
+sign_at_once in_directive line text [] some is = absurd (omega arith)
+sign_at_once in_directive line text (sign ∷ rest) some is =
+    let all = and_parts (bytes_eq text (sign ∷ []) && is_sign sign) (not (is_pair sign (front rest))) is in
+    let known = and_parts (bytes_eq text (sign ∷ [])) (is_sign sign) all.0 in
+    let same : text ≡ sign ∷ [] = (bytes_eq-Decides text (sign ∷ [])).0 known.0 in
+    rw same (expected_sign in_directive line sign rest known.1 (not_true (is_pair sign (front rest)) all.1))
+  where
+    not_true : (v : Bool) → not v ≡ true → v ≡ false
+    not_true true e = sym e
+    not_true false e = refl
 
 pub opening_bracket : (in_directive : Bool) (line : ℕ) (rest : List ℕ)
     → token_at in_directive (record { line = line; bytes = 91 ∷ rest })
     ≡ Ok (record { text = codes "["; line = line; after = record { line = line; bytes = rest } })
-opening_bracket in_directive line rest = sign_token in_directive line 91 rest refl refl refl refl (λ next. not_second (next == 61)) refl
+opening_bracket in_directive line rest = sign_token in_directive line 91 rest refl refl refl refl (not_second (front rest == 61)) refl
 
 pub colon : (in_directive : Bool) (line : ℕ) (rest : List ℕ)
     → token_at in_directive (record { line = line; bytes = 58 ∷ rest })
     ≡ Ok (record { text = codes ":"; line = line; after = record { line = line; bytes = rest } })
-colon in_directive line rest = sign_token in_directive line 58 rest refl refl refl refl (λ next. not_second (next == 61)) refl
+colon in_directive line rest = sign_token in_directive line 58 rest refl refl refl refl (not_second (front rest == 61)) refl
 
 pub closing_bracket : (in_directive : Bool) (line : ℕ) (rest : List ℕ)
     → token_at in_directive (record { line = line; bytes = 93 ∷ rest })
     ≡ Ok (record { text = codes "]"; line = line; after = record { line = line; bytes = rest } })
-closing_bracket in_directive line rest = sign_token in_directive line 93 rest refl refl refl refl (λ next. not_second (next == 61)) refl
+closing_bracket in_directive line rest = sign_token in_directive line 93 rest refl refl refl refl (not_second (front rest == 61)) refl
+
+pub one_byte : (text : List ℕ) (b : ℕ) (v w : Bool) → (bytes_eq text (b ∷ []) && v && w) ≡ true → length text ≡ 1
+one_byte text b v w is =
+    let known = and_parts (bytes_eq text (b ∷ [])) v (and_parts (bytes_eq text (b ∷ []) && v) w is).0 in
+    ap (λ (bytes : List ℕ). length bytes) ((bytes_eq-Decides text (b ∷ [])).0 known.0)
+
+-- the same behind a space
+pub sign_behind_space : (in_directive : Bool) (line : ℕ) (text bytes : List ℕ) → 2 ≤ length bytes → get_or bytes 0 0 ≡ 32
+    → (bytes_eq text (get_or bytes 1 0 ∷ []) && is_sign (get_or bytes 1 0) && not (is_pair (get_or bytes 1 0) (front (drop 2 bytes)))) ≡ true
+    → expect in_directive text (record { line = line; bytes = bytes }) ≡ Ok (record { line = line; bytes = drop 2 bytes })
+unfolding expect token_at gap_at
+sign_behind_space in_directive line text [] some space is = absurd (omega arith)
+sign_behind_space in_directive line text (b ∷ bytes) some space is = rw space (sign_at_once in_directive line text bytes (omega (arith, some)) is)
 
 -- ## Numbers
 

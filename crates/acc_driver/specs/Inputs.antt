@@ -1,5 +1,5 @@
 -- How much of a text is read, and one text that holds a script and a schedule.
-use Rattle.std.specs.Prelude.{◌≡◌, ℕ, ◌+◌, ◌*◌, ◌≤◌, Bool, true, false, ◌&&◌, ◌==◌, nat_lt, List, [], ◌∷◌, ◌++◌, length, take, count_by, Option, Result, codes, bytes_eq, if◌then◌else◌}
+use Rattle.std.specs.Prelude.{◌≡◌, ℕ, ◌+◌, ◌≤◌, Bool, true, false, ◌&&◌, ◌==◌, nat_lt, List, [], ◌∷◌, ◌++◌, length, take, count_by, Option, Result, codes, bytes_eq, if◌then◌else◌}
 use Rattle.std.specs.Io.KnownBytes.{Consumes, IsAtEnd}
 use Rattle.acc_driver.specs.declared.fault.ReadFault.{ReadFault}
 use Rattle.acc_driver.specs.declared.fault.ReadKind.TheVariants.{Limit}
@@ -12,10 +12,6 @@ line_feeds text = count_by (λ b. b == 10) text
 abbrev pub within : {A : Type 0} → ℕ → (List ℕ → Result A ReadFault) → List ℕ → Result A ReadFault
 within limit read text =
     if nat_lt limit (length text) then fails (1 + line_feeds (take limit text)) Limit else read text
-
--- What is read of a text with a limit: from one byte more it is seen that the text is too long.
-abbrev pub capped : ℕ → List ℕ → List ℕ
-capped limit text = take (limit + 1) text
 
 -- One turn of reading: the bytes that the reader gave, as many as there was room for at most, stand behind the text,
 -- and no more follow only at the reader's end.
@@ -56,10 +52,3 @@ parts_from at_start (b ∷ bs) =
 
 unfoldable pub parts : List ℕ → Parts
 parts text = parts_from true text
-
--- A text that is cut at twice the limit and four bytes gives the reader of each part what the whole text gives
--- it; behind a script that is too long the schedule does not count.
-pub record CutIsEnough (limit : ℕ) (text : List ℕ) : Type 0 where
-  pub script : capped limit (parts (take (2 * limit + 4) text)).script ≡ capped limit (parts text).script
-  pub schedule : length (parts text).script ≤ limit
-      → capped limit (parts (take (2 * limit + 4) text)).schedule ≡ capped limit (parts text).schedule

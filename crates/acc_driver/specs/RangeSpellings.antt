@@ -3,7 +3,8 @@ use Rattle.std.specs.Prelude.{◌≡◌, ◌≤◌, ◌<◌, ℕ, Bool, true, fa
 use Rattle.std.specs.Fmt.{decimal}
 use Rattle.acc_base.specs.declared.range.Range.{Range}
 use Rattle.acc_driver.specs.Arrays.{Declared}
-use Rattle.acc_driver.specs.Statements.{range_at}
+use Rattle.acc_driver.specs.Statements.{index_limit, range_at}
+use Rattle.acc_driver.specs.declared.word.TheConstants.{MAX_NAME}
 use Rattle.acc_driver.specs.Tokens.{front, is_letter, is_word_byte, is_reserved}
 
 -- what an array can be called
@@ -11,7 +12,7 @@ pub record IsName (name : List ℕ) : Type 0 where
   pub first : is_letter (front name) ≡ true
   pub word : All (λ b. is_word_byte b ≡ true) name
   pub free : is_reserved name ≡ false
-  pub short : length name ≤ 32
+  pub short : length name ≤ MAX_NAME
 
 -- no two arrays are called the same
 pub record AreNames (names : List (List ℕ)) : Type 0 where
@@ -27,6 +28,6 @@ spelled names r =
 abbrev pub RangeIsReadAgain : Type 0
 RangeIsReadAgain =
     (in_directive : Bool) (arrays : Declared) (r : Range) (line : ℕ) (rest : List ℕ)
-    → AreNames arrays.names → r.array < length arrays.names → r.lo ≤ 4294967295 → r.len ≤ 4294967295
+    → AreNames arrays.names → r.array < length arrays.names → r.lo ≤ index_limit → r.len ≤ index_limit
     → range_at in_directive arrays (record { line = line; bytes = spelled arrays.names r ++ rest })
     ≡ Ok (r, record { line = line; bytes = rest })

@@ -4,6 +4,7 @@ use Rattle.acc_base.specs.declared.ids.QueueAt.{QueueAt}
 use Rattle.acc_core.specs.declared.event.Event.TheVariants.{Host, Take, Perform}
 use Rattle.acc_driver.specs.declared.fault.ReadKind.{ReadKind}
 use Rattle.acc_driver.specs.declared.fault.ReadKind.TheVariants.{Text, Limit, Form}
+use Rattle.acc_driver.specs.declared.schedule.TheConstants.{MAX_EVENTS, MAX_TIMES}
 use Rattle.acc_driver.specs.Faults.{fails, ◌>>=◌}
 use Rattle.acc_driver.specs.Schedules.{schedule_of}
 
@@ -51,3 +52,8 @@ pub record FaultyLines : Type 0 where
   pub text_before_limit : refused (codes "round 0\r") 1 Text
   pub third_line : refused (codes "round 1\n# a\r\nround 0\nround x") 3 Limit
   pub fourth_line : refused (codes "\n\n# a\ntake 0 0\nround 0\n") 4 Form
+
+-- the limits, as numbers
+pub record ScheduleLimits : Type 0 where
+  pub times : MAX_TIMES ≡ 10000
+  pub events : MAX_EVENTS ≡ 1000000

@@ -8,6 +8,8 @@ use Rattle.acc_core.specs.declared.event.Event.TheVariants.{Host, Take, Perform}
 use Rattle.acc_driver.specs.declared.fault.ReadFault.{ReadFault}
 use Rattle.acc_driver.specs.declared.fault.ReadKind.{ReadKind}
 use Rattle.acc_driver.specs.declared.fault.ReadKind.TheVariants.{Text, Limit, Form}
+use Rattle.acc_driver.specs.declared.input.TheConstants.{MAX_TEXT}
+use Rattle.acc_driver.specs.declared.schedule.TheConstants.{MAX_EVENTS, MAX_TIMES}
 use Rattle.acc_driver.specs.Faults.{fails, ◌>>=◌}
 use Rattle.acc_driver.specs.Inputs.{within}
 use Rattle.acc_driver.specs.Tokens.{is_digit, value_behind}
@@ -48,12 +50,12 @@ abbrev pub is_number : List ℕ → Bool
 is_number [] = false
 is_number (b ∷ bs) = list_all is_digit (b ∷ bs) && (not (b == 48) || length bs == 0)
 
--- how often, as a word says it: 1 to 10,000 times
+-- how often, as a word says it: at least once
 unfoldable pub times_of : List ℕ → Result ℕ ReadKind
 times_of word =
     let n = value_behind 0 word in
     if not (is_number word) then Err Form
-    else (if n == 0 || nat_lt 10000 n then Err Limit
+    else (if n == 0 || nat_lt MAX_TIMES n then Err Limit
     else Ok n)
 
 -- ## Events
@@ -96,10 +98,10 @@ line_events hosts devices line =
 
 -- ## The whole schedule
 
--- the events behind a line, whose number is given with the events before it: 1,000,000 at most
+-- the events behind a line, whose number is given with the events before it
 abbrev pub joined : ℕ → List Event → Result (List Event) ReadKind → Result (List Event) ReadFault
 joined number events (Ok more) =
-    if nat_lt 1000000 (length events + length more) then fails number Limit else Ok (events ++ more)
+    if nat_lt MAX_EVENTS (length events + length more) then fails number Limit else Ok (events ++ more)
 joined number events (Err kind) = fails number kind
 
 unfoldable pub events_behind : ℕ → ℕ → ℕ → List Event → List ℕ → Result (List Event) ReadFault
@@ -112,4 +114,4 @@ events_from hosts devices number events (line ∷ others) =
     events_behind hosts devices number events line >>= λ more. events_from hosts devices (number + 1) more others
 
 unfoldable pub schedule_of : ℕ → ℕ → List ℕ → Result (List Event) ReadFault
-schedule_of hosts devices text = within 1048576 (λ (text : List ℕ). events_from hosts devices 1 [] (lines text)) text
+schedule_of hosts devices text = within MAX_TEXT (λ (text : List ℕ). events_from hosts devices 1 [] (lines text)) text

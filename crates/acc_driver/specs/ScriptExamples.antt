@@ -11,6 +11,8 @@ use Rattle.acc_core.specs.declared.program.Act.TheVariants.{Place, Write, Print}
 use Rattle.acc_core.specs.declared.program.Statement.{Statement}
 use Rattle.acc_driver.specs.declared.fault.ReadKind.{ReadKind}
 use Rattle.acc_driver.specs.declared.fault.ReadKind.TheVariants.{Text, End, Name, Limit, Form}
+use Rattle.acc_driver.specs.declared.input.TheConstants.{MAX_TEXT}
+use Rattle.acc_driver.specs.declared.word.TheConstants.{MAX_NAME}
 use Rattle.acc_driver.specs.Faults.{fails}
 use Rattle.acc_driver.specs.Scripts.{script_of}
 
@@ -84,3 +86,8 @@ pub record ReadFaults : Type 0 where
   pub minus_too_many : is_refused (codes "long a[1] = {1,\n-};") 2 Limit
   pub cut_word : is_refused (codes "long a[1];\nhost {\n#pragma acc ent") 3 Form
   pub cut_comma : is_refused (codes "long a[1];\nhost {\n#pragma acc enter data copyin(a,") 3 End
+
+-- the limits, as numbers
+pub record ScriptLimits : Type 0 where
+  pub text : MAX_TEXT ≡ 1048576
+  pub name : MAX_NAME ≡ 32

@@ -9,6 +9,7 @@ use Rattle.acc_driver.specs.declared.token.Gap.TheVariants.{Plain, Slash, Line, 
 use Rattle.acc_driver.specs.declared.token.Step.{Step}
 use Rattle.acc_driver.specs.declared.token.Step.TheVariants.{Skip, Stop, Fail}
 use Rattle.acc_driver.specs.declared.token.Token.{Token}
+use Rattle.acc_driver.specs.declared.word.TheConstants.{MAX_NAME}
 use Rattle.acc_driver.specs.Faults.{fails, ◌>>=◌}
 
 -- what is left of the text, and the line in which it begins
@@ -144,5 +145,5 @@ is_reserved word =
 unfoldable pub name_of : Lexeme → Result (List ℕ × Spot) ReadFault
 name_of t =
     if not (is_letter (front t.text)) || is_reserved t.text then unwanted t
-    else (if nat_lt 32 (length t.text) then fails t.line Name
+    else (if nat_lt MAX_NAME (length t.text) then fails t.line Name
     else Ok (t.text, t.after))

@@ -1,6 +1,7 @@
-ghost use Rattle.std.specs.Prelude.{◌≡◌, ◌+◌, ◌-◌, ◌≤◌, ◌<◌, ◌∷◌, ◌++◌, ◌^◌, [], length, IfOk, IfErr, OnOk, IfSome, false, bytes_eq};
+ghost use Rattle.std.specs.Prelude.{◌≡◌, ◌+◌, ◌≤◌, ◌<◌, ◌∷◌, ◌++◌, [], length, IfErr, OnOk, IfSome, false, bytes_eq};
 ghost use Rattle.std.specs.List.{list_any, position};
 ghost use Rattle.acc_driver.specs.declared.fault.ReadError.{ReadError};
+ghost use Rattle.acc_base.specs.declared.config.TheConstants.{MAX_ARRAYS, MAX_CELLS};
 ghost use Rattle.acc_base.specs.Configurations.{rows};
 ghost use Rattle.acc_driver.specs.Arrays.{none_declared, size_of, texts, IsDeclared};
 
@@ -17,8 +18,7 @@ pub struct Arrays<'a> {
 }
 
 impl<'a> Model for Arrays<'a> {
-    ghost use Rattle.std.specs.Prelude.{◌≡◌, ◌≤◌, length, All};
-    ghost use Rattle.acc_base.specs.declared.config.TheConstants.{MAX_ARRAYS, MAX_CELLS};
+    ghost use Rattle.std.specs.Prelude.{◌≡◌, ◌≤◌, length};
     ghost use Rattle.acc_base.specs.Configurations.{rows};
     ghost use Rattle.acc_driver.specs.Arrays.{Declared, texts, IsDeclared};
 
@@ -54,6 +54,7 @@ impl<'a> Arrays<'a> {
     }
 
     /// The array of this name, by its place in the order of declaration.
+    #[inline(never)]
     pub fn find(&self, name: &[u8]) -> Option<u8>
         ensures index { result ≡ position (bytes_eq name.now) self.now.names }
         ensures within { IfSome result (λ index. index < length self.now.cells) }
@@ -75,8 +76,8 @@ impl<'a> Arrays<'a> {
     /// Declares an array with these opening values.
     pub fn declare(&mut self, name: &'a [u8], cells: Vec<i64>) -> Result<(), ReadError>
         requires fresh { list_any (bytes_eq name.now) self.old.names ≡ false }
-        requires few { length self.old.names < 64 }
-        requires size { (1 ≤ length cells.items) × (length cells.items ≤ 65536) }
+        requires few { length self.old.names < MAX_ARRAYS }
+        requires size { (1 ≤ length cells.items) × (length cells.items ≤ MAX_CELLS) }
         ensures declared { OnOk result (self.new ≡ record { names = self.old.names ++ name.now ∷ []; cells = self.old.cells ++ cells.items ∷ [] }) }
         ensures refused { IfErr result (λ error. error ≡ ReadError.Memory) }
     {

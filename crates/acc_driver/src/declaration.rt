@@ -1,14 +1,13 @@
-ghost use Rattle.std.specs.Prelude.{◌≡◌, ◌+◌, ◌≤◌, ◌<◌, ◌^◌, [], length, IfOk, OnOk, IfErr, false, if◌then◌else◌, bytes_eq};
+ghost use Rattle.std.specs.Prelude.{◌≡◌, ◌+◌, ◌≤◌, ◌<◌, length, IfOk, OnOk, false, if◌then◌else◌, bytes_eq};
 ghost use Rattle.std.specs.List.{list_any};
-ghost use Rattle.acc_driver.specs.declared.fault.ReadError.{ReadError};
-ghost use Rattle.acc_driver.specs.Arrays.{negative, value_of, begins_value, value_turn_behind, value_turn, size_at, padded, opening_at, fresh_name, array_at, array_turn, array_of, size_of};
-ghost use Rattle.acc_driver.specs.Faults.{Gives};
+ghost use Rattle.acc_driver.specs.Arrays.{negative, value_of, begins_value, value_turn_behind, value_turn, size_at, opening_at, fresh_name, array_at, array_turn, array_of};
+ghost use Rattle.acc_driver.specs.Faults.{Gives, Reads};
 ghost use Rattle.acc_driver.specs.Tokens.{spot, lexeme};
 ghost use Rattle.acc_driver.specs.Turns.{turn, all_turns};
 
 use crate::arrays::Arrays;
 use crate::at::At;
-use crate::fault::{ReadError, ReadKind};
+use crate::fault::{ReadError, ReadFault, ReadKind};
 use crate::token::{Token, fault, front, is, is_digit, token_of};
 use crate::word::{exactly, expect, name_of, number_of, unwanted};
 use acc_base::{MAX_ARRAYS, MAX_CELLS};
@@ -23,19 +22,20 @@ fn negative(n: u64) -> i64
 }
 
 /// A value with its sign.
+#[inline(always)]
 #[tactic(auto, unfolding(crate::specs::Arrays::value_of))]
-pub fn value_of<'a>(t: Token<'a>) -> Result<(i64, At<'a>), ReadError>
-    ensures found { Gives (λ x. (x.0, spot x.1)) result (value_of (lexeme t.entry)) }
+pub fn value_of<'a>(t: Token<'a>) -> Result<(i64, At<'a>), ReadFault>
+    ensures found { Reads (λ x. (x.0, spot x.1)) result (value_of (lexeme t.entry)) }
     ensures some { OnOk result (0 < length t.entry.text.now) }
     ensures shorter { IfOk result (λ x. length x.1.bytes.now ≤ length t.entry.after.bytes.now) }
 {
     if is(t.text, b"-") {
         let u = token_of(t.after, false)?;
-        let (n, at) = number_of(u, 9_223_372_036_854_775_808)?;
-        Ok((negative(n), at))
+        let n = number_of(u, 9_223_372_036_854_775_808)?;
+        Ok((negative(n), u.after))
     } else {
-        let (n, at) = number_of(t, 9_223_372_036_854_775_807)?;
-        Ok((n as i64, at))
+        let n = number_of(t, 9_223_372_036_854_775_807)?;
+        Ok((n as i64, t.after))
     }
 }
 
@@ -79,9 +79,9 @@ fn value_turn<'a>(
     if is(t.text, b"}") && 0 < cells.len() {
         Ok((false, t.after))
     } else if !begins_value(t.text) {
-        Err(unwanted(t))
+        Err(unwanted(t).into())
     } else if size <= cells.len() {
-        Err(fault(t.line, ReadKind::Limit))
+        Err(fault(t.line, ReadKind::Limit).into())
     } else {
         value_turn_behind(cells, t)
     }
@@ -109,17 +109,17 @@ fn values_of<'a>(size: usize, cells: &mut Vec<i64>, at: At<'a>) -> Result<At<'a>
 
 // An array's size.
 #[tactic(auto, unfolding(crate::specs::Arrays::size_at))]
-fn size_of<'a>(at: At<'a>) -> Result<(usize, At<'a>), ReadError>
-    ensures found { Gives (λ x. (x.0, spot x.1)) result (size_at (spot at.entry)) }
+fn size_of<'a>(at: At<'a>) -> Result<(usize, At<'a>), ReadFault>
+    ensures found { Reads (λ x. (x.0, spot x.1)) result (size_at (spot at.entry)) }
     ensures within { IfOk result (λ x. (1 ≤ x.0) × (x.0 ≤ MAX_CELLS)) }
     ensures shorter { IfOk result (λ x. length x.1.bytes.now ≤ length at.entry.bytes.now) }
 {
     let t = token_of(at, false)?;
-    let (n, after) = number_of(t, MAX_CELLS as u64)?;
+    let n = number_of(t, MAX_CELLS as u64)?;
     if n == 0 {
         Err(fault(t.line, ReadKind::Limit))
     } else {
-        Ok((n as usize, after))
+        Ok((n as usize, t.after))
     }
 }
 
@@ -145,16 +145,15 @@ fn opening_of<'a>(alloc: Global, size: usize, at: At<'a>) -> Result<(Vec<i64>, A
 
 // A name that isn't declared yet.
 #[tactic(auto, unfolding(crate::specs::Arrays::fresh_name))]
-fn fresh_name<'a>(arrays: &Arrays<'a>, t: Token<'a>) -> Result<(&'a [u8], At<'a>), ReadError>
-    ensures found { Gives (λ x. (x.0.now, spot x.1)) result (fresh_name arrays.now.names (lexeme t.entry)) }
-    ensures fresh { IfOk result (λ x. list_any (bytes_eq x.0.now) arrays.now.names ≡ false) }
-    ensures shorter { IfOk result (λ x. length x.1.bytes.now ≤ length t.entry.after.bytes.now) }
+fn fresh_name<'a>(arrays: &Arrays<'a>, t: Token<'a>) -> Result<&'a [u8], ReadFault>
+    ensures found { Reads (λ name. (name.now, spot t.entry.after)) result (fresh_name arrays.now.names (lexeme t.entry)) }
+    ensures fresh { IfOk result (λ name. list_any (bytes_eq name.now) arrays.now.names ≡ false) }
 {
-    let (name, at) = name_of(t)?;
+    let name = name_of(t)?;
     if arrays.has(name) {
         Err(fault(t.line, ReadKind::Name))
     } else {
-        Ok((name, at))
+        Ok(name)
     }
 }
 
@@ -166,8 +165,8 @@ fn declare<'a>(alloc: Global, arrays: &mut Arrays<'a>, at: At<'a>) -> Result<At<
     ensures shorter { IfOk result (λ a. length a.bytes.now ≤ length at.entry.bytes.now) }
 {
     let t = token_of(at, false)?;
-    let (name, at) = fresh_name(arrays, t)?;
-    let at = expect(at, false, b"[")?;
+    let name = fresh_name(arrays, t)?;
+    let at = expect(t.after, false, b"[")?;
     let (size, at) = size_of(at)?;
     let at = expect(at, false, b"]")?;
     let (cells, at) = opening_of(alloc, size, at)?;
@@ -189,7 +188,7 @@ fn array_turn<'a>(
     if !is(t.text, b"long") {
         Ok((false, at))
     } else if MAX_ARRAYS <= arrays.count() {
-        Err(fault(t.line, ReadKind::Limit))
+        Err(fault(t.line, ReadKind::Limit).into())
     } else {
         let after = declare(alloc, arrays, t.after)?;
         Ok((true, after))
@@ -218,16 +217,16 @@ pub fn arrays_of<'a>(
 }
 
 /// The array that a name stands for.
+#[inline(always)]
 #[tactic(auto, unfolding(crate::specs::Arrays::array_of))]
-pub fn array_of<'a>(arrays: &Arrays, t: Token<'a>) -> Result<(u8, At<'a>), ReadError>
-    ensures found { Gives (λ x. (x.0, spot x.1)) result (array_of arrays.now (lexeme t.entry)) }
-    ensures within { IfOk result (λ x. x.0 < length arrays.now.cells) }
+pub fn array_of(arrays: &Arrays, t: Token) -> Result<u8, ReadFault>
+    ensures found { Reads (λ index. (index, spot t.entry.after)) result (array_of arrays.now (lexeme t.entry)) }
+    ensures within { IfOk result (λ index. index < length arrays.now.cells) }
     ensures some { OnOk result (0 < length t.entry.text.now) }
-    ensures after { IfOk result (λ x. x.1 ≡ t.entry.after) }
 {
-    let (name, at) = name_of(t)?;
+    let name = name_of(t)?;
     match arrays.find(name) {
-        Some(index) => Ok((index, at)),
+        Some(index) => Ok(index),
         None => Err(fault(t.line, ReadKind::Name)),
     }
 }

@@ -25,11 +25,22 @@ pub struct ReadFault {
     pub kind: ReadKind,
 }
 
-/// Why a text was not read.
+/// Why a text was not read, where reading takes memory.
 #[derive(Clone, Copy, Debug, PartialEq, Eq)]
 pub enum ReadError {
     Memory,
     Fault(ReadFault),
+}
+
+impl From<ReadFault> for ReadError {
+    ghost use Rattle.std.specs.Prelude.{◌≡◌};
+    ghost use Rattle.acc_driver.specs.declared.fault.ReadError.TheVariants.{Fault};
+
+    ghost from_gives = { λ fault error. error ≡ Fault fault };
+
+    fn from(fault: ReadFault) -> Self {
+        ReadError::Fault(fault)
+    }
 }
 
 impl From<AllocError> for ReadError {

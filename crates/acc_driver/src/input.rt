@@ -1,5 +1,5 @@
-ghost use Rattle.std.specs.Prelude.{◌≡◌, ℕ, ◌+◌, ◌≤◌, ◌<◌, false, List, length, take, ◌++◌, OnOk, IfOk, IfErr, IfSome, IsTrue, vec_len};
-ghost use Rattle.std.specs.Io.KnownBytes.{Consumes, IsAtEnd};
+ghost use Rattle.std.specs.Prelude.{◌≡◌, ◌+◌, ◌≤◌, ◌<◌, ◌==◌, not, length, take, OnOk, IfOk, IfErr, IfSome, IsTrue, vec_len};
+ghost use Rattle.std.specs.List.{prefix_len};
 ghost use Rattle.acc_driver.specs.Inputs.{ReadsTurn, line_feeds, is_split_line, behind_line, parts};
 
 use crate::fault::{ReadFault, ReadKind};
@@ -54,7 +54,8 @@ fn read_turn<R: Read>(
 ///
 /// # Errors
 ///
-/// `Read` where the reader fails, or where no turn is left before its end or the limit is seen.
+/// `Read` where the reader fails, or where no turn is left before its end or the limit is seen; `Memory` for want of
+/// memory.
 pub fn read_text<R: Read>(
     alloc: Global,
     reader: &mut R,
@@ -89,8 +90,8 @@ pub fn read_text<R: Read>(
 ///
 /// `Limit` where it has more than `MAX_TEXT` bytes, in the line that the first `MAX_TEXT` of them end in.
 pub fn check_length(text: &[u8]) -> Result<(), ReadFault>
-    ensures fits { OnOk result (length text.now ≤ 1048576) }
-    ensures long { IfErr result (λ fault. (1048576 < length text.now) × (fault ≡ record { line = 1 + line_feeds (take 1048576 text.now); kind = ReadKind.Limit })) }
+    ensures fits { OnOk result (length text.now ≤ MAX_TEXT) }
+    ensures long { IfErr result (λ fault. (MAX_TEXT < length text.now) × (fault ≡ record { line = 1 + line_feeds (take MAX_TEXT text.now); kind = ReadKind.Limit })) }
 {
     if text.len() <= MAX_TEXT {
         return Ok(());
@@ -101,6 +102,14 @@ pub fn check_length(text: &[u8]) -> Result<(), ReadFault>
         line: 1 + line_feeds as u32,
         kind: ReadKind::Limit,
     })
+}
+
+/// How many bytes stand before the first line feed.
+pub fn line_len(text: &[u8]) -> usize
+    ensures value { result ≡ prefix_len (λ b. not (b == 10)) text.now }
+    ensures within { result ≤ length text.now }
+{
+    text.iter().take_while(|byte| **byte != b'\n').count()
 }
 
 // Whether the line that begins here is the one at which a text is split.
@@ -132,13 +141,17 @@ pub fn split(text: &[u8]) -> (&[u8], &[u8])
     ensures script { result.0.now ≡ (parts text.now).script }
     ensures schedule { result.1.now ≡ (parts text.now).schedule }
 {
-    let mut at_start = true;
-    for (i, byte) in text.iter().enumerate() {
-        let (before, here) = text.split_at(i);
-        if at_start && is_split_line(here) {
+    let mut start = 0;
+    for _ in 0..text.len() {
+        let (before, here) = text.split_at(start);
+        if is_split_line(here) {
             return (before, behind_split_line(here));
         }
-        at_start = *byte == b'\n';
+        let len = line_len(here);
+        if len == here.len() {
+            return (text, &[]);
+        }
+        start += len + 1;
     }
     (text, &[])
 }

@@ -1,12 +1,12 @@
-ghost use Rattle.std.specs.Prelude.{◌≡◌, ℕ, zero, ◌+◌, ◌*◌, ◌<◌, ◌≤◌, ◌==◌, not, nat_lt, bytes_eq, [], ◌∷◌, ◌++◌, length, map, None, Some, Ok, IfOk, OnOk, IfSome, MatchOption, if◌then◌else◌, vec_len};
+ghost use Rattle.std.specs.Prelude.{◌≡◌, ℕ, ◌+◌, ◌<◌, ◌≤◌, ◌==◌, not, nat_lt, [], ◌∷◌, ◌++◌, length, map, Ok, IfOk, OnOk, IfSome, MatchOption, vec_len};
 ghost use Rattle.std.specs.List.{flat_map, list_all, prefix_len, range_with_len};
 ghost use Rattle.acc_core.specs.declared.event.Event.TheVariants.{Host};
 ghost use Rattle.acc_driver.specs.Faults.{Gives};
-ghost use Rattle.acc_driver.specs.Schedules.{lines, is_space, words, with_first, is_skipped, is_plain, is_number, times_of, repeated, repeats, queue_turn, device_turn, turn_of, round_events, events_of, line_events, joined, events_behind, schedule_of};
-ghost use Rattle.acc_driver.specs.Tokens.{is_digit, value_behind};
+ghost use Rattle.acc_driver.specs.Schedules.{lines, is_space, words, with_first, is_skipped, is_plain, is_number, times_of, repeated, repeats, queue_turn, device_turn, turn_of, round_events, line_events, events_behind, schedule_of};
+ghost use Rattle.acc_driver.specs.Tokens.{is_digit};
 
 use crate::fault::{ReadError, ReadFault, ReadKind};
-use crate::input::check_length;
+use crate::input::{check_length, line_len};
 use crate::token::is;
 use crate::word::value_of;
 use acc_base::{DeviceId, HostId, QUEUES, QueueAt, QueueId};
@@ -18,14 +18,6 @@ pub const MAX_EVENTS: usize = 1_000_000;
 
 /// How often one line's events can come.
 pub const MAX_TIMES: u32 = 10_000;
-
-// How many bytes stand before the first line feed.
-fn line_len(text: &[u8]) -> usize
-    ensures value { result ≡ prefix_len (λ b. not (b == 10)) text.now }
-    ensures within { result ≤ length text.now }
-{
-    text.iter().take_while(|byte| **byte != b'\n').count()
-}
 
 // The first line, and what is left behind its line feed, if it has one.
 fn next_line(text: &[u8]) -> (&[u8], Option<&[u8]>)
@@ -106,7 +98,7 @@ fn are_digits(word: &[u8]) -> bool
 #[tactic(auto, unfolding(crate::specs::Schedules::times_of))]
 fn times_of(word: &[u8]) -> Result<u32, ReadKind>
     ensures times { result ≡ times_of word.now }
-    ensures few { IfOk result (λ times. times ≤ 10000) }
+    ensures few { IfOk result (λ times. times ≤ MAX_TIMES) }
 {
     if !is_number(word) {
         return Err(ReadKind::Form);
@@ -121,7 +113,7 @@ fn times_of(word: &[u8]) -> Result<u32, ReadKind>
 #[tactic(auto, unfolding(crate::specs::Schedules::round_events))]
 fn round_times(others: &[u8]) -> Result<u32, ReadKind>
     ensures events { (hosts devices : ℕ) → round_events hosts devices (words others.now) ≡ repeats (turn_of hosts devices) result }
-    ensures few { IfOk result (λ times. times ≤ 10000) }
+    ensures few { IfOk result (λ times. times ≤ MAX_TIMES) }
 {
     let (word, behind) = next_word(others);
     let (more, _) = next_word(behind);
@@ -141,7 +133,7 @@ fn are_plain(line: &[u8]) -> bool
 #[tactic(auto, unfolding(crate::specs::Schedules::events_of, crate::specs::Schedules::line_events))]
 fn line_times(line: &[u8]) -> Result<u32, ReadKind>
     ensures events { (hosts devices : ℕ) → line_events hosts devices line.now ≡ repeats (turn_of hosts devices) result }
-    ensures few { IfOk result (λ times. times ≤ 10000) }
+    ensures few { IfOk result (λ times. times ≤ MAX_TIMES) }
 {
     if !are_plain(line) {
         return Err(ReadKind::Text);
@@ -218,9 +210,9 @@ fn push_turns(events: &mut Vec<Event>, hosts: u8, devices: u8, times: u32) -> Re
 // Whether turns behind so many events pass the limit.
 #[tactic(auto, using(crate::proofs::Repeating::repeated_turns))]
 fn are_too_many(count: usize, hosts: u8, devices: u8, times: u32) -> bool
-    requires count { count ≤ 1000000 }
-    requires times { times ≤ 10000 }
-    ensures { result ≡ nat_lt 1000000 (count + length (repeated times (turn_of hosts devices))) }
+    requires count { count ≤ MAX_EVENTS }
+    requires times { times ≤ MAX_TIMES }
+    ensures { result ≡ nat_lt MAX_EVENTS (count + length (repeated times (turn_of hosts devices))) }
 {
     let turn = usize::from(hosts) + 2 * usize::from(QUEUES) * usize::from(devices);
     count + times as usize * turn > MAX_EVENTS
@@ -235,9 +227,9 @@ fn read_line(
     number: u32,
     line: &[u8],
 ) -> Result<(), ReadError>
-    requires room { vec_len events.old ≤ 1000000 }
+    requires room { vec_len events.old ≤ MAX_EVENTS }
     ensures found { Gives (λ _. events.new.items) result (events_behind hosts devices number events.old.items line.now) }
-    ensures within { OnOk result (vec_len events.new ≤ 1000000) }
+    ensures within { OnOk result (vec_len events.new ≤ MAX_EVENTS) }
 {
     if is_skipped(line) {
         return Ok(());

@@ -1,4 +1,4 @@
-ghost use Rattle.std.specs.Prelude.{◌≡◌, ◌+◌, ◌≤◌, ◌<◌, ◌∷◌, [], length, map, IfOk, OnOk, if◌then◌else◌};
+ghost use Rattle.std.specs.Prelude.{◌≡◌, ◌≤◌, ◌∷◌, [], length, IfOk};
 ghost use Rattle.acc_base.specs.Configurations.{rows};
 ghost use Rattle.acc_core.specs.Worlds.{AreNumbered};
 ghost use Rattle.acc_driver.specs.Arrays.{texts, IsDeclared};

@@ -1,14 +1,13 @@
-ghost use Rattle.std.specs.Prelude.{◌≡◌, ◌+◌, ◌≤◌, ◌<◌, ◌^◌, [], false, length, IfOk, OnOk, IfErr, if◌then◌else◌};
-ghost use Rattle.acc_driver.specs.Arrays.{size_of};
-ghost use Rattle.acc_driver.specs.Faults.{Gives};
-ghost use Rattle.acc_driver.specs.Statements.{index_limit, range_limit, bound_at, range_in, bounds_at, range_behind, range_at, item_behind, item_turn, clause_named, ranges_at, clause_of, ends_line, clause_turn, kind_of, directive_at, print_at, value_at, index_at, write_at, statement_of, statement_turn};
+ghost use Rattle.std.specs.Prelude.{◌≡◌, ◌+◌, ◌≤◌, ◌<◌, false, length, IfOk, OnOk, if◌then◌else◌};
+ghost use Rattle.acc_driver.specs.Faults.{Gives, Reads};
+ghost use Rattle.acc_driver.specs.Statements.{bound_at, range_in, bounds_at, range_behind, range_at, item_behind, item_turn, clause_named, ranges_at, clause_of, ends_line, clause_turn, kind_of, directive_at, print_at, value_at, index_at, write_at, statement_of, statement_turn};
 ghost use Rattle.acc_driver.specs.Tokens.{spot, lexeme};
 ghost use Rattle.acc_driver.specs.Turns.{turn, all_turns};
 
 use crate::arrays::Arrays;
 use crate::at::At;
 use crate::declaration::{array_of, value_of};
-use crate::fault::{ReadError, ReadKind};
+use crate::fault::{ReadError, ReadFault, ReadKind};
 use crate::token::{Token, fault, front, is, is_digit, token_of};
 use crate::word::{exactly, expect, number_of, unwanted};
 use acc_base::{DeviceId, Listed, Range};
@@ -22,15 +21,16 @@ const INDEX_LIMIT: u64 = 4_294_967_295;
 const RANGE_LIMIT: usize = 64;
 
 // A bound of a range, if it is written.
+#[inline(always)]
 #[tactic(auto, unfolding(crate::specs::Statements::bound_at))]
-fn bound_of<'a>(at: At<'a>, in_directive: bool) -> Result<(Option<u32>, At<'a>), ReadError>
-    ensures found { Gives (λ x. (x.0, spot x.1)) result (bound_at in_directive (spot at.entry)) }
+fn bound_of<'a>(at: At<'a>, in_directive: bool) -> Result<(Option<u32>, At<'a>), ReadFault>
+    ensures found { Reads (λ x. (x.0, spot x.1)) result (bound_at in_directive (spot at.entry)) }
     ensures shorter { IfOk result (λ x. length x.1.bytes.now ≤ length at.entry.bytes.now) }
 {
     let t = token_of(at, in_directive)?;
     if is_digit(front(t.text)) {
-        let (n, after) = number_of(t, INDEX_LIMIT)?;
-        Ok((Some(n as u32), after))
+        let n = number_of(t, INDEX_LIMIT)?;
+        Ok((Some(n as u32), t.after))
     } else {
         Ok((None, at))
     }
@@ -52,8 +52,8 @@ fn bounds_of<'a>(
     size: u32,
     at: At<'a>,
     in_directive: bool,
-) -> Result<(Range, At<'a>), ReadError>
-    ensures found { Gives (λ x. (x.0, spot x.1)) result (bounds_at in_directive array size (spot at.entry)) }
+) -> Result<(Range, At<'a>), ReadFault>
+    ensures found { Reads (λ x. (x.0, spot x.1)) result (bounds_at in_directive array size (spot at.entry)) }
     ensures shorter { IfOk result (λ x. length x.1.bytes.now ≤ length at.entry.bytes.now) }
 {
     let (lo, at) = bound_of(at, in_directive)?;
@@ -70,8 +70,8 @@ fn range_behind<'a>(
     size: u32,
     at: At<'a>,
     in_directive: bool,
-) -> Result<(Range, At<'a>), ReadError>
-    ensures found { Gives (λ x. (x.0, spot x.1)) result (range_behind in_directive array size (spot at.entry)) }
+) -> Result<(Range, At<'a>), ReadFault>
+    ensures found { Reads (λ x. (x.0, spot x.1)) result (range_behind in_directive array size (spot at.entry)) }
     ensures shorter { IfOk result (λ x. length x.1.bytes.now ≤ length at.entry.bytes.now) }
 {
     let t = token_of(at, in_directive)?;
@@ -88,13 +88,13 @@ fn range_of<'a>(
     arrays: &Arrays,
     at: At<'a>,
     in_directive: bool,
-) -> Result<(Range, At<'a>), ReadError>
-    ensures found { Gives (λ x. (x.0, spot x.1)) result (range_at in_directive arrays.now (spot at.entry)) }
+) -> Result<(Range, At<'a>), ReadFault>
+    ensures found { Reads (λ x. (x.0, spot x.1)) result (range_at in_directive arrays.now (spot at.entry)) }
     ensures shorter { IfOk result (λ x. length x.1.bytes.now ≤ length at.entry.bytes.now) }
 {
     let t = token_of(at, in_directive)?;
-    let (array, after) = array_of(arrays, t)?;
-    range_behind(array, arrays.size(array), after, in_directive)
+    let array = array_of(arrays, t)?;
+    range_behind(array, arrays.size(array), t.after, in_directive)
 }
 
 // The rest of a range of a clause, and the comma or the ) behind it.
@@ -133,11 +133,11 @@ fn item_turn<'a>(
     ensures shorter { IfOk result (λ x. length x.1.bytes.now < length at.entry.bytes.now) }
 {
     let t = token_of(at, true)?;
-    let (array, after) = array_of(arrays, t)?;
+    let array = array_of(arrays, t)?;
     if RANGE_LIMIT <= items.len() {
-        Err(fault(t.line, ReadKind::Limit))
+        Err(fault(t.line, ReadKind::Limit).into())
     } else {
-        item_behind(clause, items, array, arrays.size(array), after)
+        item_behind(clause, items, array, arrays.size(array), t.after)
     }
 }
 
@@ -217,7 +217,7 @@ fn clause_of<'a>(
 {
     match clause_named(kind, t.text) {
         Some(clause) => ranges_of(arrays, clause, items, t.after),
-        None => Err(unwanted(t)),
+        None => Err(unwanted(t).into()),
     }
 }
 
@@ -240,16 +240,16 @@ fn clause_turn<'a>(
     ensures shorter { IfOk result (λ x. (if x.0 then 1 else 0) + length x.1.bytes.now ≤ length at.entry.bytes.now) }
 {
     let t = token_of(at, true)?;
-    if items.len() == 0 {
-        clause_of(arrays, kind, items, t)
-    } else if ends_line(t.text) {
-        Ok((false, t.after))
-    } else if is(t.text, b",") {
-        let u = token_of(t.after, true)?;
-        clause_of(arrays, kind, items, u)
-    } else {
-        clause_of(arrays, kind, items, t)
+    let first = items.len() == 0;
+    if !first && ends_line(t.text) {
+        return Ok((false, t.after));
     }
+    let t = if !first && is(t.text, b",") {
+        token_of(t.after, true)?
+    } else {
+        t
+    };
+    clause_of(arrays, kind, items, t)
 }
 
 // The clauses of a directive, up to the end of its line.
@@ -277,14 +277,13 @@ fn clauses_of<'a>(
 
 // The kind of a directive, by its first word.
 #[tactic(auto, unfolding(crate::specs::Statements::kind_of))]
-fn kind_of<'a>(t: Token<'a>) -> Result<(Kind, At<'a>), ReadError>
-    ensures found { Gives (λ x. (x.0, spot x.1)) result (kind_of (lexeme t.entry)) }
-    ensures after { IfOk result (λ x. x.1 ≡ t.entry.after) }
+fn kind_of(t: Token) -> Result<Kind, ReadFault>
+    ensures { Reads (λ kind. (kind, spot t.entry.after)) result (kind_of (lexeme t.entry)) }
 {
     if is(t.text, b"enter") {
-        Ok((Kind::EnterData, t.after))
+        Ok(Kind::EnterData)
     } else if is(t.text, b"exit") {
-        Ok((Kind::ExitData, t.after))
+        Ok(Kind::ExitData)
     } else {
         Err(unwanted(t))
     }
@@ -304,8 +303,8 @@ fn directive_of<'a>(
     let at = expect(at, true, b"pragma")?;
     let at = expect(at, true, b"acc")?;
     let t = token_of(at, true)?;
-    let (kind, at) = kind_of(t)?;
-    let at = expect(at, true, b"data")?;
+    let kind = kind_of(t)?;
+    let at = expect(t.after, true, b"data")?;
     let mut items = Vec::new(alloc);
     let at = clauses_of(arrays, kind, &mut items, at)?;
     let directive = Directive {
@@ -319,8 +318,8 @@ fn directive_of<'a>(
 
 // A print behind its word.
 #[tactic(auto, unfolding(crate::specs::Statements::print_at))]
-fn print_of<'a>(arrays: &Arrays, line: u32, at: At<'a>) -> Result<(Statement, At<'a>), ReadError>
-    ensures found { Gives (λ x. (x.0, spot x.1)) result (print_at arrays.now line (spot at.entry)) }
+fn print_of<'a>(arrays: &Arrays, line: u32, at: At<'a>) -> Result<(Statement, At<'a>), ReadFault>
+    ensures found { Reads (λ x. (x.0, spot x.1)) result (print_at arrays.now line (spot at.entry)) }
     ensures shorter { IfOk result (λ x. length x.1.bytes.now ≤ length at.entry.bytes.now) }
 {
     let at = expect(at, false, b"(")?;
@@ -332,8 +331,8 @@ fn print_of<'a>(arrays: &Arrays, line: u32, at: At<'a>) -> Result<(Statement, At
 }
 
 #[tactic(auto, unfolding(crate::specs::Statements::value_at))]
-fn value_at<'a>(at: At<'a>) -> Result<(i64, At<'a>), ReadError>
-    ensures found { Gives (λ x. (x.0, spot x.1)) result (value_at (spot at.entry)) }
+fn value_at<'a>(at: At<'a>) -> Result<(i64, At<'a>), ReadFault>
+    ensures found { Reads (λ x. (x.0, spot x.1)) result (value_at (spot at.entry)) }
     ensures shorter { IfOk result (λ x. length x.1.bytes.now ≤ length at.entry.bytes.now) }
 {
     let t = token_of(at, false)?;
@@ -341,19 +340,19 @@ fn value_at<'a>(at: At<'a>) -> Result<(i64, At<'a>), ReadError>
 }
 
 #[tactic(auto, unfolding(crate::specs::Statements::index_at))]
-fn index_at<'a>(at: At<'a>) -> Result<(u32, At<'a>), ReadError>
-    ensures found { Gives (λ x. (x.0, spot x.1)) result (index_at (spot at.entry)) }
+fn index_at<'a>(at: At<'a>) -> Result<(u32, At<'a>), ReadFault>
+    ensures found { Reads (λ x. (x.0, spot x.1)) result (index_at (spot at.entry)) }
     ensures shorter { IfOk result (λ x. length x.1.bytes.now ≤ length at.entry.bytes.now) }
 {
     let t = token_of(at, false)?;
-    let (n, at) = number_of(t, INDEX_LIMIT)?;
-    Ok((n as u32, at))
+    let n = number_of(t, INDEX_LIMIT)?;
+    Ok((n as u32, t.after))
 }
 
 // A write to an array behind its name.
 #[tactic(auto, unfolding(crate::specs::Statements::write_at))]
-fn write_of<'a>(array: u8, line: u32, at: At<'a>) -> Result<(Statement, At<'a>), ReadError>
-    ensures found { Gives (λ x. (x.0, spot x.1)) result (write_at array line (spot at.entry)) }
+fn write_of<'a>(array: u8, line: u32, at: At<'a>) -> Result<(Statement, At<'a>), ReadFault>
+    ensures found { Reads (λ x. (x.0, spot x.1)) result (write_at array line (spot at.entry)) }
     ensures shorter { IfOk result (λ x. length x.1.bytes.now ≤ length at.entry.bytes.now) }
 {
     let at = expect(at, false, b"[")?;
@@ -380,10 +379,10 @@ fn statement_of<'a>(
     if is(t.text, b"#") {
         directive_of(alloc, arrays, t.line, t.after)
     } else if is(t.text, b"print") {
-        print_of(arrays, t.line, t.after)
+        Ok(print_of(arrays, t.line, t.after)?)
     } else {
-        let (array, at) = array_of(arrays, t)?;
-        write_of(array, t.line, at)
+        let array = array_of(arrays, t)?;
+        Ok(write_of(array, t.line, t.after)?)
     }
 }
 

@@ -1,17 +1,18 @@
-ghost use Rattle.std.specs.Prelude.{◌≡◌, ◌+◌, ◌<◌, ◌≤◌, ◌^◌, length, codes, bytes_eq, IfOk};
+ghost use Rattle.std.specs.Prelude.{◌≡◌, ◌+◌, ◌<◌, ◌≤◌, ◌^◌, length, bytes_eq, IfOk};
 ghost use Rattle.std.specs.List.{prefix_len};
-ghost use Rattle.acc_driver.specs.Faults.{Gives};
+ghost use Rattle.acc_driver.specs.Faults.{Reads};
 ghost use Rattle.acc_driver.specs.Tokens.{spot, lexeme, front, is_digit, is_letter, is_word_byte, is_blank, is_pair, is_sign, line_after, step_of, ends_in, gap_at, number_len, token_len, token_at};
 
 use crate::at::At;
-use crate::fault::{ReadError, ReadFault, ReadKind};
+use crate::fault::{ReadFault, ReadKind};
 
 /// A token is the bytes that it is spelled with; the end of the text is the token of no bytes, and in a directive
 /// a line feed is one. It has the line that it stands in, and what is left behind it.
+// The line comes first, as in a fault: so they share a place in a `Result`, and the bytes have one of their own.
 #[derive(Clone, Copy)]
 pub struct Token<'a> {
-    pub text: &'a [u8],
     pub line: u32,
+    pub text: &'a [u8],
     pub after: At<'a>,
 }
 
@@ -36,13 +37,15 @@ pub enum Step {
 }
 
 /// The fault of this kind in this line.
-pub fn fault(line: u32, kind: ReadKind) -> ReadError
-    ensures { result ≡ ReadError.Fault (record { line = line; kind = kind }) }
+#[inline(always)]
+pub fn fault(line: u32, kind: ReadKind) -> ReadFault
+    ensures { result ≡ record { line = line; kind = kind } }
 {
-    ReadError::Fault(ReadFault { line, kind })
+    ReadFault { line, kind }
 }
 
 /// Whether two texts have the same bytes.
+#[inline(always)]
 pub fn is(text: &[u8], other: &[u8]) -> bool
     ensures { result ≡ bytes_eq text.now other.now }
 {
@@ -50,6 +53,7 @@ pub fn is(text: &[u8], other: &[u8]) -> bool
 }
 
 /// The first byte, or 0.
+#[inline(always)]
 pub fn front(bytes: &[u8]) -> u8
     ensures { result ≡ front bytes.now }
 {
@@ -60,6 +64,7 @@ pub fn front(bytes: &[u8]) -> u8
 }
 
 /// Whether a byte is a decimal digit.
+#[inline(always)]
 pub fn is_digit(byte: u8) -> bool
     ensures { result ≡ is_digit byte }
 {
@@ -67,6 +72,7 @@ pub fn is_digit(byte: u8) -> bool
 }
 
 /// Whether a byte is a letter or `_`, at which a word begins.
+#[inline(always)]
 pub fn is_letter(byte: u8) -> bool
     ensures { result ≡ is_letter byte }
 {
@@ -74,33 +80,58 @@ pub fn is_letter(byte: u8) -> bool
 }
 
 /// Whether a byte can stand in a word.
+#[inline(always)]
 pub fn is_word_byte(byte: u8) -> bool
     ensures { result ≡ is_word_byte byte }
 {
-    is_letter(byte) || is_digit(byte)
+    // most are small letters
+    byte.is_ascii_lowercase() || is_letter(byte) || is_digit(byte)
 }
 
 // space, tab and carriage return
+#[inline(always)]
 fn is_blank(byte: u8) -> bool
     ensures { result ≡ is_blank byte }
 {
     byte == b' ' || byte == b'\t' || byte == b'\r'
 }
 
-// Whether two bytes are one sign: <= >= == != ++
-fn is_pair(first: u8, second: u8) -> bool
+/// Whether two bytes are one sign: <= >= == != ++
+#[inline(always)]
+pub fn is_pair(first: u8, second: u8) -> bool
     ensures { result ≡ is_pair first second }
 {
     second == b'=' && (first == b'<' || first == b'>' || first == b'=' || first == b'!')
         || first == b'+' && second == b'+'
 }
 
-fn is_sign(byte: u8) -> bool
+/// Whether a byte is a sign.
+#[inline(always)]
+pub fn is_sign(byte: u8) -> bool
     ensures { result ≡ is_sign byte }
 {
-    b"#{}()[],;:=+-*<>?".contains(&byte)
+    matches!(
+        byte,
+        b'#' | b'{'
+            | b'}'
+            | b'('
+            | b')'
+            | b'['
+            | b']'
+            | b','
+            | b';'
+            | b':'
+            | b'='
+            | b'+'
+            | b'-'
+            | b'*'
+            | b'<'
+            | b'>'
+            | b'?'
+    )
 }
 
+#[inline(always)]
 fn line_after(line: u32, byte: u8) -> u32
     requires { byte ≡ 10 → line + 1 < 2 ^ 32 }
     ensures { result ≡ line_after line byte }
@@ -109,6 +140,7 @@ fn line_after(line: u32, byte: u8) -> u32
 }
 
 // What a byte between two tokens does.
+#[inline(always)]
 fn step_of(gap: Gap, in_directive: bool, byte: u8) -> Step
     ensures { result ≡ step_of gap in_directive byte }
 {
@@ -149,8 +181,8 @@ fn step_of(gap: Gap, in_directive: bool, byte: u8) -> Step
 }
 
 // The text ends in a gap.
-fn ends_in<'a>(gap: Gap, line: u32) -> Result<At<'a>, ReadError>
-    ensures end { Gives spot result (ends_in gap line) }
+fn ends_in<'a>(gap: Gap, line: u32) -> Result<At<'a>, ReadFault>
+    ensures end { Reads spot result (ends_in gap line) }
     ensures empty { IfOk result (λ a. length a.bytes.now ≡ 0) }
 {
     match gap {
@@ -160,10 +192,11 @@ fn ends_in<'a>(gap: Gap, line: u32) -> Result<At<'a>, ReadError>
     }
 }
 
-// Where the next token begins.
+// Where the next token begins, past comments.
 #[tactic(auto, using(crate::proofs::Gaps::gap_skips, crate::proofs::Gaps::gap_stops, crate::proofs::Gaps::gap_fails), unfolding(crate::specs::Tokens::gap_at))]
-fn gap_of<'a>(at: At<'a>, in_directive: bool) -> Result<At<'a>, ReadError>
-    ensures gap { Gives spot result (gap_at Gap.Plain in_directive at.entry.line at.entry.bytes.now) }
+#[inline(never)]
+fn past_comments<'a>(at: At<'a>, in_directive: bool) -> Result<At<'a>, ReadFault>
+    ensures gap { Reads spot result (gap_at Gap.Plain in_directive at.entry.line at.entry.bytes.now) }
     ensures shorter { IfOk result (λ a. length a.bytes.now ≤ length at.entry.bytes.now) }
 {
     let mut gap = Gap::Plain;
@@ -184,7 +217,32 @@ fn gap_of<'a>(at: At<'a>, in_directive: bool) -> Result<At<'a>, ReadError>
     ends_in(gap, line)
 }
 
+// Where the next token begins. Most stand at once or behind a blank.
+#[inline(always)]
+#[tactic(auto, using(crate::proofs::Gaps::gap_skips, crate::proofs::Gaps::gap_stops), unfolding(crate::specs::Tokens::gap_at))]
+fn gap_of<'a>(at: At<'a>, in_directive: bool) -> Result<At<'a>, ReadFault>
+    ensures gap { Reads spot result (gap_at Gap.Plain in_directive at.entry.line at.entry.bytes.now) }
+    ensures shorter { IfOk result (λ a. length a.bytes.now ≤ length at.entry.bytes.now) }
+{
+    let mut line = at.line;
+    for (i, byte) in at.bytes.iter().enumerate() {
+        if *byte == b'\n' && !in_directive {
+            line += 1;
+        } else if !is_blank(*byte) {
+            let (_, bytes) = at.bytes.split_at(i);
+            let here = At { line, bytes };
+            return if *byte == b'/' {
+                past_comments(here, in_directive)
+            } else {
+                Ok(here)
+            };
+        }
+    }
+    Ok(At { line, bytes: b"" })
+}
+
 // How many digits stand at the front.
+#[inline(never)]
 fn digits_len(bytes: &[u8]) -> usize
     ensures len { result ≡ prefix_len is_digit bytes.now }
     ensures within { result ≤ length bytes.now }
@@ -193,6 +251,7 @@ fn digits_len(bytes: &[u8]) -> usize
 }
 
 // How many bytes at the front can stand in a word.
+#[inline(never)]
 fn word_len(bytes: &[u8]) -> usize
     ensures len { result ≡ prefix_len is_word_byte bytes.now }
     ensures within { result ≤ length bytes.now }
@@ -202,8 +261,8 @@ fn word_len(bytes: &[u8]) -> usize
 
 // How many bytes a number has that begins with this digit.
 #[tactic(auto, unfolding(crate::specs::Tokens::number_len))]
-fn number_len(line: u32, first: u8, rest: &[u8]) -> Result<usize, ReadError>
-    ensures len { Gives (λ n. n) result (number_len line first rest.now) }
+fn number_len(line: u32, first: u8, rest: &[u8]) -> Result<usize, ReadFault>
+    ensures len { result ≡ number_len line first rest.now }
     ensures within { IfOk result (λ n. n ≤ length rest.now + 1) }
     ensures some { IfOk result (λ n. 0 < n) }
 {
@@ -217,9 +276,10 @@ fn number_len(line: u32, first: u8, rest: &[u8]) -> Result<usize, ReadError>
 }
 
 // How many bytes the token has that begins here.
+#[inline(always)]
 #[tactic(auto, unfolding(crate::specs::Tokens::token_len))]
-fn token_len(line: u32, bytes: &[u8]) -> Result<usize, ReadError>
-    ensures len { Gives (λ n. n) result (token_len line bytes.now) }
+fn token_len(line: u32, bytes: &[u8]) -> Result<usize, ReadFault>
+    ensures len { result ≡ token_len line bytes.now }
     ensures within { IfOk result (λ n. n ≤ length bytes.now) }
     ensures some { IfOk result (λ n. 0 < length bytes.now → 0 < n) }
 {
@@ -247,9 +307,11 @@ fn token_len(line: u32, bytes: &[u8]) -> Result<usize, ReadError>
 ///
 /// `Text` at a byte where nothing can begin, `End` in a comment that isn't closed, `Form` at a number with a
 /// leading zero or with a letter behind it.
+// Inlined, as is what looks at a single token: to hand a token on through memory costs more than to find it.
+#[inline(always)]
 #[tactic(auto, unfolding(crate::specs::Tokens::token_at))]
-pub fn token_of<'a>(at: At<'a>, in_directive: bool) -> Result<Token<'a>, ReadError>
-    ensures token { Gives lexeme result (token_at in_directive (spot at.entry)) }
+pub fn token_of<'a>(at: At<'a>, in_directive: bool) -> Result<Token<'a>, ReadFault>
+    ensures token { Reads lexeme result (token_at in_directive (spot at.entry)) }
     ensures shorter { IfOk result (λ t. length t.text.now + length t.after.bytes.now ≤ length at.entry.bytes.now) }
 {
     let from = gap_of(at, in_directive)?;
@@ -258,8 +320,8 @@ pub fn token_of<'a>(at: At<'a>, in_directive: bool) -> Result<Token<'a>, ReadErr
     let line = line_after(from.line, front(from.bytes));
     let after = At { line, bytes };
     Ok(Token {
-        text,
         line: from.line,
+        text,
         after,
     })
 }

@@ -1,20 +1,30 @@
-use Rattle.std.proofs.Common.{◌≡◌, true, [], ◌++◌, take, drop, append-nil, sym, ap, ◌∙◌}
-use Rattle.acc_driver.specs.Inputs.{Parts, is_split_line, behind_line, parts_from}
-use Rattle.acc_driver.proofs.Splitting.{splits_here}
+use Rattle.std.proofs.Common.{◌+◌, ◌≤◌, length, sym, ◌∙◌, arith}
+use Rattle.acc_driver.proofs.Splitting.{next_line, split_script, split_schedule, whole_script, no_schedule}
 use Rattle.acc_driver.proofs.input.split.Goals as goal
 
 pub returns-then-is_split_line-clause-script : goal.returns-then-is_split_line-clause-script
 returns-then-is_split_line-clause-script c =
-    let text = c.args.text.now in
-    let here = c.split_at.result.1.now in
-    let split : is_split_line here ≡ true = sym c.is_split_line.ensures ∙ c.if-is_split_line.true in
-    let found : parts_from c.loop-i.at_start (drop c.loop-i.i text) ≡ record { script = []; schedule = behind_line here } = rw (c.if-at_start.true, ← c.split_at.ensures.back) (splits_here here split) in
-    c.split_at.ensures.front ∙ sym (c.loop-i.invariant.script ∙ ap (λ (p : Parts). take c.loop-i.i text ++ p.script) found ∙ append-nil (take c.loop-i.i text))
+    c.split_at.ensures.front ∙ sym (split_script c.args.text.now c.split_at.result.1.now c.loop.start c.loop.invariant.begins c.split_at.ensures.back (sym c.if-is_split_line.ensures))
 
 pub returns-then-is_split_line-clause-schedule : goal.returns-then-is_split_line-clause-schedule
 returns-then-is_split_line-clause-schedule c =
-    let text = c.args.text.now in
-    let here = c.split_at.result.1.now in
-    let split : is_split_line here ≡ true = sym c.is_split_line.ensures ∙ c.if-is_split_line.true in
-    let found : parts_from c.loop-i.at_start (drop c.loop-i.i text) ≡ record { script = []; schedule = behind_line here } = rw (c.if-at_start.true, ← c.split_at.ensures.back) (splits_here here split) in
-    c.behind_split_line.ensures ∙ sym (c.loop-i.invariant.schedule ∙ ap (λ (p : Parts). p.schedule) found)
+    c.behind_split_line.ensures ∙ sym (split_schedule c.args.text.now c.split_at.result.1.now c.loop.start c.loop.invariant.begins c.split_at.ensures.back (sym c.if-is_split_line.ensures))
+
+pub returns-then-len-here-clause-script : goal.returns-then-len-here-clause-script
+returns-then-len-here-clause-script c =
+    let far : length c.args.text.now ≤ c.loop.start + (c.line_len-len.result + 1) = omega (arith, c.if-len-here.true, c.split_at.ensures.back_len) in
+    let next = next_line c.args.text.now c.split_at.result.1.now c.loop.start c.line_len-len.result c.loop.invariant.begins c.split_at.ensures.back (sym c.if-is_split_line.ensures) c.line_len-len.ensures.value in
+    sym (whole_script c.args.text.now _ next far)
+
+pub returns-then-len-here-clause-schedule : goal.returns-then-len-here-clause-schedule
+returns-then-len-here-clause-schedule c =
+    let far : length c.args.text.now ≤ c.loop.start + (c.line_len-len.result + 1) = omega (arith, c.if-len-here.true, c.split_at.ensures.back_len) in
+    let next = next_line c.args.text.now c.split_at.result.1.now c.loop.start c.line_len-len.result c.loop.invariant.begins c.split_at.ensures.back (sym c.if-is_split_line.ensures) c.line_len-len.ensures.value in
+    sym (no_schedule c.args.text.now _ next far)
+
+pub loop-preserved : goal.loop-preserved
+loop-preserved c = record {
+  begins = next_line c.args.text.now c.split_at.result.1.now c.loop.start c.line_len-len.result c.loop.invariant.begins c.split_at.ensures.back (sym c.if-is_split_line.ensures) c.line_len-len.ensures.value;
+  far = omega (arith, c.loop.invariant.far);
+  within = omega (arith, c.if-len-here.false, c.line_len-len.ensures.within, c.split_at.ensures.back_len);
+}

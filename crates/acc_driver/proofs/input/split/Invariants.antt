@@ -1,9 +1,10 @@
-use Rattle.std.proofs.Common.{◌≡◌, ◌++◌, take, drop}
-use Rattle.acc_driver.specs.Inputs.{parts, parts_from}
+use Rattle.std.proofs.Common.{◌≤◌, length}
+use Rattle.acc_driver.proofs.Splitting.{LineBegins}
 use Rattle.acc_driver.proofs.input.split.Given as goal
 
-abbrev pub invariant-loop-i : goal.invariant-loop-i
-invariant-loop-i l = record {
-  script : (parts l.text).script ≡ take l.i l.text ++ (parts_from l.at_start (drop l.i l.text)).script;
-  schedule : (parts l.text).schedule ≡ (parts_from l.at_start (drop l.i l.text)).schedule;
+abbrev pub invariant-loop : goal.invariant-loop
+invariant-loop l = record {
+  begins : LineBegins l.text l.start;
+  far : l.counter ≤ l.start;
+  within : l.start ≤ length l.text;
 }

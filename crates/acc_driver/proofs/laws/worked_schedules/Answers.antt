@@ -1,3 +1,4 @@
+use Rattle.std.proofs.Common.{refl}
 use Rattle.acc_driver.proofs.ScheduleExamples as schedules
 use Rattle.acc_driver.proofs.SplitExamples as splits
 use Rattle.acc_driver.proofs.laws.worked_schedules.Goals as goal
@@ -16,3 +17,6 @@ returns-clause-wider_round c = schedules.wider_round
 
 pub returns-clause-faults : goal.returns-clause-faults
 returns-clause-faults c = schedules.faulty_lines
+
+pub returns-clause-limits : goal.returns-clause-limits
+returns-clause-limits c = record { times = refl; events = refl }

@@ -45,3 +45,6 @@ returns-clause-faults c = record {
   cut_word = refl;
   cut_comma = refl;
 }
+
+pub returns-clause-limits : goal.returns-clause-limits
+returns-clause-limits c = record { text = refl; name = refl }

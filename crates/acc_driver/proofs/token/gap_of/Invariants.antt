@@ -5,6 +5,6 @@ use Rattle.acc_driver.proofs.token.gap_of.Given as goal
 
 abbrev pub invariant-loop-i : goal.invariant-loop-i
 invariant-loop-i l = record {
-  same : gap_at l.gap l.in_directive l.line (drop l.i l.at.bytes.now) ≡ gap_at Plain l.in_directive l.at.line l.at.bytes.now;
+  same : gap_at Plain l.in_directive l.line (drop l.i l.at.bytes.now) ≡ gap_at Plain l.in_directive l.at.line l.at.bytes.now;
   short : l.line + (length l.at.bytes.now - l.i) < 2 ^ 32;
 }
