@@ -115,14 +115,14 @@ arrays_more f old new arrays n x cells so_far there same is =
 -- ## The four operations
 
 pub makes : (arrays : List (List ℤ)) (bs new : List Block) (b : Block) → IsMemory (rows_of bs) → find_block (map made_of (rows_of bs)) b.block ≡ None
-    → b.cells.items ≡ replicate b.range.len (pos 0) → new ≡ insert bs (place_of (rows_of bs) b.block) b
+    → b.cells ≡ replicate b.range.len (pos 0) → new ≡ insert bs (place_of (rows_of bs) b.block) b
     → Performs (Make b.block b.range) (memory arrays (rows_of bs)) (memory arrays (rows_of new))
 makes arrays bs new b h fresh zeros is =
     let rows = rows_of bs in
     let y = row_of b in
     let none = no_row rows b.block fresh in
     let placed : rows_of new ≡ insert rows (place_of rows y.block) y = ap (map row_of) is ∙ map-insert row_of bs (place_of rows b.block) b in
-    let whole : is_whole y ≡ true = eq-eqb (length b.cells.items) b.range.len (ap length zeros ∙ length-replicate b.range.len (pos 0)) in
+    let whole : is_whole y ≡ true = eq-eqb (length b.cells) b.range.len (ap length zeros ∙ length-replicate b.range.len (pos 0)) in
     rw placed (record {
       shows = λ was. shows_make arrays rows (insert rows (place_of rows y.block) y) y was zeros
           (λ k. find_row-insert rows (place_of rows y.block) y k (place_of-within rows y.block) none);
@@ -131,7 +131,7 @@ makes arrays bs new b h fresh zeros is =
     })
 
 pub copies_in : (arrays : List (List ℤ)) (bs : List Block) (n i : ℕ) (r : Range) (x y : Block) (arr : List ℤ) → IsMemory (rows_of bs) → RangeAt bs n r i x → i ≡ place_of (rows_of bs) n
-    → slice_get arrays r.array ≡ Some arr → row_of y ≡ record { block = x.block; range = x.range; cells = y.cells.items } → IsCopy arr x.cells.items y.cells.items r.lo (r.lo - x.range.lo) r.len
+    → slice_get arrays r.array ≡ Some arr → row_of y ≡ record { block = x.block; range = x.range; cells = y.cells } → IsCopy arr x.cells y.cells r.lo (r.lo - x.range.lo) r.len
     → Performs (CopyIn n r) (memory arrays (rows_of bs)) (memory arrays (rows_of (set bs i y)))
 copies_in arrays bs n i r x y arr h f is array row copy =
     let rows = rows_of bs in
@@ -141,8 +141,8 @@ copies_in arrays bs n i r x y arr h f is array row copy =
     let name = find_row-name rows n (row_of x) f.row.found in
     let placed : rows_of (set bs i y) ≡ set rows i (row_of y) = map-set row_of bs i y in
     let found = λ (k : ℕ). (find_row-set rows n (row_of x) (row_of y) k h.ascending f.row.found (block ∙ name)) in
-    let size = eqb-true (length x.cells.items) x.range.len f.whole in
-    let whole : is_whole (row_of y) ≡ true = eq-eqb (length y.cells.items) y.range.len (omega (arith, copy.len, size, len)) in
+    let size = eqb-true (length x.cells) x.range.len f.whole in
+    let whole : is_whole (row_of y) ≡ true = eq-eqb (length y.cells) y.range.len (omega (arith, copy.len, size, len)) in
     rw placed (record {
       shows = λ was. shows_copy_in arrays rows (set rows i (row_of y)) n r (row_of x) (row_of y) arr was f.row range array copy
           (λ k. ap (λ j. find_row (set rows j (row_of y)) k) is ∙ found k);
@@ -151,7 +151,7 @@ copies_in arrays bs n i r x y arr h f is array row copy =
     })
 
 pub copies_out : (old new : List (List ℤ)) (bs : List Block) (n i : ℕ) (r : Range) (x : Block) (before after : List ℤ) → IsMemory (rows_of bs) → RangeAt bs n r i x
-    → IsArraySet old new r.array before after → IsCopy x.cells.items before after (r.lo - x.range.lo) r.lo r.len
+    → IsArraySet old new r.array before after → IsCopy x.cells before after (r.lo - x.range.lo) r.lo r.len
     → Performs (CopyOut n r) (memory old (rows_of bs)) (memory new (rows_of bs))
 copies_out old new bs n i r x before after h f is copy = record {
   shows = λ was. shows_copy_out old new (rows_of bs) n r (row_of x) before after was f.row is copy;

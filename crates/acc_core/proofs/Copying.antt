@@ -1,8 +1,8 @@
 -- Lists of cells of which a part is overwritten, and what a part shows.
-use Rattle.std.proofs.Common.{◌≡◌, ℕ, zero, suc, ◌+◌, ◌-◌, ◌<◌, ◌≤◌, cond, List, [], ◌∷◌, ◌++◌, length, take, drop, set, get_or, Some, refl, sym, ap, ◌∙◌, arith, inl, inr, drop-cons, length-drop, length-append}
+use Rattle.std.proofs.Common.{◌≡◌, ℕ, zero, suc, ◌+◌, ◌-◌, ◌<◌, ◌≤◌, cond, List, [], ◌∷◌, ◌++◌, length, take, drop, set, get_or, Some, refl, sym, ap, ◌∙◌, arith, inl, inr, drop-cons, length-drop, length-append, append_assoc}
 use Rattle.std.specs.Prelude.{◌&&◌, nat_lt, nat_le, slice_get, replicate, ℤ, pos}
 use Rattle.std.proofs.lemmas.Bool.{cases_lt, le-leb, lt-leb, lt-ltb, le-ltb}
-use Rattle.std.proofs.lemmas.List.{length-replicate, get_or-replicate, length-take-le}
+use Rattle.std.proofs.lemmas.List.{length-replicate, get_or-replicate, length-take-le, drop-drop}
 use Rattle.std.proofs.lemmas.Option.{slice_get_past, slice_get-get_or}
 use Rattle.acc_core.specs.Logs.{or_zero, values_from}
 use Rattle.acc_core.specs.Memories.{IsCopy}
@@ -106,6 +106,16 @@ is_copy source old part from at count n m long fits first second is =
       cells = λ k. part_cells source old part from at count k long fits same;
       len = part_len source old part from at count long fits same;
     })
+
+-- the same where the cells are those before the part, the part, and those behind it
+pub is_copy_from : (source old part new : List ℤ) (from at count n : ℕ) → from + count ≤ length source → at + count ≤ length old → n ≡ count → part ≡ take n (drop from source)
+    → new ≡ take at old ++ part ++ drop (at + length part) old → IsCopy source old new from at count
+is_copy_from source old part new from at count n long fits first is all =
+    let same : part ≡ take count (drop from source) = is ∙ ap (λ k. take k (drop from source)) first in
+    let size : length part ≡ count = ap length same ∙ length-take-le count (drop from source) (omega (arith, length-drop from source)) in
+    let over : new ≡ over old part at count =
+    all ∙ (append_assoc (take at old) part (drop (at + length part) old) ∙ ap (λ rest. take at old ++ (part ++ rest)) (ap (λ k. drop (at + k) old) size ∙ sym (drop-drop count at old))) in
+    rw over (is_copy source old part from at count n count long fits first refl is)
 
 -- ## The values of a part
 

@@ -17,7 +17,7 @@ use Rattle.acc_present.proofs.Counting.{kept_none, counted_at}
 use Rattle.acc_present.proofs.Ending.{opened-more, ended-same, ended-more, ended_in-none, ended_in-some}
 use Rattle.acc_present.proofs.Entering.{has_count-entered, stepped-zero}
 use Rattle.acc_present.proofs.Marking.{found_in, is_table-after, used_cells-opened}
-use Rattle.acc_present.proofs.OneMore.{presences-more}
+use Rattle.acc_present.proofs.OneMore.{CanCount, presences-more}
 use Rattle.acc_present.proofs.Searching.{is_present-none, is_present-some}
 use Rattle.acc_core.specs.declared.directive.Item.{Item}
 use Rattle.acc_core.specs.declared.directive.Kind.{Kind}
@@ -45,11 +45,15 @@ cond-opened : (b : Bool) (n : ℕ) → cond b (n + 1) n ≡ opened_after b n
 cond-opened true n = refl
 cond-opened false n = refl
 
+can_count_by : (kind : Kind) (ms : List Mark) → CanCount (change_by kind) ms
+can_count_by EnterData ms = tt
+can_count_by ExitData ms = tt
+
 after_made : (kind : Kind) (ms : List Mark) (r : Range) → holding_of (mark_by kind r ∷ ms) ≡ holding_after kind r (holding_of ms)
 unfolding holding_after
 after_made kind ms r =
     let m = mark_by kind r in
-    ap (λ ps. holding ps (length (opened (m ∷ ms)))) (presences-more m ms)
+    ap (λ ps. holding ps (length (opened (m ∷ ms)))) (presences-more m ms (can_count_by kind ms))
     ∙ ap (holding _) (opened-more m ms ∙ cond-opened (opens_one kind (presences ms) r) (length (opened ms)))
 
 after_unmade : (ms : List Mark) (r : Range) → is_table (presences ms) ≡ true → is_present (presences ms) r ≡ false → holding_of ms ≡ holding_after ExitData r (holding_of ms)
@@ -98,16 +102,16 @@ ended_blocks_are : (kind : Kind) (ms : List Mark) (i : Item) → is_table (prese
 ended_blocks_are kind ms i t cells = by_kind kind (holder (presences ms) i.range) refl
   where
     by_kind : (kind : Kind) (o : Option Presence) → holder (presences ms) i.range ≡ o → ended_blocks (visit_of kind ms i) ≡ option_to_list (ended_by kind (presences ms) i.range)
-    by_kind EnterData None none = ended-more (mark_by EnterData i.range) ms ∙ ended_in-none (mark_by EnterData i.range) (presences ms) t none
+    by_kind EnterData None none = ended-more (mark_by EnterData i.range) ms tt ∙ ended_in-none (mark_by EnterData i.range) (presences ms) t none
     by_kind EnterData (Some x) some =
-        ended-more (mark_by EnterData i.range) ms
+        ended-more (mark_by EnterData i.range) ms tt
         ∙ (ended_in-some (mark_by EnterData i.range) (presences ms) x t cells some ∙ ap (λ v. cond v [] (x.block ∷ [])) (has_count-entered Dynamic x))
     by_kind ExitData None none = let absent = is_present-none (presences ms) i.range none in rw (absent, none) (ended-same ms)
     by_kind ExitData (Some x) some =
         let held = is_present-some (presences ms) i.range x some in
         let f = found_in (presences ms) i.range x some in
         rw held
-        (ended-more (mark_by ExitData i.range) ms
+        (ended-more (mark_by ExitData i.range) ms tt
         ∙ (ended_in-some (mark_by ExitData i.range) (presences ms) x t cells some ∙ exit_ends x (presences ms) i.range (counted_at (presences ms) f.place x t f.low f.is) some))
 
 -- ## Faults

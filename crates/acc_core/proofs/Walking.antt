@@ -10,7 +10,7 @@ use Rattle.acc_base.specs.Configurations.{Configuration}
 use Rattle.acc_present.specs.declared.table.Counter.TheVariants.{Dynamic}
 use Rattle.acc_present.specs.declared.table.Look.{Look}
 use Rattle.acc_present.specs.declared.table.Look.TheVariants as look
-use Rattle.acc_present.specs.Marks.{Change, Dynamic_up, Dynamic_down, Mark}
+use Rattle.acc_present.specs.Marks.{Change, Structured_up, Structured_down, Dynamic_up, Dynamic_down, Dynamic_zero, Mark}
 use Rattle.acc_present.specs.Lifetimes.{can_open, is_before}
 use Rattle.acc_present.specs.Presences.{Presence, holder, is_present, is_partly_present, used_cells}
 use Rattle.acc_present.specs.Tables.{Present, IsLook, exit_mark, entry_presence, presence_after, stepped, opening, has_count, kept_after, presences_after, presence_placed_in, is_table}
@@ -77,8 +77,11 @@ AllLow-append limit n [] qs h k = k
 AllLow-append limit n (p ∷ ps) qs h k = (h.0, AllLow-append limit n ps qs h.1 k)
 
 stepped_low : (limit n d : ℕ) (change : Change) (p : Presence) → p.d + suc n ≤ limit → (stepped change p).d + n ≤ limit
+stepped_low limit n d Structured_up p h = omega arith
+stepped_low limit n d Structured_down p h = omega arith
 stepped_low limit n d Dynamic_up p h = omega arith
 stepped_low limit n d Dynamic_down p h = omega arith
+stepped_low limit n d Dynamic_zero p h = omega arith
 
 AllLow-stepped : (limit n : ℕ) (m : Mark) (ps : List Presence) → AllLow limit (suc n) ps → AllLow limit n (map (presence_after m) ps)
 AllLow-stepped limit n m [] h = tt

@@ -3,4 +3,4 @@ use Rattle.acc_core.specs.declared.memory.Block.{Block}
 use Rattle.acc_core.specs.Memories.{Row}
 
 abbrev pub row_of : Block → Row
-row_of b = record { block = b.block; range = b.range; cells = b.cells.items }
+row_of b = record { block = b.block; range = b.range; cells = b.cells }

@@ -1,7 +1,7 @@
 -- What a directive marks, item by item (OpenACC API 3.0, 2.6.6, Enter Data and Exit Data Directives, and 2.7, Data Clauses).
 use Rattle.std.specs.Prelude.{ℕ, Bool, true, false, List, [], ◌∷◌, map, Option, Some, None, ◌==◌, if◌then◌else◌}
 use Rattle.acc_base.specs.declared.range.Range.{Range}
-use Rattle.acc_present.specs.Marks.{Mark, Change, Dynamic_up, Dynamic_down}
+use Rattle.acc_present.specs.Marks.{Mark, Change, Structured_up, Structured_down, Dynamic_up, Dynamic_down, Dynamic_zero}
 use Rattle.acc_present.specs.Presences.{presences, is_present}
 use Rattle.acc_core.specs.declared.directive.Item.{Item}
 use Rattle.acc_core.specs.declared.directive.Kind.{Kind}
@@ -41,10 +41,13 @@ walk_by d kind.ExitData = plain_walk d (Some Dynamic_down)
 unfoldable pub walk_of : Directive → Walk
 walk_of d = walk_by d d.kind
 
--- an exit of a range that is absent takes no action
+-- a dynamic exit of a range that is absent takes no action
 abbrev pub made_by : Change → Range → List Mark → Bool
+made_by Structured_up r before = true
+made_by Structured_down r before = true
 made_by Dynamic_up r before = true
 made_by Dynamic_down r before = is_present (presences before) r
+made_by Dynamic_zero r before = is_present (presences before) r
 
 abbrev pub one_mark : Bool → Change → Range → List Mark → List Mark
 one_mark true change r before = record { change = change; range = r } ∷ before

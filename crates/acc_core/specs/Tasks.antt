@@ -17,7 +17,7 @@ ops_in tasks = map op_of tasks
 
 -- a block that is made has the cells of its range, all zero
 abbrev pub IsReady : Task → Type 0
-IsReady (task.Make b r cells) = cells.items ≡ replicate r.len (pos 0)
+IsReady (task.Make b r cells) = cells ≡ replicate r.len (pos 0)
 IsReady (task.CopyIn b r) = Unit {0}
 IsReady (task.CopyOut b r) = Unit {0}
 IsReady (task.Release b) = Unit {0}

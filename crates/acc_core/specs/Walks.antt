@@ -107,7 +107,7 @@ block_ended (left.Ended b) = Some b
 
 abbrev pub ended_by : Kind → List Presence → Range → Option ℕ
 ended_by EnterData ps r = None
-ended_by ExitData ps r = block_ended (left_of (holder ps r) Dynamic)
+ended_by ExitData ps r = block_ended (left_of (holder ps r) Dynamic_down)
 
 unfoldable pub marked_in : Kind → Holding → Item → Marked
 marked_in kind h i =

@@ -8,6 +8,7 @@ ghost use Rattle.acc_core.specs.Values.{Cell, after_op};
 
 use crate::task::Task;
 use acc_base::{BlockId, Config, Fault, Range};
+use acc_raw::Cells;
 use std::alloc::Global;
 use std::marker::Model;
 
@@ -16,7 +17,7 @@ use std::marker::Model;
 struct Block {
     block: BlockId,
     range: Range,
-    cells: Vec<i64>,
+    cells: Cells,
 }
 
 /// The host arrays and the blocks of device 0, the blocks by number.
@@ -102,9 +103,9 @@ impl Memory {
     }
 
     /// Takes a block with these cells. Takes no memory.
-    pub fn make(&mut self, block: BlockId, range: Range, cells: Vec<i64>)
+    pub fn make(&mut self, block: BlockId, range: Range, cells: Cells)
         requires fresh { find_block (held_blocks self.old) block ≡ None }
-        requires zeros { cells.items ≡ replicate range.len (pos 0) }
+        requires zeros { cells ≡ replicate range.len (pos 0) }
         requires room { length self.old.rows < self.old.room }
         ensures shows { (was : Cell → ℤ) → Shows self.old was → Shows self.new (after_op 0 (op.Make block range) was) }
         ensures blocks { held_blocks self.new ≡ blocks_after (op.Make block range) (held_blocks self.old) }
@@ -147,7 +148,7 @@ impl Memory {
         let held = &self.blocks[place];
         let cells = self.arrays[usize::from(range.array)].as_mut_slice();
         copy_cells(
-            held.cells.as_slice(),
+            &held.cells,
             (range.lo - held.range.lo) as usize,
             cells,
             range.lo as usize,
@@ -211,24 +212,20 @@ fn fill(block: &mut Block, range: Range, cells: &[i64])
     requires low { block.old.range.lo ≤ range.lo }
     requires high { range.lo + range.len ≤ block.old.range.lo + block.old.range.len }
     requires array { range.lo + range.len ≤ length cells.now }
-    ensures row { row_of block.new ≡ record { block = block.old.block; range = block.old.range; cells = block.new.cells.items } }
-    ensures copied { IsCopy cells.now block.old.cells.items block.new.cells.items range.lo (range.lo - block.old.range.lo) range.len }
+    ensures row { row_of block.new ≡ record { block = block.old.block; range = block.old.range; cells = block.new.cells } }
+    ensures copied { IsCopy cells.now block.old.cells block.new.cells range.lo (range.lo - block.old.range.lo) range.len }
 {
+    let first = range.lo as usize;
+    let source = &cells[first..first + range.len as usize];
     let at = (range.lo - block.range.lo) as usize;
-    copy_cells(
-        cells,
-        range.lo as usize,
-        block.cells.as_mut_slice(),
-        at,
-        range.len as usize,
-    );
+    block.cells.copy_from(at, source);
 }
 
-// Copies so many cells of the source, from one place on, to another place of the target.
-fn copy_cells(source: &[i64], from: usize, target: &mut [i64], at: usize, count: usize)
+// Copies so many cells of a block, from one place on, to a place of a host array.
+fn copy_cells(source: &Cells, from: usize, target: &mut [i64], at: usize, count: usize)
     requires source { from + count ≤ length source.now }
     requires target { at + count ≤ length target.old }
     ensures { IsCopy source.now target.old target.new from at count }
 {
-    target[at..at + count].copy_from_slice(&source[from..from + count]);
+    source.copy_to(from, &mut target[at..at + count]);
 }

@@ -8,6 +8,7 @@ use crate::directive::{Clause, Directive};
 use crate::judge::Marked;
 use crate::task::Task;
 use acc_base::{BlockId, Fault, Listed, Range};
+use acc_raw::Cells;
 use std::alloc::Global;
 use std::collections::VecDeque;
 
@@ -126,7 +127,7 @@ fn task_for(alloc: Global, group: Group, block: BlockId, range: Range) -> Result
 {
     match group {
         Group::Makes => {
-            let cells = vec![in alloc; 0i64; range.len as usize]?;
+            let cells = Cells::zeroed(alloc, range.len as usize)?;
             Ok(Task::Make {
                 block,
                 range,

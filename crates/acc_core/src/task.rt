@@ -1,4 +1,5 @@
 use acc_base::{BlockId, Range};
+use acc_raw::Cells;
 
 /// An operation in a queue, with the memory that performing it needs.
 #[derive(Drop)]
@@ -7,7 +8,7 @@ pub enum Task {
     Make {
         block: BlockId,
         range: Range,
-        cells: Vec<i64>,
+        cells: Cells,
     },
     CopyIn {
         block: BlockId,

@@ -10,7 +10,7 @@ use Rattle.acc_present.specs.Lifetimes.{Lifetime, opened, live, lives, opens, pl
 use Rattle.acc_present.specs.Presences.{Presence, presence_of, presences, is_present, holder}
 use Rattle.acc_present.specs.Tables.{presence_after, stepped, has_count, is_table}
 use Rattle.acc_present.proofs.Counting.{map_at}
-use Rattle.acc_present.proofs.OneMore.{Each, IsSince, opened_since, lives-more, is_present-presences}
+use Rattle.acc_present.proofs.OneMore.{Each, IsSince, CanCountIn, CanCount, each_can_count, opened_since, lives-more, is_present-presences}
 use Rattle.acc_present.proofs.Orders.{table_parts}
 use Rattle.acc_present.proofs.Searching.{is_present-none}
 use Rattle.acc_present.proofs.Marking.{found_in}
@@ -72,16 +72,16 @@ ends_alike E L L' g C n n' (x ∷ xs) h =
 block_after : (m : Mark) (p : Presence) → (presence_after m p).block ≡ p.block
 block_after m p = elim (cases_Bool (range_contains p.range m.range)) [ inl hit ↦ rw hit refl | inr miss ↦ rw miss refl ]
 
-alike_all : (m : Mark) (ms : List Mark) (ls : List Lifetime) → Each (IsSince (length ms)) ls
+alike_all : (m : Mark) (ms : List Mark) (ls : List Lifetime) → Each (IsSince (length ms)) ls → Each (CanCountIn m.change ms) ls
     → Each (EndsAlike (presence_of ms) (lives ms) (lives (m ∷ ms)) (presence_after m) has_count (λ (l : Lifetime). l.block) (λ (p : Presence). p.block)) ls
-alike_all m ms [] h = tt
-alike_all m ms (l ∷ ls) h = (record { kept = lives-more m ms l h.0; named = block_after m (presence_of ms l) }, alike_all m ms ls h.1)
+alike_all m ms [] h counts = tt
+alike_all m ms (l ∷ ls) h counts = (record { kept = lives-more m ms l h.0 counts.0; named = block_after m (presence_of ms l) }, alike_all m ms ls h.1 counts.1)
 
-pub ended-more : (m : Mark) (ms : List Mark) → ended_of (m ∷ ms) ms ≡ ended_in m (presences ms)
+pub ended-more : (m : Mark) (ms : List Mark) → CanCount m.change ms → ended_of (m ∷ ms) ms ≡ ended_in m (presences ms)
 unfolding live presences
-ended-more m ms =
+ended-more m ms counts =
     ends_alike (presence_of ms) (lives ms) (lives (m ∷ ms)) (presence_after m) has_count (λ (l : Lifetime). l.block) (λ (p : Presence). p.block) (opened ms)
-    (alike_all m ms (opened ms) (opened_since ms))
+    (alike_all m ms (opened ms) (opened_since ms) (each_can_count m.change ms counts))
 
 -- ## Ended in a table
 

@@ -1,9 +1,15 @@
+pub mod Alike
+pub mod Balancing
 pub mod Counting
+pub mod DraftMarking
+pub mod Drafting
 pub mod Ending
 pub mod Entering
 pub mod Marking
 pub mod OneMore
 pub mod Opening
 pub mod Orders
+pub mod Parts
 pub mod Searching
+pub mod SearchingBeside
 pub mod Undoing

@@ -7,10 +7,10 @@ use Rattle.std.proofs.lemmas.List.Elements.{filter-append}
 use Rattle.std.proofs.lemmas.Bool.{cases_Bool, and_parts, eq-eqb, le-leb}
 use Rattle.acc_base.specs.declared.range.Range.{Range}
 use Rattle.acc_base.specs.Ranges.{range_contains}
-use Rattle.acc_present.specs.Marks.{Change, Dynamic_up, Dynamic_down, Mark, inside, dynamic_after, structured_count, is_structured_up}
-use Rattle.acc_present.specs.Lifetimes.{Lifetime, opens, placed_in, is_before, can_open, opened, live, lives, marks_since}
+use Rattle.acc_present.specs.Marks.{Change, Structured_up, Structured_down, Dynamic_up, Dynamic_down, Dynamic_zero, Mark, inside, dynamic_after, structured_count}
+use Rattle.acc_present.specs.Lifetimes.{Lifetime, opens, placed_in, is_before, can_open, opened, live, lives, is_counted, marks_since, structured_of, entries_of, exits_of}
 use Rattle.acc_present.specs.Presences.{presence_of, presences, is_present}
-use Rattle.acc_present.specs.Tables.{presence_after, has_count, kept_after, presences_after, opening}
+use Rattle.acc_present.specs.Tables.{structured_after, presence_after, has_count, kept_after, presences_after, opening}
 
 pub marks_since-more : (m : Mark) (ms : List Mark) (l : Lifetime) → l.since ≤ length ms → marks_since (m ∷ ms) l ≡ m ∷ marks_since ms l
 marks_since-more m ms l h =
@@ -21,32 +21,76 @@ and-false : (b : Bool) → (b && false) ≡ false
 and-false true = refl
 and-false false = refl
 
--- no mark so far is one of a region
-no_structured_up : (change : Change) → is_structured_up change ≡ false
-no_structured_up Dynamic_up = refl
-no_structured_up Dynamic_down = refl
-
-structured_count-more : (r : Range) (m : Mark) (ms : List Mark) → structured_count r (m ∷ ms) ≡ structured_count r ms
-structured_count-more r m ms = rw (no_structured_up m.change, and-false (inside r m)) refl
-
-presence_of-more : (m : Mark) (ms : List Mark) (l : Lifetime) → l.since ≤ length ms → presence_of (m ∷ ms) l ≡ presence_after m (presence_of ms l)
-presence_of-more m ms l h =
-    rw (marks_since-more m ms l h, structured_count-more l.range m (marks_since ms l))
-    (elim (cases_Bool (inside l.range m)) [ inl is_inside ↦ rw is_inside refl | inr is_outside ↦ rw is_outside refl ])
-
-pub lives-more : (m : Mark) (ms : List Mark) (l : Lifetime) → l.since ≤ length ms → lives (m ∷ ms) l ≡ (has_count (presence_after m (presence_of ms l)) && lives ms l)
-lives-more m ms l h =
-    rw (← presence_of-more m ms l h) (rw (marks_since-more m ms l h) refl)
-
 -- a fact of each member of a list, by recursion
 abbrev pub Each : {X : Type 0} → (X → Type 0) → List X → Type 0
 Each P [] = Unit {0}
 Each P (x ∷ xs) = P x × Each P xs
 
+-- ## The counters after one more mark
+
+-- no live lifetime was left by more regions than entered it
+abbrev pub IsBalanced : List Mark → Lifetime → Type 0
+IsBalanced ms l = lives ms l ≡ true → exits_of ms l ≤ entries_of ms l
+
+-- what the counter of a lifetime asks of the marks before a change, so that it changes with it: an entry is not to make
+-- up for an exit that had none
+abbrev pub CanCountIn : Change → List Mark → Lifetime → Type 0
+CanCountIn Structured_up ms l = IsBalanced ms l
+CanCountIn Structured_down ms l = Unit {0}
+CanCountIn Dynamic_up ms l = Unit {0}
+CanCountIn Dynamic_down ms l = Unit {0}
+CanCountIn Dynamic_zero ms l = Unit {0}
+
+abbrev pub CanCount : Change → List Mark → Type 0
+CanCount Structured_up ms = Each (IsBalanced ms) (opened ms)
+CanCount Structured_down ms = Unit {0}
+CanCount Dynamic_up ms = Unit {0}
+CanCount Dynamic_down ms = Unit {0}
+CanCount Dynamic_zero ms = Unit {0}
+
+pub Each-trivial : {X : Type 0} (xs : List X) → Each (λ x. Unit {0}) xs
+Each-trivial [] = tt
+Each-trivial (x ∷ xs) = (tt, Each-trivial xs)
+
+pub each_can_count : (change : Change) (ms : List Mark) → CanCount change ms → Each (CanCountIn change ms) (opened ms)
+each_can_count Structured_up ms h = h
+each_can_count Structured_down ms h = Each-trivial (opened ms)
+each_can_count Dynamic_up ms h = Each-trivial (opened ms)
+each_can_count Dynamic_down ms h = Each-trivial (opened ms)
+each_can_count Dynamic_zero ms h = Each-trivial (opened ms)
+
+structured_count-inside : (change : Change) (inner : Range) (ms : List Mark) (l : Lifetime) → lives ms l ≡ true → CanCountIn change ms l → range_contains l.range inner ≡ true
+    → structured_count l.range (record { change = change; range = inner } ∷ marks_since ms l) ≡ structured_after change (structured_of ms l)
+structured_count-inside Structured_up inner ms l alive h has = rw has (omega (arith, h alive))
+structured_count-inside Structured_down inner ms l alive h has = rw has (omega arith)
+structured_count-inside Dynamic_up inner ms l alive h has = rw has refl
+structured_count-inside Dynamic_down inner ms l alive h has = rw has refl
+structured_count-inside Dynamic_zero inner ms l alive h has = rw has refl
+
+structured_count-more : (m : Mark) (ms : List Mark) (l : Lifetime) → lives ms l ≡ true → CanCountIn m.change ms l
+    → structured_count l.range (m ∷ marks_since ms l) ≡ cond (inside l.range m) (structured_after m.change (structured_of ms l)) (structured_of ms l)
+structured_count-more m ms l alive h = elim (cases_Bool (inside l.range m)) [
+  | inl is_inside ↦ structured_count-inside m.change m.range ms l alive h is_inside ∙ rw is_inside refl
+  | inr is_outside ↦ rw is_outside refl
+]
+
+presence_of-more : (m : Mark) (ms : List Mark) (l : Lifetime) → l.since ≤ length ms → lives ms l ≡ true → CanCountIn m.change ms l → presence_of (m ∷ ms) l ≡ presence_after m (presence_of ms l)
+presence_of-more m ms l h alive counts =
+    rw (marks_since-more m ms l h, structured_count-more m ms l alive counts)
+    (elim (cases_Bool (inside l.range m)) [ inl is_inside ↦ rw is_inside refl | inr is_outside ↦ rw is_outside refl ])
+
+pub lives-more : (m : Mark) (ms : List Mark) (l : Lifetime) → l.since ≤ length ms → CanCountIn m.change ms l → lives (m ∷ ms) l ≡ (has_count (presence_after m (presence_of ms l)) && lives ms l)
+lives-more m ms l h counts = elim (cases_Bool (lives ms l)) [
+  | inl alive ↦ rw (← presence_of-more m ms l h alive counts) (rw (marks_since-more m ms l h) refl)
+  | inr over ↦
+      rw (marks_since-more m ms l h)
+      (rw over (and-false (is_counted l.range (m ∷ marks_since ms l)) ∙ sym (and-false (has_count (presence_after m (presence_of ms l))))))
+]
+
 -- What two descriptions of a member agree on: E and L describe it before the mark, E' and L' after it, g is what
--- the mark makes of a description, and C asks whether it stays.
+-- the mark makes of a description of a member that is there, and C asks whether it stays.
 pub record Agrees {X Y : Type 0} (E E' : X → Y) (L L' : X → Bool) (g : Y → Y) (C : Y → Bool) (t : X → Bool) (t' : Y → Bool) (x : X) : Type 0 where
-  pub same : E' x ≡ g (E x)
+  pub same : L x ≡ true → E' x ≡ g (E x)
   pub kept : L' x ≡ (C (g (E x)) && L x)
   pub tested : t' (g (E x)) ≡ t x
 
@@ -55,8 +99,11 @@ filters_agree : {X Y : Type 0} (E E' : X → Y) (L L' : X → Bool) (g : Y → Y
 filters_agree E E' L L' g C t t' [] h = refl
 filters_agree E E' L L' g C t t' (x ∷ xs) h =
     let ih = filters_agree E E' L L' g C t t' xs h.1 in
-    let a = h.0.same in let b = h.0.kept in let c = h.0.tested in
-    grind (arith, ih, a, b, c)
+    let b = h.0.kept in let c = h.0.tested in
+    elim (cases_Bool (L x)) [
+      | inl alive ↦ (let a = h.0.same alive in grind (arith, ih, a, b, c, alive))
+      | inr over ↦ (let gone : L' x ≡ false = b ∙ (ap (λ v. C (g (E x)) && v) over ∙ and-false (C (g (E x)))) in grind (arith, ih, gone, over))
+    ]
 
 Each-append : {X : Type 0} (P : X → Type 0) (xs ys : List X) → Each P xs → Each P ys → Each P (xs ++ ys)
 Each-append P [] ys h k = k
@@ -68,19 +115,19 @@ Each-filter P p (x ∷ xs) h =
     elim (p x) as (λ v. Each P (cond v (x ∷ filter p xs) (filter p xs)))
     [ true ↦ (h.0, Each-filter P p xs h.1) | false ↦ Each-filter P p xs h.1 ]
 
-Each-weaker : {X : Type 0} (P Q : X → Type 0) (xs : List X) → ((x : X) → P x → Q x) → Each P xs → Each Q xs
+pub Each-weaker : {X : Type 0} (P Q : X → Type 0) (xs : List X) → ((x : X) → P x → Q x) → Each P xs → Each Q xs
 Each-weaker P Q [] f h = tt
 Each-weaker P Q (x ∷ xs) f h = (f x h.0, Each-weaker P Q xs f h.1)
 
 abbrev pub IsSince : ℕ → Lifetime → Type 0
 IsSince n l = l.since ≤ n
 
-Each-placed_in : (P : Lifetime → Type 0) (l : Lifetime) (ls : List Lifetime) → P l → Each P ls → Each P (placed_in l ls)
+pub Each-placed_in : (P : Lifetime → Type 0) (l : Lifetime) (ls : List Lifetime) → P l → Each P ls → Each P (placed_in l ls)
 Each-placed_in P l ls h k =
     Each-append P (filter (λ k. not (is_before l.range k.range)) ls) (l ∷ filter (λ k. is_before l.range k.range) ls)
     (Each-filter P (λ k. not (is_before l.range k.range)) ls k) (h, Each-filter P (λ k. is_before l.range k.range) ls k)
 
-abbrev new_lifetime : Mark → List Mark → Lifetime
+abbrev pub new_lifetime : Mark → List Mark → Lifetime
 new_lifetime m ms = record { range = m.range; block = length (opened ms) + 1; since = length ms }
 
 pub opened_since : (ms : List Mark) → Each (IsSince (length ms)) (opened ms)
@@ -93,34 +140,34 @@ opened_since (m ∷ before) =
     as (λ v. Each (IsSince (suc (length before))) (cond v (placed_in (new_lifetime m before) (opened before)) (opened before)))
     [ true ↦ Each-placed_in (IsSince (suc (length before))) (new_lifetime m before) (opened before) (omega arith) ih | false ↦ ih ]
 
-agree_all : (m : Mark) (ms : List Mark) (t : Range → Bool) (ls : List Lifetime) → Each (IsSince (length ms)) ls
+agree_all : (m : Mark) (ms : List Mark) (t : Range → Bool) (ls : List Lifetime) → Each (IsSince (length ms)) ls → Each (CanCountIn m.change ms) ls
     → Each (Agrees (presence_of ms) (presence_of (m ∷ ms)) (lives ms) (lives (m ∷ ms)) (presence_after m) has_count (λ l. t l.range) (λ p. t p.range)) ls
-agree_all m ms t [] h = tt
-agree_all m ms t (l ∷ ls) h = (
+agree_all m ms t [] h counts = tt
+agree_all m ms t (l ∷ ls) h counts = (
   record {
-    same = presence_of-more m ms l h.0;
-    kept = lives-more m ms l h.0;
+    same = λ alive. presence_of-more m ms l h.0 alive counts.0;
+    kept = lives-more m ms l h.0 counts.0;
     tested = elim (cases_Bool (inside l.range m)) [ inl is_inside ↦ rw is_inside refl | inr is_outside ↦ rw is_outside refl ];
   },
-  agree_all m ms t ls h.1,
+  agree_all m ms t ls h.1 counts.1,
 )
 
 -- the live ones of some of the lifetimes, as presences
-presences_of_part : (m : Mark) (ms : List Mark) (t : Range → Bool) (ls : List Lifetime) → Each (IsSince (length ms)) ls
+presences_of_part : (m : Mark) (ms : List Mark) (t : Range → Bool) (ls : List Lifetime) → Each (IsSince (length ms)) ls → Each (CanCountIn m.change ms) ls
     → map (presence_of (m ∷ ms)) (filter (lives (m ∷ ms)) (filter (λ l. t l.range) ls)) ≡ filter (λ p. t p.range) (kept_after m (map (presence_of ms) (filter (lives ms) ls)))
-presences_of_part m ms t ls h =
+presences_of_part m ms t ls h counts =
     filters_agree (presence_of ms) (presence_of (m ∷ ms)) (lives ms) (lives (m ∷ ms)) (presence_after m) has_count (λ l. t l.range) (λ p. t p.range) ls
-    (agree_all m ms t ls h)
+    (agree_all m ms t ls h counts)
 
 filter_all : {X : Type 0} (xs : List X) → filter (λ x. true) xs ≡ xs
 filter_all [] = refl
 filter_all (x ∷ xs) = ap (λ ys. x ∷ ys) (filter_all xs)
 
-presences_of_all : (m : Mark) (ms : List Mark) (ls : List Lifetime) → Each (IsSince (length ms)) ls
+presences_of_all : (m : Mark) (ms : List Mark) (ls : List Lifetime) → Each (IsSince (length ms)) ls → Each (CanCountIn m.change ms) ls
     → map (presence_of (m ∷ ms)) (filter (lives (m ∷ ms)) ls) ≡ kept_after m (map (presence_of ms) (filter (lives ms) ls))
-presences_of_all m ms ls h =
+presences_of_all m ms ls h counts =
     ap (λ ys. map (presence_of (m ∷ ms)) (filter (lives (m ∷ ms)) ys)) (sym (filter_all ls))
-    ∙ (presences_of_part m ms (λ r. true) ls h ∙ filter_all (kept_after m (map (presence_of ms) (filter (lives ms) ls))))
+    ∙ (presences_of_part m ms (λ r. true) ls h counts ∙ filter_all (kept_after m (map (presence_of ms) (filter (lives ms) ls))))
 
 any-map-filter : {X Y Z : Type 0} (E : X → Y) (L : X → Bool) (f : X → Z) (f' : Y → Z) (c : Z → Bool) (xs : List X) → ((x : X) → f' (E x) ≡ f x)
     → list_any (λ y. c (f' y)) (map E (filter L xs)) ≡ list_any (λ x. L x && c (f x)) xs
@@ -137,31 +184,46 @@ pub is_present-presences : (ms : List Mark) (r : Range) → is_present (presence
 unfolding presences live
 is_present-presences ms r = any-map-filter (presence_of ms) (lives ms) (λ l. l.range) (λ p. p.range) (λ q. range_contains q r) (opened ms) (λ l. refl)
 
-pub opens_with_one : (change : Change) → can_open change ≡ true → dynamic_after change 0 ≡ 1
+pub opens_with_one : (change : Change) → can_open change ≡ true → structured_after change 0 + dynamic_after change 0 ≡ 1
+opens_with_one Structured_up can = refl
+opens_with_one Structured_down can = cc
 opens_with_one Dynamic_up can = refl
 opens_with_one Dynamic_down can = cc
+opens_with_one Dynamic_zero can = cc
 
-no_marks_yet : (m : Mark) (ms : List Mark) → marks_since ms (new_lifetime m ms) ≡ []
+pub no_marks_yet : (m : Mark) (ms : List Mark) → marks_since ms (new_lifetime m ms) ≡ []
 no_marks_yet m ms = let e : length ms - length ms ≡ 0 = omega arith in ap (λ k. take k ms) e
+
+-- a lifetime that opens has no marks before it
+new_can_count : (change : Change) (m : Mark) (ms : List Mark) → CanCountIn change ms (new_lifetime m ms)
+new_can_count Structured_up m ms = λ alive. rw (no_marks_yet m ms) (omega arith)
+new_can_count Structured_down m ms = tt
+new_can_count Dynamic_up m ms = tt
+new_can_count Dynamic_down m ms = tt
+new_can_count Dynamic_zero m ms = tt
+
+new_lives : (m : Mark) (ms : List Mark) → lives ms (new_lifetime m ms) ≡ true
+new_lives m ms = rw (no_marks_yet m ms) refl
 
 presence_of-new : (m : Mark) (ms : List Mark) → presence_of (m ∷ ms) (new_lifetime m ms) ≡ opening m (length (opened ms) + 1)
 presence_of-new m ms =
-    rw (presence_of-more m ms (new_lifetime m ms) (omega arith), no_marks_yet m ms, range_contains_itself m.range) refl
+    rw (presence_of-more m ms (new_lifetime m ms) (omega arith) (new_lives m ms) (new_can_count m.change m ms), no_marks_yet m ms, range_contains_itself m.range) refl
 
 lives-new : (m : Mark) (ms : List Mark) → can_open m.change ≡ true → lives (m ∷ ms) (new_lifetime m ms) ≡ true
 lives-new m ms can =
-    rw (lives-more m ms (new_lifetime m ms) (omega arith), no_marks_yet m ms, range_contains_itself m.range, opens_with_one m.change can) refl
+    rw (lives-more m ms (new_lifetime m ms) (omega arith) (new_can_count m.change m ms), no_marks_yet m ms, range_contains_itself m.range, opens_with_one m.change can) refl
 
-pub presences-more : (m : Mark) (ms : List Mark) → presences (m ∷ ms) ≡ presences_after m (length (opened ms) + 1) (presences ms)
+pub presences-more : (m : Mark) (ms : List Mark) → CanCount m.change ms → presences (m ∷ ms) ≡ presences_after m (length (opened ms) + 1) (presences ms)
 unfolding presences live opened
-presences-more m ms =
+presences-more m ms h =
     let all = opened_since ms in
+    let counts = each_can_count m.change ms h in
     rw (is_present-presences ms m.range)
     (elim (cases_Bool (opens m ms (opened ms))) [
       | inl is_open ↦
           let parts = and_parts (can_open m.change) (not (list_any (λ l. lives ms l && range_contains l.range m.range) (opened ms))) is_open in
-          let first = presences_of_part m ms (λ r. not (is_before m.range r)) (opened ms) all in
-          let second = presences_of_part m ms (λ r. is_before m.range r) (opened ms) all in
+          let first = presences_of_part m ms (λ r. not (is_before m.range r)) (opened ms) all counts in
+          let second = presences_of_part m ms (λ r. is_before m.range r) (opened ms) all counts in
           rw (is_open, filter-append, map-append, lives-new m ms parts.0, presence_of-new m ms, first, second) refl
-      | inr is_shut ↦ rw is_shut (presences_of_all m ms (opened ms) all)
+      | inr is_shut ↦ rw is_shut (presences_of_all m ms (opened ms) all counts)
     ])

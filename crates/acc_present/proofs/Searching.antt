@@ -96,7 +96,7 @@ not_held_before : (r a b : Range) → ends_before a b ≡ true → is_before r b
 unfolding is_before range_contains
 not_held_before r a b h k cells = grind (arith, nat_tests, h, k, cells)
 
-not_met_before : (r a b : Range) → ends_before a b ≡ true → is_before r b ≡ false → range_overlaps a r ≡ false
+pub not_met_before : (r a b : Range) → ends_before a b ≡ true → is_before r b ≡ false → range_overlaps a r ≡ false
 unfolding is_before range_overlaps
 not_met_before r a b h k = grind (arith, nat_tests, h, k)
 

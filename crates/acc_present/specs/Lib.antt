@@ -1,5 +1,8 @@
+pub mod DraftExamples
+pub mod Drafts
 pub mod Examples
 pub mod Invariants
+pub mod Legality
 pub mod Lifetimes
 pub mod Marks
 pub mod Presences

@@ -4,7 +4,7 @@ use Rattle.std.specs.Prelude.{ℕ, ◌+◌, ◌-◌, Bool, true, false, ◌&&◌
 use Rattle.std.specs.List.{list_any}
 use Rattle.acc_base.specs.declared.range.Range.{Range}
 use Rattle.acc_base.specs.Ranges.{range_contains}
-use Rattle.acc_present.specs.Marks.{Change, Dynamic_up, Dynamic_down, Mark, structured_count, dynamic_count}
+use Rattle.acc_present.specs.Marks.{Change, Structured_up, Structured_down, Dynamic_up, Dynamic_down, Dynamic_zero, Mark, region_entries, region_exits, structured_count, dynamic_count}
 
 -- A lifetime has its range, its block (the n-th lifetime opened has block n, from 1), and how many marks came
 -- before the one that opened it.
@@ -16,6 +16,13 @@ pub record Lifetime : Type 0 where
 -- the marks from its opening mark on
 abbrev pub marks_since : List Mark → Lifetime → List Mark
 marks_since marks l = take (length marks - l.since) marks
+
+-- how often regions entered its range, and left it
+abbrev pub entries_of : List Mark → Lifetime → ℕ
+entries_of marks l = region_entries l.range (marks_since marks l)
+
+abbrev pub exits_of : List Mark → Lifetime → ℕ
+exits_of marks l = region_exits l.range (marks_since marks l)
 
 abbrev pub structured_of : List Mark → Lifetime → ℕ
 structured_of marks l = structured_count l.range (marks_since marks l)
@@ -38,8 +45,11 @@ lives marks l = stays_counted l.range (marks_since marks l)
 
 -- an increment opens a lifetime where the range is absent
 abbrev pub can_open : Change → Bool
+can_open Structured_up = true
+can_open Structured_down = false
 can_open Dynamic_up = true
 can_open Dynamic_down = false
+can_open Dynamic_zero = false
 
 -- ranges are listed by array, then by lower bound
 unfoldable pub is_before : Range → Range → Bool

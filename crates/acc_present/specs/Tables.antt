@@ -1,23 +1,26 @@
 -- What one mark makes of a device's presences, and what a table answers.
-use Rattle.std.specs.Prelude.{◌≡◌, ℕ, ◌+◌, Bool, true, false, ◌&&◌, ◌||◌, ◌==◌, not, nat_lt, nat_le, List, [], ◌∷◌, ◌++◌, length, filter, map, Option, Some, None, if◌then◌else◌}
+use Rattle.std.specs.Prelude.{◌≡◌, ℕ, ◌+◌, ◌-◌, Bool, true, false, ◌&&◌, ◌||◌, ◌==◌, not, nat_lt, nat_le, List, [], ◌∷◌, ◌++◌, length, filter, map, Option, Some, None, if◌then◌else◌}
 use Rattle.std.specs.List.{list_all}
 use Rattle.acc_base.specs.declared.range.Range.{Range}
 use Rattle.acc_present.specs.declared.table.Counter.{Counter}
-use Rattle.acc_present.specs.declared.table.Counter.TheVariants.{Dynamic}
+use Rattle.acc_present.specs.declared.table.Counter.TheVariants.{Structured, Dynamic}
 use Rattle.acc_present.specs.declared.table.Entry.{Entry}
 use Rattle.acc_present.specs.declared.table.Look.{Look}
 use Rattle.acc_present.specs.declared.table.Look.TheVariants as look
 use Rattle.acc_present.specs.declared.table.Left.{Left}
 use Rattle.acc_present.specs.declared.table.Left.TheVariants as left
-use Rattle.acc_present.specs.Marks.{Change, Dynamic_up, Dynamic_down, Mark, dynamic_after, inside}
+use Rattle.acc_present.specs.Marks.{Change, Structured_up, Structured_down, Dynamic_up, Dynamic_down, Dynamic_zero, Mark, dynamic_after, inside}
+use Rattle.acc_present.specs.Legality.{AllLegal}
 use Rattle.acc_present.specs.Lifetimes.{is_before, can_open, opened}
 use Rattle.acc_present.specs.Presences.{Presence, presences, holder, is_present, is_partly_present}
 
 -- what an entry to a range changes, and what an exit from it does
 abbrev pub entry_change : Counter → Change
+entry_change Structured = Structured_up
 entry_change Dynamic = Dynamic_up
 
 abbrev pub exit_change : Counter → Change
+exit_change Structured = Structured_down
 exit_change Dynamic = Dynamic_down
 
 abbrev pub entry_mark : Counter → Range → Mark
@@ -26,11 +29,31 @@ entry_mark counter r = record { change = entry_change counter; range = r }
 abbrev pub exit_mark : Counter → Range → Mark
 exit_mark counter r = record { change = exit_change counter; range = r }
 
+abbrev pub finalize_mark : Range → Mark
+finalize_mark r = record { change = Dynamic_zero; range = r }
+
 abbrev pub counter_of : Counter → Presence → ℕ
+counter_of Structured p = p.s
 counter_of Dynamic p = p.d
 
+-- the counter that a change is of
+abbrev pub changed_counter : Change → Counter
+changed_counter Structured_up = Structured
+changed_counter Structured_down = Structured
+changed_counter Dynamic_up = Dynamic
+changed_counter Dynamic_down = Dynamic
+changed_counter Dynamic_zero = Dynamic
+
+-- what one mark makes of the structured counter
+abbrev pub structured_after : Change → ℕ → ℕ
+structured_after Structured_up n = n + 1
+structured_after Structured_down n = n - 1
+structured_after Dynamic_up n = n
+structured_after Dynamic_down n = n
+structured_after Dynamic_zero n = n
+
 abbrev pub stepped : Change → Presence → Presence
-stepped change p = record p { d = dynamic_after change p.d }
+stepped change p = record p { s = structured_after change p.s; d = dynamic_after change p.d }
 
 -- a mark counts where it is inside
 abbrev pub presence_after : Mark → Presence → Presence
@@ -58,9 +81,16 @@ presences_after m block ps =
     else kept_after m ps
 
 -- The presences after one more mark, found in the list of all marks, are what that mark makes of those before.
+abbrev pub OneMore : Mark → List Mark → Type 0
+OneMore m before = presences (m ∷ before) ≡ presences_after m (length (opened before) + 1) (presences before)
+
+-- This holds of each mark after legal ones,
 abbrev pub OneMoreMark : Type 0
-OneMoreMark = (m : Mark) (before : List Mark)
-    → presences (m ∷ before) ≡ presences_after m (length (opened before) + 1) (presences before)
+OneMoreMark = (m : Mark) (before : List Mark) → AllLegal before → OneMore m before
+
+-- and of a mark of the dynamic counter after any.
+abbrev pub OneMoreDynamicMark : Type 0
+OneMoreDynamicMark = (m : Mark) (before : List Mark) → changed_counter m.change ≡ Dynamic → OneMore m before
 
 -- the first range ends before the second begins
 abbrev pub ends_before : Range → Range → Bool
@@ -73,6 +103,10 @@ ends_before_all r ps = list_all (λ p. ends_before r p.range) ps
 abbrev pub is_table : List Presence → Bool
 is_table [] = true
 is_table (p ∷ ps) = (nat_lt 0 p.range.len && has_count p) && (ends_before_all p.range ps && is_table ps)
+
+-- Legal marks make a table.
+abbrev pub LegalMarksMakeATable : Type 0
+LegalMarksMakeATable = (marks : List Mark) → AllLegal marks → is_table (presences marks) ≡ true
 
 -- what an entry of a table shows
 abbrev pub entry_presence : Entry → Presence
@@ -91,8 +125,8 @@ IsLook ps r look.Partly = is_partly_present ps r ≡ true
 IsLook ps r (look.Present e) = (holder ps r ≡ Some (entry_presence e)) × (is_partly_present ps r ≡ false)
 
 -- the answer of an exit from what the range was part of: at zero it takes no action
-abbrev pub left_of : Option Presence → Counter → Left
-left_of None counter = left.Nothing
-left_of (Some p) counter =
-    if counter_of counter p == 0 then left.Nothing
-    else (if has_count (stepped (exit_change counter) p) then left.Counted else left.Ended p.block)
+abbrev pub left_of : Option Presence → Change → Left
+left_of None change = left.Nothing
+left_of (Some p) change =
+    if counter_of (changed_counter change) p == 0 then left.Nothing
+    else (if has_count (stepped change p) then left.Counted else left.Ended p.block)

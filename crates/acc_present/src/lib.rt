@@ -1,8 +1,10 @@
 //! The present table of a device: which ranges are present, and their reference counters.
 #![tactic(auto)]
 
+mod draft;
 mod laws;
 mod table;
 
-pub use laws::{one_more_mark, worked_lifetimes};
-pub use table::{Counter, Entered, Entry, Left, Look, Table};
+pub use draft::Draft;
+pub use laws::{legal_marks, one_more_mark, worked_drafts, worked_lifetimes, worked_regions};
+pub use table::{COUNTER_LIMIT, Counter, Entered, Entry, Left, Look, Table};

@@ -1,18 +1,26 @@
-ghost use Rattle.std.specs.Prelude.{◌≡◌, ◌+◌, ◌^◌, ◌<◌, ◌≤◌, [], length, map, slice_get, true, false, None, if◌then◌else◌, IfSome, IfErr, OnOk, OnErr, OnSome, IfNone};
+ghost use Rattle.std.specs.Prelude.{◌≡◌, ◌+◌, ◌^◌, ◌<◌, ◌≤◌, [], length, map, slice_get, slice_set, remove, true, false, Some, None, if◌then◌else◌, IfSome, IfErr, OnOk, OnErr, OnSome};
 ghost use Rattle.std.specs.Option.{option_map, option_map_or, option_and_then};
 ghost use Rattle.std.specs.List.{position_or_len};
 ghost use Rattle.acc_base.specs.Ranges.{range_overlaps};
 ghost use Rattle.acc_present.specs.Lifetimes.{is_before};
+ghost use Rattle.acc_present.specs.Marks.{Dynamic_zero};
 ghost use Rattle.acc_present.specs.Presences.{holder, is_present, is_partly_present, overlaps_any, used_cells};
-ghost use Rattle.acc_present.specs.Tables.{entry_mark, exit_mark, entry_change, exit_change, counter_of, stepped, opening, presences_after, kept_after, has_count, entry_presence, is_table, IsLook, left_of};
+ghost use Rattle.acc_present.specs.Drafts.{beside};
+ghost use Rattle.acc_present.specs.Legality.{MeetsCondition};
+ghost use Rattle.acc_present.specs.Tables.{entry_mark, exit_mark, finalize_mark, entry_change, exit_change, counter_of, stepped, opening, presences_after, kept_after, has_count, entry_presence, is_table, IsLook, left_of};
 
 use acc_base::{BlockId, Fault, Range};
 use std::alloc::Global;
 use std::marker::Model;
 
-/// A reference counter of present data (OpenACC API 3.0, 2.6.7).
+/// A counter that is incremented is below this.
+pub const COUNTER_LIMIT: u64 = 9_223_372_036_854_775_808;
+
+/// A reference counter of present data (OpenACC API 3.0, 2.6.7, Reference Counters).
 #[derive(Clone, Copy, Debug, PartialEq, Eq)]
 pub enum Counter {
+    /// Counts the regions that were entered and not yet left.
+    Structured,
     /// Counts `enter data` and `exit data`, and the routines that act as these.
     Dynamic,
 }
@@ -127,7 +135,7 @@ impl Table {
     pub fn enter(&mut self, range: Range, counter: Counter, block: BlockId) -> Entered
         requires cells { 0 < range.len }
         requires whole { is_partly_present self.old.presences range ≡ false }
-        requires low { IfSome (holder self.old.presences range) (λ p. counter_of counter p < 2 ^ 63) }
+        requires low { IfSome (holder self.old.presences range) (λ p. counter_of counter p < COUNTER_LIMIT) }
         requires capacity { holder self.old.presences range ≡ None → used_cells self.old.presences + range.len ≤ self.old.capacity }
         requires room { holder self.old.presences range ≡ None → length self.old.presences < self.old.room }
         ensures presences { self.new.presences ≡ presences_after (entry_mark counter range) block self.old.presences }
@@ -149,13 +157,15 @@ impl Table {
         }
     }
 
-    /// Counts an exit from a range, and ends its data lifetime where both counters are zero.
+    /// Counts an exit from a range, and ends its data lifetime where both counters are zero. A region leaves only
+    /// what a region entered.
     pub fn leave(&mut self, range: Range, counter: Counter) -> Left
-        requires { 0 < range.len }
+        requires cells { 0 < range.len }
+        requires condition { MeetsCondition (exit_change counter) range self.old.presences }
         ensures presences { self.new.presences ≡ kept_after (exit_mark counter range) self.old.presences }
         ensures capacity { self.new.capacity ≡ self.old.capacity }
         ensures room { self.new.room ≡ self.old.room }
-        ensures result { result ≡ left_of (holder self.old.presences range) counter }
+        ensures result { result ≡ left_of (holder self.old.presences range) (exit_change counter) }
     {
         match place_of(self.entries.as_slice(), range) {
             None => Left::Nothing,
@@ -164,16 +174,56 @@ impl Table {
                 if count_of(&entry, counter) == 0 {
                     return Left::Nothing;
                 }
-                let after = counted_down(&entry, counter);
-                if has_count(&after) {
-                    self.entries[i] = after;
-                    return Left::Counted;
-                }
-                self.entries.remove(i);
-                self.used -= u64::from(entry.range.len);
-                Left::Ended(entry.block)
+                self.settle(i, counted_down(&entry, counter))
             }
         }
+    }
+
+    /// Sets the dynamic counter of a range to zero, and ends its data lifetime where the structured one is zero too
+    /// (OpenACC API 3.0, 2.6.6, Enter Data and Exit Data Directives: the `finalize` clause).
+    pub fn finalize(&mut self, range: Range) -> Left
+        requires { 0 < range.len }
+        ensures presences { self.new.presences ≡ kept_after (finalize_mark range) self.old.presences }
+        ensures capacity { self.new.capacity ≡ self.old.capacity }
+        ensures room { self.new.room ≡ self.old.room }
+        ensures result { result ≡ left_of (holder self.old.presences range) Dynamic_zero }
+    {
+        match place_of(self.entries.as_slice(), range) {
+            None => Left::Nothing,
+            Some(i) => {
+                let entry = self.entries[i];
+                if entry.d == 0 {
+                    return Left::Nothing;
+                }
+                self.settle(i, Entry { d: 0, ..entry })
+            }
+        }
+    }
+
+    // Puts what an exit makes of the entry at this place, or ends it where both counters are zero.
+    fn settle(&mut self, place: usize, after: Entry) -> Left
+        requires { option_map (λ p. p.range) (slice_get self.old.presences place) ≡ Some after.range }
+        ensures presences { self.new.presences ≡ (if has_count (entry_presence after) then slice_set self.old.presences place (entry_presence after) else remove self.old.presences place) }
+        ensures capacity { self.new.capacity ≡ self.old.capacity }
+        ensures room { self.new.room ≡ self.old.room }
+        ensures result { result ≡ (if has_count (entry_presence after) then Left.Counted else Left.Ended after.block) }
+    {
+        if has_count(&after) {
+            self.entries[place] = after;
+            return Left::Counted;
+        }
+        self.entries.remove(place);
+        self.used -= u64::from(after.range.len);
+        Left::Ended(after.block)
+    }
+
+    /// Whether the range overlaps a present one that none of these entries overlaps.
+    pub fn overlaps_beside(&self, range: Range, changed: &[Entry]) -> bool
+        ensures { result ≡ overlaps_any (beside (map entry_presence changed.now) self.now.presences) range }
+    {
+        let entries = self.entries.as_slice();
+        let behind = place_behind(entries, range);
+        overlaps_beside_in(&entries[behind.saturating_sub(1)..], range, changed)
     }
 
     /// The structured and the dynamic counter of a present range.
@@ -209,8 +259,9 @@ impl Table {
     pub fn keeps_order(&self)
         ensures table { is_table self.now.presences ≡ true }
         ensures capacity { used_cells self.now.presences ≤ self.now.capacity }
+        ensures limit { self.now.capacity < 2 ^ 64 }
     {
-        let _ = &self.used;
+        let _capacity = self.capacity;
     }
 }
 
@@ -268,8 +319,33 @@ fn overlaps_at(entries: &[Entry], at: usize, range: Range) -> bool
     at < entries.len() && entries[at].range.overlaps(&range)
 }
 
+// Whether one of the entries overlaps the range.
+pub(crate) fn overlaps_one(entries: &[Entry], range: Range) -> bool
+    ensures { result ≡ overlaps_any (map entry_presence entries.now) range }
+{
+    entries.iter().any(|entry| entry.range.overlaps(&range))
+}
+
+// Whether the range overlaps an entry that no changed one overlaps. Goes along the entries until one begins
+// behind the range.
+fn overlaps_beside_in(entries: &[Entry], range: Range, changed: &[Entry]) -> bool
+    requires { is_table (map entry_presence entries.now) ≡ true }
+    ensures { result ≡ overlaps_any (beside (map entry_presence changed.now) (map entry_presence entries.now)) range }
+{
+    match entries {
+        [] => false,
+        [first, rest @ ..] => {
+            if first.range.overlaps(&range) {
+                !overlaps_one(changed, first.range) || overlaps_beside_in(rest, range, changed)
+            } else {
+                !stands_before(range, first.range) && overlaps_beside_in(rest, range, changed)
+            }
+        }
+    }
+}
+
 // An entry for a range that was absent, counted once.
-fn new_entry(range: Range, counter: Counter, block: BlockId) -> Entry
+pub(crate) fn new_entry(range: Range, counter: Counter, block: BlockId) -> Entry
     ensures { entry_presence result ≡ opening (entry_mark counter range) block }
 {
     let uncounted = Entry {
@@ -281,11 +357,15 @@ fn new_entry(range: Range, counter: Counter, block: BlockId) -> Entry
     counted_up(&uncounted, counter)
 }
 
-fn counted_up(entry: &Entry, counter: Counter) -> Entry
-    requires { counter_of counter (entry_presence entry.now) < 2 ^ 63 }
+pub(crate) fn counted_up(entry: &Entry, counter: Counter) -> Entry
+    requires { counter_of counter (entry_presence entry.now) < COUNTER_LIMIT }
     ensures { entry_presence result ≡ stepped (entry_change counter) (entry_presence entry.now) }
 {
     match counter {
+        Counter::Structured => Entry {
+            s: entry.s + 1,
+            ..*entry
+        },
         Counter::Dynamic => Entry {
             d: entry.d + 1,
             ..*entry
@@ -293,26 +373,32 @@ fn counted_up(entry: &Entry, counter: Counter) -> Entry
     }
 }
 
-fn counted_down(entry: &Entry, counter: Counter) -> Entry
+pub(crate) fn counted_down(entry: &Entry, counter: Counter) -> Entry
+    requires { 0 < counter_of counter (entry_presence entry.now) }
     ensures { entry_presence result ≡ stepped (exit_change counter) (entry_presence entry.now) }
 {
     match counter {
+        Counter::Structured => Entry {
+            s: entry.s - 1,
+            ..*entry
+        },
         Counter::Dynamic => Entry {
-            d: entry.d.saturating_sub(1),
+            d: entry.d - 1,
             ..*entry
         },
     }
 }
 
-fn count_of(entry: &Entry, counter: Counter) -> u64
+pub(crate) fn count_of(entry: &Entry, counter: Counter) -> u64
     ensures { result ≡ counter_of counter (entry_presence entry.now) }
 {
     match counter {
+        Counter::Structured => entry.s,
         Counter::Dynamic => entry.d,
     }
 }
 
-fn has_count(entry: &Entry) -> bool
+pub(crate) fn has_count(entry: &Entry) -> bool
     ensures { result ≡ has_count (entry_presence entry.now) }
 {
     entry.s > 0 || entry.d > 0

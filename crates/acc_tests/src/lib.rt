@@ -3,7 +3,11 @@
 #![tactic(auto)]
 
 #[cfg(test)]
+mod cells;
+#[cfg(test)]
 mod config;
+#[cfg(test)]
+mod draft;
 #[cfg(test)]
 mod fault;
 #[cfg(test)]

@@ -17,7 +17,13 @@ fn cells(lo: u32, len: u32) -> Range
 }
 
 // Enters a range, with all that has to be tested before.
-fn entered_into(rt: &impl Abort, table: &mut Table, range: Range, block: u64) -> Entered
+fn entered_by(
+    rt: &impl Abort,
+    table: &mut Table,
+    range: Range,
+    counter: Counter,
+    block: u64,
+) -> Entered
     requires capacity { table.old.capacity ≡ CELLS }
     requires cells { 0 < range.len }
     ensures { table.new.capacity ≡ CELLS }
@@ -27,14 +33,40 @@ fn entered_into(rt: &impl Abort, table: &mut Table, range: Range, block: u64) ->
     assert!(rt; used < CELLS - 1_000);
     assert!(rt; range.len < 1_000);
     match table.look(range) {
-        Look::Absent => table.enter(range, Counter::Dynamic, BlockId::new(block)),
+        Look::Absent => table.enter(range, counter, BlockId::new(block)),
         Look::Present(entry) => {
+            assert!(rt; entry.s < 1_000);
             assert!(rt; entry.d < 1_000);
-            table.enter(range, Counter::Dynamic, BlockId::new(block))
+            table.enter(range, counter, BlockId::new(block))
         }
         Look::Partly => {
             assert!(rt; false, "partly present");
             Entered::Counted
+        }
+    }
+}
+
+fn entered_into(rt: &impl Abort, table: &mut Table, range: Range, block: u64) -> Entered
+    requires capacity { table.old.capacity ≡ CELLS }
+    requires cells { 0 < range.len }
+    ensures { table.new.capacity ≡ CELLS }
+{
+    entered_by(rt, table, range, Counter::Dynamic, block)
+}
+
+// A region leaves a range that it entered.
+fn left_by_region(rt: &impl Abort, table: &mut Table, range: Range) -> Left
+    requires { 0 < range.len }
+    ensures { table.new.capacity ≡ table.old.capacity }
+{
+    match table.look(range) {
+        Look::Present(entry) => {
+            assert!(rt; 0 < entry.s);
+            table.leave(range, Counter::Structured)
+        }
+        Look::Absent | Look::Partly => {
+            assert!(rt; false, "no region entered it");
+            Left::Nothing
         }
     }
 }
@@ -72,6 +104,38 @@ fn a_range_is_entered_and_left(rt: HostRuntime) -> Result<(), Fail> {
     assert_eq!(rt; table.leave(cells(2, 4), Counter::Dynamic), Left::Nothing);
     assert_eq!(rt; table.used_cells(), 0);
     Ok(())
+}
+
+#[test]
+fn regions_and_entries_are_counted_apart(rt: HostRuntime) {
+    let whole = cells(2, 4);
+    let part = cells(3, 2);
+    let mut table = Table::new(rt.alloc(), CELLS);
+    assert_eq!(rt;
+        entered_by(&rt, &mut table, whole, Counter::Structured, 1),
+        Entered::Opened
+    );
+    assert_eq!(rt; table.leave(part, Counter::Dynamic), Left::Nothing);
+    assert_eq!(rt; table.finalize(part), Left::Nothing);
+    assert_eq!(rt; entered_into(&rt, &mut table, part, 2), Entered::Counted);
+    assert_eq!(rt; entered_into(&rt, &mut table, part, 3), Entered::Counted);
+    assert_eq!(rt;
+        entered_by(&rt, &mut table, part, Counter::Structured, 4),
+        Entered::Counted
+    );
+    assert_eq!(rt; table.counters(part), Some((2, 2)));
+    assert_eq!(rt; table.finalize(part), Left::Counted);
+    assert_eq!(rt; table.counters(whole), Some((2, 0)));
+    assert_eq!(rt; left_by_region(&rt, &mut table, part), Left::Counted);
+    assert_eq!(rt;
+        left_by_region(&rt, &mut table, whole),
+        Left::Ended(BlockId::new(1))
+    );
+    assert_eq!(rt; table.finalize(whole), Left::Nothing);
+    assert_eq!(rt; entered_into(&rt, &mut table, part, 5), Entered::Opened);
+    assert_eq!(rt; entered_into(&rt, &mut table, part, 6), Entered::Counted);
+    assert_eq!(rt; table.finalize(part), Left::Ended(BlockId::new(5)));
+    assert_eq!(rt; table.used_cells(), 0);
 }
 
 #[test]

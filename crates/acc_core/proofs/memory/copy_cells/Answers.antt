@@ -1,8 +1,12 @@
-use Rattle.std.proofs.Common.{arith}
+use Rattle.std.proofs.Common.{◌+◌, ◌-◌, drop, length-drop, arith}
+use Rattle.std.proofs.lemmas.List.{length-take-le}
 use Rattle.acc_core.proofs.Copying.{is_copy}
 use Rattle.acc_core.proofs.memory.copy_cells.Goals as goal
 
 pub returns : goal.returns
 returns c =
-    is_copy c.args.source.now c.args.target.now c.copy_from_slice.new.self c.args.from c.args.at c.args.count _ _
-    c.requires.source c.requires.target (omega arith) (omega arith) c.copy_from_slice.ensures.after
+    let target = c.args.target.now in
+    let at = c.args.at in
+    let count = c.args.count in
+    let part = length-take-le (at + count - at) (drop at target) (omega (arith, c.requires.target, length-drop at target)) in
+    is_copy c.args.source.now target c.copy_to.new.target c.args.from at count _ _ c.requires.source c.requires.target (omega (arith, part)) (omega arith) c.copy_to.ensures

@@ -27,3 +27,7 @@ returns-clause-part_ends c = refl
 pub returns-clause-absent : goal.returns-clause-absent
 unfolding presences live opened is_before range_contains
 returns-clause-absent c = refl
+
+pub returns-clause-finalize : goal.returns-clause-finalize
+unfolding presences live opened is_before range_contains
+returns-clause-finalize c = refl

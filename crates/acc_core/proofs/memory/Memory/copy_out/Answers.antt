@@ -35,7 +35,7 @@ copy_cells-requires-clause-source c =
     let at = range_at c.self.inside.blocks.items c.args.block c.args.range c.place_of-place.result x c.self.invariant
     (rw (← c.self.view_is) at c.requires.held) place c.index-held.ensures in
     let size = eqb-true _ x.range.len at.whole in
-    rw c.as_slice-2.ensures.value (omega (arith, at.row.low, at.row.high, size))
+    omega (arith, at.row.low, at.row.high, size)
 
 pub copy_cells-requires-clause-target : goal.copy_cells-requires-clause-target
 copy_cells-requires-clause-target c =
@@ -66,8 +66,8 @@ copied c =
     let before = c.index_mut.result.now in
     let place = rw c.as_slice.ensures.value at c.place_of-place.ensures.place in
     let at = range_at blocks c.args.block r c.place_of-place.result x c.self.invariant (rw (← c.self.view_is) at c.requires.held) place c.index-held.ensures in
-    let copy : IsCopy x.cells.items before.items c.copy_cells.new.target (r.lo - x.range.lo) r.lo r.len =
-    rw (c.as_slice-2.ensures.value, c.as_mut_slice-cells.ensures.value) at c.copy_cells.ensures in
+    let copy : IsCopy x.cells before.items c.copy_cells.new.target (r.lo - x.range.lo) r.lo r.len =
+    rw c.as_mut_slice-cells.ensures.value at c.copy_cells.ensures in
     copies_out (map (λ v. v.items) arrays) (map (λ v. v.items) (set arrays r.array (with_items before c.copy_cells.new.target))) blocks c.args.block c.place_of-place.result r x
     before.items (with_items before c.copy_cells.new.target).items c.self.invariant at (after c).replaced (rw (kept c) copy)
 

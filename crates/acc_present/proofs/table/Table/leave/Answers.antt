@@ -1,10 +1,9 @@
-use Rattle.std.proofs.Common.{◌≡◌, true, false, sym, ◌∙◌, None, arith}
-use Rattle.acc_present.specs.Presences.{holder}
-use Rattle.acc_present.specs.Tables.{entry_presence, has_count}
+use Rattle.std.proofs.Common.{◌≡◌, sym, ap, ◌∙◌, None}
+use Rattle.acc_present.specs.Presences.{Presence, holder}
+use Rattle.acc_present.specs.Tables.{exit_mark, exit_change, counter_of, changed_counter, entry_presence}
 use Rattle.acc_present.proofs.Counting.{kept_none}
-use Rattle.acc_present.proofs.Entering.{shown, found_at, left_nothing, left_counted, left_ended, cells_at, says_nothing, says_counted, says_ended}
+use Rattle.acc_present.proofs.Entering.{shown, found_at, stepped-zero, exit_counter, left_nothing, left_settled, range_at, says_nothing, says_settled}
 use Rattle.acc_present.proofs.Searching.{is_present-none}
-use Rattle.acc_present.specs.Tables.{exit_mark, counter_of}
 use Rattle.acc_present.proofs.table.Table.leave.Goals as goal
 
 pub returns-in-None-clause-presences : goal.returns-in-None-clause-presences
@@ -16,99 +15,52 @@ returns-in-None-clause-presences c =
 pub returns-then-count_of-eq0-clause-presences : goal.returns-then-count_of-eq0-clause-presences
 returns-then-count_of-eq0-clause-presences c =
     let es = c.self.inside.entries.items in
-    let r = c.args.range in
     let x = c.index.result.now in
     let held = rw c.as_slice.ensures.value at c.in-Some.ensures.held in
     let low = rw c.as_slice.ensures.value at c.in-Some.ensures.within in
-    let f = found_at es r c.in-Some.i x held low c.index.ensures in
+    let f = found_at es c.args.range c.in-Some.i x held low c.index.ensures in
     let zero : counter_of c.args.counter (entry_presence x) ≡ 0 = sym c.count_of.ensures ∙ c.if-count_of-eq0.true in
-    rw (← c.self.view_is) (left_nothing es r c.args.counter c.in-Some.i x c.self.inside.used c.self.inside.capacity c.self.invariant c.requires f zero)
+    rw (← c.self.view_is)
+    (left_nothing es (exit_mark c.args.counter c.args.range) c.in-Some.i x c.self.inside.used c.self.inside.capacity c.self.invariant c.requires.cells f (stepped-zero c.args.counter (entry_presence x) zero))
 
 pub returns-then-count_of-eq0-clause-result : goal.returns-then-count_of-eq0-clause-result
 returns-then-count_of-eq0-clause-result c =
     let es = c.self.inside.entries.items in
-    let r = c.args.range in
     let x = c.index.result.now in
     let held = rw c.as_slice.ensures.value at c.in-Some.ensures.held in
     let low = rw c.as_slice.ensures.value at c.in-Some.ensures.within in
-    let f = found_at es r c.in-Some.i x held low c.index.ensures in
-    let zero : counter_of c.args.counter (entry_presence x) ≡ 0 = sym c.count_of.ensures ∙ c.if-count_of-eq0.true in
-    rw (← c.self.view_is) (rw f.seen (says_nothing (entry_presence x) c.args.counter zero))
+    let f = found_at es c.args.range c.in-Some.i x held low c.index.ensures in
+    let zero : counter_of (changed_counter (exit_change c.args.counter)) (entry_presence x) ≡ 0 =
+    ap (λ k. counter_of k (entry_presence x)) (exit_counter c.args.counter) ∙ (sym c.count_of.ensures ∙ c.if-count_of-eq0.true) in
+    rw (← c.self.view_is) (rw f.seen (says_nothing (entry_presence x) (exit_change c.args.counter) zero))
 
-pub invariant_of-self : goal.invariant_of-self
-invariant_of-self c =
+pub settle-requires : goal.settle-requires
+settle-requires c =
     let es = c.self.inside.entries.items in
-    let r = c.args.range in
     let x = c.index.result.now in
     let held = rw c.as_slice.ensures.value at c.in-Some.ensures.held in
     let low = rw c.as_slice.ensures.value at c.in-Some.ensures.within in
-    let f = found_at es r c.in-Some.i x held low c.index.ensures in
-    let counted : has_count (entry_presence c.counted_down-after.result) ≡ true = sym c.has_count.ensures ∙ c.if-has_count.true in
-    (left_counted es r c.args.counter c.in-Some.i x c.counted_down-after.result c.self.inside.used c.self.inside.capacity c.self.invariant c.requires f c.counted_down-after.ensures counted).table
+    let f = found_at es c.args.range c.in-Some.i x held low c.index.ensures in
+    rw (← c.self.view_is) (range_at es c.args.range c.counted_down.result.range c.in-Some.i x f (ap (λ (p : Presence). p.range) (sym c.counted_down.ensures)))
 
-pub returns-then-has_count-clause-presences : goal.returns-then-has_count-clause-presences
-returns-then-has_count-clause-presences c =
+pub returns-else-count_of-eq0-clause-presences : goal.returns-else-count_of-eq0-clause-presences
+returns-else-count_of-eq0-clause-presences c =
     let es = c.self.inside.entries.items in
-    let r = c.args.range in
     let x = c.index.result.now in
     let held = rw c.as_slice.ensures.value at c.in-Some.ensures.held in
     let low = rw c.as_slice.ensures.value at c.in-Some.ensures.within in
-    let f = found_at es r c.in-Some.i x held low c.index.ensures in
-    let counted : has_count (entry_presence c.counted_down-after.result) ≡ true = sym c.has_count.ensures ∙ c.if-has_count.true in
-    rw (← c.self.view_is) (left_counted es r c.args.counter c.in-Some.i x c.counted_down-after.result c.self.inside.used c.self.inside.capacity c.self.invariant c.requires f c.counted_down-after.ensures counted).same
+    let f = found_at es c.args.range c.in-Some.i x held low c.index.ensures in
+    rw (← c.self.view_is)
+    (left_settled es (exit_mark c.args.counter c.args.range) c.in-Some.i x c.counted_down.result c.settle.new.self.presences c.self.inside.used c.self.inside.capacity c.self.invariant c.requires.cells f
+    c.counted_down.ensures (rw (← c.self.view_is) at c.settle.ensures.presences))
 
-pub returns-then-has_count-clause-result : goal.returns-then-has_count-clause-result
-returns-then-has_count-clause-result c =
+pub returns-else-count_of-eq0-clause-result : goal.returns-else-count_of-eq0-clause-result
+returns-else-count_of-eq0-clause-result c =
     let es = c.self.inside.entries.items in
-    let r = c.args.range in
     let x = c.index.result.now in
     let held = rw c.as_slice.ensures.value at c.in-Some.ensures.held in
     let low = rw c.as_slice.ensures.value at c.in-Some.ensures.within in
-    let f = found_at es r c.in-Some.i x held low c.index.ensures in
-    let some = λ (z : counter_of c.args.counter (entry_presence x) ≡ 0). c.if-count_of-eq0.false (c.count_of.ensures ∙ z) in
-    let counted : has_count (entry_presence c.counted_down-after.result) ≡ true = sym c.has_count.ensures ∙ c.if-has_count.true in
-    rw (← c.self.view_is) (rw f.seen (says_counted (entry_presence x) (entry_presence c.counted_down-after.result) c.args.counter some c.counted_down-after.ensures counted))
-
-pub overflow_sub-self : goal.overflow_sub-self
-overflow_sub-self c =
-    let es = c.self.inside.entries.items in
-    let r = c.args.range in
-    let x = c.index.result.now in
-    let held = rw c.as_slice.ensures.value at c.in-Some.ensures.held in
-    let low = rw c.as_slice.ensures.value at c.in-Some.ensures.within in
-    let f = found_at es r c.in-Some.i x held low c.index.ensures in
-    omega (arith, cells_at es r c.in-Some.i x c.self.inside.used c.self.inside.capacity c.self.invariant f, c.from.ensures)
-
-pub invariant_of-self-in-Some : goal.invariant_of-self-in-Some
-invariant_of-self-in-Some c =
-    let es = c.self.inside.entries.items in
-    let r = c.args.range in
-    let x = c.index.result.now in
-    let held = rw c.as_slice.ensures.value at c.in-Some.ensures.held in
-    let low = rw c.as_slice.ensures.value at c.in-Some.ensures.within in
-    let f = found_at es r c.in-Some.i x held low c.index.ensures in
-    let over : has_count (entry_presence c.counted_down-after.result) ≡ false = sym c.has_count.ensures ∙ c.if-has_count.false in
-    rw (c.remove.ensures.items, c.from.ensures) (left_ended es r c.args.counter c.in-Some.i x c.counted_down-after.result c.self.inside.used c.self.inside.capacity c.self.invariant c.requires f c.counted_down-after.ensures over).table
-
-pub returns-else-has_count-clause-presences : goal.returns-else-has_count-clause-presences
-returns-else-has_count-clause-presences c =
-    let es = c.self.inside.entries.items in
-    let r = c.args.range in
-    let x = c.index.result.now in
-    let held = rw c.as_slice.ensures.value at c.in-Some.ensures.held in
-    let low = rw c.as_slice.ensures.value at c.in-Some.ensures.within in
-    let f = found_at es r c.in-Some.i x held low c.index.ensures in
-    let over : has_count (entry_presence c.counted_down-after.result) ≡ false = sym c.has_count.ensures ∙ c.if-has_count.false in
-    rw (← c.self.view_is, c.remove.ensures.items) (left_ended es r c.args.counter c.in-Some.i x c.counted_down-after.result c.self.inside.used c.self.inside.capacity c.self.invariant c.requires f c.counted_down-after.ensures over).same
-
-pub returns-else-has_count-clause-result : goal.returns-else-has_count-clause-result
-returns-else-has_count-clause-result c =
-    let es = c.self.inside.entries.items in
-    let r = c.args.range in
-    let x = c.index.result.now in
-    let held = rw c.as_slice.ensures.value at c.in-Some.ensures.held in
-    let low = rw c.as_slice.ensures.value at c.in-Some.ensures.within in
-    let f = found_at es r c.in-Some.i x held low c.index.ensures in
-    let some = λ (z : counter_of c.args.counter (entry_presence x) ≡ 0). c.if-count_of-eq0.false (c.count_of.ensures ∙ z) in
-    let over : has_count (entry_presence c.counted_down-after.result) ≡ false = sym c.has_count.ensures ∙ c.if-has_count.false in
-    rw (← c.self.view_is) (rw f.seen (says_ended (entry_presence x) (entry_presence c.counted_down-after.result) c.args.counter some c.counted_down-after.ensures over))
+    let f = found_at es c.args.range c.in-Some.i x held low c.index.ensures in
+    let some = λ (z : counter_of (changed_counter (exit_change c.args.counter)) (entry_presence x) ≡ 0).
+    c.if-count_of-eq0.false (c.count_of.ensures ∙ (ap (λ k. counter_of k (entry_presence x)) (sym (exit_counter c.args.counter)) ∙ z)) in
+    rw (← c.self.view_is) (rw f.seen (says_settled (entry_presence x) (entry_presence c.counted_down.result) (exit_change c.args.counter) c.settle.result some c.counted_down.ensures c.settle.ensures.result))

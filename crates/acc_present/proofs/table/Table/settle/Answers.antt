@@ -1,0 +1,46 @@
+use Rattle.std.proofs.Common.{◌≡◌, true, false, sym, ◌∙◌, arith, refl}
+use Rattle.std.proofs.lemmas.List.{length-map}
+use Rattle.acc_present.specs.Tables.{entry_presence, has_count}
+use Rattle.acc_present.proofs.Entering.{shown, placed_at, cells_at, becomes_set, becomes_removed}
+use Rattle.acc_present.proofs.table.Table.settle.Goals as goal
+
+pub invariant_of-self : goal.invariant_of-self
+invariant_of-self c =
+    let es = c.self.inside.entries.items in
+    let f = placed_at (shown es) c.args.place c.args.after.range (rw (← c.self.view_is) at c.requires) in
+    let counted : has_count (entry_presence c.args.after) ≡ true = sym c.has_count.ensures ∙ c.if-has_count.true in
+    (becomes_set es c.args.place c.args.after (entry_presence c.args.after) f.here c.self.inside.used c.self.inside.capacity c.self.invariant f.low f.is refl (sym f.same) counted).table
+
+pub returns-then-has_count-clause-presences : goal.returns-then-has_count-clause-presences
+returns-then-has_count-clause-presences c =
+    let es = c.self.inside.entries.items in
+    let f = placed_at (shown es) c.args.place c.args.after.range (rw (← c.self.view_is) at c.requires) in
+    let counted : has_count (entry_presence c.args.after) ≡ true = sym c.has_count.ensures ∙ c.if-has_count.true in
+    rw (← c.self.view_is)
+    (rw counted
+    (becomes_set es c.args.place c.args.after (entry_presence c.args.after) f.here c.self.inside.used c.self.inside.capacity c.self.invariant f.low f.is refl (sym f.same) counted).same)
+
+pub remove-requires : goal.remove-requires
+remove-requires c =
+    let es = c.self.inside.entries.items in
+    let f = placed_at (shown es) c.args.place c.args.after.range (rw (← c.self.view_is) at c.requires) in
+    omega (arith, f.low, length-map es entry_presence)
+
+pub overflow_sub-self : goal.overflow_sub-self
+overflow_sub-self c =
+    let es = c.self.inside.entries.items in
+    let f = placed_at (shown es) c.args.place c.args.after.range (rw (← c.self.view_is) at c.requires) in
+    omega (arith, cells_at (shown es) c.args.place c.args.after.range c.self.inside.used c.self.inside.capacity c.self.invariant f, c.from.ensures)
+
+pub invariant_of-self-2 : goal.invariant_of-self-2
+invariant_of-self-2 c =
+    let es = c.self.inside.entries.items in
+    let f = placed_at (shown es) c.args.place c.args.after.range (rw (← c.self.view_is) at c.requires) in
+    rw (c.remove.ensures.items, c.from.ensures) (becomes_removed es c.args.place c.args.after.range c.self.inside.used c.self.inside.capacity c.self.invariant f).table
+
+pub returns-clause-presences : goal.returns-clause-presences
+returns-clause-presences c =
+    let es = c.self.inside.entries.items in
+    let f = placed_at (shown es) c.args.place c.args.after.range (rw (← c.self.view_is) at c.requires) in
+    let over : has_count (entry_presence c.args.after) ≡ false = sym c.has_count.ensures ∙ c.if-has_count.false in
+    rw (← c.self.view_is, c.remove.ensures.items) (rw over (becomes_removed es c.args.place c.args.after.range c.self.inside.used c.self.inside.capacity c.self.invariant f).same)

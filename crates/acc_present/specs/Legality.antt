@@ -1,0 +1,32 @@
+-- Legal marks: each met its condition when it was made.
+use Rattle.std.specs.Prelude.{◌≡◌, ◌+◌, ◌<◌, ⊤, false, List, [], ◌∷◌, All, Option, IsSomeAnd}
+use Rattle.acc_base.specs.declared.range.Range.{Range}
+use Rattle.acc_present.specs.Marks.{Change, Structured_up, Structured_down, Dynamic_up, Dynamic_down, Dynamic_zero, Mark}
+use Rattle.acc_present.specs.Lifetimes.{live, entries_of, exits_of, structured_of}
+use Rattle.acc_present.specs.Presences.{Presence, presences, holder, is_partly_present}
+
+-- what a region leaves, a region has entered: it is present, and its structured counter is positive
+abbrev pub IsEntered : Option Presence → Type 0
+IsEntered o = IsSomeAnd o (λ p. 0 < p.s)
+
+-- The condition of a change of a range's counter: no entry to a range that is partly present, and no exit of a region
+-- from a range that none has entered. A dynamic exit takes no action where it finds nothing.
+abbrev pub MeetsCondition : Change → Range → List Presence → Type 0
+MeetsCondition Structured_up r ps = is_partly_present ps r ≡ false
+MeetsCondition Structured_down r ps = IsEntered (holder ps r)
+MeetsCondition Dynamic_up r ps = is_partly_present ps r ≡ false
+MeetsCondition Dynamic_down r ps = ⊤
+MeetsCondition Dynamic_zero r ps = ⊤
+
+abbrev pub IsLegal : Mark → List Presence → Type 0
+IsLegal m ps = (0 < m.range.len) × MeetsCondition m.change m.range ps
+
+abbrev pub AllLegal : List Mark → Type 0
+AllLegal [] = ⊤
+AllLegal (m ∷ before) = IsLegal m (presences before) × AllLegal before
+
+-- After legal marks no live lifetime was left by more regions than entered it: its structured counter and the exits
+-- together are the entries.
+abbrev pub StructuredIsTheDifference : Type 0
+StructuredIsTheDifference = (marks : List Mark) → AllLegal marks
+    → All (λ l. structured_of marks l + exits_of marks l ≡ entries_of marks l) (live marks)

@@ -1,0 +1,262 @@
+ghost use Rattle.std.specs.Prelude.{◌≡◌, ℕ, ◌+◌, ◌<◌, ◌≤◌, [], length, map, filter, slice_get, slice_set, true, false, None, if◌then◌else◌, vec_len, vec_capacity, IfSome, IfOk, IfErr};
+ghost use Rattle.std.specs.Option.{option_map, option_and_then};
+ghost use Rattle.acc_base.specs.declared.fault.Fault.TheVariants.{Memory};
+ghost use Rattle.acc_present.specs.Legality.{MeetsCondition};
+ghost use Rattle.acc_present.specs.Marks.{Dynamic_zero};
+ghost use Rattle.acc_present.specs.Presences.{holder, is_present, is_partly_present, overlaps_any, used_cells};
+ghost use Rattle.acc_present.specs.Tables.{entry_mark, exit_mark, finalize_mark, exit_change, counter_of, presences_after, kept_after, has_count, entry_presence, is_table, IsLook, left_of};
+ghost use Rattle.acc_present.specs.Drafts.{beside, with_changed, drafted, IsDraft};
+
+use crate::table::{
+    COUNTER_LIMIT, Counter, Entered, Entry, Left, Look, Table, count_of, counted_down, counted_up,
+    has_count, new_entry, overlaps_one,
+};
+use acc_base::{BlockId, Fault, Range};
+use std::alloc::Global;
+use std::marker::Model;
+
+/// What marks would make of a table that doesn't have them yet.
+#[derive(Drop)]
+pub struct Draft {
+    // the entries that the marks changed, as they are after them; one that ended has no count
+    changed: Vec<Entry>,
+    used: u64,
+}
+
+impl Model for Draft {
+    ghost use Rattle.std.specs.Prelude.{map, vec_capacity};
+    ghost use Rattle.acc_present.specs.Drafts.{Drafted};
+    ghost use Rattle.acc_present.specs.Tables.{entry_presence};
+
+    ghost Value = { Drafted };
+
+    ghost view = { λ d. record { changed = map entry_presence d.changed.items; used = d.used; room = vec_capacity d.changed } };
+}
+
+impl Draft {
+    /// A draft with memory for this many changed entries.
+    ///
+    /// # Errors
+    ///
+    /// `Memory` where memory is refused.
+    pub fn with_room(alloc: Global, room: usize) -> Result<Self, Fault>
+        ensures changed { IfOk result (λ d. d.changed ≡ []) }
+        ensures room { IfOk result (λ d. room ≤ d.room) }
+        ensures fault { IfErr result (λ fault. fault ≡ Memory) }
+    {
+        let changed = Vec::with_capacity(alloc, room)?;
+        Ok(Draft { changed, used: 0 })
+    }
+
+    /// Begins a draft of this table, without marks.
+    pub fn begin(&mut self, table: &Table)
+        ensures draft { IsDraft table.now self.new }
+        ensures drafted { drafted table.now self.new ≡ table.now.presences }
+        ensures changed { self.new.changed ≡ [] }
+        ensures room { self.new.room ≡ self.old.room }
+    {
+        table.keeps_order();
+        self.changed.clear();
+        self.used = table.used_cells();
+    }
+
+    /// What the table would have of a range.
+    pub fn look(&self, table: &Table, range: Range) -> Look
+        requires draft { IsDraft table.now self.now }
+        requires cells { 0 < range.len }
+        ensures { IsLook (drafted table.now self.now) range result }
+    {
+        let changed = self.changed.as_slice();
+        match counted_place(changed, range) {
+            Some(i) => Look::Present(changed[i]),
+            None => match unchanged(changed, table, range) {
+                Some(entry) => Look::Present(entry),
+                None => {
+                    if overlaps_drafted(changed, table, range) {
+                        Look::Partly
+                    } else {
+                        Look::Absent
+                    }
+                }
+            },
+        }
+    }
+
+    /// Counts an entry to a range, and opens its data lifetime where it was absent.
+    pub fn enter(
+        &mut self,
+        table: &Table,
+        range: Range,
+        counter: Counter,
+        block: BlockId,
+    ) -> Entered
+        requires draft { IsDraft table.now self.old }
+        requires cells { 0 < range.len }
+        requires whole { is_partly_present (drafted table.now self.old) range ≡ false }
+        requires low { IfSome (holder (drafted table.now self.old) range) (λ p. counter_of counter p < COUNTER_LIMIT) }
+        requires capacity { holder (drafted table.now self.old) range ≡ None → used_cells (drafted table.now self.old) + range.len ≤ table.now.capacity }
+        requires room { length self.old.changed < self.old.room }
+        ensures draft { IsDraft table.now self.new }
+        ensures drafted { drafted table.now self.new ≡ presences_after (entry_mark counter range) block (drafted table.now self.old) }
+        ensures changed { length self.new.changed ≤ length self.old.changed + 1 }
+        ensures room { self.new.room ≡ self.old.room }
+        ensures result { result ≡ (if is_present (drafted table.now self.old) range then Entered.Counted else Entered.Opened) }
+    {
+        table.keeps_order();
+        match place_for(&mut self.changed, table, range) {
+            Some(i) => {
+                self.changed[i] = counted_up(&self.changed[i], counter);
+                Entered::Counted
+            }
+            None => {
+                self.changed.push_reserved(new_entry(range, counter, block));
+                self.used += u64::from(range.len);
+                Entered::Opened
+            }
+        }
+    }
+
+    /// Counts an exit from a range, and ends its data lifetime where both counters are zero. A region leaves only
+    /// what a region entered.
+    pub fn leave(&mut self, table: &Table, range: Range, counter: Counter) -> Left
+        requires draft { IsDraft table.now self.old }
+        requires cells { 0 < range.len }
+        requires condition { MeetsCondition (exit_change counter) range (drafted table.now self.old) }
+        requires room { length self.old.changed < self.old.room }
+        ensures draft { IsDraft table.now self.new }
+        ensures drafted { drafted table.now self.new ≡ kept_after (exit_mark counter range) (drafted table.now self.old) }
+        ensures changed { length self.new.changed ≤ length self.old.changed + 1 }
+        ensures room { self.new.room ≡ self.old.room }
+        ensures result { result ≡ left_of (holder (drafted table.now self.old) range) (exit_change counter) }
+    {
+        match place_for(&mut self.changed, table, range) {
+            None => Left::Nothing,
+            Some(i) => {
+                let entry = self.changed[i];
+                if count_of(&entry, counter) == 0 {
+                    return Left::Nothing;
+                }
+                self.settle(i, counted_down(&entry, counter))
+            }
+        }
+    }
+
+    /// Sets the dynamic counter of a range to zero, and ends its data lifetime where the structured one is zero too
+    /// (OpenACC API 3.0, 2.6.6, Enter Data and Exit Data Directives: the `finalize` clause).
+    pub fn finalize(&mut self, table: &Table, range: Range) -> Left
+        requires draft { IsDraft table.now self.old }
+        requires cells { 0 < range.len }
+        requires room { length self.old.changed < self.old.room }
+        ensures draft { IsDraft table.now self.new }
+        ensures drafted { drafted table.now self.new ≡ kept_after (finalize_mark range) (drafted table.now self.old) }
+        ensures changed { length self.new.changed ≤ length self.old.changed + 1 }
+        ensures room { self.new.room ≡ self.old.room }
+        ensures result { result ≡ left_of (holder (drafted table.now self.old) range) Dynamic_zero }
+    {
+        match place_for(&mut self.changed, table, range) {
+            None => Left::Nothing,
+            Some(i) => {
+                let entry = self.changed[i];
+                if entry.d == 0 {
+                    return Left::Nothing;
+                }
+                self.settle(i, Entry { d: 0, ..entry })
+            }
+        }
+    }
+
+    // Puts what an exit makes of the changed entry at this place.
+    fn settle(&mut self, place: usize, after: Entry) -> Left
+        requires place { place < length self.old.changed }
+        requires cells { has_count (entry_presence after) ≡ false → after.range.len ≤ self.old.used }
+        ensures changed { self.new.changed ≡ slice_set self.old.changed place (entry_presence after) }
+        ensures used { self.new.used + (if has_count (entry_presence after) then 0 else after.range.len) ≡ self.old.used }
+        ensures room { self.new.room ≡ self.old.room }
+        ensures result { result ≡ (if has_count (entry_presence after) then Left.Counted else Left.Ended after.block) }
+    {
+        self.changed[place] = after;
+        if has_count(&after) {
+            return Left::Counted;
+        }
+        self.used -= u64::from(after.range.len);
+        Left::Ended(after.block)
+    }
+
+    /// How many cells would be in use.
+    pub fn used_cells(&self) -> u64
+        ensures { result ≡ self.now.used }
+    {
+        self.used
+    }
+}
+
+// The place of the changed entry that has a count and contains the range.
+fn counted_place(changed: &[Entry], range: Range) -> Option<usize>
+    ensures held { option_and_then (slice_get (map entry_presence changed.now)) result ≡ holder (filter has_count (map entry_presence changed.now)) range }
+    ensures within { IfSome result (λ i. i < length changed.now) }
+{
+    changed
+        .iter()
+        .position(|entry| has_count(entry) && entry.range.contains(&range))
+}
+
+// The table's entry that contains the range, if no changed one overlaps it.
+fn unchanged(changed: &[Entry], table: &Table, range: Range) -> Option<Entry>
+    requires cells { 0 < range.len }
+    ensures { option_map entry_presence result ≡ holder (beside (map entry_presence changed.now) table.now.presences) range }
+{
+    table.keeps_order();
+    match table.look(range) {
+        Look::Absent | Look::Partly => None,
+        Look::Present(entry) => {
+            if overlaps_one(changed, entry.range) {
+                None
+            } else {
+                Some(entry)
+            }
+        }
+    }
+}
+
+// Whether a changed entry that has a count overlaps the range.
+fn overlaps_counted(changed: &[Entry], range: Range) -> bool
+    ensures { result ≡ overlaps_any (filter has_count (map entry_presence changed.now)) range }
+{
+    changed
+        .iter()
+        .any(|entry| has_count(entry) && entry.range.overlaps(&range))
+}
+
+// Whether the range would overlap a present one.
+fn overlaps_drafted(changed: &[Entry], table: &Table, range: Range) -> bool
+    ensures { result ≡ overlaps_any (with_changed (map entry_presence changed.now) table.now.presences) range }
+{
+    overlaps_counted(changed, range) || table.overlaps_beside(range, changed)
+}
+
+// The place among the changed entries of the one that would contain the range, which is put there where only
+// the table has it.
+fn place_for(changed: &mut Vec<Entry>, table: &Table, range: Range) -> Option<usize>
+    requires cells { 0 < range.len }
+    requires after { is_table (with_changed (map entry_presence changed.old.items) table.now.presences) ≡ true }
+    requires room { vec_len changed.old < vec_capacity changed.old }
+    ensures same { with_changed (map entry_presence changed.new.items) table.now.presences ≡ with_changed (map entry_presence changed.old.items) table.now.presences }
+    ensures held { option_and_then (slice_get (map entry_presence changed.new.items)) result ≡ holder (with_changed (map entry_presence changed.old.items) table.now.presences) range }
+    ensures within { IfSome result (λ i. i < vec_len changed.new) }
+    ensures none { result ≡ None → changed.new ≡ changed.old }
+    ensures longer { vec_len changed.new ≤ vec_len changed.old + 1 }
+    ensures room { vec_capacity changed.new ≡ vec_capacity changed.old }
+{
+    table.keeps_order();
+    match counted_place(changed.as_slice(), range) {
+        Some(i) => Some(i),
+        None => match unchanged(changed.as_slice(), table, range) {
+            None => None,
+            Some(entry) => {
+                let place = changed.len();
+                changed.push_reserved(entry);
+                Some(place)
+            }
+        },
+    }
+}

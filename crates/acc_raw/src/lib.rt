@@ -1,0 +1,6 @@
+//! Raw rows of numbers.
+#![tactic(auto)]
+
+mod cells;
+
+pub use cells::{Cells, Window};

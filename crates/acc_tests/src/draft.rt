@@ -1,0 +1,134 @@
+ghost use Rattle.std.specs.Prelude.{◌≡◌, ◌+◌, ◌<◌, ◌≤◌, length};
+ghost use Rattle.acc_present.specs.Drafts.{IsDraft};
+
+use crate::refusal::Hoard;
+use acc_base::{BlockId, Fault, Range};
+use acc_present::{Counter, Draft, Entered, Entry, Left, Look, Table};
+use std::process::Abort;
+use std::test::Fail;
+
+const CELLS: u64 = 1_000_000;
+
+fn cells(lo: u32, len: u32) -> Range
+    ensures array { result.array ≡ 0 }
+    ensures lo { result.lo ≡ lo }
+    ensures len { result.len ≡ len }
+{
+    Range { array: 0, lo, len }
+}
+
+// Enters a range into the table itself, with all that has to be tested before.
+fn entered_into(rt: &impl Abort, table: &mut Table, range: Range, block: u64) -> Entered
+    requires capacity { table.old.capacity ≡ CELLS }
+    requires cells { 0 < range.len }
+    ensures { table.new.capacity ≡ CELLS }
+{
+    assert!(rt; table.spare(1).is_ok());
+    let used = table.used_cells();
+    assert!(rt; used < CELLS - 1_000);
+    assert!(rt; range.len < 1_000);
+    match table.look(range) {
+        Look::Absent => table.enter(range, Counter::Dynamic, BlockId::new(block)),
+        Look::Present(entry) => {
+            assert!(rt; entry.d < 1_000);
+            table.enter(range, Counter::Dynamic, BlockId::new(block))
+        }
+        Look::Partly => {
+            assert!(rt; false, "partly present");
+            Entered::Counted
+        }
+    }
+}
+
+// Enters a range into a draft, with all that has to be tested before.
+fn drafted_into(
+    rt: &impl Abort,
+    table: &Table,
+    draft: &mut Draft,
+    range: Range,
+    block: u64,
+) -> Entered
+    requires draft { IsDraft table.now draft.old }
+    requires capacity { table.now.capacity ≡ CELLS }
+    requires cells { 0 < range.len }
+    requires room { length draft.old.changed < draft.old.room }
+    ensures draft { IsDraft table.now draft.new }
+    ensures changed { length draft.new.changed ≤ length draft.old.changed + 1 }
+    ensures room { draft.new.room ≡ draft.old.room }
+{
+    let used = draft.used_cells();
+    assert!(rt; used < CELLS - 1_000);
+    assert!(rt; range.len < 1_000);
+    match draft.look(table, range) {
+        Look::Absent => draft.enter(table, range, Counter::Dynamic, BlockId::new(block)),
+        Look::Present(entry) => {
+            assert!(rt; entry.d < 1_000);
+            draft.enter(table, range, Counter::Dynamic, BlockId::new(block))
+        }
+        Look::Partly => {
+            assert!(rt; false, "partly present");
+            Entered::Counted
+        }
+    }
+}
+
+fn entry(range: Range, block: u64, d: u64) -> Look {
+    Look::Present(Entry {
+        range,
+        block: BlockId::new(block),
+        s: 0,
+        d,
+    })
+}
+
+#[test]
+fn a_draft_shows_what_its_marks_make(rt: HostRuntime) -> Result<(), Fail> {
+    let by = Counter::Dynamic;
+    let mut table = Table::new(rt.alloc(), CELLS);
+    let _ = entered_into(&rt, &mut table, cells(0, 2), 1);
+    let _ = entered_into(&rt, &mut table, cells(2, 2), 2);
+    let _ = entered_into(&rt, &mut table, cells(8, 4), 3);
+    let _ = entered_into(&rt, &mut table, cells(8, 4), 4);
+    let mut draft = Draft::with_room(rt.alloc(), 16)?;
+    draft.begin(&table);
+    assert_eq!(rt; draft.look(&table, cells(0, 4)), Look::Partly);
+    assert_eq!(rt;
+        draft.leave(&table, cells(0, 2), by),
+        Left::Ended(BlockId::new(1))
+    );
+    assert_eq!(rt; draft.look(&table, cells(0, 4)), Look::Partly);
+    assert_eq!(rt;
+        draft.leave(&table, cells(2, 2), by),
+        Left::Ended(BlockId::new(2))
+    );
+    assert_eq!(rt; draft.look(&table, cells(0, 4)), Look::Absent);
+    assert_eq!(rt; draft.leave(&table, cells(0, 4), by), Left::Nothing);
+    assert_eq!(rt;
+        drafted_into(&rt, &table, &mut draft, cells(1, 5), 4),
+        Entered::Opened
+    );
+    assert_eq!(rt; draft.look(&table, cells(2, 3)), entry(cells(1, 5), 4, 1));
+    assert_eq!(rt; draft.look(&table, cells(0, 2)), Look::Partly);
+    assert_eq!(rt; draft.leave(&table, cells(9, 1), by), Left::Counted);
+    assert_eq!(rt; draft.look(&table, cells(8, 4)), entry(cells(8, 4), 3, 1));
+    assert_eq!(rt;
+        draft.leave(&table, cells(8, 4), by),
+        Left::Ended(BlockId::new(3))
+    );
+    assert_eq!(rt; draft.look(&table, cells(6, 3)), Look::Absent);
+    assert_eq!(rt; draft.used_cells(), 5);
+    assert_eq!(rt; table.used_cells(), 8);
+    draft.begin(&table);
+    assert_eq!(rt; draft.look(&table, cells(8, 4)), entry(cells(8, 4), 3, 2));
+    Ok(())
+}
+
+#[test]
+fn a_draft_that_has_no_memory(rt: HostRuntime) -> Result<(), Fail> {
+    let mut hoard = Hoard::new(rt.alloc())?;
+    hoard.fill(rt.alloc());
+    let made = Draft::with_room(rt.alloc(), 100_000);
+    hoard.free();
+    assert_eq!(rt; made.map(|_| ()), Err(Fault::Memory));
+    Ok(())
+}
