@@ -1,3 +1,4 @@
 mod Limits
 mod Rows
+pub mod SameQueue
 pub mod Sets

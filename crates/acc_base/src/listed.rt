@@ -1,5 +1,7 @@
-ghost use Rattle.std.specs.Prelude.{◌≡◌};
+ghost use Rattle.std.specs.Prelude.{◌≡◌, IfOk, IfErr};
 
+use crate::fault::Fault;
+use std::alloc::Global;
 use std::marker::Model;
 
 /// A vector that a contract sees as the list of its items.
@@ -36,5 +38,22 @@ impl<T> Listed<T> {
         ensures { result.now ≡ self.now }
     {
         self.items.as_slice()
+    }
+}
+
+impl<T: Copy> Listed<T> {
+    ghost use Rattle.acc_base.specs.declared.fault.Fault.TheVariants as fault;
+
+    /// An equal list.
+    ///
+    /// # Errors
+    ///
+    /// `Memory` where memory is refused.
+    pub fn try_clone(&self, alloc: Global) -> Result<Self, Fault>
+        ensures equal { IfOk result (λ a. a ≡ self.now) }
+        ensures fault { IfErr result (λ f. f ≡ fault.Memory) }
+    {
+        let items = Vec::from_slice(alloc, self.as_slice())?;
+        Ok(Listed { items })
     }
 }

@@ -3,12 +3,12 @@ use Rattle.std.proofs.Common.{◌≡◌, ℕ, ◌+◌, ◌-◌, ◌<◌, ◌≤�
 use Rattle.std.specs.Prelude.{All, MatchBool}
 use Rattle.std.proofs.lemmas.List.{length-append, length-drop}
 use Rattle.std.proofs.lemmas.List.Elements.{All-nil, All-cons, All-head, All-tail, All-drop}
-use Rattle.acc_core.specs.declared.batch.Batch.{Batch}
+use Rattle.acc_batch.specs.declared.operation.Label.{Label}
 use Rattle.acc_core.specs.declared.event.Event.TheVariants as event
 use Rattle.acc_core.specs.declared.log.WorkEntry.TheVariants as entry
-use Rattle.acc_core.specs.declared.operation.Op.{Op}
-use Rattle.acc_core.specs.declared.operation.Op.TheVariants.{Make, CopyIn, CopyOut, Release}
-use Rattle.acc_core.specs.Labels.{on_queue, ops_of, batch_at}
+use Rattle.acc_batch.specs.declared.operation.Op.{Op}
+use Rattle.acc_batch.specs.declared.operation.Op.TheVariants.{Make, CopyIn, CopyOut, Release}
+use Rattle.acc_batch.specs.Labels.{on_queue, ops_of, batch_at}
 use Rattle.acc_core.specs.Legality.{Legal, made}
 use Rattle.acc_core.specs.Logs.{performed, host_allows}
 use Rattle.acc_core.specs.Machine.{State, is_there, perform_step, step, idle, did, with_op}
@@ -37,7 +37,7 @@ makes_one (CopyOut b r) = omega arith
 makes_one (Release b) = omega arith
 
 -- what is in the lane is waiting
-pub lane_waits : (w : State) (v : WorkView) (queue : List Batch) (t waiting : ℕ) → Queued w v queue t waiting → length v.lane ≤ waiting
+pub lane_waits : (w : State) (v : WorkView) (queue : List Label) (t waiting : ℕ) → Queued w v queue t waiting → length v.lane ≤ waiting
 lane_waits w v queue t waiting q =
     omega (arith, ap length q.in_lane, length-drop (performed_count w) (ops_of (take t (labels_of w))), ops_of-take-le t (labels_of w), q.performed_taken, q.all_waiting)
 
@@ -46,14 +46,14 @@ all_first P [] ys h = All-nil P
 all_first P (x ∷ xs) ys h = All-cons P x xs (All-head P x (xs ++ ys) h) (all_first P xs ys (All-tail P x (xs ++ ys) h))
 
 -- the lane's operations have cells
-lane_cells : (w : State) (v : WorkView) (queue : List Batch) (t waiting : ℕ) → Legal w → Queued w v queue t waiting → All HasCells v.lane
+lane_cells : (w : State) (v : WorkView) (queue : List Label) (t waiting : ℕ) → Legal w → Queued w v queue t waiting → All HasCells v.lane
 lane_cells w v queue t waiting legal q =
     rw q.in_lane (All-drop HasCells (performed_count w) (ops_of (take t (labels_of w)))
     (all_first HasCells (ops_of (take t (labels_of w))) (ops_of (drop t (labels_of w)))
     (rw (ops_of_all t (labels_of w)) at (all_cells w.config w.history w.counts legal.accepted))))
 
 -- the next operation may follow
-pub next_may_follow : (w : State) (v : WorkView) (queue : List Batch) (t waiting queue_room : ℕ) → IsAccelerator (with_taken w t) v queue t waiting queue_room → v.work ≡ w.work → NextMayFollow v v.lane
+pub next_may_follow : (w : State) (v : WorkView) (queue : List Label) (t waiting queue_room : ℕ) → IsAccelerator (with_taken w t) v queue t waiting queue_room → v.work ≡ w.work → NextMayFollow v v.lane
 next_may_follow w v queue t waiting queue_room a same = may v.lane refl
   where
     q : Queued (with_taken w t) v queue t waiting
@@ -91,7 +91,7 @@ advanced v v' h = by_lane v.lane refl h
     by_lane (op ∷ ops) e g = by_test op ops (lane_allows v) e refl g
 
 -- the next operation is one of the lane's batch, whose host's items are those that the lane asks for
-allows_next : (w : State) (v : WorkView) (queue : List Batch) (t waiting : ℕ) (op : Op) (ops : List Op) → Queued w v queue t waiting → v.lane ≡ op ∷ ops → v.work ≡ w.work
+allows_next : (w : State) (v : WorkView) (queue : List Label) (t waiting : ℕ) (op : Op) (ops : List Op) → Queued w v queue t waiting → v.lane ≡ op ∷ ops → v.work ≡ w.work
     → host_allows (batch_at (on_queue sync (labels_of w)) (performed_count w)) w.work ≡ lane_allows v
 allows_next w v queue t waiting op ops q e same =
     let some : 0 < length v.lane = omega (arith, ap length e) in
@@ -101,14 +101,14 @@ allows_next w v queue t waiting op ops q e same =
     let at = batch_at_next b short in
     rw (q.single, at, b.of_host, b.of_items, ← same) refl
 
-pub performs_did : (w : State) (v v' : WorkView) (queue : List Batch) (t waiting queue_room : ℕ) → IsAccelerator (with_taken w t) v queue t waiting queue_room → v.work ≡ w.work → Advanced v v'
+pub performs_did : (w : State) (v v' : WorkView) (queue : List Label) (t waiting queue_room : ℕ) → IsAccelerator (with_taken w t) v queue t waiting queue_room → v.work ≡ w.work → Advanced v v'
     → step false (with_taken w t) (event.Perform sync) ≡ did (with_work (with_taken w t) v')
 performs_did w v v' queue t waiting queue_room a same did =
     let next = lane_is_rest (with_taken w t) v queue t waiting a.parts ∙ did.lane in
     let allowed = allows_next (with_taken w t) v queue t waiting did.op did.ops a.parts did.lane same ∙ did.allows in
     rw (is_there_sync w t a.one_device, next, allowed, did.performed.work, same) refl
 
-pub performed_more : (w : State) (v v' : WorkView) (queue : List Batch) (t waiting queue_room : ℕ) → IsAccelerator (with_taken w t) v queue t waiting queue_room → v.work ≡ w.work → Advanced v v'
+pub performed_more : (w : State) (v v' : WorkView) (queue : List Label) (t waiting queue_room : ℕ) → IsAccelerator (with_taken w t) v queue t waiting queue_room → v.work ≡ w.work → Advanced v v'
     → IsAccelerator (with_work (with_taken w t) v') v' queue t (waiting - 1) queue_room
 performed_more w v v' queue t waiting queue_room a same did =
     let w0 = with_taken w t in
@@ -132,7 +132,6 @@ performed_more w v v' queue t waiting queue_room a same did =
         single = q.single;
         filled = q.filled;
         queued = q.queued;
-        ready = q.ready;
         taken_low = q.taken_low;
         in_lane = did.performed.lane ∙ rw count (sym one.1);
         of_batch = λ _. record {
@@ -171,7 +170,7 @@ waited v v' h = by_lane v.lane refl h
     by_lane [] e g = record { same = g.1; waits = λ op ops f. (let no : [] ≡ op ∷ ops = sym e ∙ f in cc) }
     by_lane (op ∷ ops) e g = by_test op ops (lane_allows v) e refl g
 
-pub performs_idle : (w : State) (v v' : WorkView) (queue : List Batch) (t waiting queue_room : ℕ) → IsAccelerator (with_taken w t) v queue t waiting queue_room → v.work ≡ w.work → Waited v v'
+pub performs_idle : (w : State) (v v' : WorkView) (queue : List Label) (t waiting queue_room : ℕ) → IsAccelerator (with_taken w t) v queue t waiting queue_room → v.work ≡ w.work → Waited v v'
     → step false (with_taken w t) (event.Perform sync) ≡ idle (with_taken w t)
 performs_idle w v v' queue t waiting queue_room a same none =
     rw (is_there_sync w t a.one_device, lane_is_rest (with_taken w t) v queue t waiting a.parts) (by_lane v.lane refl)

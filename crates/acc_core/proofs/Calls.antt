@@ -6,10 +6,10 @@ use Rattle.std.proofs.lemmas.Bool.{eq-eqb, eqb-true, leb-true}
 use Rattle.std.proofs.lemmas.List.{length-map, length-replicate, map-append, map-set, take_more}
 use Rattle.std.proofs.lemmas.Option.{get_or_from_slice_get, slice_get_within, slice_get_read, slice_get-map}
 use Rattle.acc_base.specs.declared.range.Range.{Range}
-use Rattle.acc_core.specs.declared.memory.Block.{Block}
-use Rattle.acc_core.specs.declared.operation.Op.{Op}
-use Rattle.acc_core.specs.declared.operation.Op.TheVariants.{Make, CopyIn, CopyOut, Release}
-use Rattle.acc_core.specs.Accepting.{ends_within}
+use Rattle.acc_batch.specs.declared.task.Block.{Block}
+use Rattle.acc_batch.specs.declared.operation.Op.{Op}
+use Rattle.acc_batch.specs.declared.operation.Op.TheVariants.{Make, CopyIn, CopyOut, Release}
+use Rattle.acc_place.specs.Accepting.{ends_within}
 use Rattle.acc_core.specs.Blocks.{row_of}
 use Rattle.acc_core.specs.Legality.{Made}
 use Rattle.acc_core.specs.Memories.{Row, Cells, Shows, held_blocks, blocks_after, find_row, find_block, made_of, place_of, is_whole, lengths_of, IsMemory, HasRange, IsCopy}

@@ -3,26 +3,26 @@ use Rattle.std.proofs.Common.{◌≡◌, ℕ, Bool, true, false, cond, List, [],
 use Rattle.std.specs.Prelude.{IsTrue, not, nat_lt, nat_le, slice_get}
 use Rattle.acc_base.specs.declared.ids.QueueAt.{QueueAt}
 use Rattle.acc_base.specs.declared.fault.Fault.{Fault}
-use Rattle.acc_core.specs.declared.directive.Directive.{Directive}
+use Rattle.acc_place.specs.declared.directive.Directive.{Directive}
 use Rattle.acc_core.specs.declared.event.Event.{Event}
 use Rattle.acc_core.specs.declared.event.Event.TheVariants as event
 use Rattle.acc_core.specs.declared.event.Reply.{Reply}
 use Rattle.acc_core.specs.declared.log.Shown.{Shown}
 use Rattle.acc_core.specs.declared.log.Shown.TheVariants as shown
 use Rattle.acc_core.specs.declared.log.TheConstants.{MAX_HOST_ITEMS}
-use Rattle.acc_core.specs.declared.operation.Op.{Op}
+use Rattle.acc_batch.specs.declared.operation.Op.{Op}
 use Rattle.acc_core.specs.declared.program.Act.{Act}
 use Rattle.acc_core.specs.declared.program.Act.TheVariants as act
 use Rattle.acc_core.specs.declared.program.Host.{Host}
 use Rattle.acc_core.specs.declared.program.Phase.{Phase}
 use Rattle.acc_core.specs.declared.program.Phase.TheVariants as phase
 use Rattle.acc_core.specs.declared.program.Statement.{Statement}
-use Rattle.acc_core.specs.Accepting.{refusal}
-use Rattle.acc_core.specs.Labels.{on_queue, batch_at}
+use Rattle.acc_place.specs.Accepting.{refusal}
+use Rattle.acc_batch.specs.Labels.{on_queue, batch_at}
 use Rattle.acc_core.specs.Legality.{ShowsTruth}
 use Rattle.acc_core.specs.Logs.{performed, all_items, all_done, host_allows}
 use Rattle.acc_core.specs.Machine.{State, Outcome, Step, standing_of, is_there, held, rest, with_host, next_statement, with_item, with_op, is_full, item_step, accepting, place_step, act_step, statement_step, host_step, named_step, take_step, perform_step, queue_step, step}
-use Rattle.acc_core.specs.Standings.{walk_of}
+use Rattle.acc_place.specs.Standings.{walk_of}
 
 -- P holds of a state, and of each state that one change may make of it.
 pub record Changes (P : State → Type 0) (w : State) : Type 0 where

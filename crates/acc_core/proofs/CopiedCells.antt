@@ -6,17 +6,17 @@ use Rattle.std.proofs.lemmas.Bool.{and_parts, ltb-true}
 use Rattle.std.proofs.lemmas.List.Elements.{All-nil, All-append, All-map}
 use Rattle.acc_base.specs.declared.fault.Fault.TheVariants.{BadDevice, BadRange, TooMany}
 use Rattle.acc_base.specs.Configurations.{Configuration}
-use Rattle.acc_core.specs.declared.operation.Op.{Op}
-use Rattle.acc_core.specs.declared.operation.Op.TheVariants.{Make, CopyIn, CopyOut, Release}
-use Rattle.acc_core.specs.declared.directive.Directive.{Directive}
-use Rattle.acc_core.specs.declared.directive.PlaceEntry.{PlaceEntry}
-use Rattle.acc_core.specs.declared.directive.PlaceEntry.TheVariants as noted
-use Rattle.acc_core.specs.Accepting.{is_in_array, ends_within, first_fault, fault_where, fault_at, refusal, has_too_many}
-use Rattle.acc_core.specs.Batches.{copies_in, copies_out, opened_blocks, ended_blocks, makes, copy_ins, copy_outs, releases, grouped, batch_of, walk_at}
-use Rattle.acc_core.specs.Histories.{standing, after_walk}
-use Rattle.acc_core.specs.Labels.{ops_of}
+use Rattle.acc_batch.specs.declared.operation.Op.{Op}
+use Rattle.acc_batch.specs.declared.operation.Op.TheVariants.{Make, CopyIn, CopyOut, Release}
+use Rattle.acc_place.specs.declared.directive.Directive.{Directive}
+use Rattle.acc_place.specs.declared.directive.PlaceEntry.{PlaceEntry}
+use Rattle.acc_place.specs.declared.directive.PlaceEntry.TheVariants as noted
+use Rattle.acc_place.specs.Accepting.{is_in_array, ends_within, first_fault, fault_where, fault_at, refusal, has_too_many}
+use Rattle.acc_place.specs.Batches.{copies_in, copies_out, opened_blocks, ended_blocks, makes, copy_ins, copy_outs, releases, grouped, batch_of, walk_at}
+use Rattle.acc_place.specs.Histories.{standing, after_walk}
+use Rattle.acc_batch.specs.Labels.{ops_of}
 use Rattle.acc_core.specs.Legality.{AllAccepted}
-use Rattle.acc_core.specs.Standings.{Standing, Walk, walk_of, Visit, visits}
+use Rattle.acc_place.specs.Standings.{Standing, Walk, walk_of, Visit, visits}
 use Rattle.acc_core.proofs.Histories.{first_fault_none, no_fault_at}
 use Rattle.acc_core.proofs.Queues.{ops_of-labelled}
 

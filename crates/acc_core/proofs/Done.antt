@@ -6,9 +6,8 @@ use Rattle.std.proofs.lemmas.List.{length-append, length-drop, length-take-le, t
 use Rattle.std.proofs.lemmas.List.Elements.{All-head, All-drop}
 use Rattle.acc_base.specs.declared.ids.QueueAt.{QueueAt}
 use Rattle.acc_base.specs.Queues.{same_queue}
-use Rattle.acc_core.specs.declared.batch.Batch.{Batch}
-use Rattle.acc_core.specs.declared.operation.Label.{Label}
-use Rattle.acc_core.specs.Labels.{on_queue, ops_of, whole}
+use Rattle.acc_batch.specs.declared.operation.Label.{Label}
+use Rattle.acc_batch.specs.Labels.{on_queue, ops_of, whole}
 use Rattle.acc_core.specs.Legality.{Legal}
 use Rattle.acc_core.specs.Logs.{done, performed}
 use Rattle.acc_core.specs.Machine.{State}
@@ -38,7 +37,7 @@ none_begun [] h = refl
 none_begun (l ∷ later) h = none_whole l later 0 (All-head (λ (l : Label). 0 < length l.ops) l later h)
 
 -- where the lane is empty all batches that were taken are performed
-pub done_all : (w : State) (v : WorkView) (queue : List Batch) (t waiting : ℕ) → Queued w v queue t waiting → length v.lane ≤ 0 → done (labels_of w) w.work sync ≡ t
+pub done_all : (w : State) (v : WorkView) (queue : List Label) (t waiting : ℕ) → Queued w v queue t waiting → length v.lane ≤ 0 → done (labels_of w) w.work sync ≡ t
 done_all w v queue t waiting q none =
     let ls = labels_of w in
     let ends : performed_count w ≡ length (ops_of (take t ls)) = omega (arith, none, ap length q.in_lane, length-drop (performed_count w) (ops_of (take t ls)), q.performed_taken) in
@@ -48,7 +47,7 @@ done_all w v queue t waiting q none =
     ap (λ r. whole r (performed_count w)) (q.single ∙ sym (take-append-drop t ls)) ∙ (behind ∙ omega (arith, rest, length-take-le t ls q.taken_low))
 
 -- where it isn't, all but the last of them are
-pub done_but_one : (w : State) (v : WorkView) (queue : List Batch) (t waiting : ℕ) → Queued w v queue t waiting → 0 < length v.lane → done (labels_of w) w.work sync + 1 ≡ t
+pub done_but_one : (w : State) (v : WorkView) (queue : List Label) (t waiting : ℕ) → Queued w v queue t waiting → 0 < length v.lane → done (labels_of w) w.work sync + 1 ≡ t
 done_but_one w v queue t waiting q some =
     let n = performed_count w in
     let b = q.of_batch some in

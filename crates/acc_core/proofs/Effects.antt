@@ -5,7 +5,7 @@ use Rattle.std.proofs.lemmas.Bool.{cases_Bool, cases_eq, and_parts, and_from, eq
 use Rattle.std.proofs.lemmas.Bool.Decides.{nat_tests}
 use Rattle.acc_base.specs.declared.range.Range.{Range}
 use Rattle.acc_core.specs.declared.log.Shown.TheVariants.{Write}
-use Rattle.acc_core.specs.declared.operation.Op.TheVariants.{Make, CopyIn, CopyOut, Release}
+use Rattle.acc_batch.specs.declared.operation.Op.TheVariants.{Make, CopyIn, CopyOut, Release}
 use Rattle.acc_core.specs.Logs.{or_empty, or_zero, after_item, values_of}
 use Rattle.acc_core.specs.Memories.{Row, Cells, find_row, row_cell, row_has, Shows, IsCopy}
 use Rattle.acc_core.specs.Values.{Cell, Host_cell, Block_cell, is_in, after_op}

@@ -5,7 +5,7 @@ use Rattle.std.proofs.lemmas.Bool.{cases_Bool, le-ltb}
 use Rattle.acc_base.specs.declared.ids.QueueAt.{QueueAt}
 use Rattle.acc_base.specs.Queues.{same_queue}
 use Rattle.acc_core.specs.declared.event.Event.TheVariants as event
-use Rattle.acc_core.specs.Labels.{on_queue, ops_of}
+use Rattle.acc_batch.specs.Labels.{on_queue, ops_of, AllAt}
 use Rattle.acc_core.specs.Legality.{Legal}
 use Rattle.acc_core.specs.Logs.{performed}
 use Rattle.acc_core.specs.Machine.{State, Outcome, idle, is_there, held, rest, taken_on, queue_step, take_step, step}
@@ -13,7 +13,8 @@ use Rattle.acc_core.specs.Ties.{labels_of}
 use Rattle.acc_core.specs.Works.{sync}
 use Rattle.acc_core.proofs.Histories.{placed_use}
 use Rattle.acc_core.proofs.Performing.{no_rest}
-use Rattle.acc_core.proofs.Queues.{AllAt, on_queue_none, same_queue_is, same_queue_itself}
+use Rattle.acc_base.proofs.SameQueue.{same_queue_is, same_queue_itself}
+use Rattle.acc_batch.proofs.OneQueue.{on_queue_none}
 
 -- a queue that isn't sync has no batch
 pub none_placed : (w : State) (at : QueueAt) → w.config.devices ≡ 1 → Legal w → same_queue at sync ≡ false → on_queue at (labels_of w) ≡ []

@@ -10,11 +10,11 @@ use Rattle.acc_base.specs.Ranges.{Includes}
 use Rattle.acc_base.proofs.Sets.{includes_from_test}
 use Rattle.acc_present.specs.Marks.{Mark}
 use Rattle.acc_present.specs.Lifetimes.{Lifetime, opened, live, lives}
-use Rattle.acc_core.specs.declared.operation.Op.{Op}
-use Rattle.acc_core.specs.declared.operation.Op.TheVariants.{Make, CopyIn, CopyOut, Release}
-use Rattle.acc_core.specs.Standings.{Asked, Visit, visits}
-use Rattle.acc_core.specs.Batches.{opened_blocks, ended_blocks, makes, copy_ins, copy_outs, releases, copies_in, copies_out}
-use Rattle.acc_core.specs.Accepting.{is_in_array}
+use Rattle.acc_batch.specs.declared.operation.Op.{Op}
+use Rattle.acc_batch.specs.declared.operation.Op.TheVariants.{Make, CopyIn, CopyOut, Release}
+use Rattle.acc_place.specs.Standings.{Asked, Visit, visits}
+use Rattle.acc_place.specs.Batches.{opened_blocks, ended_blocks, makes, copy_ins, copy_outs, releases, copies_in, copies_out}
+use Rattle.acc_place.specs.Accepting.{is_in_array}
 use Rattle.acc_core.specs.Legality.{Made, made, released, HoldsBlock}
 use Rattle.acc_core.proofs.Members.{no_member, member_first, member_rest, member_one, member_filter, member_map, Apart, apart_filter}
 use Rattle.acc_core.proofs.Blocks.{numbered}

@@ -4,12 +4,12 @@ use Rattle.std.specs.Prelude.{ℤ, IsTrue, nat_lt, nat_le}
 use Rattle.std.proofs.lemmas.Bool.{and_parts, and_from, leb-true, le-leb}
 use Rattle.std.proofs.lemmas.List.{append_assoc}
 use Rattle.acc_base.specs.declared.ids.QueueAt.{QueueAt}
-use Rattle.acc_core.specs.declared.operation.Label.{Label}
+use Rattle.acc_batch.specs.declared.operation.Label.{Label}
 use Rattle.acc_core.specs.declared.log.Shown.{Shown}
 use Rattle.acc_core.specs.declared.log.Shown.TheVariants as shown
 use Rattle.acc_core.specs.declared.log.WorkEntry.{WorkEntry}
 use Rattle.acc_core.specs.declared.log.WorkEntry.TheVariants as entry
-use Rattle.acc_core.specs.Labels.{on_queue, ops_of, whole, batch_at}
+use Rattle.acc_batch.specs.Labels.{on_queue, ops_of, whole, batch_at}
 use Rattle.acc_core.specs.Legality.{InOrder, ShowsTruth, InHostOrder}
 use Rattle.acc_core.specs.Logs.{performed, done, all_done, host_allows}
 use Rattle.acc_core.proofs.Queues.{ops_of-append, on_queue-append}

@@ -10,22 +10,22 @@ use Rattle.acc_base.specs.declared.fault.Fault.TheVariants.{BadDevice, BadRange,
 use Rattle.acc_base.specs.Configurations.{Configuration}
 use Rattle.acc_present.specs.Marks.{Mark}
 use Rattle.acc_present.specs.Lifetimes.{Lifetime, opened}
-use Rattle.acc_core.specs.declared.operation.Op.{Op}
-use Rattle.acc_core.specs.declared.operation.Op.TheVariants.{Make}
-use Rattle.acc_core.specs.declared.directive.Directive.{Directive}
-use Rattle.acc_core.specs.declared.directive.Kind.{Kind}
-use Rattle.acc_core.specs.declared.directive.Kind.TheVariants as kind
-use Rattle.acc_core.specs.declared.directive.PlaceEntry.{PlaceEntry}
-use Rattle.acc_core.specs.declared.directive.PlaceEntry.TheVariants as noted
-use Rattle.acc_core.specs.Standings.{Standing, Asked, Walk, walk_of, walk_by, Visit, visits, marks_after}
-use Rattle.acc_core.specs.Batches.{opened_blocks, ended_blocks, makes, copy_ins, copy_outs, releases, grouped, batch_of}
-use Rattle.acc_core.specs.Histories.{standing, after_walk, at_first}
-use Rattle.acc_core.specs.Accepting.{is_in_array, first_fault, fault_where, fault_at, refusal, has_too_many}
+use Rattle.acc_batch.specs.declared.operation.Op.{Op}
+use Rattle.acc_batch.specs.declared.operation.Op.TheVariants.{Make}
+use Rattle.acc_place.specs.declared.directive.Directive.{Directive}
+use Rattle.acc_place.specs.declared.directive.Kind.{Kind}
+use Rattle.acc_place.specs.declared.directive.Kind.TheVariants as kind
+use Rattle.acc_place.specs.declared.directive.PlaceEntry.{PlaceEntry}
+use Rattle.acc_place.specs.declared.directive.PlaceEntry.TheVariants as noted
+use Rattle.acc_place.specs.Standings.{Standing, Asked, Walk, walk_of, walk_by, Visit, visits, marks_after}
+use Rattle.acc_place.specs.Batches.{opened_blocks, ended_blocks, makes, copy_ins, copy_outs, releases, grouped, batch_of}
+use Rattle.acc_place.specs.Histories.{standing, after_walk, at_first}
+use Rattle.acc_place.specs.Accepting.{is_in_array, first_fault, fault_where, fault_at, refusal, has_too_many}
 use Rattle.acc_core.specs.Legality.{made, Made, released, AllAccepted}
-use Rattle.acc_core.specs.Labels.{ops_of}
+use Rattle.acc_batch.specs.Labels.{ops_of, AllAt}
 use Rattle.acc_core.specs.Works.{sync}
 use Rattle.acc_core.proofs.Members.{no_member}
-use Rattle.acc_core.proofs.Queues.{AllAt, all_at_labelled, ops_of-labelled}
+use Rattle.acc_core.proofs.Queues.{all_at_labelled, ops_of-labelled}
 use Rattle.acc_core.proofs.Uses.{AllUse, made-append, released-append, AllUse-append, marked_by, visit, Booked, booked_more}
 use Rattle.acc_core.proofs.Groups.{copies_use, no_copy_makes, copies_of, copy_ins_of, copy_outs_of, makings_of, visits_hold, AllInArrays, makes_use, made_releases, released_releases, releases_use}
 

@@ -10,7 +10,7 @@ use Rattle.acc_core.specs.declared.program.Statement.{Statement}
 use Rattle.acc_core.specs.declared.world.Awaited.{Awaited}
 use Rattle.acc_core.specs.Logs.{all_done}
 use Rattle.acc_core.specs.Machine.{State, Outcome, standing_of, idle, statement_step, host_step}
-use Rattle.acc_core.specs.Worlds.{after_answer, reply_to, Acts, HostSteps, StandsAt, HasStatement}
+use Rattle.acc_core.specs.Worlds.{after_answer, reply_to, Acts, HostSteps, StandsAt, AllSynchronous, IsHost}
 
 -- a host that is written where it stands changes nothing
 set_same : (hosts : List Host) (h : ℕ) (host : Host) → slice_get hosts h ≡ Some host → slice_set hosts h host ≡ hosts
@@ -31,8 +31,8 @@ idle_at_end phase.Ready old h host hosts e has = rw e refl
 idle_at_end (phase.Waits device counts) old h host hosts e has = absurd (rw e at has)
 idle_at_end (phase.Refused fault) old h host hosts e has = refl
 
-pub end_stays : (old : State) (h : ℕ) (host : Host) → slice_get host.statements host.ended ≡ None → HasStatement host → HostSteps old h host reply.Idle old host
-end_stays old h host e has = stays old h host (λ hosts. idle_at_end host.phase old h host hosts e has)
+pub end_stays : (old : State) (h : ℕ) (host : Host) → slice_get host.statements host.ended ≡ None → IsHost host → HostSteps old h host reply.Idle old host
+end_stays old h host e has = stays old h host (λ hosts. idle_at_end host.phase old h host hosts e has.stands)
 
 -- a host that was refused
 pub refused_stays : (old : State) (h : ℕ) (host : Host) (fault : Fault) → host.phase ≡ phase.Refused fault → HostSteps old h host reply.Idle old host
@@ -60,7 +60,16 @@ ready_stands None = tt
 ready_stands (Some s) = tt
 
 -- a host that stands at a statement stands at one behind its answer, unless it has ended them all
-pub answered_stands : (answer : Result (Option Awaited) Fault) (host : Host) (s : Statement) → slice_get host.statements host.ended ≡ Some s → HasStatement (after_answer answer host)
+answered_stands : (answer : Result (Option Awaited) Fault) (host : Host) (s : Statement) → slice_get host.statements host.ended ≡ Some s
+    → StandsAt (slice_get (after_answer answer host).statements (after_answer answer host).ended) (after_answer answer host).phase
 answered_stands (Err fault) host s here = rw here tt
 answered_stands (Ok None) host s here = ready_stands (slice_get host.statements (host.ended + 1))
 answered_stands (Ok (Some awaited)) host s here = rw here tt
+
+same_statements : (answer : Result (Option Awaited) Fault) (host : Host) → (after_answer answer host).statements ≡ host.statements
+same_statements (Err fault) host = refl
+same_statements (Ok None) host = refl
+same_statements (Ok (Some awaited)) host = refl
+
+pub answered_host : (answer : Result (Option Awaited) Fault) (host : Host) (s : Statement) → slice_get host.statements host.ended ≡ Some s → IsHost host → IsHost (after_answer answer host)
+answered_host answer host s here h = record { stands = answered_stands answer host s here; synchronous = rw (same_statements answer host) h.synchronous }

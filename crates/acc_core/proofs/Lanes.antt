@@ -1,8 +1,8 @@
 -- The batch in the lane, among the labels of a queue.
 use Rattle.std.proofs.Common.{◌≡◌, ℕ, zero, suc, ◌+◌, ◌-◌, ◌<◌, ◌≤◌, List, [], ◌∷◌, ◌++◌, length, take, drop, refl, sym, ap, ◌∙◌, arith, Some}
 use Rattle.std.proofs.lemmas.List.{append_assoc, length-append, length-drop, take-append-drop, append-nil, drop_at, take_at, length-take-le}
-use Rattle.acc_core.specs.declared.operation.Label.{Label}
-use Rattle.acc_core.specs.Labels.{ops_of, batch_at}
+use Rattle.acc_batch.specs.declared.operation.Label.{Label}
+use Rattle.acc_batch.specs.Labels.{ops_of, batch_at}
 use Rattle.acc_core.specs.Ties.{IsLaneOf}
 use Rattle.acc_core.proofs.Queues.{ops_of-append}
 

@@ -1,4 +1,3 @@
-mod Accepted
 mod Advancing
 mod Blocks
 mod Calls
@@ -14,7 +13,6 @@ mod Groups
 mod Growing
 mod Histories
 mod HostSteps
-mod Judging
 mod Keeping
 mod Lanes
 mod Limits
@@ -24,10 +22,8 @@ mod Opening
 mod Performing
 mod Places
 mod Placing
-mod Planning
 mod QueueTotals
 mod Queues
-mod Readiness
 mod Remembering
 mod Rows
 mod Runs
@@ -36,7 +32,5 @@ mod Starts
 mod Stepping
 mod Taking
 mod Uses
-mod Visits
-mod Walking
 mod Wholes
 mod WorldSteps

@@ -6,17 +6,17 @@ use Rattle.std.proofs.lemmas.List.{length-append}
 use Rattle.acc_base.specs.declared.ids.QueueAt.{QueueAt}
 use Rattle.acc_base.specs.declared.fault.Fault.TheVariants.{BadDevice, TooMany}
 use Rattle.acc_base.specs.Configurations.{Configuration}
-use Rattle.acc_core.specs.declared.directive.Directive.{Directive}
-use Rattle.acc_core.specs.declared.directive.PlaceEntry.{PlaceEntry}
-use Rattle.acc_core.specs.declared.directive.PlaceEntry.TheVariants as noted
-use Rattle.acc_core.specs.declared.directive.TheConstants.{MAX_ITEMS, MAX_DIRECTIVES}
-use Rattle.acc_core.specs.declared.operation.Label.{Label}
-use Rattle.acc_core.specs.declared.operation.Op.{Op}
-use Rattle.acc_core.specs.Accepting.{fault_where, fault_at, refusal, has_too_many}
-use Rattle.acc_core.specs.Batches.{batch_of, labelled, next_number, walk_at}
-use Rattle.acc_core.specs.Histories.{standing}
+use Rattle.acc_place.specs.declared.directive.Directive.{Directive}
+use Rattle.acc_place.specs.declared.directive.PlaceEntry.{PlaceEntry}
+use Rattle.acc_place.specs.declared.directive.PlaceEntry.TheVariants as noted
+use Rattle.acc_place.specs.declared.directive.TheConstants.{MAX_ITEMS, MAX_DIRECTIVES}
+use Rattle.acc_batch.specs.declared.operation.Label.{Label}
+use Rattle.acc_batch.specs.declared.operation.Op.{Op}
+use Rattle.acc_place.specs.Accepting.{fault_where, fault_at, refusal, has_too_many}
+use Rattle.acc_place.specs.Batches.{batch_of, labelled, next_number, walk_at}
+use Rattle.acc_place.specs.Histories.{standing}
 use Rattle.acc_core.specs.Legality.{AllAccepted}
-use Rattle.acc_core.specs.Standings.{Standing, visits, walk_of}
+use Rattle.acc_place.specs.Standings.{Standing, visits, walk_of}
 use Rattle.acc_core.proofs.Histories.{first_fault_none, no_fault}
 
 -- an accepted directive isn't behind the last of a run

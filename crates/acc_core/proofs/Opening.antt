@@ -4,8 +4,8 @@ use Rattle.std.specs.Prelude.{ℤ, IsTrue}
 use Rattle.std.proofs.lemmas.List.Elements.{All-nil}
 use Rattle.acc_base.specs.declared.config.TheConstants.{MAX_HOSTS}
 use Rattle.acc_base.specs.Configurations.{Configuration}
-use Rattle.acc_core.specs.declared.operation.Label.{Label}
-use Rattle.acc_core.specs.Histories.{standing}
+use Rattle.acc_batch.specs.declared.operation.Label.{Label}
+use Rattle.acc_place.specs.Histories.{standing}
 use Rattle.acc_core.specs.Logs.{value}
 use Rattle.acc_core.specs.Machine.{State, state_at_first}
 use Rattle.acc_core.specs.Memories.{Cells, Shows, is_held, cell_of, lengths_of}
@@ -37,7 +37,6 @@ queued_opening config v no_rows no_lane low = record {
   single = refl;
   filled = All-nil (λ (l : Label). 0 < length l.ops);
   queued = refl;
-  ready = tt;
   taken_low = omega arith;
   in_lane = no_lane;
   of_batch = λ some. absurd (omega (arith, ap length no_lane, some));

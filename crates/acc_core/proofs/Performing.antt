@@ -7,15 +7,17 @@ use Rattle.acc_base.specs.declared.ids.QueueAt.{QueueAt}
 use Rattle.acc_base.specs.Queues.{same_queue}
 use Rattle.acc_core.specs.declared.log.WorkEntry.{WorkEntry}
 use Rattle.acc_core.specs.declared.log.WorkEntry.TheVariants as entry
-use Rattle.acc_core.specs.declared.operation.Label.{Label}
-use Rattle.acc_core.specs.declared.operation.Op.{Op}
-use Rattle.acc_core.specs.Labels.{on_queue, ops_of}
+use Rattle.acc_batch.specs.declared.operation.Label.{Label}
+use Rattle.acc_batch.specs.declared.operation.Op.{Op}
+use Rattle.acc_batch.specs.Labels.{on_queue, ops_of, AllAt}
 use Rattle.acc_core.specs.Legality.{Legal, IsPrefix, InOrder, UsesLive}
 use Rattle.acc_core.specs.Logs.{performed, device_ops}
 use Rattle.acc_core.specs.Machine.{State, standing_of, taken_on, rest}
 use Rattle.acc_core.specs.Works.{sync}
 use Rattle.acc_core.proofs.Histories.{placed_use}
-use Rattle.acc_core.proofs.Queues.{AllAt, ops_of-append, on_queue_all, on_queue_none, same_queue_is, NoneElsewhere, none_elsewhere, device_ops_is}
+use Rattle.acc_base.proofs.SameQueue.{same_queue_is}
+use Rattle.acc_batch.proofs.OneQueue.{on_queue_all, on_queue_none}
+use Rattle.acc_core.proofs.Queues.{ops_of-append, NoneElsewhere, none_elsewhere, device_ops_is}
 use Rattle.acc_core.proofs.Uses.{AllUse}
 
 -- The operations are those that were done, then this one, then more.

@@ -4,7 +4,7 @@ use Rattle.std.specs.Prelude.{nat_lt}
 use Rattle.std.specs.List.{AllWithin}
 use Rattle.std.specs.List.Sorted.{IsPartitionedBy}
 use Rattle.std.proofs.lemmas.Bool.{and_parts, lt-ltb, ltb-true, ltb-false}
-use Rattle.acc_core.specs.declared.memory.Block.{Block}
+use Rattle.acc_batch.specs.declared.task.Block.{Block}
 use Rattle.acc_core.specs.Blocks.{row_of}
 use Rattle.acc_core.specs.Memories.{place_of, is_before_all, is_ascending}
 use Rattle.acc_core.proofs.Rows.{ascending_parts, place_of-here, place_of-past}

@@ -3,8 +3,8 @@ use Rattle.std.proofs.Common.{◌≡◌, ℕ, ◌+◌, false, List, length, ap, 
 use Rattle.std.proofs.lemmas.List.{length-append}
 use Rattle.acc_base.specs.declared.ids.QueueAt.{QueueAt}
 use Rattle.acc_base.specs.Queues.{same_queue}
-use Rattle.acc_core.specs.declared.batch.Batch.{Batch}
-use Rattle.acc_core.specs.Labels.{on_queue, ops_of}
+use Rattle.acc_batch.specs.Labels.{on_queue, ops_of}
+use Rattle.acc_batch.specs.declared.operation.Label.{Label}
 use Rattle.acc_core.specs.Legality.{Legal}
 use Rattle.acc_core.specs.Logs.{performed, all_items}
 use Rattle.acc_core.specs.Machine.{State}
@@ -20,7 +20,7 @@ performed_beside_items w one legal =
     sync_or_item w.work (none_elsewhere (labels_of w) w.work (placed_use w.config w.history w.counts one legal.accepted).on_sync legal.prefix)
 
 -- all operations of queue sync are performed or wait
-pub operations_are : (w : State) (v : WorkView) (queue : List Batch) (t waiting : ℕ) → Queued w v queue t waiting → performed_count w + waiting ≡ length (ops_of (on_queue sync (labels_of w)))
+pub operations_are : (w : State) (v : WorkView) (queue : List Label) (t waiting : ℕ) → Queued w v queue t waiting → performed_count w + waiting ≡ length (ops_of (on_queue sync (labels_of w)))
 operations_are w v queue t waiting q = omega (arith, q.all_waiting, ap (λ ls. length (ops_of ls)) q.single)
 
 -- another queue has no operations

@@ -6,27 +6,17 @@ use Rattle.std.proofs.lemmas.List.{append_assoc, append-nil, length-append}
 use Rattle.std.proofs.lemmas.List.Elements.{filter-append}
 use Rattle.acc_base.specs.declared.ids.QueueAt.{QueueAt}
 use Rattle.acc_base.specs.Queues.{same_queue}
-use Rattle.acc_core.specs.declared.operation.Op.{Op}
-use Rattle.acc_core.specs.declared.operation.Label.{Label}
+use Rattle.acc_base.proofs.SameQueue.{same_queue_itself, same_queue_is}
+use Rattle.acc_batch.proofs.OneQueue.{on_queue_all, on_queue_none}
+use Rattle.acc_batch.specs.declared.operation.Op.{Op}
+use Rattle.acc_batch.specs.declared.operation.Label.{Label}
 use Rattle.acc_core.specs.declared.log.WorkEntry.{WorkEntry}
 use Rattle.acc_core.specs.declared.log.WorkEntry.TheVariants as entry
-use Rattle.acc_core.specs.Batches.{labelled, next_number}
-use Rattle.acc_core.specs.Labels.{on_queue, ops_of}
+use Rattle.acc_place.specs.Batches.{labelled, next_number}
+use Rattle.acc_batch.specs.Labels.{on_queue, ops_of, AllAt}
 use Rattle.acc_core.specs.Legality.{InOrder}
 use Rattle.acc_core.specs.Logs.{one_more, performed, device_ops, all_items}
 use Rattle.acc_core.specs.Works.{sync}
-
--- a queue is the same as itself
-pub same_queue_itself : (at : QueueAt) → same_queue at at ≡ true
-same_queue_itself at = and_from (at.device == at.device) (at.queue == at.queue) (eq-eqb at.device at.device refl) (eq-eqb at.queue at.queue refl)
-
--- the test of two queues says that they are one
-pub same_queue_is : (a b : QueueAt) → same_queue a b ≡ true → a ≡ b
-same_queue_is a b h =
-    let parts = and_parts (a.device == b.device) (a.queue == b.queue) h in
-    let same_a : a ≡ record { device = b.device; queue = a.queue } = ap (λ x. record { device = x; queue = a.queue }) (eqb-true a.device b.device parts.0) in
-    let same_b : record { device = b.device; queue = a.queue } ≡ b = ap (λ x. record { device = b.device; queue = x }) (eqb-true a.queue b.queue parts.1) in
-    same_a ∙ same_b
 
 -- the operations of two lists of labels
 pub ops_of-append : (xs ys : List Label) → ops_of (xs ++ ys) ≡ ops_of xs ++ ops_of ys
@@ -61,25 +51,6 @@ ops_of-labelled at host items_done labels ops =
     ap ops_of (labelled_is at host items_done labels ops)
     ∙ (ops_of-append labels (added at (next_number at labels) host items_done ops)
     ∙ ap (λ r. ops_of labels ++ r) (ops_of-added at (next_number at labels) host items_done ops))
-
--- All these labels are of one queue.
-abbrev pub AllAt : QueueAt → List Label → Type 0
-AllAt at [] = Unit {0}
-AllAt at (l ∷ ls) = (l.at ≡ at) × AllAt at ls
-
--- that queue has all of them
-pub on_queue_all : (at : QueueAt) (ls : List Label) → AllAt at ls → on_queue at ls ≡ ls
-on_queue_all at [] h = refl
-on_queue_all at (l ∷ ls) h =
-    let same : same_queue l.at at ≡ true = ap (λ q. same_queue q at) h.0 ∙ same_queue_itself at in
-    rw same (ap (λ r. l ∷ r) (on_queue_all at ls h.1))
-
--- another queue has none of them
-pub on_queue_none : (at other : QueueAt) (ls : List Label) → AllAt at ls → same_queue at other ≡ false → on_queue other ls ≡ []
-on_queue_none at other [] h differ = refl
-on_queue_none at other (l ∷ ls) h differ =
-    let differs : same_queue l.at other ≡ false = ap (λ q. same_queue q other) h.0 ∙ differ in
-    rw differs (on_queue_none at other ls h.1 differ)
 
 -- one more batch on that queue leaves all labels there
 pub all_at_labelled : (at : QueueAt) (host items_done : ℕ) (labels : List Label) (ops : List Op) → AllAt at labels → AllAt at (labelled at host items_done labels ops)

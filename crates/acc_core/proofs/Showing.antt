@@ -3,12 +3,12 @@ use Rattle.std.proofs.Common.{◌≡◌, ℕ, ◌+◌, ◌<◌, List, ◌∷◌,
 use Rattle.std.specs.Prelude.{ℤ, Result, Ok, Err, OnOk, OnErr}
 use Rattle.acc_base.specs.declared.fault.Fault.{Fault}
 use Rattle.acc_base.specs.declared.range.Range.{Range}
-use Rattle.acc_core.specs.declared.batch.Batch.{Batch}
+use Rattle.acc_batch.specs.declared.operation.Label.{Label}
 use Rattle.acc_core.specs.declared.log.Shown.{Shown}
 use Rattle.acc_core.specs.declared.log.Shown.TheVariants.{Print}
 use Rattle.acc_core.specs.declared.log.TheConstants.{MAX_HOST_ITEMS}
 use Rattle.acc_core.specs.declared.log.WorkEntry.TheVariants as entry
-use Rattle.acc_core.specs.Accepting.{is_in_array}
+use Rattle.acc_place.specs.Accepting.{is_in_array}
 use Rattle.acc_core.specs.Legality.{ShowsTruth}
 use Rattle.acc_core.specs.Logs.{all_items, value}
 use Rattle.acc_core.specs.Machine.{State}
@@ -21,7 +21,7 @@ use Rattle.acc_core.proofs.Placing.{remembers_room}
 use Rattle.acc_core.proofs.Remembering.{remembers_shown, length_held, same_ends}
 
 -- more room leaves an accelerator what it is
-pub roomier : {w : State} {v v' : WorkView} {queue : List Batch} {t waiting queue_room : ℕ} → IsAccelerator w v queue t waiting queue_room → HasMadeRoom v v' → IsAccelerator w v' queue t waiting queue_room
+pub roomier : {w : State} {v v' : WorkView} {queue : List Label} {t waiting queue_room : ℕ} → IsAccelerator w v queue t waiting queue_room → HasMadeRoom v v' → IsAccelerator w v' queue t waiting queue_room
 roomier {w = w} {v = v} {v' = v'} a h =
     let q = a.parts in
     record {
@@ -34,7 +34,6 @@ roomier {w = w} {v = v} {v' = v'} a h =
         single = q.single;
         filled = q.filled;
         queued = q.queued;
-        ready = q.ready;
         taken_low = q.taken_low;
         in_lane = h.lane ∙ q.in_lane;
         of_batch = λ some.
@@ -64,7 +63,7 @@ pub same_array : (xs ys : List (List ℤ)) (r : Range) → lengths_of xs ≡ len
 same_array xs ys r e = rw (same_ends xs ys r.array (r.lo + r.len) e) refl
 
 -- an item that shows what is so, and finds room
-pub shown : (w : State) (v v' : WorkView) (queue : List Batch) (t waiting queue_room h : ℕ) (item : Shown) → IsAccelerator w v queue t waiting queue_room → v.work ≡ w.work → HasShown v v' h item
+pub shown : (w : State) (v v' : WorkView) (queue : List Label) (t waiting queue_room h : ℕ) (item : Shown) → IsAccelerator w v queue t waiting queue_room → v.work ≡ w.work → HasShown v v' h item
     → length v.work + waiting < v.room → all_items w.work < MAX_HOST_ITEMS → ShowsTruth w.config.arrays (labels_of w) item w.work
     → IsAccelerator (with_work w v') v' queue t waiting queue_room
 shown w v v' queue t waiting queue_room h item a same s room few truth =
@@ -81,7 +80,6 @@ shown w v v' queue t waiting queue_room h item a same s room few truth =
         single = q.single;
         filled = q.filled;
         queued = q.queued;
-        ready = q.ready;
         taken_low = q.taken_low;
         in_lane = s.lane ∙ q.in_lane;
         of_batch = λ some.
@@ -107,7 +105,7 @@ shown w v v' queue t waiting queue_room h item a same s room few truth =
     })
 
 -- a range is printed, or memory is refused
-pub printed : (w : State) (v v' : WorkView) (queue : List Batch) (t waiting queue_room h : ℕ) (range : Range) (answer : Result (Unit {0}) Fault) → IsAccelerator w v queue t waiting queue_room → v.work ≡ w.work
+pub printed : (w : State) (v v' : WorkView) (queue : List Label) (t waiting queue_room h : ℕ) (range : Range) (answer : Result (Unit {0}) Fault) → IsAccelerator w v queue t waiting queue_room → v.work ≡ w.work
     → OnOk answer (HasPrinted v v' h range) → OnErr answer (v' ≡ v) → length v.work + waiting < v.room → all_items w.work < MAX_HOST_ITEMS → IsAccelerator (with_work w v') v' queue t waiting queue_room
 printed w v v' queue t waiting queue_room h range (Ok u) a same did kept room few =
     shown w v v' queue t waiting queue_room h (Print range did.values) a same did.shown room few

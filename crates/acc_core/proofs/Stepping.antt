@@ -7,29 +7,29 @@ use Rattle.acc_base.specs.declared.fault.Fault.{Fault}
 use Rattle.acc_base.specs.declared.fault.Fault.TheVariants.{BadRange, TooMany, Memory, QueueFull}
 use Rattle.acc_base.specs.declared.ids.QueueAt.{QueueAt}
 use Rattle.acc_base.specs.Queues.{seat}
-use Rattle.acc_core.specs.declared.directive.Directive.{Directive}
+use Rattle.acc_place.specs.declared.directive.Directive.{Directive}
 use Rattle.acc_core.specs.declared.event.Event.{Event}
 use Rattle.acc_core.specs.declared.event.Event.TheVariants as event
 use Rattle.acc_core.specs.declared.event.Reply.{Reply}
 use Rattle.acc_core.specs.declared.log.Shown.{Shown}
 use Rattle.acc_core.specs.declared.log.Shown.TheVariants as shown
 use Rattle.acc_core.specs.declared.log.TheConstants.{MAX_HOST_ITEMS}
-use Rattle.acc_core.specs.declared.operation.Label.{Label}
-use Rattle.acc_core.specs.declared.operation.Op.{Op}
+use Rattle.acc_batch.specs.declared.operation.Label.{Label}
+use Rattle.acc_batch.specs.declared.operation.Op.{Op}
 use Rattle.acc_core.specs.declared.program.Act.{Act}
 use Rattle.acc_core.specs.declared.program.Act.TheVariants as act
 use Rattle.acc_core.specs.declared.program.Host.{Host}
 use Rattle.acc_core.specs.declared.program.Phase.{Phase}
 use Rattle.acc_core.specs.declared.program.Phase.TheVariants as phase
 use Rattle.acc_core.specs.declared.program.Statement.{Statement}
-use Rattle.acc_core.specs.Accepting.{refusal}
-use Rattle.acc_core.specs.Batches.{answer_of}
+use Rattle.acc_place.specs.Accepting.{refusal}
+use Rattle.acc_place.specs.Batches.{answer_of}
 use Rattle.acc_core.specs.Following.{Owes, OwesFor, Behind, Rise, Stands, StandsIn, AllStand}
-use Rattle.acc_core.specs.Labels.{on_queue, batch_at}
+use Rattle.acc_batch.specs.Labels.{on_queue, batch_at}
 use Rattle.acc_core.specs.Legality.{Own, own_of, items_shown, merged}
 use Rattle.acc_core.specs.Logs.{performed, items_of, all_items, value, values_of, all_done, host_allows}
 use Rattle.acc_core.specs.Machine.{State, Outcome, Step, Runs, standing_of, is_there, taken_on, held, rest, with_host, in_phase, refused, next_statement, with_item, item_step, accepting, after_place, is_full, place_step, act_step, statement_step, host_step, named_step, take_step, perform_step, queue_step, with_op, step}
-use Rattle.acc_core.specs.Standings.{walk_of}
+use Rattle.acc_place.specs.Standings.{walk_of}
 use Rattle.acc_core.specs.Steps.{HostEntry, Gave, Had, Owed, nothing_owed, owes_seen, owed_by, settled, Ends}
 use Rattle.acc_core.proofs.Following.{rise_more, rise_push, merged_item, merged_directive, items_length, ended_more}
 use Rattle.acc_core.proofs.Starts.{IsStart, AllStart}

@@ -8,10 +8,10 @@ use Rattle.acc_base.specs.declared.range.Range.{Range}
 use Rattle.acc_base.specs.Ranges.{range_contains}
 use Rattle.acc_present.specs.Marks.{Mark, Change}
 use Rattle.acc_present.specs.Lifetimes.{Lifetime, opened, live, lives}
-use Rattle.acc_core.specs.declared.operation.Op.{Op}
-use Rattle.acc_core.specs.declared.operation.Op.TheVariants.{Make, CopyIn, CopyOut, Release}
-use Rattle.acc_core.specs.Standings.{Asked, Visit, made_by, one_mark, marked}
-use Rattle.acc_core.specs.Batches.{ended_blocks, makes}
+use Rattle.acc_batch.specs.declared.operation.Op.{Op}
+use Rattle.acc_batch.specs.declared.operation.Op.TheVariants.{Make, CopyIn, CopyOut, Release}
+use Rattle.acc_place.specs.Standings.{Asked, Visit, made_by, one_mark, marked}
+use Rattle.acc_place.specs.Batches.{ended_blocks, makes}
 use Rattle.acc_core.specs.Legality.{Made, made, released, UsesLive}
 use Rattle.acc_core.proofs.Members.{no_member, member_first, member_one, member_filter, member_map, apart_same}
 use Rattle.acc_core.proofs.Blocks.{numbered, opened_one, lives_before, ended_inside}

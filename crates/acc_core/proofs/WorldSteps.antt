@@ -2,7 +2,7 @@
 use Rattle.std.proofs.Common.{◌≡◌, ℕ, ◌≤◌, Bool, true, false, cond, List, [], ◌∷◌, length, map, take, refl, ap, ◌∙◌, Some, None}
 use Rattle.std.specs.Prelude.{All, nat_lt, slice_get, slice_set}
 use Rattle.std.proofs.lemmas.List.{length-map}
-use Rattle.std.proofs.lemmas.List.Elements.{All-nil, All-cons}
+use Rattle.std.proofs.lemmas.List.Elements.{All-nil, All-cons, All-head, All-tail}
 use Rattle.acc_base.specs.declared.config.TheConstants.{MAX_HOSTS}
 use Rattle.acc_base.specs.Configurations.{Configuration}
 use Rattle.acc_base.specs.declared.ids.QueueAt.{QueueAt}
@@ -10,17 +10,17 @@ use Rattle.acc_core.specs.declared.event.Event.{Event}
 use Rattle.acc_core.specs.declared.event.Event.TheVariants as event
 use Rattle.acc_core.specs.declared.event.Reply.{Reply}
 use Rattle.acc_core.specs.declared.event.Reply.TheVariants as reply
-use Rattle.acc_core.specs.declared.operation.Label.{Label}
-use Rattle.acc_core.specs.declared.operation.Op.{Op}
+use Rattle.acc_batch.specs.declared.operation.Label.{Label}
+use Rattle.acc_batch.specs.declared.operation.Op.{Op}
 use Rattle.acc_core.specs.declared.program.Host.{Host}
 use Rattle.acc_core.specs.declared.program.HostProgram.{HostProgram}
 use Rattle.acc_core.specs.declared.program.HostState.{HostState}
 use Rattle.acc_core.specs.Following.{AllStand}
-use Rattle.acc_core.specs.Labels.{on_queue, batch_at}
+use Rattle.acc_batch.specs.Labels.{on_queue, batch_at}
 use Rattle.acc_core.specs.Legality.{Legal}
 use Rattle.acc_core.specs.Logs.{performed, host_allows}
 use Rattle.acc_core.specs.Machine.{State, Outcome, Step, Runs, standing_of, is_there, held, rest, take_step, perform_step, queue_step, step}
-use Rattle.acc_core.specs.Worlds.{ready, opening, IsWorld, Ran, HostSteps, HasStatement}
+use Rattle.acc_core.specs.Worlds.{ready, opening, IsWorld, Ran, HostSteps, AllSynchronous, IsHost}
 use Rattle.acc_core.proofs.Changes.{step_config}
 use Rattle.acc_core.proofs.Following.{AllStand-follow}
 use Rattle.acc_core.proofs.HostSteps.{ready_stands}
@@ -34,33 +34,38 @@ all_start : (programs : List HostProgram) → AllStart (map ready programs)
 all_start [] = tt
 all_start (program ∷ programs) = (refl, refl, all_start programs)
 
-all_ready : (programs : List HostProgram) → All HasStatement (map ready programs)
-all_ready [] = All-nil HasStatement
-all_ready (program ∷ programs) =
-    All-cons HasStatement (ready program) (map ready programs) (ready_stands (slice_get program.statements 0)) (all_ready programs)
+abbrev RunsSynchronously : HostProgram → Type 0
+RunsSynchronously program = AllSynchronous program.statements
+
+all_ready : (programs : List HostProgram) → All RunsSynchronously programs → All IsHost (map ready programs)
+all_ready [] h = All-nil IsHost
+all_ready (program ∷ programs) h =
+    All-cons IsHost (ready program) (map ready programs)
+    (record { stands = ready_stands (slice_get program.statements 0); synchronous = All-head RunsSynchronously program programs h })
+    (all_ready programs (All-tail RunsSynchronously program programs h))
 
 -- a world opens
-pub opens : (config : Configuration) (programs : List HostProgram) (states : List HostState) (room : ℕ) → config.devices ≡ 1 → length programs ≤ MAX_HOSTS → states ≡ [] → length programs ≤ room → IsWorld (opening config programs) states room
-opens config programs states room one few none enough =
+pub opens : (config : Configuration) (programs : List HostProgram) (states : List HostState) (room : ℕ) → config.devices ≡ 1 → length programs ≤ MAX_HOSTS → All RunsSynchronously programs → states ≡ [] → length programs ≤ room → IsWorld (opening config programs) states room
+opens config programs states room one few synchronous none enough =
     let start : IsStart (opening config programs) = record { one_device = one; history = refl; counts = refl; work = refl; hosts = all_start programs } in
     record {
       one_device = one;
       few_hosts = simp length-map few;
       legal = legal_start (opening config programs) start;
       stand = stands_start (opening config programs) start;
-      statements = all_ready programs;
+      each_host = all_ready programs synchronous;
       no_states = none;
       has_room = simp length-map enough;
     }
 
 -- a step leaves a world
-pub still_world : (old new : State) (e : Event) (r : Reply) (states : List HostState) (room : ℕ) → IsWorld old states room → length new.hosts ≡ length old.hosts → All HasStatement new.hosts → Step old e r new → IsWorld new states room
-still_world old new e r states room w same statements s = record {
+pub still_world : (old new : State) (e : Event) (r : Reply) (states : List HostState) (room : ℕ) → IsWorld old states room → length new.hosts ≡ length old.hosts → All IsHost new.hosts → Step old e r new → IsWorld new states room
+still_world old new e r states room w same hosts s = record {
   one_device = ap (λ c. c.devices) (step_config old new e r s) ∙ w.one_device;
   few_hosts = rw same w.few_hosts;
   legal = Step-legal old new e r w.one_device w.legal s;
   stand = Step-stands old new e r w.stand s;
-  statements = statements;
+  each_host = hosts;
   no_states = w.no_states;
   has_room = rw same w.has_room;
 }

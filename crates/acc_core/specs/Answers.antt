@@ -2,19 +2,19 @@
 use Rattle.std.specs.Prelude.{◌≡◌, ℕ, Bool, true, false, not, nat_le, List, ◌∷◌, Option, Some, None, Result, Ok, Err, if◌then◌else◌}
 use Rattle.acc_base.specs.declared.fault.Fault.{Fault}
 use Rattle.acc_base.specs.declared.fault.Fault.TheVariants.{BadRange, TooMany, Memory, QueueFull}
-use Rattle.acc_core.specs.declared.directive.Directive.{Directive}
-use Rattle.acc_core.specs.declared.directive.PlaceEntry.TheVariants as noted
-use Rattle.acc_core.specs.declared.directive.Placed.{Placed}
+use Rattle.acc_place.specs.declared.directive.Directive.{Directive}
+use Rattle.acc_place.specs.declared.directive.PlaceEntry.TheVariants as noted
+use Rattle.acc_place.specs.declared.directive.Placed.{Placed}
 use Rattle.acc_base.specs.declared.range.Range.{Range}
 use Rattle.acc_core.specs.declared.log.Shown.{Shown}
 use Rattle.acc_core.specs.declared.log.Shown.TheVariants.{Print}
 use Rattle.acc_core.specs.declared.log.TheConstants.{MAX_HOST_ITEMS}
 use Rattle.acc_core.specs.declared.log.WorkEntry.{WorkEntry}
-use Rattle.acc_core.specs.Accepting.{refusal, is_in_array}
-use Rattle.acc_core.specs.Batches.{answer_of}
+use Rattle.acc_place.specs.Accepting.{refusal, is_in_array}
+use Rattle.acc_place.specs.Batches.{answer_of}
 use Rattle.acc_core.specs.Logs.{items_of, all_items, value, values_of}
 use Rattle.acc_core.specs.Machine.{State, standing_of, is_full, with_item}
-use Rattle.acc_core.specs.Standings.{walk_of}
+use Rattle.acc_place.specs.Standings.{walk_of}
 
 abbrev pub queue_fault : Bool → Option Fault
 queue_fault true = Some QueueFull

@@ -1,28 +1,30 @@
 -- Batches, counts of performed batches and prints, computed on short histories.
-use Rattle.std.specs.Prelude.{◌≡◌, List, [], ◌∷◌, map, Some, None, ℤ, pos}
+use Rattle.std.specs.Prelude.{◌≡◌, false, List, [], ◌∷◌, map, replicate, Some, None, ℤ, pos, negsuc}
 use Rattle.acc_base.specs.declared.ids.QueueAt.{QueueAt}
 use Rattle.acc_base.specs.declared.range.Range.{Range}
-use Rattle.acc_core.specs.declared.directive.Clause.{Clause}
-use Rattle.acc_core.specs.declared.directive.Clause.TheVariants.{Copyin, Copyout}
-use Rattle.acc_core.specs.declared.directive.Directive.{Directive}
-use Rattle.acc_core.specs.declared.directive.Kind.{Kind}
-use Rattle.acc_core.specs.declared.directive.Kind.TheVariants.{EnterData, ExitData}
-use Rattle.acc_core.specs.declared.directive.PlaceEntry.TheVariants as noted
+use Rattle.acc_place.specs.declared.directive.Target.TheVariants.{Plain}
+use Rattle.acc_place.specs.declared.directive.Waits.TheVariants.{Nothing}
+use Rattle.acc_place.specs.declared.directive.Clause.{Clause}
+use Rattle.acc_place.specs.declared.directive.Clause.TheVariants.{Copyin, Copyout}
+use Rattle.acc_place.specs.declared.directive.Directive.{Directive}
+use Rattle.acc_place.specs.declared.directive.Kind.{Kind}
+use Rattle.acc_place.specs.declared.directive.Kind.TheVariants.{EnterData, ExitData}
+use Rattle.acc_place.specs.declared.directive.PlaceEntry.TheVariants as noted
 use Rattle.acc_core.specs.declared.log.Shown.TheVariants.{Write}
 use Rattle.acc_core.specs.declared.log.WorkEntry.{WorkEntry}
 use Rattle.acc_core.specs.declared.log.WorkEntry.TheVariants as entry
-use Rattle.acc_core.specs.declared.operation.Op.{Op}
-use Rattle.acc_core.specs.declared.operation.Op.TheVariants.{Make, CopyIn, CopyOut, Release}
-use Rattle.acc_core.specs.Batches.{batch_of, answer_of}
+use Rattle.acc_batch.specs.declared.operation.Op.{Op}
+use Rattle.acc_batch.specs.declared.operation.Op.TheVariants.{Make, CopyIn, CopyOut, Release}
+use Rattle.acc_place.specs.Batches.{batch_of, answer_of}
 use Rattle.acc_core.specs.Examples.{cells}
-use Rattle.acc_core.specs.Histories.{standing}
-use Rattle.acc_core.specs.Labels.{whole}
+use Rattle.acc_place.specs.Histories.{standing}
+use Rattle.acc_batch.specs.Labels.{whole}
 use Rattle.acc_core.specs.Logs.{value, values_of, done}
-use Rattle.acc_core.specs.Standings.{Standing, walk_of}
+use Rattle.acc_place.specs.Standings.{Standing, walk_of}
 use Rattle.acc_core.specs.Works.{sync}
 
 abbrev pub directive : Kind → Clause → List Range → Directive
-directive k c ranges = record { device = 0; kind = k; items = map (λ r. record { clause = c; range = r }) ranges }
+directive k c ranges = record { device = 0; default = negsuc 0; target = Plain; waits = Nothing; kind = k; items = map (λ r. record { clause = c; range = r }) ranges }
 
 abbrev pub copyin : List Range → Directive
 copyin ranges = directive EnterData Copyin ranges
@@ -65,8 +67,8 @@ EntersAgain =
 -- an empty batch isn't placed, and takes no number
 abbrev pub EmptyBatch : Type 0
 EmptyBatch =
-    (answer_of (standing_after (first_four ∷ [])) (walk_of first_four) ≡ record { batch = None })
-    × (answer_of (standing_after (first_four ∷ first_four ∷ [])) (walk_of (copyin (cells 4 2 ∷ []))) ≡ record { batch = Some (sync, 2) })
+    (answer_of (standing_after (first_four ∷ [])) (walk_of first_four) ≡ record { batch = None; counts = replicate 8 0; present = false })
+    × (answer_of (standing_after (first_four ∷ first_four ∷ [])) (walk_of (copyin (cells 4 2 ∷ []))) ≡ record { batch = Some (sync, 2); counts = replicate 8 0; present = false })
 
 -- two batches of two operations each
 abbrev pub two_batches : Standing

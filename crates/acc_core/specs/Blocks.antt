@@ -1,5 +1,5 @@
 -- A block as a row of cells.
-use Rattle.acc_core.specs.declared.memory.Block.{Block}
+use Rattle.acc_batch.specs.declared.task.Block.{Block}
 use Rattle.acc_core.specs.Memories.{Row}
 
 abbrev pub row_of : Block → Row

@@ -1,13 +1,15 @@
 -- The definitions computed on worked programs: the replies to some events, and the state after them.
-use Rattle.std.specs.Prelude.{◌≡◌, ℕ, false, List, [], ◌∷◌, ◌++◌, map, ℤ, pos}
+use Rattle.std.specs.Prelude.{◌≡◌, ℕ, false, List, [], ◌∷◌, ◌++◌, map, ℤ, pos, negsuc}
 use Rattle.acc_base.specs.declared.range.Range.{Range}
 use Rattle.acc_base.specs.declared.fault.Fault.TheVariants.{PartlyPresent}
 use Rattle.acc_base.specs.Configurations.{configuration}
 use Rattle.acc_present.specs.Presences.{Presence, presences}
-use Rattle.acc_core.specs.declared.directive.Clause.{Clause}
-use Rattle.acc_core.specs.declared.directive.Clause.TheVariants.{Copyin, Copyout, Delete}
-use Rattle.acc_core.specs.declared.directive.Kind.{Kind}
-use Rattle.acc_core.specs.declared.directive.Kind.TheVariants as kind
+use Rattle.acc_place.specs.declared.directive.Target.TheVariants.{Plain}
+use Rattle.acc_place.specs.declared.directive.Waits.TheVariants.{Nothing}
+use Rattle.acc_place.specs.declared.directive.Clause.{Clause}
+use Rattle.acc_place.specs.declared.directive.Clause.TheVariants.{Copyin, Copyout, Delete}
+use Rattle.acc_place.specs.declared.directive.Kind.{Kind}
+use Rattle.acc_place.specs.declared.directive.Kind.TheVariants as kind
 use Rattle.acc_core.specs.declared.event.Event.{Event}
 use Rattle.acc_core.specs.declared.event.Event.TheVariants as event
 use Rattle.acc_core.specs.declared.event.Reply.{Reply}
@@ -15,14 +17,14 @@ use Rattle.acc_core.specs.declared.event.Reply.TheVariants as reply
 use Rattle.acc_core.specs.declared.log.Shown.TheVariants as shown
 use Rattle.acc_core.specs.declared.log.WorkEntry.{WorkEntry}
 use Rattle.acc_core.specs.declared.log.WorkEntry.TheVariants as entry
-use Rattle.acc_core.specs.declared.operation.Op.TheVariants.{Make, CopyIn, CopyOut, Release}
+use Rattle.acc_batch.specs.declared.operation.Op.TheVariants.{Make, CopyIn, CopyOut, Release}
 use Rattle.acc_core.specs.declared.program.Act.{Act}
 use Rattle.acc_core.specs.declared.program.Act.TheVariants as act
 use Rattle.acc_core.specs.declared.program.Host.{Host}
 use Rattle.acc_core.specs.declared.program.Phase.{Phase}
 use Rattle.acc_core.specs.declared.program.Phase.TheVariants as phase
 use Rattle.acc_core.specs.Machine.{State, Outcome, step, standing_of}
-use Rattle.acc_core.specs.Standings.{Standing}
+use Rattle.acc_place.specs.Standings.{Standing}
 use Rattle.acc_core.specs.Works.{sync}
 use Rattle.acc_core.specs.Worlds.{opening}
 
@@ -48,7 +50,7 @@ abbrev pub cells : ℕ → ℕ → Range
 cells lo len = record { array = 0; lo = lo; len = len }
 
 abbrev pub place : Kind → Clause → Range → Act
-place k c r = act.Place (record { device = 0; kind = k; items = record { clause = c; range = r } ∷ [] })
+place k c r = act.Place (record { device = 0; default = negsuc 0; target = Plain; waits = Nothing; kind = k; items = record { clause = c; range = r } ∷ [] })
 
 abbrev pub host : Event
 host = event.Host 0

@@ -2,7 +2,7 @@
 -- what stands behind them: nothing while it is ready, and a directive with its answer while it waits for the batch of
 -- that directive. So a new item, and a new directive, always stands behind all that the host has.
 use Rattle.std.specs.Prelude.{◌≡◌, ◌⊎◌, ℕ, zero, suc, ◌+◌, ◌≤◌, List, [], ◌∷◌, ◌++◌, length, slice_get, Option, Some, None}
-use Rattle.acc_core.specs.declared.directive.Placed.{Placed}
+use Rattle.acc_place.specs.declared.directive.Placed.{Placed}
 use Rattle.acc_core.specs.declared.program.Act.{Act}
 use Rattle.acc_core.specs.declared.program.Act.TheVariants as act
 use Rattle.acc_core.specs.declared.program.Host.{Host}

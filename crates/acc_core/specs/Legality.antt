@@ -4,27 +4,27 @@ use Rattle.acc_base.specs.declared.ids.QueueAt.{QueueAt}
 use Rattle.acc_base.specs.declared.range.Range.{Range}
 use Rattle.acc_base.specs.Configurations.{Configuration}
 use Rattle.acc_base.specs.Ranges.{Includes}
-use Rattle.acc_core.specs.declared.directive.Directive.{Directive}
-use Rattle.acc_core.specs.declared.directive.Placed.{Placed}
-use Rattle.acc_core.specs.declared.directive.PlaceEntry.{PlaceEntry}
-use Rattle.acc_core.specs.declared.directive.PlaceEntry.TheVariants as noted
+use Rattle.acc_place.specs.declared.directive.Directive.{Directive}
+use Rattle.acc_place.specs.declared.directive.Placed.{Placed}
+use Rattle.acc_place.specs.declared.directive.PlaceEntry.{PlaceEntry}
+use Rattle.acc_place.specs.declared.directive.PlaceEntry.TheVariants as noted
 use Rattle.acc_core.specs.declared.event.Event.{Event}
 use Rattle.acc_core.specs.declared.event.Reply.{Reply}
 use Rattle.acc_core.specs.declared.log.Shown.{Shown}
 use Rattle.acc_core.specs.declared.log.Shown.TheVariants.{Write, Print, Seen}
 use Rattle.acc_core.specs.declared.log.WorkEntry.{WorkEntry}
 use Rattle.acc_core.specs.declared.log.WorkEntry.TheVariants as entry
-use Rattle.acc_core.specs.declared.operation.Label.{Label}
-use Rattle.acc_core.specs.declared.operation.Op.{Op}
-use Rattle.acc_core.specs.declared.operation.Op.TheVariants.{Make, CopyIn, CopyOut, Release}
+use Rattle.acc_batch.specs.declared.operation.Label.{Label}
+use Rattle.acc_batch.specs.declared.operation.Op.{Op}
+use Rattle.acc_batch.specs.declared.operation.Op.TheVariants.{Make, CopyIn, CopyOut, Release}
 use Rattle.acc_core.specs.declared.program.Host.{Host}
-use Rattle.acc_core.specs.Accepting.{refusal, is_in_array}
-use Rattle.acc_core.specs.Batches.{answer_of}
-use Rattle.acc_core.specs.Histories.{standing}
-use Rattle.acc_core.specs.Labels.{on_queue, ops_of, batch_at, whole}
+use Rattle.acc_place.specs.Accepting.{refusal, is_in_array}
+use Rattle.acc_place.specs.Batches.{answer_of}
+use Rattle.acc_place.specs.Histories.{standing}
+use Rattle.acc_batch.specs.Labels.{on_queue, ops_of, batch_at, whole}
 use Rattle.acc_core.specs.Logs.{one_more, performed, device_ops, value, values_of, all_done, host_allows}
 use Rattle.acc_core.specs.Machine.{State, standing_of, Runs}
-use Rattle.acc_core.specs.Standings.{walk_of}
+use Rattle.acc_place.specs.Standings.{walk_of}
 use Rattle.acc_core.specs.Steps.{HostEntry, Gave, Had, Follows}
 
 -- Each directive was accepted after those before it.

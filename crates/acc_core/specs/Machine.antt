@@ -6,9 +6,9 @@ use Rattle.acc_base.specs.declared.fault.Fault.{Fault}
 use Rattle.acc_base.specs.declared.fault.Fault.TheVariants.{BadRange, TooMany, Memory, QueueFull}
 use Rattle.acc_base.specs.Configurations.{Configuration}
 use Rattle.acc_base.specs.Queues.{seat, queue_count}
-use Rattle.acc_core.specs.declared.directive.Directive.{Directive}
-use Rattle.acc_core.specs.declared.directive.PlaceEntry.{PlaceEntry}
-use Rattle.acc_core.specs.declared.directive.PlaceEntry.TheVariants as noted
+use Rattle.acc_place.specs.declared.directive.Directive.{Directive}
+use Rattle.acc_place.specs.declared.directive.PlaceEntry.{PlaceEntry}
+use Rattle.acc_place.specs.declared.directive.PlaceEntry.TheVariants as noted
 use Rattle.acc_core.specs.declared.event.Event.{Event}
 use Rattle.acc_core.specs.declared.event.Event.TheVariants as event
 use Rattle.acc_core.specs.declared.event.Reply.{Reply}
@@ -18,20 +18,20 @@ use Rattle.acc_core.specs.declared.log.Shown.TheVariants as shown
 use Rattle.acc_core.specs.declared.log.TheConstants.{MAX_HOST_ITEMS}
 use Rattle.acc_core.specs.declared.log.WorkEntry.{WorkEntry}
 use Rattle.acc_core.specs.declared.log.WorkEntry.TheVariants as entry
-use Rattle.acc_core.specs.declared.operation.Label.{Label}
-use Rattle.acc_core.specs.declared.operation.Op.{Op}
+use Rattle.acc_batch.specs.declared.operation.Label.{Label}
+use Rattle.acc_batch.specs.declared.operation.Op.{Op}
 use Rattle.acc_core.specs.declared.program.Act.{Act}
 use Rattle.acc_core.specs.declared.program.Act.TheVariants as act
 use Rattle.acc_core.specs.declared.program.Host.{Host}
 use Rattle.acc_core.specs.declared.program.Phase.{Phase}
 use Rattle.acc_core.specs.declared.program.Phase.TheVariants as phase
 use Rattle.acc_core.specs.declared.program.Statement.{Statement}
-use Rattle.acc_core.specs.Accepting.{refusal, is_in_array}
-use Rattle.acc_core.specs.Batches.{batch_of, answer_of, walk_at}
-use Rattle.acc_core.specs.Histories.{standing}
-use Rattle.acc_core.specs.Labels.{on_queue, ops_of, batch_at}
+use Rattle.acc_place.specs.Accepting.{refusal, is_in_array}
+use Rattle.acc_place.specs.Batches.{batch_of, answer_of, walk_at}
+use Rattle.acc_place.specs.Histories.{standing}
+use Rattle.acc_batch.specs.Labels.{on_queue, ops_of, batch_at}
 use Rattle.acc_core.specs.Logs.{performed, items_of, all_items, value, values_of, all_done, host_allows}
-use Rattle.acc_core.specs.Standings.{Standing, Walk, walk_of}
+use Rattle.acc_place.specs.Standings.{Standing, Walk, walk_of}
 use Rattle.acc_core.specs.Steps.{Owed, nothing_owed, owes_seen, owed_by}
 
 -- The histories, the latest entry first; the number of batches that were taken, queue by queue of each device; the hosts.

@@ -2,13 +2,13 @@
 use Rattle.std.specs.Prelude.{◌≡◌, ℕ, ◌+◌, ◌-◌, ◌<◌, ◌≤◌, Bool, true, false, ◌&&◌, ◌==◌, not, nat_lt, nat_le, IsTrue, List, [], ◌∷◌, ◌++◌, length, map, filter, find, slice_get, Option, Some, None, is_some, ℤ, pos, if◌then◌else◌}
 use Rattle.std.specs.List.{list_all, position_or_len}
 use Rattle.acc_base.specs.declared.range.Range.{Range}
-use Rattle.acc_core.specs.declared.operation.Op.{Op}
-use Rattle.acc_core.specs.declared.operation.Op.TheVariants.{Make, CopyIn, CopyOut, Release}
-use Rattle.acc_core.specs.declared.task.Task.{Task}
-use Rattle.acc_core.specs.Accepting.{ends_within}
+use Rattle.acc_batch.specs.declared.operation.Op.{Op}
+use Rattle.acc_batch.specs.declared.operation.Op.TheVariants.{Make, CopyIn, CopyOut, Release}
+use Rattle.acc_batch.specs.declared.task.Task.{Task}
+use Rattle.acc_place.specs.Accepting.{ends_within}
 use Rattle.acc_core.specs.Legality.{Made}
 use Rattle.acc_core.specs.Logs.{or_empty, or_zero}
-use Rattle.acc_core.specs.Tasks.{op_of, IsReady}
+use Rattle.acc_batch.specs.Tasks.{op_of, IsReady}
 use Rattle.acc_core.specs.Values.{Cell, Host_cell, Block_cell, is_in}
 
 -- A block of device 0: its range, and the cells of that range.

@@ -3,13 +3,13 @@ use Rattle.std.specs.Prelude.{◌≡◌, ℕ, ◌-◌, List, [], ◌∷◌, repl
 use Rattle.acc_base.specs.declared.fault.Fault.{Fault}
 use Rattle.acc_base.specs.declared.fault.Fault.TheVariants.{BadDevice, BadRange, TooMany, PartlyPresent, DeviceFull}
 use Rattle.acc_base.specs.Configurations.{Configuration, configuration}
-use Rattle.acc_core.specs.declared.directive.Directive.{Directive}
-use Rattle.acc_core.specs.declared.directive.TheConstants.{MAX_DIRECTIVES}
-use Rattle.acc_core.specs.Accepting.{refusal}
+use Rattle.acc_place.specs.declared.directive.Directive.{Directive}
+use Rattle.acc_place.specs.declared.directive.TheConstants.{MAX_DIRECTIVES}
+use Rattle.acc_place.specs.Accepting.{refusal}
 use Rattle.acc_core.specs.BatchExamples.{copyin, copyout, standing_after, first_four}
 use Rattle.acc_core.specs.Examples.{cells}
-use Rattle.acc_core.specs.Histories.{at_first}
-use Rattle.acc_core.specs.Standings.{Standing}
+use Rattle.acc_place.specs.Histories.{at_first}
+use Rattle.acc_place.specs.Standings.{Standing}
 
 -- one array of eight cells, and a device of six
 abbrev pub small : Configuration

@@ -2,27 +2,17 @@
 use Rattle.std.specs.Prelude.{◌≡◌, ℕ, ◌+◌, ◌-◌, ◌<◌, ◌≤◌, List, [], ◌∷◌, ◌++◌, length, map, take, drop, replicate, All}
 use Rattle.acc_base.specs.declared.config.TheConstants.{MAX_HOSTS}
 use Rattle.acc_base.specs.Queues.{queue_count}
-use Rattle.acc_core.specs.declared.batch.Batch.{Batch}
 use Rattle.acc_core.specs.declared.log.WorkEntry.{WorkEntry}
-use Rattle.acc_core.specs.declared.operation.Label.{Label}
-use Rattle.acc_core.specs.declared.operation.Op.{Op}
-use Rattle.acc_core.specs.Labels.{on_queue, ops_of}
+use Rattle.acc_batch.specs.declared.operation.Label.{Label}
+use Rattle.acc_batch.specs.declared.operation.Op.{Op}
+use Rattle.acc_batch.specs.Labels.{on_queue, ops_of}
 use Rattle.acc_core.specs.Legality.{Legal, Made}
 use Rattle.acc_core.specs.Logs.{performed, device_ops, value, all_items}
 use Rattle.acc_core.specs.declared.log.TheConstants.{MAX_HOST_ITEMS}
 use Rattle.acc_core.specs.Machine.{State, standing_of}
 use Rattle.acc_core.specs.Memories.{Shows, held_blocks, blocks_after, lengths_of}
-use Rattle.acc_core.specs.Plans.{PlaceView}
-use Rattle.acc_core.specs.Tasks.{AllReady, ops_in}
+use Rattle.acc_place.specs.Plans.{PlaceView}
 use Rattle.acc_core.specs.Works.{WorkView, sync}
-
--- the label of a batch
-abbrev pub label_of : Batch → Label
-label_of b = record { at = b.at; number = b.number; host = b.host; items_done = b.items_done; ops = ops_in b.tasks.items }
-
-abbrev pub BatchesReady : List Batch → Type 0
-BatchesReady [] = Unit {0}
-BatchesReady (b ∷ bs) = AllReady b.tasks.items × BatchesReady bs
 
 abbrev pub labels_of : State → List Label
 labels_of w = (standing_of w).labels
@@ -65,11 +55,10 @@ pub record IsLaneOf (labels : List Label) (taken done_ops host items_done : ℕ)
 
 -- The queue holds what was placed and not taken, the lane what was taken and not performed; and there is room for all
 -- of it in the log and among the blocks.
-pub record Queued (w : State) (v : WorkView) (queue : List Batch) (taken waiting : ℕ) : Type 0 where
+pub record Queued (w : State) (v : WorkView) (queue : List Label) (taken waiting : ℕ) : Type 0 where
   pub single : on_queue sync (labels_of w) ≡ labels_of w
   pub filled : All (λ (l : Label). 0 < length l.ops) (labels_of w)
-  pub queued : map label_of queue ≡ drop taken (labels_of w)
-  pub ready : BatchesReady queue
+  pub queued : queue ≡ drop taken (labels_of w)
   pub taken_low : taken ≤ length (labels_of w)
   pub in_lane : v.lane ≡ drop (performed_count w) (ops_of (take taken (labels_of w)))
   pub of_batch : 0 < length v.lane → IsLaneOf (labels_of w) taken (performed_count w) v.lane_host v.lane_items
@@ -87,7 +76,7 @@ pub record Remembers (w : State) (v : WorkView) : Type 0 where
   pub lengths : lengths_of v.memory.arrays ≡ lengths_of w.config.arrays
 
 -- What holds of an accelerator between two calls.
-pub record IsAccelerator (w : State) (v : WorkView) (queue : List Batch) (taken waiting queue_room : ℕ) : Type 0 where
+pub record IsAccelerator (w : State) (v : WorkView) (queue : List Label) (taken waiting queue_room : ℕ) : Type 0 where
   pub one_device : w.config.devices ≡ 1
   pub legal : Legal w
   pub few_items : all_items w.work ≤ MAX_HOST_ITEMS

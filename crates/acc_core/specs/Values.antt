@@ -1,8 +1,8 @@
 -- The values of cells after an operation.
 use Rattle.std.specs.Prelude.{ℕ, ◌+◌, Bool, ◌&&◌, nat_lt, nat_le, ◌==◌, ℤ, pos, if◌then◌else◌}
 use Rattle.acc_base.specs.declared.range.Range.{Range}
-use Rattle.acc_core.specs.declared.operation.Op.{Op}
-use Rattle.acc_core.specs.declared.operation.Op.TheVariants.{Make, CopyIn, CopyOut, Release}
+use Rattle.acc_batch.specs.declared.operation.Op.{Op}
+use Rattle.acc_batch.specs.declared.operation.Op.TheVariants.{Make, CopyIn, CopyOut, Release}
 
 -- A cell of a host array, or of a device's block by the array's own cell number.
 pub data Cell : Type 0 where

@@ -7,7 +7,7 @@ use Rattle.acc_core.specs.declared.log.Shown.{Shown}
 use Rattle.acc_core.specs.declared.log.Shown.TheVariants.{Print}
 use Rattle.acc_core.specs.declared.log.WorkEntry.{WorkEntry}
 use Rattle.acc_core.specs.declared.log.WorkEntry.TheVariants as entry
-use Rattle.acc_core.specs.declared.operation.Op.{Op}
+use Rattle.acc_batch.specs.declared.operation.Op.{Op}
 use Rattle.acc_core.specs.Logs.{items_of, all_items, after_item, values_of}
 use Rattle.acc_core.specs.Memories.{Cells, Shows, held_blocks, blocks_after, lengths_of, MayPerform}
 use Rattle.acc_core.specs.Values.{Cell, after_op}

@@ -1,5 +1,6 @@
 -- The hosts with the accelerator that they share: how a run begins, what it gives, and what it leaves.
 use Rattle.std.specs.Prelude.{◌≡◌, ℕ, ◌+◌, ◌≤◌, Bool, true, nat_le, nat_lt, List, [], ◌∷◌, ◌++◌, length, map, All, slice_get, slice_set, Option, Some, None, Result, Ok, Err, if◌then◌else◌}
+use Rattle.std.specs.List.{list_all}
 use Rattle.acc_base.specs.declared.config.TheConstants.{MAX_HOSTS}
 use Rattle.acc_base.specs.declared.fault.Fault.{Fault}
 use Rattle.acc_base.specs.declared.fault.Fault.TheVariants.{BadDevice, TooMany, Memory}
@@ -9,6 +10,8 @@ use Rattle.acc_core.specs.declared.event.Reply.{Reply}
 use Rattle.acc_core.specs.declared.event.Reply.TheVariants as reply
 use Rattle.acc_core.specs.declared.log.Shown.{Shown}
 use Rattle.acc_core.specs.declared.program.Act.{Act}
+use Rattle.acc_core.specs.declared.program.Act.TheVariants as act
+use Rattle.acc_place.specs.Places.{is_synchronous}
 use Rattle.acc_core.specs.declared.program.Host.{Host}
 use Rattle.acc_core.specs.declared.program.HostProgram.{HostProgram}
 use Rattle.acc_core.specs.declared.program.HostState.{HostState}
@@ -54,8 +57,19 @@ StandsAt None phase.Ready = Unit {0}
 StandsAt None (phase.Waits device counts) = ⊥
 StandsAt None (phase.Refused fault) = ⊥
 
-abbrev pub HasStatement : Host → Type 0
-HasStatement host = StandsAt (slice_get host.statements host.ended) host.phase
+-- a statement gives no directive with an async clause or a wait clause
+abbrev pub gives_synchronous : Act → Bool
+gives_synchronous (act.Place d) = is_synchronous d
+gives_synchronous (act.Write array cell value) = true
+gives_synchronous (act.Print range) = true
+
+abbrev pub AllSynchronous : List Statement → Type 0
+AllSynchronous statements = list_all (λ (s : Statement). gives_synchronous s.act) statements ≡ true
+
+-- What every host keeps.
+pub record IsHost (host : Host) : Type 0 where
+  pub stands : StandsAt (slice_get host.statements host.ended) host.phase
+  pub synchronous : AllSynchronous host.statements
 
 -- What holds of a world between two steps; `states` has room for a state of each host.
 pub record IsWorld (w : State) (states : List HostState) (room : ℕ) : Type 0 where
@@ -63,7 +77,7 @@ pub record IsWorld (w : State) (states : List HostState) (room : ℕ) : Type 0 w
   pub few_hosts : length w.hosts ≤ MAX_HOSTS
   pub legal : Legal w
   pub stand : AllStand w 0 w.hosts
-  pub statements : All HasStatement w.hosts
+  pub each_host : All IsHost w.hosts
   pub no_states : states ≡ []
   pub has_room : length w.hosts ≤ room
 

@@ -1,9 +1,10 @@
 ghost use Rattle.std.specs.Prelude.{reverse, ◌≡◌, ◌+◌, ◌<◌, ◌≤◌, [], length, IfOk, IfErr, OnSome, true, false, slice_get, ◌^◌};
 ghost use Rattle.acc_base.specs.declared.config.TheConstants.{MAX_HOSTS};
 ghost use Rattle.acc_base.specs.declared.ids.TheConstants.{QUEUES};
-ghost use Rattle.acc_core.specs.Accepting.{is_in_array};
+ghost use Rattle.acc_place.specs.Accepting.{is_in_array};
+ghost use Rattle.acc_place.specs.Places.{is_synchronous};
 ghost use Rattle.acc_core.specs.Answers.{Places, ItemAnswers, PrintAnswers};
-ghost use Rattle.acc_core.specs.Labels.{on_queue, ops_of};
+ghost use Rattle.acc_batch.specs.Labels.{on_queue, ops_of};
 ghost use Rattle.acc_core.specs.Logs.{done, all_done, performed};
 ghost use Rattle.acc_core.specs.Machine.{state_at_first, step, standing_of};
 ghost use Rattle.std.specs.Option.{option_map};
@@ -11,17 +12,13 @@ ghost use Rattle.acc_present.specs.Presences.{presences, holder};
 ghost use Rattle.acc_present.specs.Tables.{entry_presence};
 ghost use Rattle.acc_core.specs.Ties.{labels_of};
 
-use crate::batch::Batch;
-use crate::directive::{Directive, PlaceEntry, Placed};
 use crate::event::Reply;
-use crate::judge::is_in_array;
 use crate::log::WorkEntry;
-use crate::place::Place;
-use crate::plan::Plan;
-use crate::task::Task;
 use crate::totals::Totals;
 use crate::work::{Work, sync_queue};
 use acc_base::{Config, DeviceId, Fault, HostId, QueueAt, QueueId, Range};
+use acc_batch::Batch;
+use acc_place::{Directive, Place, PlaceEntry, Placed, is_in_array};
 use acc_present::Entry;
 use std::alloc::Global;
 use std::collections::VecDeque;
@@ -78,35 +75,29 @@ impl Accelerator {
     ///
     /// The directive's first fault; else `Memory` for want of memory, or `QueueFull`.
     pub fn place(&mut self, host: HostId, directive: &Directive) -> Result<Placed, Fault>
-        requires { host < MAX_HOSTS }
+        requires host { host < MAX_HOSTS }
+        requires synchronous { is_synchronous directive.now ≡ true }
         ensures { Places self.old host directive.now result self.new }
     {
-        let Plan { directive, tasks } = self.place.plan(directive)?;
         let items_done = self.work.items_of(host);
-        if tasks.is_empty() {
-            self.place.accept(host, items_done, directive, true);
-            return Ok(Placed { batch: None });
+        let mut plan = self.place.plan(host, items_done, directive)?;
+        match plan.take_batch() {
+            None => Ok(self.place.accept(plan)),
+            Some(batch) => {
+                if self.queue.len() >= self.place.config().room() as usize {
+                    return Err(Fault::QueueFull);
+                }
+                let waiting = match self.waiting.checked_add(batch.ops().len()) {
+                    Some(waiting) => waiting,
+                    None => return Err(Fault::Memory),
+                };
+                self.work.spare(waiting)?;
+                let placed = self.place.accept(plan);
+                self.queue.push_back_reserved(batch);
+                self.waiting = waiting;
+                Ok(placed)
+            }
         }
-        if self.queue.len() >= self.place.config().room() as usize {
-            return Err(Fault::QueueFull);
-        }
-        let waiting = match self.waiting.checked_add(tasks.len()) {
-            Some(waiting) => waiting,
-            None => return Err(Fault::Memory),
-        };
-        self.work.spare(waiting)?;
-        let number = self.place.accept(host, items_done, directive, false);
-        self.queue.push_back_reserved(Batch {
-            at: sync_queue(),
-            number,
-            host,
-            items_done,
-            tasks,
-        });
-        self.waiting = waiting;
-        Ok(Placed {
-            batch: Some((sync_queue(), number)),
-        })
     }
 
     /// A host writes a cell of a host array.
@@ -168,8 +159,7 @@ impl Accelerator {
         requires cells { 0 < range.len }
         ensures { result ≡ option_map (λ p. (p.s, p.d)) (holder (presences ((standing_of self.now).marks device)) range) }
     {
-        let _ = device;
-        self.place.counters(range)
+        self.place.counters(device, range)
     }
 
     /// The present range at this place on a device, by array, then by lower bound.
@@ -178,8 +168,7 @@ impl Accelerator {
         ensures entry { option_map (λ e. entry_presence e.now) result ≡ slice_get (presences ((standing_of self.now).marks device)) place }
         ensures next { OnSome result (place + 1 < 2 ^ 64) }
     {
-        let _ = device;
-        self.place.nth(place)
+        self.place.nth(device, place)
     }
 
     pub fn config(&self) -> &Config
@@ -211,7 +200,7 @@ impl Accelerator {
         }
         let performed = self.work.performed();
         Totals {
-            batches: self.place.batches(),
+            batches: self.place.placed_count(sync_queue()),
             operations: performed + self.waiting as u64,
             performed,
         }
@@ -268,14 +257,8 @@ impl Accelerator {
         match self.queue.pop_front() {
             None => Reply::Idle,
             Some(batch) => {
-                let Batch {
-                    at: _,
-                    number: _,
-                    host,
-                    items_done,
-                    tasks,
-                } = batch;
-                self.work.offer(host, items_done, tasks);
+                let (label, tasks) = batch.into_parts();
+                self.work.offer(label.host, label.items_done, tasks);
                 self.taken += 1;
                 Reply::Did
             }

@@ -1,5 +1,5 @@
-use crate::operation::Op;
 use acc_base::{DeviceId, HostId, Listed, QueueAt, Range};
+use acc_batch::Op;
 
 /// The most items of all hosts in a run.
 pub const MAX_HOST_ITEMS: u64 = 1_099_511_627_776;

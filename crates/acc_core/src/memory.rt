@@ -1,24 +1,16 @@
 ghost use Rattle.std.specs.Prelude.{◌≡◌, ◌+◌, ◌-◌, ◌<◌, ◌≤◌, ℤ, pos, [], length, map, replicate, is_some, true, None, IfOk, IfErr, OnOk, OnErr};
-ghost use Rattle.acc_core.specs.Accepting.{is_in_array};
+ghost use Rattle.acc_place.specs.Accepting.{is_in_array};
 ghost use Rattle.acc_core.specs.Blocks.{row_of};
 ghost use Rattle.acc_core.specs.Logs.{after_item, values_of};
 ghost use Rattle.acc_core.specs.Memories.{Shows, held_blocks, blocks_after, find_block, lengths_of, place_of, is_ascending, is_whole, HasRange, has_array, IsAllowed, IsCopy};
-ghost use Rattle.acc_core.specs.Tasks.{op_of};
+ghost use Rattle.acc_batch.specs.Tasks.{op_of};
 ghost use Rattle.acc_core.specs.Values.{Cell, after_op};
 
-use crate::task::Task;
 use acc_base::{BlockId, Config, Fault, Range};
+use acc_batch::{Block, Task};
 use acc_raw::Cells;
 use std::alloc::Global;
 use std::marker::Model;
-
-// A block of the device: its range, and the cells of that range.
-#[derive(Drop)]
-struct Block {
-    block: BlockId,
-    range: Range,
-    cells: Cells,
-}
 
 /// The host arrays and the blocks of device 0, the blocks by number.
 #[derive(Drop)]
@@ -42,7 +34,7 @@ impl Model for Memory {
 impl Memory {
     ghost use Rattle.acc_base.specs.declared.fault.Fault.TheVariants as fault;
     ghost use Rattle.acc_core.specs.declared.log.Shown.TheVariants as shown;
-    ghost use Rattle.acc_core.specs.declared.operation.Op.TheVariants as op;
+    ghost use Rattle.acc_batch.specs.declared.operation.Op.TheVariants as op;
 
     /// The host arrays with their opening values, and no block.
     ///
@@ -91,34 +83,25 @@ impl Memory {
         ensures room { self.new.room ≡ self.old.room }
     {
         match task {
-            Task::Make {
-                block,
-                range,
-                cells,
-            } => self.make(block, range, cells),
+            Task::Make { block } => self.make(block),
             Task::CopyIn { block, range } => self.copy_in(block, range),
             Task::CopyOut { block, range } => self.copy_out(block, range),
             Task::Release { block } => self.release(block),
         }
     }
 
-    /// Takes a block with these cells. Takes no memory.
-    pub fn make(&mut self, block: BlockId, range: Range, cells: Cells)
-        requires fresh { find_block (held_blocks self.old) block ≡ None }
-        requires zeros { cells ≡ replicate range.len (pos 0) }
+    /// Takes a block whose cells are all zero. Takes no memory.
+    pub fn make(&mut self, block: Block)
+        requires fresh { find_block (held_blocks self.old) block.block ≡ None }
+        requires zeros { block.cells ≡ replicate block.range.len (pos 0) }
         requires room { length self.old.rows < self.old.room }
-        ensures shows { (was : Cell → ℤ) → Shows self.old was → Shows self.new (after_op 0 (op.Make block range) was) }
-        ensures blocks { held_blocks self.new ≡ blocks_after (op.Make block range) (held_blocks self.old) }
+        ensures shows { (was : Cell → ℤ) → Shows self.old was → Shows self.new (after_op 0 (op.Make block.block block.range) was) }
+        ensures blocks { held_blocks self.new ≡ blocks_after (op.Make block.block block.range) (held_blocks self.old) }
         ensures lengths { lengths_of self.new.arrays ≡ lengths_of self.old.arrays }
         ensures room { self.new.room ≡ self.old.room }
     {
-        let place = place_of(self.blocks.as_slice(), block);
-        let new = Block {
-            block,
-            range,
-            cells,
-        };
-        let _ = self.blocks.insert(place, new);
+        let place = place_of(self.blocks.as_slice(), block.block);
+        let _ = self.blocks.insert(place, block);
     }
 
     /// Copies the range's cells from the host array into the block.

@@ -1,5 +1,9 @@
-use crate::directive::Directive;
+ghost use Rattle.std.specs.Prelude.{◌≡◌};
+ghost use Rattle.std.specs.List.{list_all};
+ghost use Rattle.acc_core.specs.Worlds.{gives_synchronous};
+
 use acc_base::{DeviceId, Fault, HostId, Listed, Range};
+use acc_place::Directive;
 
 /// What a statement does.
 #[derive(Drop)]
@@ -7,6 +11,18 @@ pub enum Act {
     Place { directive: Directive },
     Write { array: u8, cell: u32, value: i64 },
     Print { range: Range },
+}
+
+impl Act {
+    /// Whether it gives no directive with an `async` clause or a `wait` clause.
+    pub fn is_synchronous(&self) -> bool
+        ensures { result ≡ gives_synchronous self.now }
+    {
+        match self {
+            Act::Place { directive } => directive.is_synchronous(),
+            Act::Write { .. } | Act::Print { .. } => true,
+        }
+    }
 }
 
 /// A statement of a host's program, with the line that it stands in.
@@ -21,6 +37,18 @@ pub struct Statement {
 pub struct HostProgram {
     pub host: HostId,
     pub statements: Listed<Statement>,
+}
+
+impl HostProgram {
+    /// Whether none of its directives has an `async` clause or a `wait` clause.
+    pub fn is_synchronous(&self) -> bool
+        ensures { result ≡ list_all (λ s. gives_synchronous s.act) self.now.statements }
+    {
+        self.statements
+            .as_slice()
+            .iter()
+            .all(|statement| statement.act.is_synchronous())
+    }
 }
 
 /// Where a host stands in its program; `ended` counts the statements that it has ended.

@@ -1,18 +1,17 @@
 ghost use Rattle.std.specs.Prelude.{reverse, ◌≡◌, ◌+◌, ◌<◌, ◌≤◌, [], length, IfOk, IfErr, OnOk, OnErr, true, Bool, Some};
 ghost use Rattle.acc_base.specs.Queues.{same_queue};
 ghost use Rattle.acc_base.specs.declared.config.TheConstants.{MAX_HOSTS};
-ghost use Rattle.acc_core.specs.Accepting.{is_in_array};
+ghost use Rattle.acc_place.specs.Accepting.{is_in_array};
 ghost use Rattle.acc_core.specs.Answers.{item_fault};
 ghost use Rattle.acc_core.specs.declared.log.TheConstants.{MAX_HOST_ITEMS};
 ghost use Rattle.acc_core.specs.Logs.{items_of, all_items};
-ghost use Rattle.acc_core.specs.Tasks.{op_of, ops_in, AllReady};
+ghost use Rattle.acc_batch.specs.Tasks.{op_of, ops_in, AllReady};
 ghost use Rattle.acc_core.specs.Works.{Performs, NextMayFollow, HasShown, HasMadeRoom, sync};
 
 use crate::log::{MAX_HOST_ITEMS, Shown, WorkEntry};
 use crate::memory::Memory;
-use crate::operation::Op;
-use crate::task::Task;
 use acc_base::{Config, DeviceId, Fault, HostId, Listed, QueueAt, QueueId, Range};
+use acc_batch::Task;
 use std::alloc::Global;
 use std::collections::VecDeque;
 use std::marker::Model;
@@ -32,7 +31,7 @@ pub struct Work {
 
 impl Model for Work {
     ghost use Rattle.std.specs.Prelude.{reverse, vec_capacity};
-    ghost use Rattle.acc_core.specs.Tasks.{ops_in, AllReady};
+    ghost use Rattle.acc_batch.specs.Tasks.{ops_in, AllReady};
     ghost use Rattle.acc_core.specs.Works.{WorkView, IsWork};
 
     ghost Value = { WorkView };
@@ -49,27 +48,6 @@ pub fn sync_queue() -> QueueAt
     QueueAt {
         device: DeviceId::new(0),
         queue: QueueId::SYNC,
-    }
-}
-
-// The operation that a task performs.
-fn operation_of(task: &Task) -> Op
-    ensures { result ≡ op_of task.now }
-{
-    match task {
-        Task::Make { block, range, .. } => Op::Make {
-            block: *block,
-            range: *range,
-        },
-        Task::CopyIn { block, range } => Op::CopyIn {
-            block: *block,
-            range: *range,
-        },
-        Task::CopyOut { block, range } => Op::CopyOut {
-            block: *block,
-            range: *range,
-        },
-        Task::Release { block } => Op::Release { block: *block },
     }
 }
 
@@ -189,7 +167,7 @@ impl Work {
         match self.lane.pop_front() {
             None => false,
             Some(task) => {
-                let what = operation_of(&task);
+                let what = task.op();
                 self.memory.perform(task);
                 self.log.push_reserved(WorkEntry::Op {
                     at: sync_queue(),

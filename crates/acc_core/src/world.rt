@@ -4,20 +4,20 @@ ghost use Rattle.acc_present.specs.Presences.{presences, holder};
 ghost use Rattle.acc_present.specs.Tables.{entry_presence};
 ghost use Rattle.acc_base.specs.declared.config.TheConstants.{MAX_HOSTS};
 ghost use Rattle.acc_core.specs.Machine.{Step, standing_of};
-ghost use Rattle.acc_core.specs.Labels.{on_queue, ops_of};
+ghost use Rattle.acc_batch.specs.Labels.{on_queue, ops_of};
 ghost use Rattle.acc_core.specs.Logs.{all_done, performed};
 ghost use Rattle.acc_core.specs.Ties.{labels_of};
 ghost use Rattle.acc_core.specs.declared.log.Shown.TheVariants.{Seen};
 ghost use Rattle.acc_core.specs.Steps.{owed_by};
-ghost use Rattle.acc_core.specs.Worlds.{OnePerHost, world_fault, ready, opening, Ran, owed_in, after_answer, reply_to, Acts, Sees, HostSteps, HasStatement, state_of, line_of};
+ghost use Rattle.acc_core.specs.Worlds.{OnePerHost, world_fault, ready, opening, Ran, owed_in, after_answer, reply_to, Acts, Sees, HostSteps, AllSynchronous, IsHost, gives_synchronous, state_of, line_of};
 
 use crate::accelerator::Accelerator;
-use crate::directive::{PlaceEntry, Placed};
 use crate::event::{Event, Reply};
 use crate::log::WorkEntry;
 use crate::program::{Act, Host, HostProgram, HostState, Phase};
 use crate::totals::Totals;
 use acc_base::{Config, DeviceId, Fault, HostId, QueueAt, QueueId, Range};
+use acc_place::{PlaceEntry, Placed};
 use acc_present::Entry;
 use std::alloc::Global;
 use std::marker::Model;
@@ -65,7 +65,8 @@ impl World {
     /// The first of: `BadDevice` for more than one device, `TooMany` for more than one host, `Memory` for
     /// want of memory.
     pub fn new(alloc: Global, config: Config, programs: Vec<HostProgram>) -> Result<World, Fault>
-        requires { OnePerHost config programs.items }
+        requires programs { OnePerHost config programs.items }
+        requires synchronous { All (λ p. AllSynchronous p.statements) programs.items }
         ensures opened { IfOk result (λ w. w ≡ opening config programs.items) }
         ensures allowed { OnOk result (world_fault false config ≡ None) }
         ensures refused { IfErr result (λ fault. (no_memory : Bool) × (world_fault no_memory config ≡ Some fault)) }
@@ -84,6 +85,7 @@ impl World {
     fn open(alloc: Global, config: Config, programs: Vec<HostProgram>) -> Result<World, Fault>
         requires one_device { config.devices ≡ 1 }
         requires few_hosts { length programs.items ≤ MAX_HOSTS }
+        requires synchronous { All (λ p. AllSynchronous p.statements) programs.items }
         ensures opened { IfOk result (λ w. w ≡ opening config programs.items) }
         ensures refused { IfErr result (λ fault. fault ≡ Memory) }
     {
@@ -200,7 +202,7 @@ impl World {
         ensures counts { result.counts.items ≡ reverse self.counts }
         ensures works { result.works.items ≡ reverse self.work }
         ensures hosts { result.hosts.items ≡ map state_of self.hosts }
-        ensures lines { All HasStatement self.hosts }
+        ensures lines { All IsHost self.hosts }
     {
         let World {
             alloc: _,
@@ -252,9 +254,9 @@ fn ready_hosts(alloc: Global, programs: Vec<HostProgram>) -> Result<Vec<Host>, F
 // The next step of a host.
 fn host_step(accelerator: &mut Accelerator, number: HostId, host: &mut Host) -> Reply
     requires number { number < MAX_HOSTS }
-    requires statement { HasStatement host.old }
+    requires host { IsHost host.old }
     ensures steps { HostSteps accelerator.old number host.old result accelerator.new host.new }
-    ensures statement { HasStatement host.new }
+    ensures host { IsHost host.new }
 {
     if host.ended >= host.statements.as_slice().len() {
         return Reply::Idle;
@@ -293,7 +295,8 @@ fn see(
 
 // Does a statement, and says what its host then waits for.
 fn act(accelerator: &mut Accelerator, number: HostId, act: &Act) -> Result<Option<Awaited>, Fault>
-    requires { number < MAX_HOSTS }
+    requires number { number < MAX_HOSTS }
+    requires synchronous { gives_synchronous act.now ≡ true }
     ensures { Acts accelerator.old number act.now result accelerator.new }
 {
     match act {

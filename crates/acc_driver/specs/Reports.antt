@@ -14,7 +14,7 @@ use Rattle.acc_core.specs.declared.log.WorkEntry.{WorkEntry}
 use Rattle.acc_core.specs.declared.log.WorkEntry.TheVariants as entry
 use Rattle.acc_core.specs.declared.program.HostState.{HostState}
 use Rattle.acc_core.specs.declared.program.HostState.TheVariants.{Running, Finished, Refused}
-use Rattle.acc_core.specs.Labels.{on_queue, ops_of}
+use Rattle.acc_core.specs.Place.{on_queue, ops_of}
 use Rattle.acc_core.specs.Logs.{performed}
 use Rattle.acc_core.specs.Machine.{State, standing_of}
 use Rattle.acc_core.specs.Worlds.{state_of}

@@ -1,11 +1,7 @@
 -- The definition of a script computed on worked texts: what they say, and each kind of fault with its line.
 use Rattle.std.specs.Prelude.{◌≡◌, ℕ, List, [], ◌∷◌, Ok, ℤ, pos, negsuc, codes}
 use Rattle.acc_base.specs.declared.range.Range.{Range}
-use Rattle.acc_core.specs.declared.directive.Clause.{Clause}
-use Rattle.acc_core.specs.declared.directive.Clause.TheVariants.{Copyin, Copyout, Delete}
-use Rattle.acc_core.specs.declared.directive.Item.{Item}
-use Rattle.acc_core.specs.declared.directive.Kind.{Kind}
-use Rattle.acc_core.specs.declared.directive.Kind.TheVariants.{EnterData, ExitData}
+use Rattle.acc_core.specs.Place.{Clause, Copyin, Copyout, Delete, Item, Kind, EnterData, ExitData}
 use Rattle.acc_core.specs.declared.program.Act.{Act}
 use Rattle.acc_core.specs.declared.program.Act.TheVariants.{Place, Write, Print}
 use Rattle.acc_core.specs.declared.program.Statement.{Statement}
@@ -15,6 +11,7 @@ use Rattle.acc_driver.specs.declared.input.TheConstants.{MAX_TEXT}
 use Rattle.acc_driver.specs.declared.word.TheConstants.{MAX_NAME}
 use Rattle.acc_driver.specs.Faults.{fails}
 use Rattle.acc_driver.specs.Scripts.{script_of}
+use Rattle.acc_driver.specs.Statements.{synchronous}
 
 abbrev pub says : List ℕ → List (List ℕ) → List (List ℤ) → List Statement → Type 0
 says text names arrays statements =
@@ -33,7 +30,7 @@ abbrev pub at_line : ℕ → Act → Statement
 at_line line act = record { line = line; act = act }
 
 abbrev pub data_of : Kind → List Item → Act
-data_of kind items = Place (record { device = 0; kind = kind; items = items })
+data_of kind items = Place (synchronous kind items)
 
 -- a host write under a present range, with comments
 abbrev pub StaleCopyText : Type 0

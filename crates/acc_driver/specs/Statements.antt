@@ -1,11 +1,7 @@
 -- The ranges, directives and statements of a script.
-use Rattle.std.specs.Prelude.{ℕ, ◌-◌, Bool, true, false, ◌||◌, ◌==◌, nat_le, List, [], ◌∷◌, ◌++◌, length, Option, Some, None, unwrap_or, Result, Ok, ℤ, codes, bytes_eq, if◌then◌else◌}
+use Rattle.std.specs.Prelude.{ℕ, ◌-◌, Bool, true, false, ◌||◌, ◌==◌, nat_le, List, [], ◌∷◌, ◌++◌, length, Option, Some, None, unwrap_or, Result, Ok, ℤ, negsuc, codes, bytes_eq, if◌then◌else◌}
 use Rattle.acc_base.specs.declared.range.Range.{Range}
-use Rattle.acc_core.specs.declared.directive.Clause.{Clause}
-use Rattle.acc_core.specs.declared.directive.Clause.TheVariants.{Copyin, Copyout, Delete}
-use Rattle.acc_core.specs.declared.directive.Item.{Item}
-use Rattle.acc_core.specs.declared.directive.Kind.{Kind}
-use Rattle.acc_core.specs.declared.directive.Kind.TheVariants.{EnterData, ExitData}
+use Rattle.acc_core.specs.Place.{Clause, Copyin, Copyout, Delete, Directive, Item, Kind, EnterData, ExitData, Plain, Nothing}
 use Rattle.acc_core.specs.declared.program.Act.TheVariants.{Place, Write, Print}
 use Rattle.acc_core.specs.declared.program.Statement.{Statement}
 use Rattle.acc_driver.specs.declared.fault.ReadFault.{ReadFault}
@@ -115,6 +111,11 @@ kind_of t =
     else (if bytes_eq t.text (codes "exit") then Ok (ExitData, t.after)
     else unwanted t)
 
+-- a directive without `async` and `wait`, on the one device; the host's default async value is acc_async_noval
+abbrev pub synchronous : Kind → List Item → Directive
+synchronous kind items =
+    record { device = 0; default = negsuc 0; kind = kind; items = items; target = Plain; waits = Nothing }
+
 -- "#" "pragma" "acc" ( "enter" | "exit" ) "data" clauses, behind the "#", with the line of the "#"
 unfoldable pub directive_at : Declared → ℕ → Spot → Result (Statement × Spot) ReadFault
 directive_at arrays line at =
@@ -124,7 +125,7 @@ directive_at arrays line at =
     kind_of t >>= λ kind.
     expect true (codes "data") kind.1 >>= λ at.
     all_turns (clause_turn arrays kind.0) [] at >>= λ clauses.
-    Ok (record { line = line; act = Place (record { device = 0; kind = kind.0; items = clauses.so_far }) }, clauses.at)
+    Ok (record { line = line; act = Place (synchronous kind.0 clauses.so_far) }, clauses.at)
 
 -- "(" range ")" ";" behind `print`
 unfoldable pub print_at : Declared → ℕ → Spot → Result (Statement × Spot) ReadFault

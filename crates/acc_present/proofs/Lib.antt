@@ -12,4 +12,3 @@ pub mod Orders
 pub mod Parts
 pub mod Searching
 pub mod SearchingBeside
-pub mod Undoing

@@ -3,8 +3,8 @@ ghost use Rattle.std.specs.Prelude.{◌≡◌};
 use crate::refusal::Hoard;
 use acc_base::{BlockId, Config, DeviceId, Fault, HostId, Listed, QueueAt, QueueId, Range};
 use acc_core::{
-    Act, Clause, Directive, Event, HostProgram, HostState, Item, Kind, Op, Reply, Shown, Statement,
-    Totals, WorkEntry, World,
+    ASYNC_NOVAL, Act, Clause, Directive, Event, HostProgram, HostState, Item, Kind, Op, Reply,
+    Shown, Statement, Target, Totals, Waits, WorkEntry, World,
 };
 use std::alloc::{AllocError, Global};
 use std::test::Fail;
@@ -34,6 +34,18 @@ fn cells(lo: u32, len: u32) -> Range
     Range { array: 0, lo, len }
 }
 
+// A directive without an async clause and a wait clause.
+fn synchronous(kind: Kind, items: Vec<Item>) -> Directive {
+    Directive {
+        device: DeviceId::new(0),
+        default: ASYNC_NOVAL,
+        kind,
+        items: Listed::from_vec(items),
+        target: Target::Plain,
+        waits: Waits::Nothing,
+    }
+}
+
 // A directive with one range.
 fn place(
     alloc: Global,
@@ -46,11 +58,7 @@ fn place(
     Ok(statement(
         line,
         Act::Place {
-            directive: Directive {
-                device: DeviceId::new(0),
-                kind,
-                items: Listed::from_vec(items),
-            },
+            directive: synchronous(kind, items),
         },
     ))
 }
@@ -72,6 +80,9 @@ fn world_of(
         host: HostId::new(0),
         statements: Listed::from_vec(statements),
     };
+    if !program.is_synchronous() {
+        return Err(Fault::BadAsync);
+    }
     World::new(alloc, config, vec![in alloc; program]?)
 }
 
@@ -345,11 +356,7 @@ fn three_hundred_rounds_of_sixteen_ranges(rt: HostRuntime) -> Result<(), Fail> {
         statements.push(statement(
             round,
             Act::Place {
-                directive: Directive {
-                    device: DeviceId::new(0),
-                    kind,
-                    items: Listed::from_vec(items),
-                },
+                directive: synchronous(kind, items),
             },
         ))?;
     }
@@ -383,11 +390,7 @@ fn seventeen_ranges_are_too_many(rt: HostRuntime) -> Result<(), Fail> {
             range: cells(item, 1),
         })?;
     }
-    let directive = Directive {
-        device: DeviceId::new(0),
-        kind: Kind::EnterData,
-        items: Listed::from_vec(items),
-    };
+    let directive = synchronous(Kind::EnterData, items);
     let mut world = world_of(
         alloc,
         vec![in alloc; 0i64; 17]?,

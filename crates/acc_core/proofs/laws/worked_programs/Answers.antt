@@ -2,10 +2,10 @@ use Rattle.std.proofs.Common.{refl}
 use Rattle.acc_base.specs.Ranges.{range_contains, range_overlaps}
 use Rattle.acc_present.specs.Lifetimes.{is_before, opened, live}
 use Rattle.acc_present.specs.Presences.{presences}
-use Rattle.acc_core.specs.Accepting.{refusal}
-use Rattle.acc_core.specs.Batches.{batch_of, answer_of}
-use Rattle.acc_core.specs.Histories.{standing}
-use Rattle.acc_core.specs.Standings.{walk_of}
+use Rattle.acc_place.specs.Accepting.{refusal}
+use Rattle.acc_place.specs.Batches.{batch_of, answer_of}
+use Rattle.acc_place.specs.Histories.{standing}
+use Rattle.acc_place.specs.Standings.{walk_of}
 use Rattle.acc_core.proofs.laws.worked_programs.Goals as goal
 
 pub returns-clause-twice : goal.returns-clause-twice

@@ -1,7 +1,7 @@
 use Rattle.std.proofs.Common.{rules}
 use Rattle.std.specs.Prelude.{nat_lt}
 use Rattle.std.proofs.lemmas.List.Sorted.{IsPartitionPoint-from_clause}
-use Rattle.acc_core.specs.declared.memory.Block.{Block}
+use Rattle.acc_batch.specs.declared.task.Block.{Block}
 use Rattle.acc_core.proofs.Places.{IsPartitionedBy-blocks, partition_is_place}
 use Rattle.acc_core.proofs.memory.place_of.Goals as goal
 

@@ -3,10 +3,7 @@ use Rattle.std.specs.Fmt.{digits}
 use Rattle.acc_base.specs.Ranges.{range_contains, range_overlaps}
 use Rattle.acc_core.specs.Present.{is_before, opened, live}
 use Rattle.acc_core.specs.Present.{presences}
-use Rattle.acc_core.specs.Accepting.{refusal}
-use Rattle.acc_core.specs.Batches.{batch_of, answer_of}
-use Rattle.acc_core.specs.Histories.{standing}
-use Rattle.acc_core.specs.Standings.{walk_of}
+use Rattle.acc_core.specs.Place.{refusal, batch_of, answer_of, standing, walk_of}
 use Rattle.acc_driver.specs.Arrays.{value_of, value_turn_behind, value_turn, size_at, opening_at, fresh_name, array_at, array_turn, array_of}
 use Rattle.acc_driver.specs.Inputs.{parts}
 use Rattle.acc_driver.specs.Reports.{printed, shown_text, state_text, refusal_text, host_text, presence_text, device_text, totals_text, queue_text, queues_text, report}

@@ -1,80 +1,91 @@
-use Rattle.std.proofs.Common.{◌≡◌, ◌+◌, ◌<◌, ◌≤◌, length, refl, sym, ap, ◌∙◌, arith, deque_len, deque_capacity}
+use Rattle.std.proofs.Common.{◌≡◌, ◌+◌, ◌<◌, ◌≤◌, Some, None, length, refl, sym, ap, ◌∙◌, arith, deque_capacity}
+use Rattle.std.proofs.lemmas.List.{length-map}
+use Rattle.std.proofs.lemmas.Result.{err_from_is_err_and}
+use Rattle.acc_batch.specs.Tasks.{op_of}
 use Rattle.acc_core.specs.contracts.accelerator.Accelerator.{the_view}
-use Rattle.acc_core.proofs.Placing.{keeps_empty, keeps_batch, places_empty, places_full, places_batch, none_in, some_in}
+use Rattle.acc_base.specs.declared.fault.Fault.TheVariants.{Memory}
+use Rattle.acc_core.specs.Machine.{standing_of}
+use Rattle.acc_place.specs.Plans.{label_in}
+use Rattle.acc_place.specs.Standings.{walk_of}
+use Rattle.acc_core.proofs.Placing.{IsPlanned, planned, batch_empty, batch_placed, acts_on_sync, keeps_empty, keeps_batch, places_empty, places_full, places_batch, places_memory}
 use Rattle.acc_core.proofs.accelerator.Accelerator.place.Goals as goal
 
-pub invariant_of-self-then-is_empty : goal.invariant_of-self-then-is_empty
-invariant_of-self-then-is_empty c =
+pub invariant_of-self-in-None : goal.invariant_of-self-in-None
+invariant_of-self-in-None c =
     let i = c.self.inside in
-    let p = c.in_ok-directive.ensures in
-    let a = c.accept.ensures in
-    let tasks = c.in_ok-directive.field-0.tasks in
-    let none = none_in tasks.items (deque_len tasks) _ tasks.ok.0 p.tasks (sym c.is_empty.ensures ∙ c.if-is_empty.true) in
-    keeps_empty (the_view i) _ i.work i.queue.items i.taken i.waiting (deque_capacity i.queue) c.args.host c.args.directive.now
-    c.self.invariant p.accepted none
-    (rw (a.config, a.history, a.counts, p.config, p.history, p.counts, p.directive, c.items_of-items_done.ensures) refl)
-
-pub returns-then-is_empty : goal.returns-then-is_empty
-returns-then-is_empty c =
-    let p = c.in_ok-directive.ensures in
-    let a = c.accept.ensures in
-    let tasks = c.in_ok-directive.field-0.tasks in
-    let none = none_in tasks.items (deque_len tasks) _ tasks.ok.0 p.tasks (sym c.is_empty.ensures ∙ c.if-is_empty.true) in
-    rw (← c.self.view_is) (places_empty (the_view c.self.inside) _ c.args.host c.args.directive.now p.accepted none
-    (rw (a.config, a.history, a.counts, p.config, p.history, p.counts, p.directive, c.items_of-items_done.ensures) refl))
+    let d = c.args.directive.now in
+    let e = c.in_ok-plan.ensures in
+    let q = c.in_ok-plan.plan in
+    let items = c.items_of-items_done.result in
+    let facts = planned i.place c.plan.new.self q c.args.host items d e.config e.history e.counts e.fits.0 e.plan.0 e.plan.1 e.plan.2 in
+    let none = batch_empty (the_view i) c.args.host items d (c.in-None.ensures.batch ∙ (e.batch ∙ facts.labelled)) in
+    keeps_empty (the_view i) _ i.work i.queue.items i.taken i.waiting (deque_capacity i.queue) c.args.host d c.self.invariant facts.accepted none
+    (rw (c.accept.ensures.place, c.in-None.ensures.plan, e.config, e.history, e.counts, e.plan.0, e.plan.1, e.plan.2, c.items_of-items_done.ensures) refl)
 
 pub returns-then-len-room : goal.returns-then-len-room
 returns-then-len-room c =
     let i = c.self.inside in
-    let p = c.in_ok-directive.ensures in
-    let tasks = c.in_ok-directive.field-0.tasks in
-    let some = some_in tasks.items (deque_len tasks) _ tasks.ok.0 p.tasks (sym c.is_empty.ensures ∙ c.if-is_empty.false) in
-    let room = c.room.ensures ∙ (ap (λ x. x.room) c.config.ensures ∙ ap (λ x. x.room) p.config) in
+    let d = c.args.directive.now in
+    let e = c.in_ok-plan.ensures in
+    let items = c.items_of-items_done.result in
+    let facts = planned i.place c.plan.new.self c.in_ok-plan.plan c.args.host items d e.config e.history e.counts e.fits.0 e.plan.0 e.plan.1 e.plan.2 in
+    let named = c.in-Some.ensures.batch ∙ (e.batch ∙ (facts.labelled ∙ ap (λ n. label_in (standing_of (the_view i)) c.args.host n (walk_of d)) c.items_of-items_done.ensures)) in
+    let placed = batch_placed (the_view i) c.args.host d c.in-Some.batch (acts_on_sync (the_view i) d c.self.invariant.one_device facts.accepted) named in
+    let room = c.room.ensures ∙ (ap (λ x. x.room) c.config.ensures ∙ ap (λ x. x.room) e.config) in
     let full : length i.queue.items ≡ i.place.config.room = omega (arith, i.queue.ok.0, c.len.ensures, c.if-len-room.true, room, c.self.invariant.held_low) in
-    rw (← c.self.view_is) (places_full (the_view i) _ i.work i.queue.items i.taken i.waiting c.args.host c.args.directive.now
-    c.self.invariant.parts c.self.invariant.one_device p.accepted some full (rw (p.config, p.history, p.counts) refl))
+    rw (← c.self.view_is) (places_full (the_view i) _ i.work i.queue.items i.taken i.waiting c.args.host d c.self.invariant.parts c.self.invariant.one_device facts.accepted placed.some full
+    (rw (e.config, e.history, e.counts) refl))
 
-pub returns : goal.returns
-returns c =
+pub returns-in-None-checked_add : goal.returns-in-None-checked_add
+returns-in-None-checked_add c =
     let i = c.self.inside in
-    let p = c.in_ok-directive.ensures in
-    let a = c.accept-number.ensures in
-    let k = c.in_ok-spare.ensures.kept in
-    let tasks = c.in_ok-directive.field-0.tasks in
-    let some = some_in tasks.items (deque_len tasks) _ tasks.ok.0 p.tasks (sym c.is_empty.ensures ∙ c.if-is_empty.false) in
-    let room = c.room.ensures ∙ (ap (λ x. x.room) c.config.ensures ∙ ap (λ x. x.room) p.config) in
-    let low : length i.queue.items < i.place.config.room = omega (arith, i.queue.ok.0, c.len.ensures, c.if-len-room.false, room) in
-    let fits = λ (full : length i.queue.items ≡ i.place.config.room). absurd (omega (arith, low, full)) in
-    rw (← c.self.view_is, c.sync_queue-2.ensures) (places_batch (the_view i) _ i.work i.queue.items i.taken i.waiting c.args.host c.accept-number.result c.args.directive.now
-    c.self.invariant.parts c.self.invariant.one_device p.accepted some fits a.batches
-    (rw (a.config, a.history, a.counts, p.config, p.history, p.counts, p.directive, c.items_of-items_done.ensures, k.work) refl))
+    let d = c.args.directive.now in
+    let e = c.in_ok-plan.ensures in
+    let facts = planned i.place c.plan.new.self c.in_ok-plan.plan c.args.host c.items_of-items_done.result d e.config e.history e.counts e.fits.0 e.plan.0 e.plan.1 e.plan.2 in
+    rw (← c.self.view_is) (places_memory (the_view i) _ c.args.host d Memory facts.accepted refl (rw (e.config, e.history, e.counts) refl))
 
-pub invariant_of-self-2 : goal.invariant_of-self-2
-invariant_of-self-2 c =
+pub returns-in_err-spare-in-Some : goal.returns-in_err-spare-in-Some
+returns-in_err-spare-in-Some c =
     let i = c.self.inside in
-    let p = c.in_ok-directive.ensures in
-    let a = c.accept-number.ensures in
-    let s = c.in_ok-spare.ensures in
+    let d = c.args.directive.now in
+    let e = c.in_ok-plan.ensures in
+    let facts = planned i.place c.plan.new.self c.in_ok-plan.plan c.args.host c.items_of-items_done.result d e.config e.history e.counts e.fits.0 e.plan.0 e.plan.1 e.plan.2 in
+    let q = err_from_is_err_and c.from_residual-in_err-spare-in-Some.result c.from_residual-in_err-spare-in-Some.ensures.1 in
+    rw (q.1, ← c.self.view_is) (places_memory (the_view i) _ c.args.host d q.0 facts.accepted (q.2 ∙ c.in_err-spare-in-Some.ensures.fault)
+    (rw (e.config, e.history, e.counts, c.in_err-spare-in-Some.ensures.kept.work) refl))
+
+pub invariant_of-self-in-Some : goal.invariant_of-self-in-Some
+invariant_of-self-in-Some c =
+    let i = c.self.inside in
+    let d = c.args.directive.now in
+    let e = c.in_ok-plan.ensures in
+    let s = c.in_ok-spare-in-Some.ensures in
     let b = c.push_back_reserved.ensures in
-    let tasks = c.in_ok-directive.field-0.tasks in
-    let some = some_in tasks.items (deque_len tasks) _ tasks.ok.0 p.tasks (sym c.is_empty.ensures ∙ c.if-is_empty.false) in
-    let more : c.in-Some.waiting ≡ i.waiting + length tasks.items = omega (arith, c.in-Some.ensures, c.len-2.ensures, tasks.ok.0) in
-    let log : length i.work.work + c.in-Some.waiting ≤ c.spare.new.self.room = rw (← s.kept.work) s.log in
-    let room = c.room.ensures ∙ (ap (λ x. x.room) c.config.ensures ∙ ap (λ x. x.room) p.config) in
+    let facts = planned i.place c.plan.new.self c.in_ok-plan.plan c.args.host c.items_of-items_done.result d e.config e.history e.counts e.fits.0 e.plan.0 e.plan.1 e.plan.2 in
+    let named = c.in-Some.ensures.batch ∙ (e.batch ∙ (facts.labelled ∙ ap (λ n. label_in (standing_of (the_view i)) c.args.host n (walk_of d)) c.items_of-items_done.ensures)) in
+    let more : c.in-Some-checked_add.waiting ≡ i.waiting + length c.in-Some.batch.ops =
+    omega (arith, c.in-Some-checked_add.ensures, c.len-in-Some.ensures, c.ops.result.now.ok.0, ap length c.ops.ensures.ops, length-map c.ops.result.now.items op_of) in
+    let log : length i.work.work + c.in-Some-checked_add.waiting ≤ c.spare.new.self.room = rw (← s.kept.work) s.log in
+    let room = c.room.ensures ∙ (ap (λ x. x.room) c.config.ensures ∙ ap (λ x. x.room) e.config) in
     let low : length i.queue.items < i.place.config.room = omega (arith, i.queue.ok.0, c.len.ensures, c.if-len-room.false, room) in
     let wider : deque_capacity i.queue ≤ deque_capacity c.push_back_reserved.new.self = omega (arith, b.capacity) in
-    rw b.items (keeps_batch (the_view i) _ i.work c.spare.new.self i.queue.items
-    (record { at = c.sync_queue.result; number = c.accept-number.result; host = c.args.host; items_done = c.items_of-items_done.result; tasks = tasks })
-    i.taken i.waiting c.in-Some.waiting (deque_capacity i.queue) (deque_capacity c.push_back_reserved.new.self) c.args.host c.args.directive.now
-    c.self.invariant p.accepted
-    (rw (a.config, a.history, a.counts, p.config, p.history, p.counts, p.directive, c.items_of-items_done.ensures, s.kept.work) refl) s.kept
-    (record {
-      at = c.sync_queue.ensures;
-      number = a.batches;
-      of_host = refl;
-      items_done = c.items_of-items_done.ensures;
-      ops = p.tasks;
-      ready = p.ready_tasks;
-      some = some;
-    })
-    c.requires low more log s.blocks wider)
+    rw b.items (keeps_batch (the_view i) _ i.work c.spare.new.self i.queue.items c.in-Some.batch i.taken i.waiting c.in-Some-checked_add.waiting (deque_capacity i.queue)
+    (deque_capacity c.push_back_reserved.new.self) c.args.host d c.self.invariant facts.accepted
+    (rw (c.accept-placed.ensures.place, c.in-Some.ensures.plan, e.config, e.history, e.counts, e.plan.0, e.plan.1, e.plan.2, c.items_of-items_done.ensures, s.kept.work) refl)
+    s.kept named c.requires.host low more log s.blocks wider)
+
+pub returns-in_ok-spare-in-Some : goal.returns-in_ok-spare-in-Some
+returns-in_ok-spare-in-Some c =
+    let i = c.self.inside in
+    let d = c.args.directive.now in
+    let e = c.in_ok-plan.ensures in
+    let s = c.in_ok-spare-in-Some.ensures in
+    let facts = planned i.place c.plan.new.self c.in_ok-plan.plan c.args.host c.items_of-items_done.result d e.config e.history e.counts e.fits.0 e.plan.0 e.plan.1 e.plan.2 in
+    let named = c.in-Some.ensures.batch ∙ (e.batch ∙ (facts.labelled ∙ ap (λ n. label_in (standing_of (the_view i)) c.args.host n (walk_of d)) c.items_of-items_done.ensures)) in
+    let placed = batch_placed (the_view i) c.args.host d c.in-Some.batch (acts_on_sync (the_view i) d c.self.invariant.one_device facts.accepted) named in
+    let room = c.room.ensures ∙ (ap (λ x. x.room) c.config.ensures ∙ ap (λ x. x.room) e.config) in
+    let low : length i.queue.items < i.place.config.room = omega (arith, i.queue.ok.0, c.len.ensures, c.if-len-room.false, room) in
+    let fits = λ (full : length i.queue.items ≡ i.place.config.room). absurd (omega (arith, low, full)) in
+    rw (← c.self.view_is) (places_batch (the_view i) _ i.work i.queue.items i.taken i.waiting c.args.host d c.accept-placed.result c.self.invariant.parts c.self.invariant.one_device facts.accepted placed.some fits
+    (rw (c.in-Some.ensures.plan, e.history, e.counts, e.plan.2) at c.accept-placed.ensures.answer)
+    (rw (c.accept-placed.ensures.place, c.in-Some.ensures.plan, e.config, e.history, e.counts, e.plan.0, e.plan.1, e.plan.2, c.items_of-items_done.ensures, s.kept.work) refl))

@@ -1,5 +1,6 @@
 use Rattle.std.proofs.Common.{length, sym, ap, ◌∙◌, arith}
-use Rattle.acc_core.specs.Ties.{state_of_parts}
+use Rattle.acc_batch.specs.Labels.{on_queue}
+use Rattle.acc_core.specs.Ties.{labels_of, state_of_parts}
 use Rattle.acc_core.proofs.Elsewhere.{none_placed, same_is}
 use Rattle.acc_core.proofs.QueueTotals.{performed_beside_items, operations_are, no_operations, none_performed}
 use Rattle.acc_core.proofs.accelerator.Accelerator.totals.Goals as goal
@@ -29,3 +30,8 @@ returns-clause-performed c =
     let w = state_of_parts c.self.inside.place c.self.inside.work c.self.inside.taken in
     let at = same_is c.args.at (sym c.has_queue.ensures ∙ c.if-not-has_queue.false) in
     rw (← c.self.view_is, at) (omega (arith, performed_beside_items w c.self.invariant.one_device c.self.invariant.legal, c.performed-performed.ensures.count))
+
+pub returns-clause-batches : goal.returns-clause-batches
+returns-clause-batches c =
+    let at = same_is c.args.at (sym c.has_queue.ensures ∙ c.if-not-has_queue.false) in
+    rw (← c.self.view_is, at) (c.placed_count.ensures ∙ ap (λ q. length (on_queue q (labels_of (state_of_parts c.self.inside.place c.self.inside.work c.self.inside.taken)))) c.sync_queue.ensures)

@@ -1,5 +1,5 @@
 use Rattle.std.proofs.Common.{◌≡◌, ◌+◌, map, set, arith}
-use Rattle.acc_core.specs.declared.operation.Op.TheVariants.{CopyIn}
+use Rattle.acc_batch.specs.declared.operation.Op.TheVariants.{CopyIn}
 use Rattle.acc_core.specs.Memories.{place_of}
 use Rattle.acc_core.proofs.Calls.{Performs, RangeAt, rows_of, block_low, range_at, array_at, copies_in}
 use Rattle.acc_core.proofs.Effects.{memory}

@@ -2,7 +2,7 @@ use Rattle.std.proofs.Common.{◌≡◌, ◌+◌, ◌-◌, length, map, set, ap,
 use Rattle.std.specs.Vec.{with_items}
 use Rattle.std.proofs.lemmas.List.{length-map, with_items_is}
 use Rattle.std.proofs.lemmas.Bool.{eqb-true}
-use Rattle.acc_core.specs.declared.operation.Op.TheVariants.{CopyOut}
+use Rattle.acc_batch.specs.declared.operation.Op.TheVariants.{CopyOut}
 use Rattle.acc_core.specs.Memories.{IsCopy}
 use Rattle.acc_core.proofs.Calls.{Performs, ArrayAfter, rows_of, block_low, range_at, array_low, array_at, array_after, copies_out}
 use Rattle.acc_core.proofs.Effects.{memory}

@@ -2,23 +2,23 @@ use Rattle.std.proofs.Common.{◌≡◌, ◌<◌, map, ap, ◌∙◌, arith}
 use Rattle.std.specs.Prelude.{insert}
 use Rattle.std.specs.Vec.{vec_len, vec_capacity}
 use Rattle.std.proofs.lemmas.List.{length-map}
-use Rattle.acc_core.specs.declared.memory.Block.{Block}
-use Rattle.acc_core.specs.declared.operation.Op.TheVariants.{Make}
+use Rattle.acc_batch.specs.declared.task.Block.{Block}
+use Rattle.acc_batch.specs.declared.operation.Op.TheVariants.{Make}
 use Rattle.acc_core.specs.Blocks.{row_of}
 use Rattle.acc_core.specs.Memories.{place_of}
 use Rattle.acc_core.proofs.Calls.{Performs, rows_of, makes}
 use Rattle.acc_core.proofs.Effects.{memory}
 use Rattle.acc_core.proofs.memory.Memory.make.Goals as goal
 
-made : (c : goal.Joined-insert) → Performs (Make c.args.block c.args.range)
+made : (c : goal.Joined-insert) → Performs (Make c.args.block.block c.args.block.range)
     (memory (map (λ v. v.items) c.self.inside.arrays.items) (rows_of c.self.inside.blocks.items))
     (memory (map (λ v. v.items) c.self.inside.arrays.items) (rows_of c.insert.new.self.items))
 made c =
     let blocks = c.self.inside.blocks in
-    let new : Block = record { block = c.args.block; range = c.args.range; cells = c.args.cells } in
+    let new = c.args.block in
     let room = rw (← c.self.view_is) at c.requires.room in
     let low : vec_len blocks < vec_capacity blocks = omega (arith, room, length-map blocks.items row_of) in
-    let place : c.place_of-place.result ≡ place_of (rows_of blocks.items) c.args.block = rw c.as_slice.ensures.value at c.place_of-place.ensures.place in
+    let place : c.place_of-place.result ≡ place_of (rows_of blocks.items) new.block = rw c.as_slice.ensures.value at c.place_of-place.ensures.place in
     let items : c.insert.new.self.items ≡ insert blocks.items c.place_of-place.result new = rw (c.insert.ensures.succeeds low) at c.insert.ensures.items in
     makes (map (λ v. v.items) c.self.inside.arrays.items) blocks.items c.insert.new.self.items new c.self.invariant
     (rw (← c.self.view_is) at c.requires.fresh) c.requires.zeros (items ∙ ap (λ i. insert blocks.items i new) place)

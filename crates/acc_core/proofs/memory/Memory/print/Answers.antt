@@ -1,7 +1,7 @@
 use Rattle.std.proofs.Common.{◌≡◌, ◌+◌, ◌-◌, map, take, drop, ap, ◌∙◌, arith}
 use Rattle.std.specs.Prelude.{nat_lt, slice_get}
 use Rattle.std.proofs.lemmas.Bool.{and_parts}
-use Rattle.acc_core.specs.Accepting.{ends_within}
+use Rattle.acc_place.specs.Accepting.{ends_within}
 use Rattle.acc_core.proofs.Calls.{rows_of, array_at}
 use Rattle.acc_core.proofs.Effects.{memory, shows_values}
 use Rattle.acc_core.proofs.memory.Memory.print.Goals as goal

@@ -1,6 +1,6 @@
 use Rattle.std.proofs.Common.{◌≡◌, map, ap, ◌∙◌, arith}
 use Rattle.std.specs.Prelude.{remove}
-use Rattle.acc_core.specs.declared.operation.Op.TheVariants.{Release}
+use Rattle.acc_batch.specs.declared.operation.Op.TheVariants.{Release}
 use Rattle.acc_core.specs.Memories.{find_block, made_of, place_of}
 use Rattle.acc_core.proofs.Calls.{Performs, rows_of, block_low, held_block, releases}
 use Rattle.acc_core.proofs.Effects.{memory}

@@ -4,7 +4,7 @@ use Rattle.std.specs.Vec.{with_item}
 use Rattle.std.proofs.lemmas.Bool.{and_parts}
 use Rattle.std.proofs.lemmas.Int.{to_z-of_z}
 use Rattle.std.proofs.lemmas.List.{length-set}
-use Rattle.acc_core.specs.Accepting.{ends_within}
+use Rattle.acc_place.specs.Accepting.{ends_within}
 use Rattle.acc_core.proofs.Calls.{ArrayAfter, rows_of, array_at, array_after}
 use Rattle.acc_core.proofs.Effects.{shows_write}
 use Rattle.acc_core.proofs.memory.Memory.write.Goals as goal

@@ -10,5 +10,5 @@ invariant_of-result c =
     let programs = c.args.programs.items in
     let states = c.in_ok-states.states in
     let enough : length programs ≤ vec_capacity states = omega (arith, c.in_ok-states.ensures.capacity) in
-    let world : IsWorld (opening config programs) states.items (vec_capacity states) = opens config programs states.items (vec_capacity states) c.requires.one_device c.requires.few_hosts c.in_ok-states.ensures.items enough in
+    let world : IsWorld (opening config programs) states.items (vec_capacity states) = opens config programs states.items (vec_capacity states) c.requires.one_device c.requires.few_hosts c.requires.synchronous c.in_ok-states.ensures.items enough in
     rw (c.in_ok-accelerator.ensures.opened, c.in_ok-hosts.ensures.hosts) world

@@ -5,16 +5,16 @@ use Rattle.std.proofs.lemmas.List.Elements.{All-get_or, All-set}
 use Rattle.std.proofs.lemmas.Option.{slice_get_past, slice_get_read}
 use Rattle.acc_core.specs.declared.event.Event.TheVariants as event
 use Rattle.acc_core.specs.Machine.{Step}
-use Rattle.acc_core.specs.Worlds.{HasStatement}
+use Rattle.acc_core.specs.Worlds.{IsHost}
 use Rattle.acc_core.proofs.WorldSteps.{still_world, takes, performs, host_goes_on, no_host}
 use Rattle.acc_core.proofs.world.World.step.Goals as goal
 
-pub host_step-requires-clause-statement : goal.host_step-requires-clause-statement
-host_step-requires-clause-statement c =
+pub host_step-requires-clause-host : goal.host_step-requires-clause-host
+host_step-requires-clause-host c =
     let hosts = c.self.inside.hosts.items in
     let within : c.from-index.result < length hosts = omega arith in
-    subst HasStatement (sym c.index_mut.ensures.value)
-    (All-get_or HasStatement hosts c.from-index.result c.index_mut.result.now within c.self.invariant.statements)
+    subst IsHost (sym c.index_mut.ensures.value)
+    (All-get_or IsHost hosts c.from-index.result c.index_mut.result.now within c.self.invariant.each_host)
 
 -- the host's step is the machine's
 goes_on : (c : goal.After-self-1) → Step (record c.self.inside.accelerator { hosts = c.self.inside.hosts.items }) (event.Host c.in-Host.number) c.host_step.result (record c.host_step.new.accelerator { hosts = slice_set c.self.inside.hosts.items c.from-index.result c.host_step.new.host })
@@ -32,18 +32,18 @@ pub invariant_of-self : goal.invariant_of-self
 invariant_of-self c =
     let hosts = c.self.inside.hosts.items in
     still_world (record c.self.inside.accelerator { hosts = hosts }) _ (event.Host c.in-Host.number) c.host_step.result _ _ c.self.invariant (length-set hosts c.from-index.result c.host_step.new.host)
-    (All-set HasStatement hosts c.from-index.result c.host_step.new.host c.host_step.ensures.statement c.self.invariant.statements) (goes_on c)
+    (All-set IsHost hosts c.from-index.result c.host_step.new.host c.host_step.ensures.host c.self.invariant.each_host) (goes_on c)
 
 pub invariant_of-self-in-Take : goal.invariant_of-self-in-Take
 invariant_of-self-in-Take c =
     let hosts = c.self.inside.hosts.items in
-    still_world (record c.self.inside.accelerator { hosts = hosts }) (record c.take.new.self { hosts = hosts }) (event.Take c.in-Take.at) c.take.result _ _ c.self.invariant refl c.self.invariant.statements
+    still_world (record c.self.inside.accelerator { hosts = hosts }) (record c.take.new.self { hosts = hosts }) (event.Take c.in-Take.at) c.take.result _ _ c.self.invariant refl c.self.invariant.each_host
     (takes c.self.inside.accelerator c.take.new.self hosts c.in-Take.at c.take.result c.take.ensures)
 
 pub invariant_of-self-in-Perform : goal.invariant_of-self-in-Perform
 invariant_of-self-in-Perform c =
     let hosts = c.self.inside.hosts.items in
-    still_world (record c.self.inside.accelerator { hosts = hosts }) (record c.perform.new.self { hosts = hosts }) (event.Perform c.in-Perform.at) c.perform.result _ _ c.self.invariant refl c.self.invariant.statements
+    still_world (record c.self.inside.accelerator { hosts = hosts }) (record c.perform.new.self { hosts = hosts }) (event.Perform c.in-Perform.at) c.perform.result _ _ c.self.invariant refl c.self.invariant.each_host
     (performs c.self.inside.accelerator c.perform.new.self hosts c.in-Perform.at c.perform.result c.perform.ensures)
 
 pub returns-then-index-len : goal.returns-then-index-len

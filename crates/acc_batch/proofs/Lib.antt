@@ -1,0 +1,2 @@
+pub mod OneQueue
+mod Readiness

@@ -1,0 +1,10 @@
+//! Operations on the blocks of a device, and batches of them with the memory that performing them needs.
+#![tactic(auto)]
+
+mod batch;
+mod operation;
+mod task;
+
+pub use batch::Batch;
+pub use operation::{Label, Op};
+pub use task::{Block, Task};

@@ -1,0 +1,5 @@
+mod Accepted
+mod Judging
+mod Planning
+mod Visits
+mod Walking

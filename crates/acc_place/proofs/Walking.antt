@@ -1,0 +1,169 @@
+-- One item of a walk: it can be marked, and the counters stay low for the others.
+use Rattle.std.proofs.Common.{◌≡◌, ℕ, suc, ◌+◌, ◌-◌, ◌^◌, ◌<◌, ◌≤◌, Bool, true, false, cond, eqb, List, [], ◌∷◌, ◌++◌, length, map, set, remove, get_or, drop, take, Some, None, refl, sym, ap, ◌∙◌, arith, inl, inr}
+use Rattle.std.specs.Prelude.{◌&&◌, not, filter, IfSome, is_some}
+use Rattle.std.proofs.lemmas.Bool.{cases_Bool, eqb-true, eqb-false}
+use Rattle.std.proofs.lemmas.List.{set-get_or}
+use Rattle.std.proofs.Math.Seq.{take-length}
+use Rattle.acc_base.specs.declared.range.Range.{Range}
+use Rattle.acc_base.specs.Ranges.{range_contains}
+use Rattle.acc_base.specs.Configurations.{Configuration}
+use Rattle.acc_present.specs.declared.table.TheConstants.{COUNTER_LIMIT}
+use Rattle.acc_present.specs.Marks.{Change, Structured_up, Structured_down, Dynamic_up, Dynamic_down, Dynamic_zero, Mark}
+use Rattle.acc_present.specs.Lifetimes.{can_open, is_before}
+use Rattle.acc_present.specs.Presences.{Presence, holder, is_present, is_partly_present, used_cells}
+use Rattle.acc_present.specs.Tables.{Present, IsLook, exit_mark, entry_presence, presence_after, stepped, opening, has_count, kept_after, presences_after, presence_placed_in, is_table}
+use Rattle.acc_present.proofs.Marking.{length-after}
+use Rattle.acc_present.proofs.Searching.{is_present-none}
+use Rattle.acc_place.specs.declared.directive.Item.{Item}
+use Rattle.acc_place.specs.declared.directive.Kind.{Kind}
+use Rattle.acc_place.specs.declared.directive.Kind.TheVariants.{EnterData, ExitData}
+use Rattle.acc_place.specs.declared.judge.Marked.{Marked}
+use Rattle.acc_place.specs.Walks.{Holding, holding, mark_by, opens_one, opened_after, holding_after, holding_after_all, fault_in, fault_or, first_fault_in, block_opened, marked_in, all_marked, AllLow, HasRoomFor, CanMark, IsFine, AllFine}
+
+-- ## The first item, and the others
+
+pub first_fault-next : (config : Configuration) (kind : Kind) (h : Holding) (items : List Item) (d : Item) → 1 ≤ length items → fault_in config kind h.presences (get_or items 0 d).range ≡ None
+    → first_fault_in config kind h items ≡ first_fault_in config kind (holding_after kind (get_or items 0 d).range h) (drop 1 items)
+first_fault-next config kind h [] d some none = absurd (omega arith)
+first_fault-next config kind h (i ∷ is) d some none = ap (λ f. fault_or f (first_fault_in config kind (holding_after kind i.range h) is)) none
+
+pub all_marked-next : (kind : Kind) (h : Holding) (items : List Item) (d : Item) → 1 ≤ length items
+    → all_marked kind h items ≡ marked_in kind h (get_or items 0 d) ∷ all_marked kind (holding_after kind (get_or items 0 d).range h) (drop 1 items)
+all_marked-next kind h [] d some = absurd (omega arith)
+all_marked-next kind h (i ∷ is) d some = refl
+
+pub holding-next : (kind : Kind) (h : Holding) (items : List Item) (d : Item) → 1 ≤ length items
+    → holding_after_all kind h items ≡ holding_after_all kind (holding_after kind (get_or items 0 d).range h) (drop 1 items)
+holding-next kind h [] d some = absurd (omega arith)
+holding-next kind h (i ∷ is) d some = refl
+
+pub fine-first : (capacity : ℕ) (kind : Kind) (h : Holding) (items : List Item) (d : Item) → 1 ≤ length items → AllFine capacity kind h items → IsFine capacity kind h.presences (get_or items 0 d).range
+fine-first capacity kind h [] d some fine = absurd (omega arith)
+fine-first capacity kind h (i ∷ is) d some fine = fine.0
+
+pub fine-next : (capacity : ℕ) (kind : Kind) (h : Holding) (items : List Item) (d : Item) → 1 ≤ length items → AllFine capacity kind h items
+    → AllFine capacity kind (holding_after kind (get_or items 0 d).range h) (drop 1 items)
+fine-next capacity kind h [] d some fine = absurd (omega arith)
+fine-next capacity kind h (i ∷ is) d some fine = fine.1
+
+is_some-opened : (b : Bool) (n : ℕ) → is_some (block_opened b n) ≡ b
+is_some-opened true n = refl
+is_some-opened false n = refl
+
+-- what the table and the count are, once the item is marked
+pub holding_is : (kind : Kind) (ps after : List Presence) (n next : ℕ) (item : Item) (mark : Marked) → after ≡ presences_after (mark_by kind item.range) (n + 1) ps → mark ≡ marked_in kind (holding ps n) item
+    → next ≡ opened_after (is_some mark.opened) n → holding after next ≡ holding_after kind item.range (holding ps n)
+unfolding holding_after marked_in
+holding_is kind ps after n next item mark is made counts =
+    let b = opens_one kind ps item.range in
+    let e : next ≡ opened_after b n = counts ∙ (ap (λ (m : Marked). opened_after (is_some m.opened) n) made ∙ ap (λ v. opened_after v n) (is_some-opened b n)) in
+    ap (λ qs. holding qs next) is ∙ ap (holding (presences_after (mark_by kind item.range) (n + 1) ps)) e
+
+-- ## Counters stay low
+
+AllLow-filter : (limit n : ℕ) (p : Presence → Bool) (ps : List Presence) → AllLow limit n ps → AllLow limit n (filter p ps)
+AllLow-filter limit n p [] h = tt
+AllLow-filter limit n p (x ∷ xs) h =
+    elim (p x) as (λ v. AllLow limit n (cond v (x ∷ filter p xs) (filter p xs)))
+    [ true ↦ (h.0, AllLow-filter limit n p xs h.1) | false ↦ AllLow-filter limit n p xs h.1 ]
+
+AllLow-append : (limit n : ℕ) (ps qs : List Presence) → AllLow limit n ps → AllLow limit n qs → AllLow limit n (ps ++ qs)
+AllLow-append limit n [] qs h k = k
+AllLow-append limit n (p ∷ ps) qs h k = (h.0, AllLow-append limit n ps qs h.1 k)
+
+stepped_low : (limit n d : ℕ) (change : Change) (p : Presence) → p.d + suc n ≤ limit → (stepped change p).d + n ≤ limit
+stepped_low limit n d Structured_up p h = omega arith
+stepped_low limit n d Structured_down p h = omega arith
+stepped_low limit n d Dynamic_up p h = omega arith
+stepped_low limit n d Dynamic_down p h = omega arith
+stepped_low limit n d Dynamic_zero p h = omega arith
+
+AllLow-stepped : (limit n : ℕ) (m : Mark) (ps : List Presence) → AllLow limit (suc n) ps → AllLow limit n (map (presence_after m) ps)
+AllLow-stepped limit n m [] h = tt
+AllLow-stepped limit n m (p ∷ ps) h = (
+  elim (range_contains p.range m.range) as (λ v. (cond v (stepped m.change p) p).d + n ≤ limit) [ true ↦ stepped_low limit n 0 m.change p h.0 | false ↦ omega (arith, h.0) ],
+  AllLow-stepped limit n m ps h.1,
+)
+
+opening_low : (limit n b : ℕ) (m : Mark) → suc n ≤ limit → (opening m b).d + n ≤ limit
+opening_low limit n b m h = stepped_low limit n 0 m.change (record { range = m.range; block = b; s = 0; d = 0 }) (omega arith)
+
+pub AllLow-after : (limit n b : ℕ) (m : Mark) (ps : List Presence) → suc n ≤ limit → AllLow limit (suc n) ps → AllLow limit n (presences_after m b ps)
+AllLow-after limit n b m ps some low =
+    let kept : AllLow limit n (kept_after m ps) = AllLow-filter limit n has_count (map (presence_after m) ps) (AllLow-stepped limit n m ps low) in
+    elim (can_open m.change && not (is_present ps m.range))
+    as (λ v. AllLow limit n (cond v (presence_placed_in (opening m b) (kept_after m ps)) (kept_after m ps))) [
+      | true ↦
+          AllLow-append limit n (filter (λ k. not (is_before m.range k.range)) (kept_after m ps)) (opening m b ∷ filter (λ k. is_before m.range k.range) (kept_after m ps))
+          (AllLow-filter limit n (λ k. not (is_before m.range k.range)) (kept_after m ps) kept)
+          (opening_low limit n b m some, AllLow-filter limit n (λ k. is_before m.range k.range) (kept_after m ps) kept)
+      | false ↦ kept
+    ]
+
+pub AllLow-fewer : (limit limit2 n n2 : ℕ) (ps : List Presence) → limit + n2 ≤ limit2 + n → AllLow limit n ps → AllLow limit2 n2 ps
+AllLow-fewer limit limit2 n n2 [] h low = tt
+AllLow-fewer limit limit2 n n2 (p ∷ ps) h low = (omega (arith, low.0), AllLow-fewer limit limit2 n n2 ps h low.1)
+
+low_holder : (limit n : ℕ) (ps : List Presence) (r : Range) → AllLow limit (suc n) ps → IfSome (holder ps r) (λ p. p.d < limit)
+low_holder limit n [] r low = tt
+low_holder limit n (p ∷ ps) r low =
+    elim (range_contains p.range r) as (λ v. IfSome (cond v (Some p) (holder ps r)) (λ q. q.d < limit))
+    [ true ↦ omega (arith, low.0) | false ↦ low_holder limit n ps r low.1 ]
+
+-- ## It can be marked
+
+opens_where_none : (ps : List Presence) (r : Range) → holder ps r ≡ None → opens_one EnterData ps r ≡ true
+opens_where_none ps r none = rw (is_present-none ps r none) refl
+
+pub can_mark : (kind : Kind) (ps : List Presence) (r : Range) (capacity n : ℕ) → IsFine capacity kind ps r → AllLow COUNTER_LIMIT n ps → 1 ≤ n → CanMark kind r ps capacity
+can_mark ExitData ps r capacity n fine low some = fine.cells
+can_mark EnterData ps r capacity n fine low some =
+    record {
+      cells = fine.cells;
+      whole = fine.whole;
+      low = low_holder COUNTER_LIMIT 0 ps r (AllLow-fewer COUNTER_LIMIT COUNTER_LIMIT n 1 ps (omega arith) low);
+      fits = λ none. fine.fits (opens_where_none ps r none);
+    }
+
+pub opened-most : (b : Bool) (n : ℕ) → opened_after b n ≤ n + 1
+opened-most true n = omega arith
+opened-most false n = omega arith
+
+-- and leaves the counters of the others low
+pub low_rest : (kind : Kind) (ps after : List Presence) (r : Range) (items : List Item) (opened : ℕ) → AllLow COUNTER_LIMIT (length items) ps → 1 ≤ length items → opened + length items ≤ COUNTER_LIMIT
+    → after ≡ presences_after (mark_by kind r) (opened + 1) ps → AllLow COUNTER_LIMIT (length (drop 1 items)) after
+low_rest kind ps after r [] opened low some few is = absurd (omega arith)
+low_rest kind ps after r (i ∷ is) opened low some few at_is = rw at_is (AllLow-after COUNTER_LIMIT (length is) (opened + 1) (mark_by kind r) ps (omega arith) low)
+
+-- and room for them in the table
+room_after : (kind : Kind) (t after : Present) (r : Range) (n opened next : ℕ) → HasRoomFor (suc n) t opened → holding after.presences next ≡ holding_after kind r (holding t.presences opened) → after.room ≡ t.room
+    → HasRoomFor n after next
+unfolding holding_after
+room_after kind t after r n opened next room is same =
+    let m = mark_by kind r in
+    let made : after.presences ≡ presences_after m (opened + 1) t.presences = ap (λ (h : Holding). h.presences) is in
+    let counts : next ≡ opened_after (opens_one kind t.presences r) opened = ap (λ (h : Holding). h.opened) is in
+    let len : length after.presences ≤ length t.presences + 1 = omega (arith, ap length made, length-after m (opened + 1) t.presences) in
+    record {
+      room = omega (arith, len, room.room, same);
+      low = rw made (AllLow-after COUNTER_LIMIT n (opened + 1) m t.presences (omega (arith, room.few)) room.low);
+      few = omega (arith, room.few, counts, opened-most (opens_one kind t.presences r) opened);
+    }
+
+pub room_rest : (kind : Kind) (t after : Present) (r : Range) (items : List Item) (opened next : ℕ) → HasRoomFor (length items) t opened → 1 ≤ length items
+    → holding after.presences next ≡ holding_after kind r (holding t.presences opened) → after.room ≡ t.room → HasRoomFor (length (drop 1 items)) after next
+room_rest kind t after r [] opened next room some is same = absurd (omega arith)
+room_rest kind t after r (i ∷ is) opened next room some at_t same = room_after kind t after r (length is) opened next room at_t same
+
+-- ## The items behind the first, as a slice pattern gives them
+
+abbrev pub rest_of : List Item → List Item
+rest_of items = take (length items - 1) (drop 1 items)
+
+pub rest_is : (items : List Item) → rest_of items ≡ drop 1 items
+rest_is [] = refl
+rest_is (i ∷ is) = let e : suc (length is) - 1 ≡ length is = omega arith in ap (λ n. take n is) e ∙ take-length is
+
+pub length-rest : (items : List Item) → 1 ≤ length items → length (rest_of items) + 1 ≡ length items
+length-rest [] some = absurd (omega arith)
+length-rest (i ∷ is) some = omega (arith, ap length (rest_is (i ∷ is)))

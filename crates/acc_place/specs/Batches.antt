@@ -1,0 +1,81 @@
+-- What a directive places: the operations of its batch, and its answer.
+use Rattle.std.specs.Prelude.{ℕ, ◌+◌, Bool, true, false, not, nat_lt, List, [], ◌∷◌, ◌++◌, length, map, filter, Option, Some, None, replicate, if◌then◌else◌}
+use Rattle.std.specs.List.{flat_map}
+use Rattle.acc_base.specs.declared.ids.QueueAt.{QueueAt}
+use Rattle.acc_present.specs.Lifetimes.{Lifetime, opened, live, lives}
+use Rattle.acc_place.specs.declared.directive.Clause.{Clause}
+use Rattle.acc_place.specs.declared.directive.Clause.TheVariants.{Copyin, Copyout, Delete}
+use Rattle.acc_place.specs.declared.directive.Placed.{Placed}
+use Rattle.acc_batch.specs.declared.operation.Op.{Op}
+use Rattle.acc_batch.specs.declared.operation.Op.TheVariants.{Make, CopyIn, CopyOut, Release}
+use Rattle.acc_batch.specs.declared.operation.Label.{Label}
+use Rattle.acc_batch.specs.Labels.{on_queue}
+use Rattle.acc_place.specs.Standings.{Standing, Walk, Visit, visits}
+
+-- an opening copies in
+abbrev pub copies_in : Clause → Bool
+copies_in Copyin = true
+copies_in Copyout = false
+copies_in Delete = false
+
+-- a last exit copies out
+abbrev pub copies_out : Clause → Bool
+copies_out Copyin = false
+copies_out Copyout = true
+copies_out Delete = false
+
+abbrev pub opened_block : ℕ → ℕ → List ℕ
+opened_block before after = if nat_lt before after then after ∷ [] else []
+
+-- the block of the lifetime that a visit opened, and of those that it ended
+abbrev pub opened_blocks : Visit → List ℕ
+opened_blocks v = opened_block (length (opened v.before)) (length (opened v.after))
+
+abbrev pub blocks_of : List Lifetime → List ℕ
+blocks_of ls = map (λ l. l.block) ls
+
+abbrev pub ended_blocks : Visit → List ℕ
+ended_blocks v = blocks_of (filter (λ l. not (lives v.after l)) (live v.before))
+
+abbrev pub makes : Visit → List Op
+makes v = map (λ b. Make b v.item.range) (opened_blocks v)
+
+abbrev pub copy_ins : Visit → List Op
+copy_ins v = if copies_in v.item.clause then map (λ b. CopyIn b v.item.range) (opened_blocks v) else []
+
+-- a copy out moves the range of the item whose exit ended the lifetime
+abbrev pub copy_outs : Visit → List Op
+copy_outs v = if copies_out v.item.clause then map (λ b. CopyOut b v.item.range) (ended_blocks v) else []
+
+-- and the whole block is released
+abbrev pub releases : Visit → List Op
+releases v = map Release (ended_blocks v)
+
+-- The operations of a batch, group by group, each in written order.
+abbrev pub grouped : List Visit → List Op
+grouped vs = flat_map makes vs ++ (flat_map copy_ins vs ++ (flat_map copy_outs vs ++ flat_map releases vs))
+
+unfoldable pub batch_of : Standing → Walk → List Op
+batch_of st walk = grouped (visits (st.marks walk.device) walk.items)
+
+abbrev pub walk_at : Walk → QueueAt
+walk_at walk = record { device = walk.device; queue = walk.queue }
+
+-- the n-th batch of a queue has number n, from 1
+abbrev pub next_number : QueueAt → List Label → ℕ
+next_number at labels = length (on_queue at labels) + 1
+
+-- an empty batch isn't placed
+abbrev pub labelled : QueueAt → ℕ → ℕ → List Label → List Op → List Label
+labelled at host items_done labels [] = labels
+labelled at host items_done labels (op ∷ ops) =
+    labels ++ record { at = at; number = next_number at labels; host = host; items_done = items_done; ops = op ∷ ops } ∷ []
+
+abbrev pub placed_batch : QueueAt → List Label → List Op → Option (QueueAt × ℕ)
+placed_batch at labels [] = None
+placed_batch at labels (op ∷ ops) = Some (at, next_number at labels)
+
+-- The answer to a directive that is accepted.
+unfoldable pub answer_of : Standing → Walk → Placed
+answer_of st walk =
+    record { batch = placed_batch (walk_at walk) st.labels (batch_of st walk); counts = replicate 8 0; present = false }

@@ -1,0 +1,69 @@
+-- What a place keeps between directives.
+use Rattle.std.specs.Prelude.{◌≡◌, ℕ, ◌+◌, ◌*◌, ◌<◌, ◌≤◌, zero, suc, Bool, true, false, ◌&&◌, List, length, slice_get, Option, None}
+use Rattle.acc_base.specs.declared.ids.QueueAt.{QueueAt}
+use Rattle.acc_batch.specs.declared.operation.Label.{Label}
+use Rattle.acc_batch.specs.Labels.{AllAt}
+use Rattle.acc_present.specs.Lifetimes.{opened}
+use Rattle.acc_present.specs.Presences.{presences}
+use Rattle.acc_present.specs.Tables.{Present}
+use Rattle.acc_place.specs.declared.directive.Directive.{Directive}
+use Rattle.acc_place.specs.declared.directive.Target.{Target}
+use Rattle.acc_place.specs.declared.directive.Target.TheVariants.{Plain, Unvalued, Value}
+use Rattle.acc_place.specs.declared.directive.TheConstants.{MAX_ITEMS, MAX_DIRECTIVES}
+use Rattle.acc_place.specs.declared.directive.Waits.{Waits}
+use Rattle.acc_place.specs.declared.directive.Waits.TheVariants.{Nothing, All, Listed}
+use Rattle.acc_place.specs.Plans.{PlaceView, standing_in}
+use Rattle.acc_place.specs.Standings.{Standing}
+use Rattle.acc_place.specs.Walks.{AllLow}
+
+abbrev pub has_no_async : Target → Bool
+has_no_async Plain = true
+has_no_async Unvalued = false
+has_no_async (Value v) = false
+
+abbrev pub has_no_wait : Waits → Bool
+has_no_wait Nothing = true
+has_no_wait All = false
+has_no_wait (Listed vs) = false
+
+-- a directive without an async clause and without a wait clause
+abbrev pub is_synchronous : Directive → Bool
+is_synchronous d = has_no_async d.target && has_no_wait d.waits
+
+-- the n-th batch of a queue, from 1
+abbrev pub nth_batch : List Label → ℕ → Option Label
+nth_batch labels zero = None
+nth_batch labels (suc n) = slice_get labels n
+
+abbrev pub sync : QueueAt
+sync = record { device = 0; queue = 0 }
+
+-- The table is that of the marks, and the labels are those of the histories, all on queue sync.
+pub record IsTied (st : Standing) (t : Present) (blocks : ℕ) (labels : List Label) : Type 0 where
+  pub presences : t.presences ≡ presences (st.marks 0)
+  pub opened : blocks ≡ length (opened (st.marks 0))
+  pub labelled : st.labels ≡ labels
+  pub single : AllAt sync labels
+  pub few : st.accepted ≤ MAX_DIRECTIVES
+  pub few_blocks : blocks ≤ MAX_ITEMS * st.accepted
+  pub low : AllLow (MAX_ITEMS * st.accepted) 0 t.presences
+
+pub record IsPlace (p : PlaceView) (t : Present) (blocks : ℕ) (labels : List Label) : Type 0 where
+  pub one : p.config.devices ≡ 1
+  pub capacity : t.capacity ≡ p.config.capacity
+  pub accepted : length p.history ≡ (standing_in p).accepted
+  pub counted : length p.counts ≡ length p.history
+  pub tied : IsTied (standing_in p) t blocks labels
+
+-- There is memory for one more directive: in the histories, among the labels, and in the table for its items.
+pub record IsRoomy (t : Present) (entries entry_room numbers number_room batches batch_room : ℕ) : Type 0 where
+  pub history : entries < entry_room
+  pub counts : numbers < number_room
+  pub labels : batches < batch_room
+  pub table : length t.presences + MAX_ITEMS ≤ t.room
+
+-- There is memory for any directive to be judged, and, if the place is ready, to be accepted.
+pub record HasRooms (is_ready : Bool) (t : Present) (entries entry_room numbers number_room batches batch_room draft_room step_room : ℕ) : Type 0 where
+  pub draft : MAX_ITEMS ≤ draft_room
+  pub steps : MAX_ITEMS ≤ step_room
+  pub more : is_ready ≡ true → IsRoomy t entries entry_room numbers number_room batches batch_room

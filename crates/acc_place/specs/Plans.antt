@@ -1,0 +1,75 @@
+-- What a place shows and what it answers to a directive; what a plan is, and when it fits.
+use Rattle.std.specs.Prelude.{◌≡◌, ℕ, Bool, true, false, List, [], ◌∷◌, ◌++◌, length, Option, Some, None}
+use Rattle.acc_base.specs.declared.fault.Fault.{Fault}
+use Rattle.acc_base.specs.declared.fault.Fault.TheVariants.{Memory}
+use Rattle.acc_base.specs.declared.ids.QueueAt.{QueueAt}
+use Rattle.acc_base.specs.Configurations.{Configuration}
+use Rattle.acc_batch.specs.declared.operation.Label.{Label}
+use Rattle.acc_batch.specs.declared.operation.Op.{Op}
+use Rattle.acc_place.specs.declared.directive.Directive.{Directive}
+use Rattle.acc_place.specs.declared.directive.PlaceEntry.{PlaceEntry}
+use Rattle.acc_place.specs.declared.directive.PlaceEntry.TheVariants.{Accepted}
+use Rattle.acc_place.specs.Accepting.{refusal}
+use Rattle.acc_place.specs.Batches.{batch_of, next_number, walk_at}
+use Rattle.acc_place.specs.Histories.{standing}
+use Rattle.acc_place.specs.Standings.{Standing, Walk, walk_of}
+
+-- The configuration, the place history with its counts, the latest first, and whether there is memory for one more
+-- directive.
+pub record PlaceView : Type 0 where
+  pub config : Configuration
+  pub history : List PlaceEntry
+  pub counts : List ℕ
+  pub is_ready : Bool
+
+abbrev pub standing_in : PlaceView → Standing
+standing_in p = standing p.history p.counts
+
+-- the definition's fault, or want of memory where it has none
+abbrev pub IsRefusal : Option Fault → Fault → Type 0
+IsRefusal (Some fault) f = f ≡ fault
+IsRefusal None f = f ≡ Memory
+
+-- A directive of a host with so many items before it; the label of its batch, if it isn't empty, and the batch, until it
+-- is handed out; and how many entries the place history had.
+pub record PlanView : Type 0 where
+  pub host : ℕ
+  pub items_done : ℕ
+  pub directive : Directive
+  pub label : Option Label
+  pub batch : Option Label
+  pub stamp : ℕ
+
+abbrev pub label_for : QueueAt → ℕ → ℕ → ℕ → List Op → Option Label
+label_for at number host items_done [] = None
+label_for at number host items_done (op ∷ ops) =
+    Some (record { at = at; number = number; host = host; items_done = items_done; ops = op ∷ ops })
+
+-- the label of the batch that a walk places
+abbrev pub label_in : Standing → ℕ → ℕ → Walk → Option Label
+label_in st host items_done walk =
+    label_for (walk_at walk) (next_number (walk_at walk) st.labels) host items_done (batch_of st walk)
+
+-- The place would accept the directive now, with that label, and has the memory for it.
+pub record Fits (p : PlaceView) (q : PlanView) : Type 0 where
+  pub accepted : refusal p.config (standing_in p) q.directive ≡ None
+  pub labelled : q.label ≡ label_in (standing_in p) q.host q.items_done (walk_of q.directive)
+  pub ready : p.is_ready ≡ true
+
+-- what accepting adds
+abbrev pub place_after : PlaceView → PlanView → PlaceView
+place_after p q =
+    record { config = p.config; history = Accepted q.host q.directive ∷ p.history; counts = q.items_done ∷ p.counts; is_ready = false }
+
+-- The plan was made of this place, now or before; and if no directive was accepted since, the memory is still there.
+pub record IsPlanOf (p : PlaceView) (q : PlanView) : Type 0 where
+  pub history_then : List PlaceEntry
+  pub history_since : List PlaceEntry
+  pub counts_then : List ℕ
+  pub counts_since : List ℕ
+  pub history : p.history ≡ history_since ++ history_then
+  pub counts : p.counts ≡ counts_since ++ counts_then
+  pub counted : length counts_since ≡ length history_since
+  pub stamped : q.stamp ≡ length history_then
+  pub fitted : Fits (record { config = p.config; history = history_then; counts = counts_then; is_ready = true }) q
+  pub ready : history_since ≡ [] → p.is_ready ≡ true

@@ -1,0 +1,78 @@
+-- What a directive marks, item by item (OpenACC API 3.0, 2.6.6, Enter Data and Exit Data Directives, and 2.7, Data Clauses).
+use Rattle.std.specs.Prelude.{ℕ, Bool, true, false, List, [], ◌∷◌, map, Option, Some, None, ◌==◌, if◌then◌else◌}
+use Rattle.acc_base.specs.declared.range.Range.{Range}
+use Rattle.acc_present.specs.Marks.{Mark, Change, Structured_up, Structured_down, Dynamic_up, Dynamic_down, Dynamic_zero}
+use Rattle.acc_present.specs.Presences.{presences, is_present}
+use Rattle.acc_place.specs.declared.directive.Item.{Item}
+use Rattle.acc_place.specs.declared.directive.Kind.{Kind}
+use Rattle.acc_place.specs.declared.directive.Kind.TheVariants as kind
+use Rattle.acc_place.specs.declared.directive.Directive.{Directive}
+use Rattle.acc_batch.specs.declared.operation.Label.{Label}
+
+-- What a history leaves: the marks on each device, the latest first; the batches, in the order of placing; and how
+-- many directives were accepted.
+pub record Standing : Type 0 where
+  pub marks : ℕ → List Mark
+  pub labels : List Label
+  pub accepted : ℕ
+
+-- An item in its turn, and the change that is asked for, if any.
+pub record Asked : Type 0 where
+  pub item : Item
+  pub change : Option Change
+
+-- Where a directive acts, and on what.
+pub record Walk : Type 0 where
+  pub device : ℕ
+  pub queue : ℕ
+  pub items : List Asked
+
+abbrev pub all_asked : Option Change → List Item → List Asked
+all_asked change items = map (λ i. record { item = i; change = change }) items
+
+-- a synchronous directive acts on queue sync
+abbrev pub plain_walk : Directive → Option Change → Walk
+plain_walk d change = record { device = d.device; queue = 0; items = all_asked change d.items }
+
+abbrev pub walk_by : Directive → Kind → Walk
+walk_by d kind.EnterData = plain_walk d (Some Dynamic_up)
+walk_by d kind.ExitData = plain_walk d (Some Dynamic_down)
+
+unfoldable pub walk_of : Directive → Walk
+walk_of d = walk_by d d.kind
+
+-- a dynamic exit of a range that is absent takes no action
+abbrev pub made_by : Change → Range → List Mark → Bool
+made_by Structured_up r before = true
+made_by Structured_down r before = true
+made_by Dynamic_up r before = true
+made_by Dynamic_down r before = is_present (presences before) r
+made_by Dynamic_zero r before = is_present (presences before) r
+
+abbrev pub one_mark : Bool → Change → Range → List Mark → List Mark
+one_mark true change r before = record { change = change; range = r } ∷ before
+one_mark false change r before = before
+
+abbrev pub marked : List Mark → Range → Option Change → List Mark
+marked before r None = before
+marked before r (Some change) = one_mark (made_by change r before) change r before
+
+-- A visit of an item: all marks of the device before it and after it.
+pub record Visit : Type 0 where
+  pub item : Item
+  pub before : List Mark
+  pub after : List Mark
+
+-- The items are walked in order, each after the marks of those before it.
+abbrev pub visits : List Mark → List Asked → List Visit
+visits before [] = []
+visits before (a ∷ rest) =
+    record { item = a.item; before = before; after = marked before a.item.range a.change }
+    ∷ visits (marked before a.item.range a.change) rest
+
+abbrev pub marks_after : List Mark → List Asked → List Mark
+marks_after before [] = before
+marks_after before (a ∷ rest) = marks_after (marked before a.item.range a.change) rest
+
+abbrev pub with_marks : ℕ → List Mark → (ℕ → List Mark) → ℕ → List Mark
+with_marks device marks others k = if k == device then marks else others k

@@ -1,0 +1,143 @@
+ghost use Rattle.std.specs.Prelude.{◌≡◌, IfOk, IfErr};
+
+use acc_base::{DeviceId, Fault, HostId, Listed, QueueAt, Range};
+use std::alloc::Global;
+
+/// The most items of a directive.
+pub const MAX_ITEMS: usize = 16;
+
+/// The most directives that are accepted in a run.
+pub const MAX_DIRECTIVES: u64 = 1_099_511_627_776;
+
+/// The value of `acc_async_noval`, a host's first default async value (OpenACC API 3.0, 2.16, Asynchronous Behavior).
+pub const ASYNC_NOVAL: i64 = -1;
+
+/// A data clause (OpenACC API 3.0, 2.7, Data Clauses).
+#[derive(Clone, Copy, Debug, PartialEq, Eq)]
+pub enum Clause {
+    Copyin,
+    Copyout,
+    Delete,
+}
+
+/// A range of a data clause.
+#[derive(Clone, Copy, Debug, PartialEq, Eq)]
+pub struct Item {
+    pub clause: Clause,
+    pub range: Range,
+}
+
+/// Which directive it is (OpenACC API 3.0, 2.6.6, Enter Data and Exit Data Directives).
+#[derive(Clone, Copy, Debug, PartialEq, Eq)]
+pub enum Kind {
+    EnterData,
+    ExitData,
+}
+
+/// The `async` clause as it is written (OpenACC API 3.0, 2.16.1, async clause).
+#[derive(Clone, Copy, Debug, PartialEq, Eq)]
+pub enum Target {
+    /// There is none: the directive is synchronous.
+    Plain,
+    /// `async` without an argument.
+    Unvalued,
+    Value { value: i64 },
+}
+
+/// The queues that are waited for, as they are written (OpenACC API 3.0, 2.16.2, wait clause).
+#[derive(Drop)]
+pub enum Waits {
+    Nothing,
+    /// All queues of the device.
+    All,
+    Listed { values: Listed<i64> },
+}
+
+/// A directive as its host gives it: the device that is current, the host's default async value, and the items in
+/// the order of the text.
+#[derive(Drop)]
+pub struct Directive {
+    pub device: DeviceId,
+    pub default: i64,
+    pub kind: Kind,
+    pub items: Listed<Item>,
+    pub target: Target,
+    pub waits: Waits,
+}
+
+impl Waits {
+    ghost use Rattle.acc_base.specs.declared.fault.Fault.TheVariants as fault;
+
+    /// An equal value.
+    ///
+    /// # Errors
+    ///
+    /// `Memory` where memory is refused.
+    pub fn try_clone(&self, alloc: Global) -> Result<Self, Fault>
+        ensures equal { IfOk result (λ w. w ≡ self.now) }
+        ensures fault { IfErr result (λ f. f ≡ fault.Memory) }
+    {
+        match self {
+            Waits::Nothing => Ok(Waits::Nothing),
+            Waits::All => Ok(Waits::All),
+            Waits::Listed { values } => {
+                let values = values.try_clone(alloc)?;
+                Ok(Waits::Listed { values })
+            }
+        }
+    }
+}
+
+impl Directive {
+    ghost use Rattle.acc_base.specs.declared.fault.Fault.TheVariants as fault;
+    ghost use Rattle.acc_place.specs.Places.{is_synchronous};
+
+    /// Whether it has neither an `async` clause nor a `wait` clause.
+    pub fn is_synchronous(&self) -> bool
+        ensures { result ≡ is_synchronous self.now }
+    {
+        let has_no_wait = match &self.waits {
+            Waits::Nothing => true,
+            Waits::All | Waits::Listed { .. } => false,
+        };
+        self.target == Target::Plain && has_no_wait
+    }
+
+    /// An equal directive.
+    ///
+    /// # Errors
+    ///
+    /// `Memory` where memory is refused.
+    pub fn try_clone(&self, alloc: Global) -> Result<Self, Fault>
+        ensures equal { IfOk result (λ d. d ≡ self.now) }
+        ensures fault { IfErr result (λ f. f ≡ fault.Memory) }
+    {
+        let items = self.items.try_clone(alloc)?;
+        let waits = self.waits.try_clone(alloc)?;
+        Ok(Directive {
+            device: self.device,
+            default: self.default,
+            kind: self.kind,
+            items,
+            target: self.target,
+            waits,
+        })
+    }
+}
+
+/// The answer to a directive that was accepted.
+#[derive(Clone, Copy, Debug, PartialEq, Eq)]
+pub struct Placed {
+    /// The queue of the directive's batch, and the batch's number there, from 1, if it placed one.
+    pub batch: Option<(QueueAt, u64)>,
+    /// How many batches were placed on each queue that a `wait` directive without `async` or a question names, else 0.
+    pub counts: [u64; 8],
+    /// The answer of `acc_is_present`; false for every other directive.
+    pub present: bool,
+}
+
+/// An entry of the place history.
+#[derive(Drop)]
+pub enum PlaceEntry {
+    Accepted { host: HostId, directive: Directive },
+}

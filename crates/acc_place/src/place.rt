@@ -1,0 +1,356 @@
+ghost use Rattle.std.specs.Prelude.{reverse, ◌≡◌, ◌+◌, ◌<◌, ◌≤◌, ◌==◌, ◌++◌, [], ◌∷◌, length, true, None, IfOk, IfErr, OnOk, OnSome, slice_get, vec_len, vec_capacity, ◌^◌};
+ghost use Rattle.std.specs.Option.{option_map, option_to_list};
+ghost use Rattle.acc_base.specs.declared.fault.Fault.TheVariants.{Memory};
+ghost use Rattle.acc_batch.specs.Labels.{on_queue};
+ghost use Rattle.acc_present.specs.declared.table.TheConstants.{COUNTER_LIMIT};
+ghost use Rattle.acc_present.specs.Presences.{presences, holder, is_present};
+ghost use Rattle.acc_present.specs.Tables.{entry_presence};
+ghost use Rattle.acc_place.specs.Accepting.{refusal};
+ghost use Rattle.acc_place.specs.Batches.{answer_of};
+ghost use Rattle.acc_place.specs.Places.{IsRoomy, is_synchronous, nth_batch, sync};
+ghost use Rattle.acc_place.specs.Plans.{standing_in, IsRefusal, IsPlanOf, Fits, place_after};
+ghost use Rattle.acc_place.specs.Standings.{walk_of};
+ghost use Rattle.acc_place.specs.Walks.{holding, holding_after, holding_after_all, CanMark, HasRoomFor, AllFine};
+
+use crate::directive::{Directive, Item, Kind, MAX_ITEMS, PlaceEntry, Placed};
+use crate::judge::{Marked, judge, limit_of};
+use crate::plan::{Plan, plan_of};
+use acc_base::{BlockId, Config, DeviceId, Fault, HostId, QueueAt, QueueId, Range};
+use acc_batch::Label;
+use acc_present::{Counter, Draft, Entered, Entry, Look, Table};
+use std::alloc::Global;
+use std::marker::Model;
+
+/// Where directives are judged and accepted: the device's table, and the place history with its counts and labels.
+#[derive(Drop)]
+pub struct Place {
+    alloc: Global,
+    config: Config,
+    table: Table,
+    history: Vec<PlaceEntry>,
+    counts: Vec<u64>,
+    labels: Vec<Label>,
+    // how many lifetimes have been opened
+    opened: u64,
+    // where a directive is judged: its marks, and what became of its items
+    draft: Draft,
+    steps: Vec<Marked>,
+    // whether there is memory for one more directive
+    is_ready: bool,
+}
+
+impl Model for Place {
+    ghost use Rattle.std.specs.Prelude.{reverse, vec_len, vec_capacity};
+    ghost use Rattle.acc_place.specs.Plans.{PlaceView};
+    ghost use Rattle.acc_place.specs.Places.{IsPlace, HasRooms};
+
+    ghost Value = { PlaceView };
+
+    ghost view = { λ w. record { config = w.config; history = reverse w.history.items; counts = reverse w.counts.items; is_ready = w.is_ready } };
+
+    ghost invariant = { λ w.
+        IsPlace (record { config = w.config; history = reverse w.history.items; counts = reverse w.counts.items; is_ready = w.is_ready }) w.table w.opened w.labels.items
+        × HasRooms w.is_ready w.table (vec_len w.history) (vec_capacity w.history) (vec_len w.counts) (vec_capacity w.counts) (vec_len w.labels) (vec_capacity w.labels) w.draft.room (vec_capacity w.steps) };
+}
+
+impl Place {
+    /// A place without directives.
+    ///
+    /// # Errors
+    ///
+    /// `Memory` where memory is refused.
+    pub fn new(alloc: Global, config: Config) -> Result<Self, Fault>
+        requires { config.devices ≡ 1 }
+        ensures config { IfOk result (λ p. p.config ≡ config) }
+        ensures history { IfOk result (λ p. p.history ≡ []) }
+        ensures counts { IfOk result (λ p. p.counts ≡ []) }
+        ensures fault { IfErr result (λ fault. fault ≡ Memory) }
+    {
+        let table = Table::new(alloc, config.capacity());
+        let draft = Draft::with_room(alloc, MAX_ITEMS)?;
+        let steps = Vec::with_capacity(alloc, MAX_ITEMS)?;
+        Ok(Place {
+            alloc,
+            config,
+            table,
+            history: Vec::new(alloc),
+            counts: Vec::new(alloc),
+            labels: Vec::new(alloc),
+            opened: 0,
+            draft,
+            steps,
+            is_ready: false,
+        })
+    }
+
+    /// What accepting a directive of this host, which has so many items, would add. Nothing is added but spare
+    /// memory.
+    ///
+    /// # Errors
+    ///
+    /// The directive's first fault, or `Memory` where it has none and memory is refused.
+    pub fn plan(
+        &mut self,
+        host: HostId,
+        items_done: u64,
+        directive: &Directive,
+    ) -> Result<Plan, Fault>
+        requires synchronous { is_synchronous directive.now ≡ true }
+        ensures config { self.new.config ≡ self.old.config }
+        ensures history { self.new.history ≡ self.old.history }
+        ensures counts { self.new.counts ≡ self.old.counts }
+        ensures refused { IfErr result (λ fault. IsRefusal (refusal self.old.config (standing_in self.old) directive.now) fault) }
+        ensures plan { IfOk result (λ q. (q.host ≡ host) × (q.items_done ≡ items_done) × (q.directive ≡ directive.now)) }
+        ensures fits { IfOk result (λ q. Fits self.new q × IsPlanOf self.new q) }
+        ensures batch { IfOk result (λ q. q.batch ≡ q.label) }
+    {
+        if let Some(fault) = limit_of(&self.config, self.history.len(), directive) {
+            return Err(fault);
+        }
+        self.table.keeps_order();
+        let items = directive.items.as_slice();
+        let opened = self.opened;
+        let found = judge(
+            &self.table,
+            &mut self.draft,
+            &self.config,
+            directive.kind,
+            items,
+            opened,
+            &mut self.steps,
+        );
+        if let Some(fault) = found {
+            return Err(fault);
+        }
+        let plan = plan_of(
+            self.alloc,
+            host,
+            items_done,
+            directive,
+            self.steps.as_slice(),
+            sync_queue(),
+            self.labels.len() as u64 + 1,
+            self.history.len(),
+        )?;
+        make_room(
+            &mut self.table,
+            &mut self.history,
+            &mut self.counts,
+            &mut self.labels,
+        )?;
+        self.is_ready = true;
+        Ok(plan)
+    }
+
+    /// Accepts the directive of a plan. Takes no memory.
+    pub fn accept(&mut self, plan: Plan) -> Placed
+        requires { Fits self.old plan }
+        ensures place { self.new ≡ place_after self.old plan }
+        ensures answer { result ≡ answer_of (standing_in self.old) (walk_of plan.directive) }
+    {
+        let Plan {
+            host,
+            items_done,
+            directive,
+            label,
+            ..
+        } = plan;
+        self.table.keeps_order();
+        let opened = self.opened;
+        self.opened = mark_all(
+            &mut self.table,
+            directive.kind,
+            directive.items.as_slice(),
+            opened,
+        );
+        self.history
+            .push_reserved(PlaceEntry::Accepted { host, directive });
+        self.counts.push_reserved(items_done);
+        let batch = push_label(&mut self.labels, label);
+        self.is_ready = false;
+        Placed {
+            batch,
+            counts: [0; 8],
+            present: false,
+        }
+    }
+
+    /// Whether a range is present on a device.
+    #[tactic(auto, using(crate::proofs::Planning::held_is_present))]
+    pub fn is_present(&self, device: DeviceId, range: Range) -> bool
+        requires device { device < self.now.config.devices }
+        requires cells { 0 < range.len }
+        ensures { result ≡ is_present (presences ((standing_in self.now).marks device)) range }
+    {
+        self.counters(device, range).is_some()
+    }
+
+    /// The structured and the dynamic counter of the range, or of the present range of the device that contains it.
+    pub fn counters(&self, device: DeviceId, range: Range) -> Option<(u64, u64)>
+        requires device { device < self.now.config.devices }
+        requires cells { 0 < range.len }
+        ensures { result ≡ option_map (λ p. (p.s, p.d)) (holder (presences ((standing_in self.now).marks device)) range) }
+    {
+        let _ = device;
+        self.table.counters(range)
+    }
+
+    /// The entry of the device's table at this place, by array, then by lower bound.
+    pub fn nth(&self, device: DeviceId, place: usize) -> Option<&Entry>
+        requires device { device < self.now.config.devices }
+        ensures entry { option_map (λ e. entry_presence e.now) result ≡ slice_get (presences ((standing_in self.now).marks device)) place }
+        ensures next { OnSome result (place + 1 < 2 ^ 64) }
+    {
+        let _ = device;
+        self.table.nth(place)
+    }
+
+    /// How many batches were placed on a queue.
+    pub fn placed_count(&self, at: QueueAt) -> u64
+        ensures { result ≡ length (on_queue at (standing_in self.now).labels) }
+    {
+        self.placed_on(at).len() as u64
+    }
+
+    /// The label of the batch with this number on a queue, from 1.
+    #[tactic(auto, using(crate::proofs::Planning::nth_is))]
+    pub fn placed(&self, at: QueueAt, number: u64) -> Option<&Label>
+        ensures { option_map (λ l. l.now) result ≡ nth_batch (on_queue at (standing_in self.now).labels) number }
+    {
+        if number == 0 {
+            return None;
+        }
+        self.placed_on(at).get(number as usize - 1)
+    }
+
+    // The labels of the batches on a queue, in their order.
+    fn placed_on(&self, at: QueueAt) -> &[Label]
+        ensures { result.now ≡ on_queue at (standing_in self.now).labels }
+    {
+        if at == sync_queue() {
+            self.labels.as_slice()
+        } else {
+            &[]
+        }
+    }
+
+    /// The directives that were accepted, in order.
+    pub fn history(&self) -> &[PlaceEntry]
+        ensures { result.now ≡ reverse self.now.history }
+    {
+        self.history.as_slice()
+    }
+
+    pub fn config(&self) -> &Config
+        ensures { result.now ≡ self.now.config }
+    {
+        &self.config
+    }
+
+    /// The configuration, and the place history with its counts, the latest last.
+    pub fn into_histories(self) -> (Config, Vec<PlaceEntry>, Vec<u64>)
+        ensures config { result.0 ≡ self.config }
+        ensures history { result.1.items ≡ reverse self.history }
+        ensures counts { result.2.items ≡ reverse self.counts }
+    {
+        let Place {
+            config,
+            history,
+            counts,
+            ..
+        } = self;
+        (config, history, counts)
+    }
+}
+
+// The queue that synchronous directives use.
+fn sync_queue() -> QueueAt
+    ensures { result ≡ sync }
+{
+    QueueAt {
+        device: DeviceId::new(0),
+        queue: QueueId::SYNC,
+    }
+}
+
+// Leaves the items' marks in the table, and says how many lifetimes have been opened then.
+fn mark_all(table: &mut Table, kind: Kind, items: &[Item], opened: u64) -> u64
+    requires fine { AllFine table.old.capacity kind (holding table.old.presences opened) items.now }
+    requires room { HasRoomFor (length items.now) table.old opened }
+    ensures holding { holding table.new.presences result ≡ holding_after_all kind (holding table.old.presences opened) items.now }
+    ensures capacity { table.new.capacity ≡ table.old.capacity }
+    ensures room { table.new.room ≡ table.old.room }
+{
+    match items {
+        [] => opened,
+        [first, rest @ ..] => {
+            let next = opened_by(table, kind, first.range, opened);
+            mark_all(table, kind, rest, next)
+        }
+    }
+}
+
+// Leaves one mark in the table, and says how many lifetimes have been opened then.
+#[tactic(auto, unfolding(crate::specs::Walks::holding_after))]
+fn opened_by(table: &mut Table, kind: Kind, range: Range, opened: u64) -> u64
+    requires can { CanMark kind range table.old.presences table.old.capacity }
+    requires room { length table.old.presences < table.old.room }
+    requires few { opened < COUNTER_LIMIT }
+    ensures holding { holding table.new.presences result ≡ holding_after kind range (holding table.old.presences opened) }
+    ensures capacity { table.new.capacity ≡ table.old.capacity }
+    ensures room { table.new.room ≡ table.old.room }
+{
+    match kind {
+        Kind::EnterData => match table.enter(range, Counter::Dynamic, BlockId::new(opened + 1)) {
+            Entered::Counted => opened,
+            Entered::Opened => opened + 1,
+        },
+        Kind::ExitData => {
+            let _ = table.leave(range, Counter::Dynamic);
+            opened
+        }
+    }
+}
+
+// Adds the label of a batch, if there is one, and says where that batch is.
+fn push_label(labels: &mut Vec<Label>, label: Option<Label>) -> Option<(QueueAt, u64)>
+    requires { vec_len labels.old < vec_capacity labels.old }
+    ensures labels { labels.new.items ≡ labels.old.items ++ option_to_list label }
+    ensures room { vec_capacity labels.new ≡ vec_capacity labels.old }
+    ensures result { result ≡ option_map (λ l. (l.at, l.number)) label }
+{
+    match label {
+        None => None,
+        Some(label) => {
+            let placed = (label.at, label.number);
+            labels.push_reserved(label);
+            Some(placed)
+        }
+    }
+}
+
+// Makes room for one more directive.
+fn make_room(
+    table: &mut Table,
+    history: &mut Vec<PlaceEntry>,
+    counts: &mut Vec<u64>,
+    labels: &mut Vec<Label>,
+) -> Result<(), Fault>
+    ensures presences { table.new.presences ≡ table.old.presences }
+    ensures capacity { table.new.capacity ≡ table.old.capacity }
+    ensures room { table.old.room ≤ table.new.room }
+    ensures history { history.new.items ≡ history.old.items }
+    ensures history_room { vec_capacity history.old ≤ vec_capacity history.new }
+    ensures counts { counts.new.items ≡ counts.old.items }
+    ensures counts_room { vec_capacity counts.old ≤ vec_capacity counts.new }
+    ensures labels { labels.new.items ≡ labels.old.items }
+    ensures labels_room { vec_capacity labels.old ≤ vec_capacity labels.new }
+    ensures ok { OnOk result (IsRoomy table.new (vec_len history.new) (vec_capacity history.new) (vec_len counts.new) (vec_capacity counts.new) (vec_len labels.new) (vec_capacity labels.new)) }
+    ensures fault { IfErr result (λ fault. fault ≡ Memory) }
+{
+    history.reserve(1)?;
+    counts.reserve(1)?;
+    labels.reserve(1)?;
+    table.spare(MAX_ITEMS)?;
+    Ok(())
+}

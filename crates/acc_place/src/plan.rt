@@ -1,0 +1,176 @@
+ghost use Rattle.std.specs.Prelude.{◌≡◌, ◌++◌, ◌==◌, length, IfOk, IfErr, OnOk, IsTrue};
+ghost use Rattle.std.specs.List.{flat_map};
+ghost use Rattle.acc_place.specs.Plans.{Fits, IsPlanOf, label_for};
+ghost use Rattle.acc_place.specs.Walks.{block_in, op_for, group_ops, marked_ops};
+
+use crate::directive::{Clause, Directive};
+use crate::judge::Marked;
+use crate::place::Place;
+use acc_base::{BlockId, Fault, HostId, Listed, QueueAt, Range};
+use acc_batch::{Batch, Label, Op};
+use std::alloc::Global;
+use std::marker::Model;
+
+/// The groups of a batch's operations, in their order.
+#[derive(Clone, Copy, Debug, PartialEq, Eq)]
+pub enum Group {
+    Makes,
+    CopyIns,
+    CopyOuts,
+    Releases,
+}
+
+/// A directive that can be accepted, with all the memory that this needs, and its batch.
+#[derive(Drop)]
+pub struct Plan {
+    pub host: HostId,
+    pub items_done: u64,
+    pub directive: Directive,
+    pub label: Option<Label>,
+    pub batch: Option<Batch>,
+    // how many entries the place history had
+    pub stamp: usize,
+}
+
+impl Model for Plan {
+    ghost use Rattle.acc_place.specs.Plans.{PlanView};
+
+    ghost Value = { PlanView };
+
+    ghost view = { λ q. record { host = q.host; items_done = q.items_done; directive = q.directive; label = q.label; batch = q.batch; stamp = q.stamp } };
+}
+
+impl Plan {
+    /// Whether no other directive was accepted since the plan was made.
+    pub fn fits(&self, place: &Place) -> bool
+        requires { IsPlanOf place.now self.now }
+        ensures stamp { result ≡ (self.now.stamp == length place.now.history) }
+        ensures fits { IsTrue result → Fits place.now self.now }
+    {
+        self.stamp == place.history().len()
+    }
+
+    /// Hands out the batch, if the directive has one and it wasn't handed out before.
+    pub fn take_batch(&mut self) -> Option<Batch>
+        ensures batch { result ≡ self.old.batch }
+        ensures plan { self.new ≡ record self.old { batch = None } }
+    {
+        self.batch.take()
+    }
+}
+
+/// A plan for a directive with these steps, whose batch goes to this queue and has this number there.
+pub fn plan_of(
+    alloc: Global,
+    host: HostId,
+    items_done: u64,
+    directive: &Directive,
+    steps: &[Marked],
+    at: QueueAt,
+    number: u64,
+    stamp: usize,
+) -> Result<Plan, Fault>
+    ensures host { IfOk result (λ q. (q.host ≡ host) × (q.items_done ≡ items_done) × (q.stamp ≡ stamp)) }
+    ensures directive { IfOk result (λ q. q.directive ≡ directive.now) }
+    ensures label { IfOk result (λ q. q.label ≡ label_for at number host items_done (marked_ops steps.now)) }
+    ensures batch { IfOk result (λ q. q.batch ≡ q.label) }
+    ensures fault { IfErr result (λ fault. fault ≡ Fault.Memory) }
+{
+    let directive = directive.try_clone(alloc)?;
+    let ops = ops_of(alloc, steps)?;
+    if ops.is_empty() {
+        return Ok(Plan {
+            host,
+            items_done,
+            directive,
+            label: None,
+            batch: None,
+            stamp,
+        });
+    }
+    let label = Label {
+        at,
+        number,
+        host,
+        items_done,
+        ops: Listed::from_vec(ops),
+    };
+    let copy = label.try_clone(alloc)?;
+    let batch = Batch::new(alloc, copy)?;
+    Ok(Plan {
+        host,
+        items_done,
+        directive,
+        label: Some(label),
+        batch: Some(batch),
+        stamp,
+    })
+}
+
+// The operations of a batch.
+#[tactic(auto, unfolding(crate::specs::Walks::marked_ops))]
+fn ops_of(alloc: Global, steps: &[Marked]) -> Result<Vec<Op>, Fault>
+    ensures ops { IfOk result (λ ops. ops.items ≡ marked_ops steps.now) }
+    ensures fault { IfErr result (λ fault. fault ≡ Fault.Memory) }
+{
+    let mut ops = Vec::new(alloc);
+    add_group(Group::Makes, steps, &mut ops)?;
+    add_group(Group::CopyIns, steps, &mut ops)?;
+    add_group(Group::CopyOuts, steps, &mut ops)?;
+    add_group(Group::Releases, steps, &mut ops)?;
+    Ok(ops)
+}
+
+// Adds the operations of one group, step by step.
+fn add_group(group: Group, steps: &[Marked], ops: &mut Vec<Op>) -> Result<(), Fault>
+    ensures ops { OnOk result (ops.new.items ≡ ops.old.items ++ flat_map (group_ops group) steps.now) }
+    ensures fault { IfErr result (λ fault. fault ≡ Fault.Memory) }
+{
+    for step in steps {
+        add_op(group, *step, ops)?;
+    }
+    Ok(())
+}
+
+// Adds the step's operation of this group, if it has one.
+fn add_op(group: Group, step: Marked, ops: &mut Vec<Op>) -> Result<(), Fault>
+    ensures ops { OnOk result (ops.new.items ≡ ops.old.items ++ group_ops group step) }
+    ensures fault { IfErr result (λ fault. fault ≡ Fault.Memory) }
+{
+    match block_for(group, step) {
+        None => Ok(()),
+        Some(block) => {
+            ops.push(op_for(group, BlockId::new(block), step.item.range))?;
+            Ok(())
+        }
+    }
+}
+
+// The block that the step's operation of this group is for.
+fn block_for(group: Group, step: Marked) -> Option<u64>
+    ensures { result ≡ block_in group step }
+{
+    match group {
+        Group::Makes => step.opened,
+        Group::CopyIns => match step.item.clause {
+            Clause::Copyin => step.opened,
+            Clause::Copyout | Clause::Delete => None,
+        },
+        Group::CopyOuts => match step.item.clause {
+            Clause::Copyout => step.ended,
+            Clause::Copyin | Clause::Delete => None,
+        },
+        Group::Releases => step.ended,
+    }
+}
+
+fn op_for(group: Group, block: BlockId, range: Range) -> Op
+    ensures { result ≡ op_for group block range }
+{
+    match group {
+        Group::Makes => Op::Make { block, range },
+        Group::CopyIns => Op::CopyIn { block, range },
+        Group::CopyOuts => Op::CopyOut { block, range },
+        Group::Releases => Op::Release { block },
+    }
+}
