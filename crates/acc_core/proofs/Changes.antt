@@ -29,7 +29,7 @@ pub record Changes (P : State → Type 0) (w : State) : Type 0 where
   pub stays : P w
   pub hosts : (hosts : List Host) → P (record w { hosts = hosts })
   pub item : (hosts : List Host) (h : ℕ) (s : Shown) → ShowsTruth w.config.arrays (standing_of w).labels s w.work → P (with_item (record w { hosts = hosts }) h s)
-  pub accepted : (h : ℕ) (host : Host) (d : Directive) → refusal w.config (standing_of w) d ≡ None → P (accepting w h host d)
+  pub accepted : (h : ℕ) (host : Host) (d : Directive) → refusal w.config (standing_of w) h d ≡ None → P (accepting w h host d)
   pub taken : (taken : List ℕ) → P (record w { taken = taken })
   pub performed : (at : QueueAt) (op : Op) (ops : List Op) → rest w (standing_of w).labels at ≡ op ∷ ops
       → IsTrue (host_allows (batch_at (on_queue at (standing_of w).labels) (length (performed at w.work))) w.work) → P (with_op w at op)
@@ -50,15 +50,15 @@ by_item P no_memory w h host in_array s c truth =
 
 -- a directive is accepted, or the host is refused
 by_place : (P : State → Type 0) (no_memory : Bool) (w : State) (h : ℕ) (host : Host) (d : Directive) (r : Option Fault) → Changes P w
-    → refusal w.config (standing_of w) d ≡ r → P (place_step no_memory w (standing_of w) h host d r).state
+    → refusal w.config (standing_of w) h d ≡ r → P (place_step no_memory w (standing_of w) h host d r).state
 by_place P no_memory w h host d (Some fault) c e = c.hosts _
 by_place P no_memory w h host d None c e =
     if_both P no_memory _ _ (λ f. c.hosts _) (λ f.
-    if_both P (is_full w (standing_of w) (walk_of d)) _ _ (λ f. c.hosts _) (λ f. c.accepted h _ d e))
+    if_both P (is_full w (standing_of w) (walk_of (standing_of w) h d)) _ _ (λ f. c.hosts _) (λ f. c.accepted h _ d e))
 
 -- what a statement does
 by_act : (P : State → Type 0) (no_memory : Bool) (w : State) (h : ℕ) (host : Host) (a : Act) → Changes P w → P (act_step no_memory w (standing_of w) h host a).state
-by_act P no_memory w h host (act.Place d) c = by_place P no_memory w h host d (refusal w.config (standing_of w) d) c refl
+by_act P no_memory w h host (act.Place d) c = by_place P no_memory w h host d (refusal w.config (standing_of w) h d) c refl
 by_act P no_memory w h host (act.Write array cell v) c = by_item P no_memory w h host _ (shown.Write array cell v) c tt
 by_act P no_memory w h host (act.Print range) c = by_item P no_memory w h host _ _ c refl
 

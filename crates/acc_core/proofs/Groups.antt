@@ -13,12 +13,14 @@ use Rattle.acc_present.specs.Lifetimes.{Lifetime, opened, live, lives}
 use Rattle.acc_batch.specs.declared.operation.Op.{Op}
 use Rattle.acc_batch.specs.declared.operation.Op.TheVariants.{Make, CopyIn, CopyOut, Release}
 use Rattle.acc_place.specs.Standings.{Asked, Visit, visits}
-use Rattle.acc_place.specs.Batches.{opened_blocks, ended_blocks, makes, copy_ins, copy_outs, releases, copies_in, copies_out}
+use Rattle.acc_place.specs.declared.directive.Clause.{Clause}
+use Rattle.acc_place.specs.declared.directive.Clause.TheVariants.{Copy, Copyin, Copyout, Create, Present, Delete, UpdateSelf, UpdateDevice}
+use Rattle.acc_place.specs.Batches.{opened_blocks, ended_blocks, held_blocks, makes, copy_ins, updates, updates_by, copy_outs, releases, copies_in, copies_out}
 use Rattle.acc_place.specs.Accepting.{is_in_array}
 use Rattle.acc_core.specs.Legality.{Made, made, released, HoldsBlock}
 use Rattle.acc_core.proofs.Members.{no_member, member_first, member_rest, member_one, member_filter, member_map, Apart, apart_filter}
 use Rattle.acc_core.proofs.Blocks.{numbered}
-use Rattle.acc_core.proofs.Uses.{made-append, released-append, AllUse, AllUse-append, marked_by, visit_is, visit, made_of, Booked, booked_more, ended_is, is_opened, new_made, new_is_made, live_member}
+use Rattle.acc_core.proofs.Uses.{made-append, released-append, AllUse, AllUse-append, marked_by, visit_is, visit, made_of, Booked, booked_more, ended_is, held_block_is, is_opened, new_made, new_is_made, live_member}
 
 -- A block of these was made with a range that has this one, and is none of the released ones.
 pub record HoldsIn (makings : List Made) (gone : List ℕ) (range : Range) (block : ℕ) : Type 0 where
@@ -76,6 +78,7 @@ all_from_members P xs h = All-weaker (Contains xs) P h xs (All-contains_itself x
 pub record Holds (makings : List Made) (gone : List ℕ) (v : Visit) : Type 0 where
   pub opened_held : (b : ℕ) → Contains (opened_blocks v) b → HoldsIn makings gone v.item.range b
   pub ended_held : (b : ℕ) → Contains (ended_blocks v) b → HoldsIn makings gone v.item.range b
+  pub held_held : (b : ℕ) → Contains (held_blocks v) b → HoldsIn makings gone v.item.range b
 
 -- a visit's copies in are such copies
 pub copy_ins_of : (makings : List Made) (gone : List ℕ) (v : Visit) → Holds makings gone v → All (Copies makings gone) (copy_ins v)
@@ -92,6 +95,23 @@ copy_outs_of makings gone v h =
       | true ↦ All-map (Copies makings gone) (λ b. CopyOut b v.item.range) (ended_blocks v) (all_from_members (λ b. HoldsIn makings gone v.item.range b) (ended_blocks v) h.ended_held)
       | false ↦ All-nil (Copies makings gone)
     ]
+
+-- copies of held blocks, whichever way they go
+updates_held : (c : Clause) (r : Range) (blocks : List ℕ) (makings : List Made) (gone : List ℕ) → All (HoldsIn makings gone r) blocks → All (Copies makings gone) (updates_by c r blocks)
+updates_held UpdateSelf r blocks makings gone h = All-map (Copies makings gone) (λ b. CopyOut b r) blocks h
+updates_held UpdateDevice r blocks makings gone h = All-map (Copies makings gone) (λ b. CopyIn b r) blocks h
+updates_held Copy r blocks makings gone h = All-nil (Copies makings gone)
+updates_held Copyin r blocks makings gone h = All-nil (Copies makings gone)
+updates_held Copyout r blocks makings gone h = All-nil (Copies makings gone)
+updates_held Create r blocks makings gone h = All-nil (Copies makings gone)
+updates_held Present r blocks makings gone h = All-nil (Copies makings gone)
+updates_held Delete r blocks makings gone h = All-nil (Copies makings gone)
+
+-- a visit's updates are such copies
+pub updates_of : (makings : List Made) (gone : List ℕ) (v : Visit) → Holds makings gone v → All (Copies makings gone) (updates v)
+updates_of makings gone v h =
+    updates_held v.item.clause v.item.range (held_blocks v) makings gone
+    (all_from_members (HoldsIn makings gone v.item.range) (held_blocks v) h.held_held)
 
 -- a group of such copies over all visits
 pub copies_of : (f : Visit → List Op) (makings : List Made) (gone : List ℕ) (vs : List Visit) → ((v : Visit) → Holds makings gone v → All (Copies makings gone) (f v)) → All (Holds makings gone) vs → All (Copies makings gone) (flat_map f vs)
@@ -147,6 +167,12 @@ visits_hold (a ∷ asks) ms makings gone all first h sub less =
           (sub (made_of e.lifetime) (Contains-append_left makings (makings_of (visits ms (a ∷ asks))) (made_of e.lifetime) (h.made_all e.lifetime e.member)))
           (λ g. h.gone_dead e.lifetime e.member e.lived (less e.lifetime.block g))
           (includes_from_test e.lifetime.range a.item.range (v.ended e.lifetime e.member e.lived e.over));
+      held_held = λ b c.
+          let k = held_block_is ms a b c in
+          held_by all first k.lifetime a.item.range b k.named
+          (sub (made_of k.lifetime) (Contains-append_left makings (makings_of (visits ms (a ∷ asks))) (made_of k.lifetime) (h.made_all k.lifetime k.member)))
+          (λ g. h.gone_dead k.lifetime k.member k.lived (less k.lifetime.block g))
+          (includes_from_test k.lifetime.range a.item.range k.around);
     })
     (visits_hold asks (marked_by ms a) (makings ++ here) (gone ++ ended_blocks (visit ms a)) all first (booked_more ms a makings gone h)
     (λ x c. sub x (rw (split, ← append_assoc makings here later) c))

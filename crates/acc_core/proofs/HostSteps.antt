@@ -10,7 +10,7 @@ use Rattle.acc_core.specs.declared.program.Statement.{Statement}
 use Rattle.acc_core.specs.declared.world.Awaited.{Awaited}
 use Rattle.acc_core.specs.Logs.{all_done}
 use Rattle.acc_core.specs.Machine.{State, Outcome, standing_of, idle, statement_step, host_step}
-use Rattle.acc_core.specs.Worlds.{after_answer, reply_to, Acts, HostSteps, StandsAt, AllSynchronous, IsHost}
+use Rattle.acc_core.specs.Worlds.{after_answer, reply_to, Acts, HostSteps, StandsAt, IsHost}
 
 -- a host that is written where it stands changes nothing
 set_same : (hosts : List Host) (h : ℕ) (host : Host) → slice_get hosts h ≡ Some host → slice_set hosts h host ≡ hosts

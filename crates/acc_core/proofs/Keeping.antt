@@ -47,16 +47,16 @@ legal_item w h s l truth = record { accepted = l.accepted; prefix = l.prefix; ho
 -- the labels that a directive adds
 abbrev pub more_labels : State → ℕ → Directive → List Label
 more_labels w h d =
-    added (walk_at (walk_of d)) (next_number (walk_at (walk_of d)) (standing_of w).labels) h (items_of h w.work) (batch_of (standing_of w) (walk_of d))
+    added (walk_at (walk_of (standing_of w) h d)) (next_number (walk_at (walk_of (standing_of w) h d)) (standing_of w).labels) h (items_of h w.work) (batch_of (standing_of w) (walk_of (standing_of w) h d))
 
 -- these labels stand behind all others
 pub labels_accepted : (w : State) (h : ℕ) (host : Host) (d : Directive) → (standing_of (accepting w h host d)).labels ≡ (standing_of w).labels ++ more_labels w h d
 unfolding standing
 labels_accepted w h host d =
-    labelled_is (walk_at (walk_of d)) h (items_of h w.work) (standing_of w).labels (batch_of (standing_of w) (walk_of d))
+    labelled_is (walk_at (walk_of (standing_of w) h d)) h (items_of h w.work) (standing_of w).labels (batch_of (standing_of w) (walk_of (standing_of w) h d))
 
 -- one more directive, without a fault, leaves the histories legal
-pub legal_accepted : (w : State) (h : ℕ) (host : Host) (d : Directive) → Legal w → refusal w.config (standing_of w) d ≡ None → Legal (accepting w h host d)
+pub legal_accepted : (w : State) (h : ℕ) (host : Host) (d : Directive) → Legal w → refusal w.config (standing_of w) h d ≡ None → Legal (accepting w h host d)
 legal_accepted w h host d l e =
     let labels = (standing_of w).labels in
     let same = labels_accepted w h host d in

@@ -8,6 +8,7 @@ mod Counters
 mod Done
 mod Effects
 mod Elsewhere
+mod Faultless
 mod Following
 mod Groups
 mod Growing
@@ -18,6 +19,7 @@ mod Lanes
 mod Limits
 mod LiveBlocks
 mod Members
+mod OneDevice
 mod Opening
 mod Performing
 mod Places

@@ -27,7 +27,9 @@ use Rattle.acc_core.specs.Machine.{State, standing_of, accepting, is_empty, is_f
 use Rattle.acc_place.specs.Standings.{walk_of}
 use Rattle.acc_core.specs.Ties.{Queued, Remembers, IsAccelerator, IsLaneOf, labels_of, performed_count}
 use Rattle.acc_core.specs.Works.{WorkView, HasMadeRoom, sync}
-use Rattle.acc_core.proofs.Histories.{accepted_fits, walk_is}
+use Rattle.acc_core.proofs.Faultless.{accepted_fits}
+use Rattle.acc_core.proofs.Histories.{placed_use}
+use Rattle.acc_core.proofs.OneDevice.{walk_is}
 use Rattle.acc_core.proofs.Keeping.{legal_accepted, legal_hosts, labels_accepted, more_labels}
 use Rattle.acc_base.proofs.SameQueue.{same_queue_itself}
 use Rattle.acc_core.proofs.Queues.{added, on_queue-append, ops_of-append}
@@ -38,7 +40,7 @@ abbrev nobody : Host
 nobody = record { statements = []; ended = 0; phase = phase.Ready }
 
 -- one more directive, without a fault, leaves the histories legal
-legal_placed : (w : State) (host : ℕ) (d : Directive) → Legal w → refusal w.config (standing_of w) d ≡ None → Legal (after_accept w host d)
+legal_placed : (w : State) (host : ℕ) (d : Directive) → Legal w → refusal w.config (standing_of w) host d ≡ None → Legal (after_accept w host d)
 legal_placed w host d l e = legal_hosts (accepting w host nobody d) w.hosts (legal_accepted w host nobody d l e)
 
 -- its labels stand behind all others
@@ -46,9 +48,9 @@ labels_placed : (w : State) (host : ℕ) (d : Directive) → labels_of (after_ac
 labels_placed w host d = labels_accepted w host nobody d
 
 -- an empty batch adds no label
-labels_empty : (w : State) (host : ℕ) (d : Directive) → batch_of (standing_of w) (walk_of d) ≡ [] → labels_of (after_accept w host d) ≡ labels_of w
+labels_empty : (w : State) (host : ℕ) (d : Directive) → batch_of (standing_of w) (walk_of (standing_of w) host d) ≡ [] → labels_of (after_accept w host d) ≡ labels_of w
 labels_empty w host d e =
-    let at = walk_at (walk_of d) in
+    let at = walk_at (walk_of (standing_of w) host d) in
     labels_placed w host d
     ∙ (ap (λ ops. labels_of w ++ added at (next_number at (labels_of w)) host (items_of host w.work) ops) e ∙ append-nil (labels_of w))
 
@@ -59,8 +61,11 @@ added_one at number host items_done [] some = absurd (omega (arith, some))
 added_one at number host items_done (op ∷ ops) some = refl
 
 -- a directive without a fault acts on queue sync of the one device
-pub acts_on_sync : (w : State) (d : Directive) → w.config.devices ≡ 1 → refusal w.config (standing_of w) d ≡ None → walk_at (walk_of d) ≡ sync
-acts_on_sync w d one e = ap walk_at (walk_is w.config d one (accepted_fits w.config (standing_of w) d e).device)
+pub acts_on_sync : (w : State) (host : ℕ) (d : Directive) → w.config.devices ≡ 1 → Legal w → refusal w.config (standing_of w) host d ≡ None → walk_at (walk_of (standing_of w) host d) ≡ sync
+acts_on_sync w host d one l e =
+    let st = standing_of w in
+    let there = (placed_use w.config w.history w.counts one l.accepted).there in
+    ap walk_at (walk_is w.config st host d one there (accepted_fits w.config st host d e).device)
 
 -- the label that a directive's batch gets
 abbrev next_label : State → ℕ → Directive → Label
@@ -69,14 +74,14 @@ next_label w host d = record {
   number = next_number sync (labels_of w);
   host = host;
   items_done = items_of host w.work;
-  ops = batch_of (standing_of w) (walk_of d);
+  ops = batch_of (standing_of w) (walk_of (standing_of w) host d);
 }
 
 -- a directive's batch that isn't empty adds that label behind all others
-labels_more : (w : State) (host : ℕ) (d : Directive) → walk_at (walk_of d) ≡ sync → 0 < length (batch_of (standing_of w) (walk_of d))
+labels_more : (w : State) (host : ℕ) (d : Directive) → walk_at (walk_of (standing_of w) host d) ≡ sync → 0 < length (batch_of (standing_of w) (walk_of (standing_of w) host d))
     → labels_of (after_accept w host d) ≡ labels_of w ++ next_label w host d ∷ []
 labels_more w host d at some =
-    let ops = batch_of (standing_of w) (walk_of d) in
+    let ops = batch_of (standing_of w) (walk_of (standing_of w) host d) in
     labels_placed w host d
     ∙ (ap (λ q. labels_of w ++ added q (next_number q (labels_of w)) host (items_of host w.work) ops) at
     ∙ ap (λ ls. labels_of w ++ ls) (added_one sync (next_number sync (labels_of w)) host (items_of host w.work) ops some))
@@ -157,7 +162,7 @@ remembers_room w w' v v' r c f k = record {
 
 -- An accelerator that accepted a directive with an empty batch.
 pub keeps_empty : (w w' : State) (v : WorkView) (queue : List Label) (t waiting room host : ℕ) (d : Directive) → IsAccelerator w v queue t waiting room
-    → refusal w.config (standing_of w) d ≡ None → batch_of (standing_of w) (walk_of d) ≡ [] → w' ≡ after_accept w host d
+    → refusal w.config (standing_of w) host d ≡ None → batch_of (standing_of w) (walk_of (standing_of w) host d) ≡ [] → w' ≡ after_accept w host d
     → IsAccelerator w' v queue t waiting room
 keeps_empty w w' v queue t waiting room host d a e none is =
     rw is (record {
@@ -175,8 +180,8 @@ no_ops at number host items_done [] is = refl
 no_ops at number host items_done (op ∷ ops) is = absurd (cc)
 
 -- a directive without a label has an empty batch
-pub batch_empty : (w : State) (host items_done : ℕ) (d : Directive) → None ≡ label_in (standing_of w) host items_done (walk_of d) → batch_of (standing_of w) (walk_of d) ≡ []
-batch_empty w host items_done d is = no_ops (walk_at (walk_of d)) (next_number (walk_at (walk_of d)) (labels_of w)) host items_done (batch_of (standing_of w) (walk_of d)) is
+pub batch_empty : (w : State) (host items_done : ℕ) (d : Directive) → None ≡ label_in (standing_of w) host items_done (walk_of (standing_of w) host d) → batch_of (standing_of w) (walk_of (standing_of w) host d) ≡ []
+batch_empty w host items_done d is = no_ops (walk_at (walk_of (standing_of w) host d)) (next_number (walk_at (walk_of (standing_of w) host d)) (labels_of w)) host items_done (batch_of (standing_of w) (walk_of (standing_of w) host d)) is
 
 some_ops : (at : QueueAt) (number host items_done : ℕ) (ops : List Op) (b : Label) → Some b ≡ label_for at number host items_done ops
     → (0 < length ops) × (b ≡ record { at = at; number = number; host = host; items_done = items_done; ops = ops })
@@ -185,13 +190,13 @@ some_ops at number host items_done (op ∷ ops) b is = (omega arith, cc)
 
 -- one with a label has a batch with that label
 pub record IsPlaced (w : State) (host : ℕ) (d : Directive) (b : Label) : Type 0 where
-  pub some : 0 < length (batch_of (standing_of w) (walk_of d))
+  pub some : 0 < length (batch_of (standing_of w) (walk_of (standing_of w) host d))
   pub same : b ≡ next_label w host d
 
-pub batch_placed : (w : State) (host : ℕ) (d : Directive) (b : Label) → walk_at (walk_of d) ≡ sync → Some b ≡ label_in (standing_of w) host (items_of host w.work) (walk_of d) → IsPlaced w host d b
+pub batch_placed : (w : State) (host : ℕ) (d : Directive) (b : Label) → walk_at (walk_of (standing_of w) host d) ≡ sync → Some b ≡ label_in (standing_of w) host (items_of host w.work) (walk_of (standing_of w) host d) → IsPlaced w host d b
 batch_placed w host d b at is =
-    let ops = batch_of (standing_of w) (walk_of d) in
-    let made = some_ops (walk_at (walk_of d)) (next_number (walk_at (walk_of d)) (labels_of w)) host (items_of host w.work) ops b is in
+    let ops = batch_of (standing_of w) (walk_of (standing_of w) host d) in
+    let made = some_ops (walk_at (walk_of (standing_of w) host d)) (next_number (walk_at (walk_of (standing_of w) host d)) (labels_of w)) host (items_of host w.work) ops b is in
     record {
       some = made.0;
       same = made.1 ∙ ap (λ q. record { at = q; number = next_number q (labels_of w); host = host; items_done = items_of host w.work; ops = ops }) at;
@@ -199,11 +204,11 @@ batch_placed w host d b at is =
 
 -- An accelerator that accepted a directive and put its batch on the queue.
 pub keeps_batch : (w w' : State) (v v' : WorkView) (queue : List Label) (b : Label) (t waiting waiting' room room' host : ℕ) (d : Directive)
-    → IsAccelerator w v queue t waiting room → refusal w.config (standing_of w) d ≡ None → w' ≡ after_accept w host d → HasMadeRoom v v'
-    → Some b ≡ label_in (standing_of w) host (items_of host w.work) (walk_of d) → host < MAX_HOSTS → length queue < w.config.room → waiting' ≡ waiting + length b.ops → length w.work + waiting' ≤ v'.room
+    → IsAccelerator w v queue t waiting room → refusal w.config (standing_of w) host d ≡ None → w' ≡ after_accept w host d → HasMadeRoom v v'
+    → Some b ≡ label_in (standing_of w) host (items_of host w.work) (walk_of (standing_of w) host d) → host < MAX_HOSTS → length queue < w.config.room → waiting' ≡ waiting + length b.ops → length w.work + waiting' ≤ v'.room
     → length v'.memory.rows + waiting' ≤ v'.memory.room → room ≤ room' → IsAccelerator w' v' (queue ++ b ∷ []) t waiting' room'
 keeps_batch w w' v v' queue b t waiting waiting' room room' host d a e is k named low fits more log_room block_room wider =
-    let at = acts_on_sync w d a.one_device e in
+    let at = acts_on_sync w host d a.one_device a.legal e in
     let l = batch_placed w host d b at named in
     let labels : labels_of (after_accept w host d) ≡ labels_of w ++ b ∷ [] = rw l.same (labels_more w host d at l.some) in
     let here : b.at ≡ sync = ap (λ (x : Label). x.at) l.same in
@@ -223,58 +228,62 @@ not_empty [] some = absurd (omega (arith, some))
 not_empty (op ∷ ops) some = refl
 
 -- a batch that isn't empty finds the queue full where that holds its room
-full_at : (w : State) (v : WorkView) (queue : List Label) (t waiting : ℕ) (d : Directive) → Queued w v queue t waiting → walk_at (walk_of d) ≡ sync
-    → 0 < length (batch_of (standing_of w) (walk_of d)) → is_full (with_taken w t) (standing_of w) (walk_of d) ≡ (length queue == w.config.room)
-full_at w v queue t waiting d q at some =
-    let ops = batch_of (standing_of w) (walk_of d) in
+full_at : (w : State) (v : WorkView) (queue : List Label) (t waiting host : ℕ) (d : Directive) → Queued w v queue t waiting → walk_at (walk_of (standing_of w) host d) ≡ sync
+    → 0 < length (batch_of (standing_of w) (walk_of (standing_of w) host d)) → is_full (with_taken w t) (standing_of w) (walk_of (standing_of w) host d) ≡ (length queue == w.config.room)
+full_at w v queue t waiting host d q at some =
+    let ops = batch_of (standing_of w) (walk_of (standing_of w) host d) in
     ap (λ other. not (is_empty ops) && (held (with_taken w t) (labels_of w) other == w.config.room)) at
     ∙ (ap (λ b. not b && (held (with_taken w t) (labels_of w) sync == w.config.room)) (not_empty ops some)
     ∙ ap (λ n. n == w.config.room) (held_is w v queue t waiting q))
 
 -- the fault is by that
-fault_is : (w : State) (v : WorkView) (queue : List Label) (t waiting : ℕ) (d : Directive) → Queued w v queue t waiting → w.config.devices ≡ 1
-    → refusal w.config (standing_of w) d ≡ None → 0 < length (batch_of (standing_of w) (walk_of d))
-    → fault_of_place false (with_taken w t) d ≡ queue_fault (length queue == w.config.room)
-fault_is w v queue t waiting d q one e some =
-    ap (place_fault false (with_taken w t) d) e ∙ ap queue_fault (full_at w v queue t waiting d q (acts_on_sync w d one e) some)
+fault_is : (w : State) (v : WorkView) (queue : List Label) (t waiting host : ℕ) (d : Directive) → Queued w v queue t waiting → w.config.devices ≡ 1 → Legal w
+    → refusal w.config (standing_of w) host d ≡ None → 0 < length (batch_of (standing_of w) (walk_of (standing_of w) host d))
+    → fault_of_place false (with_taken w t) host d ≡ queue_fault (length queue == w.config.room)
+fault_is w v queue t waiting host d q one l e some =
+    ap (place_fault false (with_taken w t) host d) e ∙ ap queue_fault (full_at w v queue t waiting host d q (acts_on_sync w host d one l e) some)
 
 -- A directive with an empty batch is answered without one.
-pub places_empty : (w w' : State) (host : ℕ) (d : Directive) (placed : Placed) → refusal w.config (standing_of w) d ≡ None → batch_of (standing_of w) (walk_of d) ≡ []
-    → placed ≡ answer_of (standing_of w) (walk_of d) → w' ≡ after_accept w host d → Places w host d (Ok placed) w'
+pub places_empty : (w w' : State) (host : ℕ) (d : Directive) (placed : Placed) → refusal w.config (standing_of w) host d ≡ None → batch_of (standing_of w) (walk_of (standing_of w) host d) ≡ []
+    → placed ≡ answer_of (standing_of w) d (walk_of (standing_of w) host d) → w' ≡ after_accept w host d → Places w host d (Ok placed) w'
 places_empty w w' host d placed e none answer is = (rw (e, none) refl, answer, is)
 
 -- A directive whose queue holds its room is refused.
-pub places_full : (w w' : State) (v : WorkView) (queue : List Label) (t waiting host : ℕ) (d : Directive) → Queued w v queue t waiting → w.config.devices ≡ 1
-    → refusal w.config (standing_of w) d ≡ None → 0 < length (batch_of (standing_of w) (walk_of d)) → length queue ≡ w.config.room
+pub places_full : (w w' : State) (v : WorkView) (queue : List Label) (t waiting host : ℕ) (d : Directive) → Queued w v queue t waiting → w.config.devices ≡ 1 → Legal w
+    → refusal w.config (standing_of w) host d ≡ None → 0 < length (batch_of (standing_of w) (walk_of (standing_of w) host d)) → length queue ≡ w.config.room
     → w' ≡ with_taken w t → Places (with_taken w t) host d (Err QueueFull) w'
-places_full w w' v queue t waiting host d q one e some full is =
-    (false, fault_is w v queue t waiting d q one e some ∙ ap queue_fault (eq-eqb (length queue) w.config.room full), is)
+places_full w w' v queue t waiting host d q one l e some full is =
+    (false, fault_is w v queue t waiting host d q one l e some ∙ ap queue_fault (eq-eqb (length queue) w.config.room full), is)
 
 -- A directive with a batch is answered with the batch's queue and number.
-pub places_batch : (w w' : State) (v : WorkView) (queue : List Label) (t waiting host : ℕ) (d : Directive) (placed : Placed) → Queued w v queue t waiting → w.config.devices ≡ 1
-    → refusal w.config (standing_of w) d ≡ None → 0 < length (batch_of (standing_of w) (walk_of d)) → ¬ length queue ≡ w.config.room
-    → placed ≡ answer_of (standing_of w) (walk_of d) → w' ≡ after_accept (with_taken w t) host d → Places (with_taken w t) host d (Ok placed) w'
-places_batch w w' v queue t waiting host d placed q one e some room answer is =
-    (fault_is w v queue t waiting d q one e some ∙ ap queue_fault (ne_eqb (length queue) w.config.room room), answer, is)
+pub places_batch : (w w' : State) (v : WorkView) (queue : List Label) (t waiting host : ℕ) (d : Directive) (placed : Placed) → Queued w v queue t waiting → w.config.devices ≡ 1 → Legal w
+    → refusal w.config (standing_of w) host d ≡ None → 0 < length (batch_of (standing_of w) (walk_of (standing_of w) host d)) → ¬ length queue ≡ w.config.room
+    → placed ≡ answer_of (standing_of w) d (walk_of (standing_of w) host d) → w' ≡ after_accept (with_taken w t) host d → Places (with_taken w t) host d (Ok placed) w'
+places_batch w w' v queue t waiting host d placed q one l e some room answer is =
+    (fault_is w v queue t waiting host d q one l e some ∙ ap queue_fault (ne_eqb (length queue) w.config.room room), answer, is)
 
 -- A directive that is planned and finds no memory is refused.
-pub places_memory : (w w' : State) (host : ℕ) (d : Directive) (fault : Fault) → refusal w.config (standing_of w) d ≡ None → fault ≡ Memory → w' ≡ w → Places w host d (Err fault) w'
-places_memory w w' host d fault e same is = (true, ap (place_fault true w d) e ∙ ap Some (sym same), is)
+pub places_memory : (w w' : State) (host : ℕ) (d : Directive) (fault : Fault) → refusal w.config (standing_of w) host d ≡ None → fault ≡ Memory → w' ≡ w → Places w host d (Err fault) w'
+places_memory w w' host d fault e same is = (true, ap (place_fault true w host d) e ∙ ap Some (sym same), is)
 
 -- What a plan says of the place before it, in which it changed nothing but spare memory.
 pub record IsPlanned (p : PlaceView) (host items_done : ℕ) (d : Directive) (label : Option Label) : Type 0 where
-  pub accepted : refusal p.config (standing_in p) d ≡ None
-  pub labelled : label ≡ label_in (standing_in p) host items_done (walk_of d)
+  pub accepted : refusal p.config (standing_in p) host d ≡ None
+  pub labelled : label ≡ label_in (standing_in p) host items_done (walk_of (standing_in p) host d)
 
 pub planned : (p after : PlaceView) (q : PlanView) (host items_done : ℕ) (d : Directive) → after.config ≡ p.config → after.history ≡ p.history → after.counts ≡ p.counts → Fits after q
     → q.host ≡ host → q.items_done ≡ items_done → q.directive ≡ d → IsPlanned p host items_done d q.label
 planned p after q host items_done d config history counts fits same_host same_items same =
     let st : standing_in after ≡ standing_in p = ap (λ xs. standing xs after.counts) history ∙ ap (standing p.history) counts in
     record {
-      accepted = sym (ap (λ x. refusal x (standing_in after) q.directive) config ∙ (ap (λ s. refusal p.config s q.directive) st ∙ ap (refusal p.config (standing_in p)) same)) ∙ fits.accepted;
+      accepted =
+          sym (ap (λ x. refusal x (standing_in after) q.host q.directive) config
+          ∙ (ap (λ s. refusal p.config s q.host q.directive) st
+          ∙ (ap (λ h. refusal p.config (standing_in p) h q.directive) same_host ∙ ap (refusal p.config (standing_in p) host) same))) ∙ fits.accepted;
       labelled =
           fits.labelled
-          ∙ (ap (λ s. label_in s q.host q.items_done (walk_of q.directive)) st
-          ∙ (ap (λ h. label_in (standing_in p) h q.items_done (walk_of q.directive)) same_host
-          ∙ (ap (λ n. label_in (standing_in p) host n (walk_of q.directive)) same_items ∙ ap (λ e. label_in (standing_in p) host items_done (walk_of e)) same)));
+          ∙ (ap (λ s. label_in s q.host q.items_done (walk_of s q.host q.directive)) st
+          ∙ (ap (λ h. label_in (standing_in p) h q.items_done (walk_of (standing_in p) h q.directive)) same_host
+          ∙ (ap (λ n. label_in (standing_in p) host n (walk_of (standing_in p) host q.directive)) same_items
+          ∙ ap (λ e. label_in (standing_in p) host items_done (walk_of (standing_in p) host e)) same)));
     }

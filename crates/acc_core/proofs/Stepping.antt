@@ -168,9 +168,9 @@ stand_item_step no_memory w h host in_array x a s after =
     stand_item w h host x a after)))
 
 -- a directive is its host's alone
-stand_accepted : (w : State) (h : ℕ) (host : Host) (s : Statement) (d : Directive) → HostsStand w → StandsIn w h host → host.phase ≡ phase.Ready → slice_get host.statements host.ended ≡ Some s → s.act ≡ act.Place d → HostsStand (accepting w h (after_place (owed_by (answer_of (standing_of w) (walk_of d))) host) d)
+stand_accepted : (w : State) (h : ℕ) (host : Host) (s : Statement) (d : Directive) → HostsStand w → StandsIn w h host → host.phase ≡ phase.Ready → slice_get host.statements host.ended ≡ Some s → s.act ≡ act.Place d → HostsStand (accepting w h (after_place (owed_by (answer_of (standing_of w) d (walk_of (standing_of w) h d))) host) d)
 stand_accepted w h host s d a at ready e is =
-    let placed = answer_of (standing_of w) (walk_of d) in
+    let placed = answer_of (standing_of w) d (walk_of (standing_of w) h d) in
     let o : Own = record { items_before = items_of h w.work; directive = d; placed = placed } in
     let next = after_place (owed_by placed) host in
     let after = stands_placed (owed_by placed) host (own_of h w.history w.counts) (items_shown h w.work) s o at ready e is (sym (items_length h w.work)) refl in
@@ -182,12 +182,12 @@ stand_place_step : (no_memory : Bool) (w : State) (h : ℕ) (host : Host) (s : S
 stand_place_step no_memory w h host s d (Some fault) a at ready e is = stand_refused w h host fault a at
 stand_place_step no_memory w h host s d None a at ready e is =
     stand_if no_memory _ _ (λ f. stand_refused w h host Memory a at) (λ f.
-    stand_if (is_full w (standing_of w) (walk_of d)) _ _ (λ g. stand_refused w h host QueueFull a at) (λ g.
+    stand_if (is_full w (standing_of w) (walk_of (standing_of w) h d)) _ _ (λ g. stand_refused w h host QueueFull a at) (λ g.
     stand_accepted w h host s d a at ready e is))
 
 -- the first step of a statement
 stand_act_step : (no_memory : Bool) (w : State) (h : ℕ) (host : Host) (s : Statement) (does : Act) → HostsStand w → StandsIn w h host → host.phase ≡ phase.Ready → slice_get host.statements host.ended ≡ Some s → s.act ≡ does → HostsStand (act_step no_memory w (standing_of w) h host does).state
-stand_act_step no_memory w h host s (act.Place d) a at ready e is = stand_place_step no_memory w h host s d (refusal w.config (standing_of w) d) a at ready e is
+stand_act_step no_memory w h host s (act.Place d) a at ready e is = stand_place_step no_memory w h host s d (refusal w.config (standing_of w) h d) a at ready e is
 stand_act_step no_memory w h host s (act.Write array cell value) a at ready e is =
     let clear = none_behind host (slice_get host.statements host.ended) at.behind ready at.next in
     let x = Had (shown.Write array cell value) in

@@ -1,5 +1,5 @@
 -- What a visit does to lifetimes, and what was made and released against them.
-use Rattle.std.proofs.Common.{inl, inr, ◌≡◌, ◌⊎◌, ℕ, ◌<◌, ◌≤◌, Bool, true, false, List, [], ◌∷◌, ◌++◌, length, refl, sym, ap, ◌∙◌, arith}
+use Rattle.std.proofs.Common.{inl, inr, ◌≡◌, ◌⊎◌, ℕ, ◌<◌, ◌≤◌, Bool, true, false, List, [], ◌∷◌, ◌++◌, length, map, refl, sym, ap, ◌∙◌, arith}
 use Rattle.std.specs.Prelude.{Contains, not, filter, nat_lt, ℤ, Option, Some, None}
 use Rattle.std.proofs.lemmas.Bool.{cases_Bool, lt-ltb, ltb-true}
 use Rattle.std.proofs.lemmas.List.{append_assoc, append-nil}
@@ -8,12 +8,13 @@ use Rattle.acc_base.specs.declared.range.Range.{Range}
 use Rattle.acc_base.specs.Ranges.{range_contains}
 use Rattle.acc_present.specs.Marks.{Mark, Change}
 use Rattle.acc_present.specs.Lifetimes.{Lifetime, opened, live, lives}
+use Rattle.acc_present.specs.Presences.{presence_of, presences, holder}
 use Rattle.acc_batch.specs.declared.operation.Op.{Op}
 use Rattle.acc_batch.specs.declared.operation.Op.TheVariants.{Make, CopyIn, CopyOut, Release}
 use Rattle.acc_place.specs.Standings.{Asked, Visit, made_by, one_mark, marked}
-use Rattle.acc_place.specs.Batches.{ended_blocks, makes}
+use Rattle.acc_place.specs.Batches.{ended_blocks, found_block, held_blocks, makes}
 use Rattle.acc_core.specs.Legality.{Made, made, released, UsesLive}
-use Rattle.acc_core.proofs.Members.{no_member, member_first, member_one, member_filter, member_map, apart_same}
+use Rattle.acc_core.proofs.Members.{no_member, member_first, member_rest, member_one, member_filter, member_map, apart_same}
 use Rattle.acc_core.proofs.Blocks.{numbered, opened_one, lives_before, ended_inside}
 
 -- These operations, in order behind those before, each use live blocks.
@@ -133,6 +134,39 @@ ended_is ms a b c =
     let g = member_filter (λ l. not (lives (marked_by ms a) l)) (live ms) f.source f.member in
     let h = live_member ms f.source g.1 in
     record { lifetime = f.source; member = h.1; lived = h.0; over = not_true (lives (marked_by ms a) f.source) g.0; named = f.same }
+
+-- a block that holds a range is that of a lifetime that lives
+pub record IsHeld (ms : List Mark) (r : Range) (b : ℕ) : Type 0 where
+  pub lifetime : Lifetime
+  pub member : Contains (opened ms) lifetime
+  pub lived : lives ms lifetime ≡ true
+  pub named : lifetime.block ≡ b
+  pub around : range_contains lifetime.range r ≡ true
+
+-- one of these lifetimes has that block, and contains that range
+record IsFound (ls : List Lifetime) (r : Range) (b : ℕ) : Type 0 where
+  lifetime : Lifetime
+  member : Contains ls lifetime
+  named : lifetime.block ≡ b
+  around : range_contains lifetime.range r ≡ true
+
+-- the presence that holds a range is that of such a lifetime
+found_in : (ms : List Mark) (ls : List Lifetime) (r : Range) (b : ℕ) → Contains (found_block (holder (map (presence_of ms) ls) r)) b → IsFound ls r b
+found_in ms [] r b c = absurd (no_member b c)
+found_in ms (l ∷ ls) r b c = elim (cases_Bool (range_contains l.range r)) [
+  | inl has ↦ record { lifetime = l; member = member_first l ls; named = member_one b l.block (rw has at c); around = has }
+  | inr lacks ↦
+      let f = found_in ms ls r b (rw lacks at c) in
+      record { lifetime = f.lifetime; member = member_rest f.lifetime l ls f.member; named = f.named; around = f.around }
+]
+
+-- the block that holds a visit's range before it is such a block
+pub held_block_is : (ms : List Mark) (a : Asked) (b : ℕ) → Contains (held_blocks (visit ms a)) b → IsHeld ms a.item.range b
+unfolding presences
+held_block_is ms a b c =
+    let f = found_in ms (live ms) a.item.range b c in
+    let h = live_member ms f.lifetime f.member in
+    record { lifetime = f.lifetime; member = h.1; lived = h.0; named = f.named; around = f.around }
 
 -- the visit opened a lifetime
 abbrev pub is_opened : List Mark → Asked → Bool

@@ -20,14 +20,14 @@ abbrev pub queue_fault : Bool → Option Fault
 queue_fault true = Some QueueFull
 queue_fault false = None
 
--- the fault of a directive, where memory is refused or not
-abbrev pub place_fault : Bool → State → Directive → Option Fault → Option Fault
-place_fault no_memory w d (Some fault) = Some fault
-place_fault no_memory w d None =
-    if no_memory then Some Memory else queue_fault (is_full w (standing_of w) (walk_of d))
+-- the fault of a host's directive, where memory is refused or not
+abbrev pub place_fault : Bool → State → ℕ → Directive → Option Fault → Option Fault
+place_fault no_memory w host d (Some fault) = Some fault
+place_fault no_memory w host d None =
+    if no_memory then Some Memory else queue_fault (is_full w (standing_of w) (walk_of (standing_of w) host d))
 
-abbrev pub fault_of_place : Bool → State → Directive → Option Fault
-fault_of_place no_memory w d = place_fault no_memory w d (refusal w.config (standing_of w) d)
+abbrev pub fault_of_place : Bool → State → ℕ → Directive → Option Fault
+fault_of_place no_memory w host d = place_fault no_memory w host d (refusal w.config (standing_of w) host d)
 
 -- a directive joins the place history
 abbrev pub after_accept : State → ℕ → Directive → State
@@ -36,8 +36,10 @@ after_accept w host d = record w { history = noted.Accepted host d ∷ w.history
 -- The directive is accepted with the defined answer, or refused with the defined fault, and then nothing changes.
 abbrev pub Places : State → ℕ → Directive → Result Placed Fault → State → Type 0
 Places old host d (Ok placed) new =
-    (fault_of_place false old d ≡ None) × (placed ≡ answer_of (standing_of old) (walk_of d)) × (new ≡ after_accept old host d)
-Places old host d (Err fault) new = (no_memory : Bool) × (fault_of_place no_memory old d ≡ Some fault) × (new ≡ old)
+    (fault_of_place false old host d ≡ None)
+    × (placed ≡ answer_of (standing_of old) d (walk_of (standing_of old) host d))
+    × (new ≡ after_accept old host d)
+Places old host d (Err fault) new = (no_memory : Bool) × (fault_of_place no_memory old host d ≡ Some fault) × (new ≡ old)
 
 -- the fault of an item
 abbrev pub item_fault : Bool → List WorkEntry → Bool → Option Fault

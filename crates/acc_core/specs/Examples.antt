@@ -97,7 +97,7 @@ EnteredTwice =
     look_after
     (host ∷ host ∷ take_batch ∷ take_batch ∷ perform ∷ perform ∷ perform ∷ host ∷ host ∷ host ∷ host ∷ [])
     (world ((pos 0 ∷ pos 0 ∷ pos 0 ∷ pos 0 ∷ []) ∷ [])
-    (place kind.EnterData Copyin (cells 0 4) ∷ place kind.EnterData Copyin (cells 0 4) ∷ place kind.ExitData Delete (cells 0 4) ∷ []))
+    (place kind.EnterData Copyin (cells 0 4) ∷ place kind.EnterData Copyin (cells 0 4) ∷ place (kind.ExitData false) Delete (cells 0 4) ∷ []))
     ≡ record {
       replies = reply.Did ∷ reply.Idle ∷ reply.Did ∷ reply.Idle ∷ reply.Did ∷ reply.Did ∷ reply.Idle ∷ reply.Did ∷ reply.Did ∷ reply.Did ∷ reply.Idle ∷ [];
       present = record { range = cells 0 4; block = 1; s = 0; d = 1 } ∷ [];
@@ -127,7 +127,7 @@ StaleHostCopy =
     look_after
     (host ∷ take_batch ∷ perform ∷ perform ∷ host ∷ host ∷ host ∷ take_batch ∷ perform ∷ perform ∷ host ∷ host ∷ [])
     (world ((pos 1 ∷ pos 2 ∷ pos 3 ∷ pos 4 ∷ []) ∷ [])
-    (place kind.EnterData Copyin (cells 0 4) ∷ act.Write 0 0 (pos 9) ∷ place kind.ExitData Copyout (cells 0 4) ∷ act.Print (cells 0 4) ∷ []))
+    (place kind.EnterData Copyin (cells 0 4) ∷ act.Write 0 0 (pos 9) ∷ place (kind.ExitData false) Copyout (cells 0 4) ∷ act.Print (cells 0 4) ∷ []))
     ≡ record {
       replies = reply.Did ∷ reply.Did ∷ reply.Did ∷ reply.Did ∷ reply.Did ∷ reply.Did ∷ reply.Did ∷ reply.Did ∷ reply.Did ∷ reply.Did ∷ reply.Did ∷ reply.Did ∷ [];
       present = [];

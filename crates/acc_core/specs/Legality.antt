@@ -24,14 +24,14 @@ use Rattle.acc_place.specs.Histories.{standing}
 use Rattle.acc_batch.specs.Labels.{on_queue, ops_of, batch_at, whole}
 use Rattle.acc_core.specs.Logs.{one_more, performed, device_ops, value, values_of, all_done, host_allows}
 use Rattle.acc_core.specs.Machine.{State, standing_of, Runs}
-use Rattle.acc_place.specs.Standings.{walk_of}
+use Rattle.acc_place.specs.Standings.{Standing, walk_of}
 use Rattle.acc_core.specs.Steps.{HostEntry, Gave, Had, Follows}
 
 -- Each directive was accepted after those before it.
 abbrev pub AllAccepted : Configuration → List PlaceEntry → List ℕ → Type 0
 AllAccepted config [] counts = Unit {0}
 AllAccepted config (noted.Accepted host d ∷ before) counts =
-    (refusal config (standing before (drop 1 counts)) d ≡ None) × AllAccepted config before (drop 1 counts)
+    (refusal config (standing before (drop 1 counts)) host d ≡ None) × AllAccepted config before (drop 1 counts)
 
 abbrev pub IsPrefix : List Op → List Op → Type 0
 IsPrefix xs ys = (more : List Op) × (xs ++ more ≡ ys)
@@ -109,12 +109,16 @@ pub record Own : Type 0 where
   pub directive : Directive
   pub placed : Placed
 
+abbrev pub own_after : Standing → ℕ → ℕ → Directive → Own
+own_after st host items_done d =
+    record { items_before = items_done; directive = d; placed = answer_of st d (walk_of st host d) }
+
 abbrev pub own_of : ℕ → List PlaceEntry → List ℕ → List Own
 own_of host [] counts = []
 own_of host (noted.Accepted h d ∷ before) counts =
     one_more (h == host)
     (own_of host before (drop 1 counts))
-    (record { items_before = slice_index_or counts 0 0; directive = d; placed = answer_of (standing before (drop 1 counts)) (walk_of d) })
+    (own_after (standing before (drop 1 counts)) h (slice_index_or counts 0 0) d)
 
 -- the directives in their order, each behind as many items as its count says; `gone` items stand already
 abbrev pub merged : ℕ → List Own → List HostEntry → List HostEntry

@@ -125,15 +125,15 @@ is_full w st walk = not (is_empty (batch_of st walk)) && (held w st.labels (walk
 abbrev pub placing : State → Standing → ℕ → Host → Directive → Walk → Outcome
 placing w st h host d walk =
     if is_full w st walk then refused w h host QueueFull
-    else did (accepting w h (after_place (owed_by (answer_of st walk)) host) d)
+    else did (accepting w h (after_place (owed_by (answer_of st d walk)) host) d)
 
 abbrev pub place_step : Bool → State → Standing → ℕ → Host → Directive → Option Fault → Outcome
 place_step no_memory w st h host d (Some fault) = refused w h host fault
 place_step no_memory w st h host d None =
-    if no_memory then refused w h host Memory else placing w st h host d (walk_of d)
+    if no_memory then refused w h host Memory else placing w st h host d (walk_of st h d)
 
 abbrev pub act_step : Bool → State → Standing → ℕ → Host → Act → Outcome
-act_step no_memory w st h host (act.Place d) = place_step no_memory w st h host d (refusal w.config st d)
+act_step no_memory w st h host (act.Place d) = place_step no_memory w st h host d (refusal w.config st h d)
 act_step no_memory w st h host (act.Write array cell new_value) =
     item_step no_memory w h host (is_in_array w.config.arrays (record { array = array; lo = cell; len = 1 }))
     (shown.Write array cell new_value)

@@ -13,14 +13,12 @@ mod world;
 
 pub use acc_batch::{Label, Op};
 pub use acc_place::{
-    ASYNC_NOVAL, Clause, Directive, Item, Kind, MAX_DIRECTIVES, MAX_ITEMS, PlaceEntry, Placed,
-    Target, Waits,
+    ASYNC_NOVAL, Clause, Directive, Item, Kind, MAX_DIRECTIVES, MAX_ITEMS, MAX_REGIONS, PlaceEntry,
+    Placed, Region, Target, Waits,
 };
 pub use acc_present::Entry;
 pub use event::{Event, Reply};
-pub use laws::{
-    each_queue_is_counted, whole_is_greatest, worked_batches, worked_programs, worked_refusals,
-};
+pub use laws::{each_queue_is_counted, whole_is_greatest, worked_logs, worked_programs};
 pub use log::{MAX_HOST_ITEMS, Shown, WorkEntry};
 pub use program::{Act, HostProgram, HostState, Statement};
 pub use totals::Totals;

@@ -1,5 +1,5 @@
 -- The definition of a script computed on worked texts: what they say, and each kind of fault with its line.
-use Rattle.std.specs.Prelude.{◌≡◌, ℕ, List, [], ◌∷◌, Ok, ℤ, pos, negsuc, codes}
+use Rattle.std.specs.Prelude.{◌≡◌, ℕ, false, List, [], ◌∷◌, Ok, ℤ, pos, negsuc, codes}
 use Rattle.acc_base.specs.declared.range.Range.{Range}
 use Rattle.acc_core.specs.Place.{Clause, Copyin, Copyout, Delete, Item, Kind, EnterData, ExitData}
 use Rattle.acc_core.specs.declared.program.Act.{Act}
@@ -41,7 +41,7 @@ StaleCopyText =
     ((pos 1 ∷ pos 2 ∷ negsuc 2 ∷ pos 0 ∷ []) ∷ [])
     (at_line 3 (data_of EnterData (of_clause Copyin (cells 0 4) ∷ []))
     ∷ at_line 4 (Write 0 0 (pos 9))
-    ∷ at_line 6 (data_of ExitData (of_clause Copyout (cells 0 4) ∷ []))
+    ∷ at_line 6 (data_of (ExitData false) (of_clause Copyout (cells 0 4) ∷ []))
     ∷ at_line 7 (Print (cells 0 4)) ∷ [])
 
 -- every form of a range, and clauses with and without a comma between them
@@ -51,7 +51,7 @@ RangeForms =
     (codes "long a[8];\nhost {\n#pragma acc exit data delete(a[:], a[3:]) copyout(a[:2]), delete(a[1:5],a[9:])\n}")
     (codes "a" ∷ [])
     ((pos 0 ∷ pos 0 ∷ pos 0 ∷ pos 0 ∷ pos 0 ∷ pos 0 ∷ pos 0 ∷ pos 0 ∷ []) ∷ [])
-    (at_line 3 (data_of ExitData (of_clause Delete (cells 0 8) ∷ of_clause Delete (cells 3 5) ∷ of_clause Copyout (cells 0 2)
+    (at_line 3 (data_of (ExitData false) (of_clause Delete (cells 0 8) ∷ of_clause Delete (cells 3 5) ∷ of_clause Copyout (cells 0 2)
     ∷ of_clause Delete (cells 1 5) ∷ of_clause Delete (cells 9 0) ∷ [])) ∷ [])
 
 pub record ReadFaults : Type 0 where

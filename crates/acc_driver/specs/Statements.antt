@@ -74,9 +74,10 @@ item_turn arrays clause items at =
 -- the data clause of a word, in a directive of this kind
 abbrev pub clause_named : Kind → List ℕ → Option Clause
 clause_named EnterData word = if bytes_eq word (codes "copyin") then Some Copyin else None
-clause_named ExitData word =
+clause_named (ExitData finalize) word =
     if bytes_eq word (codes "copyout") then Some Copyout
     else (if bytes_eq word (codes "delete") then Some Delete else None)
+clause_named kind word = None
 
 -- "(" range { "," range } ")"
 unfoldable pub ranges_at : Declared → Clause → List Item → Spot → Result (Turn (List Item)) ReadFault
@@ -108,7 +109,7 @@ clause_turn arrays kind items at =
 unfoldable pub kind_of : Lexeme → Result (Kind × Spot) ReadFault
 kind_of t =
     if bytes_eq t.text (codes "enter") then Ok (EnterData, t.after)
-    else (if bytes_eq t.text (codes "exit") then Ok (ExitData, t.after)
+    else (if bytes_eq t.text (codes "exit") then Ok (ExitData false, t.after)
     else unwanted t)
 
 -- a directive without `async` and `wait`, on the one device; the host's default async value is acc_async_noval

@@ -177,7 +177,7 @@ fn clause_named(kind: Kind, word: &[u8]) -> Option<Clause>
                 None
             }
         }
-        Kind::ExitData => {
+        Kind::ExitData { .. } => {
             if is(word, b"copyout") {
                 Some(Clause::Copyout)
             } else if is(word, b"delete") {
@@ -186,6 +186,7 @@ fn clause_named(kind: Kind, word: &[u8]) -> Option<Clause>
                 None
             }
         }
+        Kind::Data | Kind::EndData | Kind::Update { .. } | Kind::IsPresent => None,
     }
 }
 
@@ -284,7 +285,7 @@ fn kind_of(t: Token) -> Result<Kind, ReadFault>
     if is(t.text, b"enter") {
         Ok(Kind::EnterData)
     } else if is(t.text, b"exit") {
-        Ok(Kind::ExitData)
+        Ok(Kind::ExitData { finalize: false })
     } else {
         Err(unwanted(t))
     }

@@ -1,4 +1,6 @@
 mod Accepted
+mod Entered
+mod Inside
 mod Judging
 mod Planning
 mod Visits

@@ -1,82 +1,109 @@
 -- The visits of a directive's items, found in the marks, are what a walk over the table makes of them.
 use Rattle.std.proofs.Common.{◌≡◌, ℕ, ◌+◌, ◌<◌, Bool, true, false, cond, eqb, List, [], ◌∷◌, ◌++◌, length, map, Option, Some, None, refl, sym, ap, ◌∙◌, arith, inl, inr}
-use Rattle.std.specs.Prelude.{◌&&◌, not, nat_lt}
+use Rattle.std.specs.Prelude.{⊤, ◌&&◌, not, nat_lt}
 use Rattle.std.specs.List.{flat_map}
-use Rattle.std.specs.Option.{option_to_list}
-use Rattle.std.proofs.lemmas.Bool.{cases_Bool, lt-ltb, le-ltb, eqb-true}
+use Rattle.std.specs.Option.{option_and_then, option_to_list}
+use Rattle.std.proofs.lemmas.Bool.{cases_Bool, and_parts, lt-ltb, le-ltb, eqb-true}
 use Rattle.acc_base.specs.declared.range.Range.{Range}
 use Rattle.acc_base.specs.declared.fault.Fault.{Fault}
-use Rattle.acc_base.specs.declared.fault.Fault.TheVariants.{BadRange, PartlyPresent, DeviceFull}
+use Rattle.acc_base.specs.declared.fault.Fault.TheVariants.{BadRange, PartlyPresent, NotPresent, DeviceFull}
 use Rattle.acc_base.specs.Configurations.{Configuration}
-use Rattle.acc_present.specs.declared.table.Counter.TheVariants.{Dynamic}
-use Rattle.acc_present.specs.Marks.{Dynamic_down, Mark}
-use Rattle.acc_present.specs.Lifetimes.{opened}
-use Rattle.acc_present.specs.Presences.{Presence, presences, holder, is_present, is_partly_present, used_cells}
-use Rattle.acc_present.specs.Tables.{exit_mark, stepped, has_count, is_table}
-use Rattle.acc_present.proofs.Counting.{kept_none, counted_at}
-use Rattle.acc_present.proofs.Ending.{opened-more, ended-same, ended-more, ended_in-none, ended_in-some}
-use Rattle.acc_present.proofs.Entering.{has_count-entered, stepped-zero}
-use Rattle.acc_present.proofs.Marking.{found_in, is_table-after, used_cells-opened}
-use Rattle.acc_present.proofs.OneMore.{CanCount, presences-more}
-use Rattle.acc_present.proofs.Searching.{is_present-none, is_present-some}
-use Rattle.acc_place.specs.declared.directive.Item.{Item}
-use Rattle.acc_place.specs.declared.directive.Kind.{Kind}
-use Rattle.acc_place.specs.declared.directive.Kind.TheVariants.{EnterData, ExitData}
 use Rattle.acc_batch.specs.declared.operation.Op.{Op}
 use Rattle.acc_batch.specs.declared.operation.Op.TheVariants as op
-use Rattle.acc_place.specs.declared.plan.Group.TheVariants.{Makes, CopyIns, CopyOuts, Releases}
+use Rattle.acc_present.specs.declared.table.Counter.TheVariants.{Structured, Dynamic}
+use Rattle.acc_present.specs.Legality.{AllLegal}
+use Rattle.acc_present.specs.Lifetimes.{opened, can_open}
+use Rattle.acc_present.specs.Marks.{Change, Structured_up, Structured_down, Dynamic_up, Dynamic_down, Dynamic_zero, Mark}
+use Rattle.acc_present.specs.Presences.{Presence, presences, holder, is_present, is_partly_present, used_cells}
+use Rattle.acc_present.specs.Tables.{changed_counter, counter_of, stepped, has_count}
+use Rattle.acc_present.proofs.Balancing.{can_count-balanced, legal}
+use Rattle.acc_present.proofs.Counting.{kept_none, counted_at}
+use Rattle.acc_present.proofs.Ending.{opened-more, ended_of, ended_in, ended-same, ended-more, ended_in-none, ended_in-some}
+use Rattle.acc_present.proofs.Entering.{has_count-entered, stepped-zero, finalized-zero}
+use Rattle.acc_present.proofs.Marking.{found_in, used_cells-opened}
+use Rattle.acc_present.proofs.OneMore.{CanCount, presences-more}
+use Rattle.acc_present.proofs.Parts.{none_from_absent}
+use Rattle.acc_place.specs.declared.directive.Clause.{Clause}
+use Rattle.acc_place.specs.declared.directive.Clause.TheVariants.{Copy, Copyin, Copyout, Create, Present, Delete, UpdateSelf, UpdateDevice}
+use Rattle.acc_place.specs.declared.directive.Item.{Item}
+use Rattle.acc_place.specs.declared.directive.Kind.{Kind}
+use Rattle.acc_place.specs.declared.directive.Kind.TheVariants as kind
+use Rattle.acc_place.specs.declared.plan.Group.TheVariants.{Makes, CopyIns, Updates, CopyOuts, Releases}
 use Rattle.acc_place.specs.declared.judge.Marked.{Marked}
-use Rattle.acc_place.specs.Accepting.{fault_at, first_fault, fault_where, is_in_array, has_opened}
-use Rattle.acc_place.specs.Batches.{opened_block, opened_blocks, ended_blocks, makes, copy_ins, copy_outs, releases, grouped, copies_in, copies_out}
-use Rattle.acc_place.specs.Standings.{Visit, visits, marked, marks_after, all_asked}
-use Rattle.acc_place.specs.Walks.{Holding, holding, change_by, mark_by, opens_one, opened_after, holding_after, holding_after_all, fault_in, fault_or, first_fault_in, block_opened, ended_by, marked_in, all_marked, where_so, group_ops, marked_ops, AllFine}
+use Rattle.acc_place.specs.Accepting.{fault_at, first_fault, fault_where, is_in_array, has_opened, wants_whole, wants_presence}
+use Rattle.acc_place.specs.Batches.{opened_block, opened_blocks, ended_blocks, found_block, held_blocks, makes, copy_ins, updates_by, updates, copy_outs, releases, grouped, copies_in, copies_out}
+use Rattle.acc_place.specs.Standings.{Visit, visits, change_by, marked, one_mark, marks_after, all_asked}
+use Rattle.acc_place.specs.Walks.{Holding, holding, mark_by, opens_one, opened_after, holding_after, holding_after_all, fault_in, fault_or, first_fault_in, block_held, block_opened, ended_by, marked_in, all_marked, update_for, group_ops, marked_ops, HasEntered, AllEntered, IsFine, AllFine}
 use Rattle.acc_place.proofs.Judging.{fine_item}
 
 -- what a device has after these marks
 abbrev pub holding_of : List Mark → Holding
-holding_of marks = holding (presences marks) (length (opened marks))
+holding_of ms = holding (presences ms) (length (opened ms))
 
-abbrev pub visit_of : Kind → List Mark → Item → Visit
-visit_of kind ms i = record { item = i; before = ms; after = marked ms i.range (Some (change_by kind)) }
+abbrev pub visit_of : Option Change → List Mark → Item → Visit
+visit_of change ms i = record { item = i; before = ms; after = marked ms i.range change }
 
 -- ## The marks after an item
+
+abbrev pub CanCountBy : Option Change → List Mark → Type 0
+CanCountBy None ms = ⊤
+CanCountBy (Some change) ms = CanCount change ms
+
+pub counts_by : (change : Option Change) (ms : List Mark) → AllLegal ms → CanCountBy change ms
+counts_by None ms h = tt
+counts_by (Some change) ms h = can_count-balanced change ms (legal ms h).balanced
 
 cond-opened : (b : Bool) (n : ℕ) → cond b (n + 1) n ≡ opened_after b n
 cond-opened true n = refl
 cond-opened false n = refl
 
-can_count_by : (kind : Kind) (ms : List Mark) → CanCount (change_by kind) ms
-can_count_by EnterData ms = tt
-can_count_by ExitData ms = tt
-
-after_made : (kind : Kind) (ms : List Mark) (r : Range) → holding_of (mark_by kind r ∷ ms) ≡ holding_after kind r (holding_of ms)
+after_made : (change : Change) (ms : List Mark) (r : Range) → AllLegal ms → holding_of (mark_by change r ∷ ms) ≡ holding_after (Some change) r (holding_of ms)
 unfolding holding_after
-after_made kind ms r =
-    let m = mark_by kind r in
-    ap (λ ps. holding ps (length (opened (m ∷ ms)))) (presences-more m ms (can_count_by kind ms))
-    ∙ ap (holding _) (opened-more m ms ∙ cond-opened (opens_one kind (presences ms) r) (length (opened ms)))
+after_made change ms r h =
+    let m = mark_by change r in
+    ap (λ ps. holding ps (length (opened (m ∷ ms)))) (presences-more m ms (counts_by (Some change) ms h))
+    ∙ ap (holding _) (opened-more m ms ∙ cond-opened (opens_one (Some change) (presences ms) r) (length (opened ms)))
 
-after_unmade : (ms : List Mark) (r : Range) → is_table (presences ms) ≡ true → is_present (presences ms) r ≡ false → holding_of ms ≡ holding_after ExitData r (holding_of ms)
+after_unmade : (change : Change) (ms : List Mark) (r : Range) → can_open change ≡ false → AllLegal ms → is_present (presences ms) r ≡ false
+    → holding_of ms ≡ holding_after (Some change) r (holding_of ms)
 unfolding holding_after
-after_unmade ms r t absent = ap (λ ps. holding ps (length (opened ms))) (sym (kept_none (exit_mark Dynamic r) (presences ms) t absent))
+after_unmade change ms r cannot h absent = rw cannot (ap (λ ps. holding ps (length (opened ms))) (sym (kept_none (mark_by change r) (presences ms) (legal ms h).table absent)))
 
-pub after_is : (kind : Kind) (ms : List Mark) (r : Range) → is_table (presences ms) ≡ true → holding_of (marked ms r (Some (change_by kind))) ≡ holding_after kind r (holding_of ms)
-after_is EnterData ms r t = after_made EnterData ms r
-after_is ExitData ms r t = elim (cases_Bool (is_present (presences ms) r)) [
-  | inl held ↦ rw held (after_made ExitData ms r)
-  | inr absent ↦ rw absent (after_unmade ms r t absent)
+-- an exit that takes no action where the range is absent
+after_exit : (change : Change) (ms : List Mark) (r : Range) → can_open change ≡ false → AllLegal ms
+    → holding_of (one_mark (is_present (presences ms) r) change r ms) ≡ holding_after (Some change) r (holding_of ms)
+after_exit change ms r cannot h = elim (cases_Bool (is_present (presences ms) r)) [
+  | inl held ↦ ap (λ b. holding_of (one_mark b change r ms)) held ∙ after_made change ms r h
+  | inr absent ↦ ap (λ b. holding_of (one_mark b change r ms)) absent ∙ after_unmade change ms r cannot h absent
 ]
 
-pub table_after : (kind : Kind) (ms : List Mark) (r : Range) → is_table (presences ms) ≡ true → 0 < r.len → is_partly_present (presences ms) r ≡ false → is_table (presences (marked ms r (Some (change_by kind)))) ≡ true
+pub after_is : (change : Option Change) (ms : List Mark) (r : Range) → AllLegal ms → holding_of (marked ms r change) ≡ holding_after change r (holding_of ms)
 unfolding holding_after
-table_after kind ms r t cells whole =
-    ap (λ (h : Holding). is_table h.presences) (after_is kind ms r t) ∙ is_table-after (mark_by kind r) (length (opened ms) + 1) (presences ms) t cells whole
+after_is None ms r h = refl
+after_is (Some Structured_up) ms r h = after_made Structured_up ms r h
+after_is (Some Structured_down) ms r h = after_made Structured_down ms r h
+after_is (Some Dynamic_up) ms r h = after_made Dynamic_up ms r h
+after_is (Some Dynamic_down) ms r h = after_exit Dynamic_down ms r refl h
+after_is (Some Dynamic_zero) ms r h = after_exit Dynamic_zero ms r refl h
 
-opened_is : (kind : Kind) (ms : List Mark) (r : Range) → is_table (presences ms) ≡ true → length (opened (marked ms r (Some (change_by kind)))) ≡ opened_after (opens_one kind (presences ms) r) (length (opened ms))
+pub legal_after : (k : Kind) (ms : List Mark) (r : Range) (capacity : ℕ) → AllLegal ms → IsFine capacity k (presences ms) r
+    → HasEntered (change_by k) r (presences ms) → AllLegal (marked ms r (change_by k))
+legal_after kind.Data ms r capacity h fine entered = ((fine.cells, fine.whole refl), h)
+legal_after kind.EndData ms r capacity h fine entered = ((fine.cells, entered), h)
+legal_after kind.EnterData ms r capacity h fine entered = ((fine.cells, fine.whole refl), h)
+legal_after (kind.ExitData true) ms r capacity h fine entered =
+    elim (is_present (presences ms) r) as (λ b. AllLegal (one_mark b Dynamic_zero r ms)) [ true ↦ ((fine.cells, tt), h) | false ↦ h ]
+legal_after (kind.ExitData false) ms r capacity h fine entered =
+    elim (is_present (presences ms) r) as (λ b. AllLegal (one_mark b Dynamic_down r ms)) [ true ↦ ((fine.cells, tt), h) | false ↦ h ]
+legal_after (kind.Update if_present) ms r capacity h fine entered = h
+legal_after kind.IsPresent ms r capacity h fine entered = h
+
+opened_is : (change : Option Change) (ms : List Mark) (r : Range) → AllLegal ms
+    → length (opened (marked ms r change)) ≡ opened_after (opens_one change (presences ms) r) (length (opened ms))
 unfolding holding_after
-opened_is kind ms r t = ap (λ (h : Holding). h.opened) (after_is kind ms r t)
+opened_is change ms r h = ap (λ (g : Holding). g.opened) (after_is change ms r h)
 
--- ## What a visit opens and ends
+-- ## What a visit opens and ends, and what holds its range
 
 one_block : (b : Bool) (n : ℕ) → opened_block n (opened_after b n) ≡ option_to_list (block_opened b n)
 one_block true n = rw (lt-ltb n (n + 1) (omega arith)) refl
@@ -86,33 +113,75 @@ opens_is : (b : Bool) (n : ℕ) → nat_lt n (opened_after b n) ≡ b
 opens_is true n = lt-ltb n (n + 1) (omega arith)
 opens_is false n = le-ltb n n (omega arith)
 
-opened_blocks_are : (kind : Kind) (ms : List Mark) (i : Item) → is_table (presences ms) ≡ true
-    → opened_blocks (visit_of kind ms i) ≡ option_to_list (block_opened (opens_one kind (presences ms) i.range) (length (opened ms)))
-opened_blocks_are kind ms i t =
-    ap (opened_block (length (opened ms))) (opened_is kind ms i.range t) ∙ one_block (opens_one kind (presences ms) i.range) (length (opened ms))
+opened_blocks_are : (change : Option Change) (ms : List Mark) (i : Item) → AllLegal ms
+    → opened_blocks (visit_of change ms i) ≡ option_to_list (block_opened (opens_one change (presences ms) i.range) (length (opened ms)))
+opened_blocks_are change ms i h =
+    ap (opened_block (length (opened ms))) (opened_is change ms i.range h) ∙ one_block (opens_one change (presences ms) i.range) (length (opened ms))
 
-exit_ends : (x : Presence) (ps : List Presence) (r : Range) → has_count x ≡ true → holder ps r ≡ Some x
-    → cond (has_count (stepped Dynamic_down x)) [] (x.block ∷ []) ≡ option_to_list (ended_by ExitData ps r)
-exit_ends x ps r counted some = rw some (elim (cases_Bool (eqb x.d 0)) [
-  | inl none ↦ (let still : has_count (stepped Dynamic_down x) ≡ true = ap has_count (stepped-zero Dynamic x (eqb-true x.d 0 none)) ∙ counted in rw (none, still) refl)
-  | inr few ↦ rw few (elim (cases_Bool (has_count (stepped Dynamic_down x))) [ inl still ↦ rw still refl | inr over ↦ rw over refl ])
+-- an entry ends nothing
+entered_counts : (change : Change) (x : Presence) → can_open change ≡ true → has_count (stepped change x) ≡ true
+entered_counts Structured_up x can = has_count-entered Structured x
+entered_counts Structured_down x can = absurd cc
+entered_counts Dynamic_up x can = has_count-entered Dynamic x
+entered_counts Dynamic_down x can = absurd cc
+entered_counts Dynamic_zero x can = absurd cc
+
+-- an exit where the counter is zero changes nothing
+zero_stays : (change : Change) (x : Presence) → can_open change ≡ false → counter_of (changed_counter change) x ≡ 0 → stepped change x ≡ x
+zero_stays Structured_up x cannot none = absurd cc
+zero_stays Structured_down x cannot none = stepped-zero Structured x none
+zero_stays Dynamic_up x cannot none = absurd cc
+zero_stays Dynamic_down x cannot none = stepped-zero Dynamic x none
+zero_stays Dynamic_zero x cannot none = finalized-zero x none
+
+exit_ends : (change : Change) (x : Presence) (ps : List Presence) (r : Range) → can_open change ≡ false → has_count x ≡ true → holder ps r ≡ Some x
+    → cond (has_count (stepped change x)) [] (x.block ∷ []) ≡ option_to_list (ended_by (Some change) ps r)
+exit_ends change x ps r cannot counted some = rw (cannot, some) (elim (cases_Bool (eqb (counter_of (changed_counter change) x) 0)) [
+  | inl none ↦
+      (let still : has_count (stepped change x) ≡ true = ap has_count (zero_stays change x cannot (eqb-true (counter_of (changed_counter change) x) 0 none)) ∙ counted in
+      rw (none, still) refl)
+  | inr few ↦ rw few (elim (cases_Bool (has_count (stepped change x))) [ inl still ↦ rw still refl | inr over ↦ rw over refl ])
 ])
 
-ended_blocks_are : (kind : Kind) (ms : List Mark) (i : Item) → is_table (presences ms) ≡ true → 0 < i.range.len → ended_blocks (visit_of kind ms i) ≡ option_to_list (ended_by kind (presences ms) i.range)
-ended_blocks_are kind ms i t cells = by_kind kind (holder (presences ms) i.range) refl
+entry_ends : (change : Change) (x : Presence) (ps : List Presence) (r : Range) → can_open change ≡ true
+    → cond (has_count (stepped change x)) [] (x.block ∷ []) ≡ option_to_list (ended_by (Some change) ps r)
+entry_ends change x ps r can = rw (can, entered_counts change x can) refl
+
+none_ends : (change : Change) (ps : List Presence) (r : Range) → holder ps r ≡ None → [] ≡ option_to_list (ended_by (Some change) ps r)
+none_ends change ps r none = rw none (elim (cases_Bool (can_open change)) [ inl can ↦ rw can refl | inr cannot ↦ rw cannot refl ])
+
+made_ends : (change : Change) (ms : List Mark) (r : Range) → AllLegal ms → 0 < r.len
+    → ended_of (mark_by change r ∷ ms) ms ≡ option_to_list (ended_by (Some change) (presences ms) r)
+made_ends change ms r h cells = ended-more (mark_by change r) ms (counts_by (Some change) ms h) ∙ by_holder (holder (presences ms) r) refl
   where
-    by_kind : (kind : Kind) (o : Option Presence) → holder (presences ms) i.range ≡ o → ended_blocks (visit_of kind ms i) ≡ option_to_list (ended_by kind (presences ms) i.range)
-    by_kind EnterData None none = ended-more (mark_by EnterData i.range) ms tt ∙ ended_in-none (mark_by EnterData i.range) (presences ms) t none
-    by_kind EnterData (Some x) some =
-        ended-more (mark_by EnterData i.range) ms tt
-        ∙ (ended_in-some (mark_by EnterData i.range) (presences ms) x t cells some ∙ ap (λ v. cond v [] (x.block ∷ [])) (has_count-entered Dynamic x))
-    by_kind ExitData None none = let absent = is_present-none (presences ms) i.range none in rw (absent, none) (ended-same ms)
-    by_kind ExitData (Some x) some =
-        let held = is_present-some (presences ms) i.range x some in
-        let f = found_in (presences ms) i.range x some in
-        rw held
-        (ended-more (mark_by ExitData i.range) ms tt
-        ∙ (ended_in-some (mark_by ExitData i.range) (presences ms) x t cells some ∙ exit_ends x (presences ms) i.range (counted_at (presences ms) f.place x t f.low f.is) some))
+    by_holder : (o : Option Presence) → holder (presences ms) r ≡ o → ended_in (mark_by change r) (presences ms) ≡ option_to_list (ended_by (Some change) (presences ms) r)
+    by_holder None none = ended_in-none (mark_by change r) (presences ms) (legal ms h).table none ∙ none_ends change (presences ms) r none
+    by_holder (Some x) some =
+        let t = (legal ms h).table in
+        let f = found_in (presences ms) r x some in
+        let counted = counted_at (presences ms) f.place x t f.low f.is in
+        ended_in-some (mark_by change r) (presences ms) x t cells some
+        ∙ (elim (cases_Bool (can_open change)) [ inl can ↦ entry_ends change x (presences ms) r can | inr cannot ↦ exit_ends change x (presences ms) r cannot counted some ])
+
+exit_made_ends : (change : Change) (ms : List Mark) (r : Range) → AllLegal ms → 0 < r.len
+    → ended_of (one_mark (is_present (presences ms) r) change r ms) ms ≡ option_to_list (ended_by (Some change) (presences ms) r)
+exit_made_ends change ms r h cells = elim (cases_Bool (is_present (presences ms) r)) [
+  | inl held ↦ ap (λ b. ended_of (one_mark b change r ms) ms) held ∙ made_ends change ms r h cells
+  | inr absent ↦ ap (λ b. ended_of (one_mark b change r ms) ms) absent ∙ (ended-same ms ∙ none_ends change (presences ms) r (none_from_absent (presences ms) r absent))
+]
+
+ended_blocks_are : (change : Option Change) (ms : List Mark) (i : Item) → AllLegal ms → 0 < i.range.len
+    → ended_blocks (visit_of change ms i) ≡ option_to_list (ended_by change (presences ms) i.range)
+ended_blocks_are None ms i h cells = ended-same ms
+ended_blocks_are (Some Structured_up) ms i h cells = made_ends Structured_up ms i.range h cells
+ended_blocks_are (Some Structured_down) ms i h cells = made_ends Structured_down ms i.range h cells
+ended_blocks_are (Some Dynamic_up) ms i h cells = made_ends Dynamic_up ms i.range h cells
+ended_blocks_are (Some Dynamic_down) ms i h cells = exit_made_ends Dynamic_down ms i.range h cells
+ended_blocks_are (Some Dynamic_zero) ms i h cells = exit_made_ends Dynamic_zero ms i.range h cells
+
+found_is_held : (o : Option Presence) → found_block o ≡ option_to_list (block_held o)
+found_is_held None = refl
+found_is_held (Some x) = refl
 
 -- ## Faults
 
@@ -122,32 +191,41 @@ full_alike false false capacity used want same is = refl
 full_alike true false capacity used want same is = absurd (cc)
 full_alike false true capacity used want same is = absurd (cc)
 
-used_is : (kind : Kind) (ms : List Mark) (r : Range) → is_table (presences ms) ≡ true → opens_one kind (presences ms) r ≡ true → used_cells (presences (marked ms r (Some (change_by kind)))) ≡ used_cells (presences ms) + r.len
-unfolding holding_after
-used_is EnterData ms r t opens =
-    ap (λ (h : Holding). used_cells h.presences) (after_is EnterData ms r t)
-    ∙ used_cells-opened (mark_by EnterData r) (length (opened ms) + 1) (presences ms) t refl (absent (is_present (presences ms) r) opens)
-  where
-    absent : (b : Bool) → not b ≡ true → b ≡ false
-    absent true h = cc
-    absent false h = refl
-used_is ExitData ms r t opens = absurd (cc)
+not_so : (b : Bool) → not b ≡ true → b ≡ false
+not_so true h = cc
+not_so false h = refl
 
-pub fault_is : (config : Configuration) (kind : Kind) (ms : List Mark) (i : Item) → is_table (presences ms) ≡ true → fault_at config (visit_of kind ms i) ≡ fault_in config kind (presences ms) i.range
+used_is : (change : Option Change) (ms : List Mark) (r : Range) → AllLegal ms → opens_one change (presences ms) r ≡ true
+    → used_cells (presences (marked ms r change)) ≡ used_cells (presences ms) + r.len
+unfolding holding_after
+used_is None ms r h opens = absurd cc
+used_is (Some change) ms r h opens =
+    let parts = and_parts (can_open change) (not (is_present (presences ms) r)) opens in
+    ap (λ (g : Holding). used_cells g.presences) (after_is (Some change) ms r h)
+    ∙ used_cells-opened (mark_by change r) (length (opened ms) + 1) (presences ms) (legal ms h).table parts.0 (not_so (is_present (presences ms) r) parts.1)
+
+pub fault_is : (config : Configuration) (k : Kind) (ms : List Mark) (i : Item) → AllLegal ms
+    → fault_at config k (visit_of (change_by k) ms i) ≡ fault_in config k (presences ms) i
 unfolding fault_in
-fault_is config kind ms i t =
-    let v = visit_of kind ms i in
-    let b = opens_one kind (presences ms) i.range in
-    let opens : has_opened v ≡ b = ap (nat_lt (length (opened ms))) (opened_is kind ms i.range t) ∙ opens_is b (length (opened ms)) in
-    ap (λ full. first_fault (fault_where (not (is_in_array config.arrays i.range)) BadRange ∷ fault_where (is_partly_present (presences ms) i.range) PartlyPresent ∷ fault_where full DeviceFull ∷ []))
-    (full_alike (has_opened v) b config.capacity (used_cells (presences v.after)) (used_cells (presences ms) + i.range.len) opens (used_is kind ms i.range t))
+fault_is config k ms i h =
+    let v = visit_of (change_by k) ms i in
+    let b = opens_one (change_by k) (presences ms) i.range in
+    let opens : has_opened v ≡ b = ap (nat_lt (length (opened ms))) (opened_is (change_by k) ms i.range h) ∙ opens_is b (length (opened ms)) in
+    ap (λ full. first_fault (
+    fault_where (not (is_in_array config.arrays i.range)) BadRange
+    ∷ fault_where (wants_whole k && is_partly_present (presences ms) i.range) PartlyPresent
+    ∷ fault_where (wants_presence k i.clause && not (is_present (presences ms) i.range)) NotPresent
+    ∷ fault_where full DeviceFull
+    ∷ []
+    ))
+    (full_alike (has_opened v) b config.capacity (used_cells (presences v.after)) (used_cells (presences ms) + i.range.len) opens (used_is (change_by k) ms i.range h))
 
 first_fault-cons : (f : Option Fault) (fs : List (Option Fault)) → first_fault (f ∷ fs) ≡ fault_or f (first_fault fs)
 first_fault-cons (Some f) fs = refl
 first_fault-cons None fs = refl
 
 abbrev faults_of : Configuration → Kind → List Mark → List Item → Option Fault
-faults_of config kind ms items = first_fault (map (fault_at config) (visits ms (all_asked (Some (change_by kind)) items)))
+faults_of config k ms items = first_fault (map (fault_at config k) (visits ms (all_asked (change_by k) items)))
 
 -- the others count only where the first has no fault
 or_others : (f g others later : Option Fault) → f ≡ g → (g ≡ None → others ≡ later) → fault_or f others ≡ fault_or g later
@@ -156,17 +234,20 @@ or_others None None others later same ih = ih refl
 or_others (Some f) None others later same ih = absurd (cc)
 or_others None (Some g) others later same ih = absurd (cc)
 
-pub faults_are : (config : Configuration) (kind : Kind) (ms : List Mark) (items : List Item) → is_table (presences ms) ≡ true
-    → first_fault (map (fault_at config) (visits ms (all_asked (Some (change_by kind)) items))) ≡ first_fault_in config kind (holding_of ms) items
-faults_are config kind ms [] t = refl
-faults_are config kind ms (i ∷ is) t =
-    let after = marked ms i.range (Some (change_by kind)) in
-    let ih = λ (none : fault_in config kind (presences ms) i.range ≡ None).
-    (let fine = fine_item config kind (presences ms) i.range none in
-    faults_are config kind after is (table_after kind ms i.range t fine.cells fine.whole) ∙ ap (λ h. first_fault_in config kind h is) (after_is kind ms i.range t)) in
-    first_fault-cons (fault_at config (visit_of kind ms i)) (map (fault_at config) (visits after (all_asked (Some (change_by kind)) is)))
-    ∙ or_others (fault_at config (visit_of kind ms i)) (fault_in config kind (presences ms) i.range) (faults_of config kind after is)
-    (first_fault_in config kind (holding_after kind i.range (holding_of ms)) is) (fault_is config kind ms i t) ih
+pub faults_are : (config : Configuration) (k : Kind) (ms : List Mark) (items : List Item) → AllLegal ms → AllEntered (change_by k) (holding_of ms) items
+    → first_fault (map (fault_at config k) (visits ms (all_asked (change_by k) items))) ≡ first_fault_in config k (holding_of ms) items
+faults_are config k ms [] h entered = refl
+faults_are config k ms (i ∷ is) h entered =
+    let change = change_by k in
+    let after = marked ms i.range change in
+    let e = after_is change ms i.range h in
+    let ih = λ (none : fault_in config k (presences ms) i ≡ None).
+    (let fine = fine_item config k (presences ms) i none in
+    let next : AllEntered change (holding_of after) is = rw e entered.1 in
+    faults_are config k after is (legal_after k ms i.range config.capacity h fine entered.0) next ∙ ap (λ g. first_fault_in config k g is) e) in
+    first_fault-cons (fault_at config k (visit_of change ms i)) (map (fault_at config k) (visits after (all_asked change is)))
+    ∙ or_others (fault_at config k (visit_of change ms i)) (fault_in config k (presences ms) i) (faults_of config k after is)
+    (first_fault_in config k (holding_after change i.range (holding_of ms)) is) (fault_is config k ms i h) ih
 
 -- ## Items without a fault
 
@@ -174,65 +255,119 @@ none_of_both : (f g : Option Fault) → fault_or f g ≡ None → (f ≡ None) �
 none_of_both None g h = (refl, h)
 none_of_both (Some f) g h = absurd (cc)
 
-pub all_fine : (config : Configuration) (kind : Kind) (h : Holding) (items : List Item) → first_fault_in config kind h items ≡ None → AllFine config.capacity kind h items
-all_fine config kind h [] none = tt
-all_fine config kind h (i ∷ is) none =
-    let parts = none_of_both (fault_in config kind h.presences i.range) (first_fault_in config kind (holding_after kind i.range h) is) none in
-    (fine_item config kind h.presences i.range parts.0, all_fine config kind (holding_after kind i.range h) is parts.1)
+pub all_fine : (config : Configuration) (k : Kind) (h : Holding) (items : List Item) → first_fault_in config k h items ≡ None → AllFine config.capacity k h items
+all_fine config k h [] none = tt
+all_fine config k h (i ∷ is) none =
+    let parts = none_of_both (fault_in config k h.presences i) (first_fault_in config k (holding_after (change_by k) i.range h) is) none in
+    (fine_item config k h.presences i parts.0, all_fine config k (holding_after (change_by k) i.range h) is parts.1)
 
-pub marks_are : (capacity : ℕ) (kind : Kind) (ms : List Mark) (items : List Item) → is_table (presences ms) ≡ true → AllFine capacity kind (holding_of ms) items
-    → holding_of (marks_after ms (all_asked (Some (change_by kind)) items)) ≡ holding_after_all kind (holding_of ms) items
-marks_are capacity kind ms [] t fine = refl
-marks_are capacity kind ms (i ∷ is) t fine =
-    let e = after_is kind ms i.range t in
-    marks_are capacity kind (marked ms i.range (Some (change_by kind))) is (table_after kind ms i.range t fine.0.cells fine.0.whole) (rw e fine.1)
-    ∙ ap (λ h. holding_after_all kind h is) e
+-- what is asked of the items, once the first is marked
+record NextIs (capacity : ℕ) (k : Kind) (ms : List Mark) (i : Item) (is : List Item) : Type 0 where
+  same : holding_of (marked ms i.range (change_by k)) ≡ holding_after (change_by k) i.range (holding_of ms)
+  allowed : AllLegal (marked ms i.range (change_by k))
+  entered : AllEntered (change_by k) (holding_of (marked ms i.range (change_by k))) is
+  fine : AllFine capacity k (holding_of (marked ms i.range (change_by k))) is
+
+next_is : (capacity : ℕ) (k : Kind) (ms : List Mark) (i : Item) (is : List Item) → AllLegal ms → AllEntered (change_by k) (holding_of ms) (i ∷ is)
+    → AllFine capacity k (holding_of ms) (i ∷ is) → NextIs capacity k ms i is
+next_is capacity k ms i is h entered fine =
+    let e = after_is (change_by k) ms i.range h in
+    record { same = e; allowed = legal_after k ms i.range capacity h fine.0 entered.0; entered = rw e entered.1; fine = rw e fine.1 }
+
+pub marks_are : (capacity : ℕ) (k : Kind) (ms : List Mark) (items : List Item) → AllLegal ms → AllEntered (change_by k) (holding_of ms) items
+    → AllFine capacity k (holding_of ms) items
+    → holding_of (marks_after ms (all_asked (change_by k) items)) ≡ holding_after_all (change_by k) (holding_of ms) items
+marks_are capacity k ms [] h entered fine = refl
+marks_are capacity k ms (i ∷ is) h entered fine =
+    let next = next_is capacity k ms i is h entered fine in
+    marks_are capacity k (marked ms i.range (change_by k)) is next.allowed next.entered next.fine ∙ ap (λ g. holding_after_all (change_by k) g is) next.same
+
+pub legal_all : (capacity : ℕ) (k : Kind) (ms : List Mark) (items : List Item) → AllLegal ms → AllEntered (change_by k) (holding_of ms) items
+    → AllFine capacity k (holding_of ms) items
+    → AllLegal (marks_after ms (all_asked (change_by k) items))
+legal_all capacity k ms [] h entered fine = h
+legal_all capacity k ms (i ∷ is) h entered fine =
+    let next = next_is capacity k ms i is h entered fine in
+    legal_all capacity k (marked ms i.range (change_by k)) is next.allowed next.entered next.fine
 
 -- ## Operations
 
-pub record OpsAlike (vs : List Visit) (ts : List Marked) : Type 0 where
-  pub made : flat_map makes vs ≡ flat_map (group_ops Makes) ts
-  pub filled : flat_map copy_ins vs ≡ flat_map (group_ops CopyIns) ts
-  pub copied : flat_map copy_outs vs ≡ flat_map (group_ops CopyOuts) ts
-  pub released : flat_map releases vs ≡ flat_map (group_ops Releases) ts
+record OpsAlike (vs : List Visit) (ts : List Marked) : Type 0 where
+  made : flat_map makes vs ≡ flat_map (group_ops Makes) ts
+  filled : flat_map copy_ins vs ≡ flat_map (group_ops CopyIns) ts
+  updated : flat_map updates vs ≡ flat_map (group_ops Updates) ts
+  copied : flat_map copy_outs vs ≡ flat_map (group_ops CopyOuts) ts
+  released : flat_map releases vs ≡ flat_map (group_ops Releases) ts
 
-where_clause : (b : Bool) (f : ℕ → Op) (bs : List ℕ) (o : Option ℕ) → bs ≡ option_to_list o → cond b (map f bs) [] ≡ map f (option_to_list (where_so b o))
-where_clause true f bs o is = ap (map f) is
-where_clause false f bs o is = refl
+for_each : (f : ℕ → Op) (o : Option ℕ) → map f (option_to_list o) ≡ option_to_list (option_and_then (λ b. Some (f b)) o)
+for_each f None = refl
+for_each f (Some b) = refl
+
+abbrev no_op : ℕ → Option Op
+no_op b = None
+
+for_none : (o : Option ℕ) → [] ≡ option_to_list (option_and_then no_op o)
+for_none None = refl
+for_none (Some b) = refl
+
+op_each : (f : ℕ → Op) (bs : List ℕ) (o : Option ℕ) → bs ≡ option_to_list o → map f bs ≡ option_to_list (option_and_then (λ b. Some (f b)) o)
+op_each f bs o is = ap (map f) is ∙ for_each f o
+
+op_where : (b : Bool) (f : ℕ → Op) (bs : List ℕ) (o : Option ℕ) → bs ≡ option_to_list o
+    → cond b (map f bs) [] ≡ option_to_list (option_and_then (λ n. cond b (Some (f n)) None) o)
+op_where true f bs o is = op_each f bs o is
+op_where false f bs o is = for_none o
+
+updates_are : (c : Clause) (r : Range) (bs : List ℕ) (o : Option ℕ) → bs ≡ option_to_list o
+    → updates_by c r bs ≡ option_to_list (option_and_then (λ b. update_for c b r) o)
+updates_are Copy r bs o is = for_none o
+updates_are Copyin r bs o is = for_none o
+updates_are Copyout r bs o is = for_none o
+updates_are Create r bs o is = for_none o
+updates_are Present r bs o is = for_none o
+updates_are Delete r bs o is = for_none o
+updates_are UpdateSelf r bs o is = op_each (λ b. op.CopyOut b r) bs o is
+updates_are UpdateDevice r bs o is = op_each (λ b. op.CopyIn b r) bs o is
 
 both : (xs ys zs ws : List Op) → xs ≡ ys → zs ≡ ws → xs ++ zs ≡ ys ++ ws
 both xs ys zs ws e f = ap (λ us. us ++ zs) e ∙ ap (λ us. ys ++ us) f
 
-ops_first : (kind : Kind) (ms : List Mark) (i : Item) (vs : List Visit) (ts : List Marked) → is_table (presences ms) ≡ true → 0 < i.range.len → OpsAlike vs ts
-    → OpsAlike (visit_of kind ms i ∷ vs) (marked_in kind (holding_of ms) i ∷ ts)
+ops_first : (change : Option Change) (ms : List Mark) (i : Item) (vs : List Visit) (ts : List Marked) → AllLegal ms → 0 < i.range.len → OpsAlike vs ts
+    → OpsAlike (visit_of change ms i ∷ vs) (marked_in change (holding_of ms) i ∷ ts)
 unfolding marked_in
-ops_first kind ms i vs ts t cells rest =
-    let v = visit_of kind ms i in
-    let opens = opened_blocks_are kind ms i t in
-    let ends = ended_blocks_are kind ms i t cells in
-    let one = block_opened (opens_one kind (presences ms) i.range) (length (opened ms)) in
-    let over = ended_by kind (presences ms) i.range in
+ops_first change ms i vs ts h cells rest =
+    let v = visit_of change ms i in
+    let r = i.range in
+    let opens = opened_blocks_are change ms i h in
+    let ends = ended_blocks_are change ms i h cells in
+    let one = block_opened (opens_one change (presences ms) r) (length (opened ms)) in
+    let over = ended_by change (presences ms) r in
+    let had = holder (presences ms) r in
     record {
-      made = both (makes v) _ (flat_map makes vs) (flat_map (group_ops Makes) ts) (ap (map (λ b. op.Make b i.range)) opens) rest.made;
-      filled = both (copy_ins v) _ (flat_map copy_ins vs) (flat_map (group_ops CopyIns) ts) (where_clause (copies_in i.clause) (λ b. op.CopyIn b i.range) (opened_blocks v) one opens) rest.filled;
-      copied = both (copy_outs v) _ (flat_map copy_outs vs) (flat_map (group_ops CopyOuts) ts) (where_clause (copies_out i.clause) (λ b. op.CopyOut b i.range) (ended_blocks v) over ends) rest.copied;
-      released = both (releases v) _ (flat_map releases vs) (flat_map (group_ops Releases) ts) (ap (map op.Release) ends) rest.released;
+      made = both (makes v) _ (flat_map makes vs) (flat_map (group_ops Makes) ts) (op_each (λ b. op.Make b r) (opened_blocks v) one opens) rest.made;
+      filled = both (copy_ins v) _ (flat_map copy_ins vs) (flat_map (group_ops CopyIns) ts) (op_where (copies_in i.clause) (λ b. op.CopyIn b r) (opened_blocks v) one opens) rest.filled;
+      updated = both (updates v) _ (flat_map updates vs) (flat_map (group_ops Updates) ts) (updates_are i.clause r (held_blocks v) (block_held had) (found_is_held had)) rest.updated;
+      copied = both (copy_outs v) _ (flat_map copy_outs vs) (flat_map (group_ops CopyOuts) ts) (op_where (copies_out i.clause) (λ b. op.CopyOut b r) (ended_blocks v) over ends) rest.copied;
+      released = both (releases v) _ (flat_map releases vs) (flat_map (group_ops Releases) ts) (op_each op.Release (ended_blocks v) over ends) rest.released;
     }
 
-ops_alike : (capacity : ℕ) (kind : Kind) (ms : List Mark) (items : List Item) → is_table (presences ms) ≡ true → AllFine capacity kind (holding_of ms) items
-    → OpsAlike (visits ms (all_asked (Some (change_by kind)) items)) (all_marked kind (holding_of ms) items)
-ops_alike capacity kind ms [] t fine = record { made = refl; filled = refl; copied = refl; released = refl }
-ops_alike capacity kind ms (i ∷ is) t fine =
-    let e = after_is kind ms i.range t in
-    let after = marked ms i.range (Some (change_by kind)) in
-    let rest = ops_alike capacity kind after is (table_after kind ms i.range t fine.0.cells fine.0.whole) (rw e fine.1) in
-    ops_first kind ms i (visits after (all_asked (Some (change_by kind)) is)) (all_marked kind (holding_after kind i.range (holding_of ms)) is) t fine.0.cells (rw e at rest)
+ops_alike : (capacity : ℕ) (k : Kind) (ms : List Mark) (items : List Item) → AllLegal ms → AllEntered (change_by k) (holding_of ms) items
+    → AllFine capacity k (holding_of ms) items
+    → OpsAlike (visits ms (all_asked (change_by k) items)) (all_marked (change_by k) (holding_of ms) items)
+ops_alike capacity k ms [] h entered fine = record { made = refl; filled = refl; updated = refl; copied = refl; released = refl }
+ops_alike capacity k ms (i ∷ is) h entered fine =
+    let next = next_is capacity k ms i is h entered fine in
+    let e = next.same in
+    let after = marked ms i.range (change_by k) in
+    let rest = ops_alike capacity k after is next.allowed next.entered next.fine in
+    ops_first (change_by k) ms i (visits after (all_asked (change_by k) is)) (all_marked (change_by k) (holding_after (change_by k) i.range (holding_of ms)) is) h fine.0.cells (rw e at rest)
 
-pub ops_are : (capacity : ℕ) (kind : Kind) (ms : List Mark) (items : List Item) → is_table (presences ms) ≡ true → AllFine capacity kind (holding_of ms) items
-    → grouped (visits ms (all_asked (Some (change_by kind)) items)) ≡ marked_ops (all_marked kind (holding_of ms) items)
+pub ops_are : (capacity : ℕ) (k : Kind) (ms : List Mark) (items : List Item) → AllLegal ms → AllEntered (change_by k) (holding_of ms) items
+    → AllFine capacity k (holding_of ms) items
+    → grouped (visits ms (all_asked (change_by k) items)) ≡ marked_ops (all_marked (change_by k) (holding_of ms) items)
 unfolding marked_ops
-ops_are capacity kind ms items t fine =
-    let vs = visits ms (all_asked (Some (change_by kind)) items) in
-    let ts = all_marked kind (holding_of ms) items in
-    let a = ops_alike capacity kind ms items t fine in
-    both (flat_map makes vs) _ _ _ a.made (both (flat_map copy_ins vs) _ _ _ a.filled (both (flat_map copy_outs vs) _ _ _ a.copied a.released))
+ops_are capacity k ms items h entered fine =
+    let vs = visits ms (all_asked (change_by k) items) in
+    let a = ops_alike capacity k ms items h entered fine in
+    both (flat_map makes vs) _ _ _ a.made
+    (both (flat_map copy_ins vs) _ _ _ a.filled (both (flat_map updates vs) _ _ _ a.updated (both (flat_map copy_outs vs) _ _ _ a.copied a.released)))

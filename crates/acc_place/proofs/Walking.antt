@@ -1,63 +1,77 @@
 -- One item of a walk: it can be marked, and the counters stay low for the others.
-use Rattle.std.proofs.Common.{◌≡◌, ℕ, suc, ◌+◌, ◌-◌, ◌^◌, ◌<◌, ◌≤◌, Bool, true, false, cond, eqb, List, [], ◌∷◌, ◌++◌, length, map, set, remove, get_or, drop, take, Some, None, refl, sym, ap, ◌∙◌, arith, inl, inr}
+use Rattle.std.proofs.Common.{◌≡◌, ℕ, suc, ◌+◌, ◌-◌, ◌<◌, ◌≤◌, Bool, true, false, cond, List, [], ◌∷◌, ◌++◌, length, map, get_or, drop, take, Option, Some, None, refl, ap, ◌∙◌, arith}
 use Rattle.std.specs.Prelude.{◌&&◌, not, filter, IfSome, is_some}
-use Rattle.std.proofs.lemmas.Bool.{cases_Bool, eqb-true, eqb-false}
-use Rattle.std.proofs.lemmas.List.{set-get_or}
 use Rattle.std.proofs.Math.Seq.{take-length}
 use Rattle.acc_base.specs.declared.range.Range.{Range}
 use Rattle.acc_base.specs.Ranges.{range_contains}
 use Rattle.acc_base.specs.Configurations.{Configuration}
+use Rattle.acc_present.specs.declared.table.Counter.{Counter}
+use Rattle.acc_present.specs.declared.table.Counter.TheVariants.{Structured, Dynamic}
 use Rattle.acc_present.specs.declared.table.TheConstants.{COUNTER_LIMIT}
 use Rattle.acc_present.specs.Marks.{Change, Structured_up, Structured_down, Dynamic_up, Dynamic_down, Dynamic_zero, Mark}
 use Rattle.acc_present.specs.Lifetimes.{can_open, is_before}
 use Rattle.acc_present.specs.Presences.{Presence, holder, is_present, is_partly_present, used_cells}
-use Rattle.acc_present.specs.Tables.{Present, IsLook, exit_mark, entry_presence, presence_after, stepped, opening, has_count, kept_after, presences_after, presence_placed_in, is_table}
+use Rattle.acc_present.specs.Tables.{Present, counter_of, entry_change, presence_after, stepped, opening, has_count, kept_after, presences_after, presence_placed_in}
 use Rattle.acc_present.proofs.Marking.{length-after}
 use Rattle.acc_present.proofs.Searching.{is_present-none}
 use Rattle.acc_place.specs.declared.directive.Item.{Item}
 use Rattle.acc_place.specs.declared.directive.Kind.{Kind}
-use Rattle.acc_place.specs.declared.directive.Kind.TheVariants.{EnterData, ExitData}
+use Rattle.acc_place.specs.declared.directive.Kind.TheVariants as kind
 use Rattle.acc_place.specs.declared.judge.Marked.{Marked}
-use Rattle.acc_place.specs.Walks.{Holding, holding, mark_by, opens_one, opened_after, holding_after, holding_after_all, fault_in, fault_or, first_fault_in, block_opened, marked_in, all_marked, AllLow, HasRoomFor, CanMark, IsFine, AllFine}
+use Rattle.acc_place.specs.Standings.{change_by}
+use Rattle.acc_place.specs.Walks.{Holding, holding, mark_by, opens_one, opened_after, presences_by, holding_after, holding_after_all, fault_in, fault_or, first_fault_in, block_opened, marked_in, all_marked, AllLow, HasRoomFor, CanEnter, CanMark, HasEntered, AllEntered, IsFine, AllFine}
 
 -- ## The first item, and the others
 
-pub first_fault-next : (config : Configuration) (kind : Kind) (h : Holding) (items : List Item) (d : Item) → 1 ≤ length items → fault_in config kind h.presences (get_or items 0 d).range ≡ None
-    → first_fault_in config kind h items ≡ first_fault_in config kind (holding_after kind (get_or items 0 d).range h) (drop 1 items)
-first_fault-next config kind h [] d some none = absurd (omega arith)
-first_fault-next config kind h (i ∷ is) d some none = ap (λ f. fault_or f (first_fault_in config kind (holding_after kind i.range h) is)) none
+pub first_fault-next : (config : Configuration) (k : Kind) (h : Holding) (items : List Item) (d : Item) → 1 ≤ length items
+    → fault_in config k h.presences (get_or items 0 d) ≡ None
+    → first_fault_in config k h items ≡ first_fault_in config k (holding_after (change_by k) (get_or items 0 d).range h) (drop 1 items)
+first_fault-next config k h [] d some none = absurd (omega arith)
+first_fault-next config k h (i ∷ is) d some none = ap (λ f. fault_or f (first_fault_in config k (holding_after (change_by k) i.range h) is)) none
 
-pub all_marked-next : (kind : Kind) (h : Holding) (items : List Item) (d : Item) → 1 ≤ length items
-    → all_marked kind h items ≡ marked_in kind h (get_or items 0 d) ∷ all_marked kind (holding_after kind (get_or items 0 d).range h) (drop 1 items)
-all_marked-next kind h [] d some = absurd (omega arith)
-all_marked-next kind h (i ∷ is) d some = refl
+pub all_marked-next : (change : Option Change) (h : Holding) (items : List Item) (d : Item) → 1 ≤ length items
+    → all_marked change h items ≡ marked_in change h (get_or items 0 d) ∷ all_marked change (holding_after change (get_or items 0 d).range h) (drop 1 items)
+all_marked-next change h [] d some = absurd (omega arith)
+all_marked-next change h (i ∷ is) d some = refl
 
-pub holding-next : (kind : Kind) (h : Holding) (items : List Item) (d : Item) → 1 ≤ length items
-    → holding_after_all kind h items ≡ holding_after_all kind (holding_after kind (get_or items 0 d).range h) (drop 1 items)
-holding-next kind h [] d some = absurd (omega arith)
-holding-next kind h (i ∷ is) d some = refl
+pub holding-next : (change : Option Change) (h : Holding) (items : List Item) (d : Item) → 1 ≤ length items
+    → holding_after_all change h items ≡ holding_after_all change (holding_after change (get_or items 0 d).range h) (drop 1 items)
+holding-next change h [] d some = absurd (omega arith)
+holding-next change h (i ∷ is) d some = refl
 
-pub fine-first : (capacity : ℕ) (kind : Kind) (h : Holding) (items : List Item) (d : Item) → 1 ≤ length items → AllFine capacity kind h items → IsFine capacity kind h.presences (get_or items 0 d).range
-fine-first capacity kind h [] d some fine = absurd (omega arith)
-fine-first capacity kind h (i ∷ is) d some fine = fine.0
+pub fine-first : (capacity : ℕ) (k : Kind) (h : Holding) (items : List Item) (d : Item) → 1 ≤ length items → AllFine capacity k h items
+    → IsFine capacity k h.presences (get_or items 0 d).range
+fine-first capacity k h [] d some fine = absurd (omega arith)
+fine-first capacity k h (i ∷ is) d some fine = fine.0
 
-pub fine-next : (capacity : ℕ) (kind : Kind) (h : Holding) (items : List Item) (d : Item) → 1 ≤ length items → AllFine capacity kind h items
-    → AllFine capacity kind (holding_after kind (get_or items 0 d).range h) (drop 1 items)
-fine-next capacity kind h [] d some fine = absurd (omega arith)
-fine-next capacity kind h (i ∷ is) d some fine = fine.1
+pub fine-next : (capacity : ℕ) (k : Kind) (h : Holding) (items : List Item) (d : Item) → 1 ≤ length items → AllFine capacity k h items
+    → AllFine capacity k (holding_after (change_by k) (get_or items 0 d).range h) (drop 1 items)
+fine-next capacity k h [] d some fine = absurd (omega arith)
+fine-next capacity k h (i ∷ is) d some fine = fine.1
+
+pub entered-first : (change : Option Change) (h : Holding) (items : List Item) (d : Item) → 1 ≤ length items → AllEntered change h items
+    → HasEntered change (get_or items 0 d).range h.presences
+entered-first change h [] d some entered = absurd (omega arith)
+entered-first change h (i ∷ is) d some entered = entered.0
+
+pub entered-next : (change : Option Change) (h : Holding) (items : List Item) (d : Item) → 1 ≤ length items → AllEntered change h items
+    → AllEntered change (holding_after change (get_or items 0 d).range h) (drop 1 items)
+entered-next change h [] d some entered = absurd (omega arith)
+entered-next change h (i ∷ is) d some entered = entered.1
 
 is_some-opened : (b : Bool) (n : ℕ) → is_some (block_opened b n) ≡ b
 is_some-opened true n = refl
 is_some-opened false n = refl
 
 -- what the table and the count are, once the item is marked
-pub holding_is : (kind : Kind) (ps after : List Presence) (n next : ℕ) (item : Item) (mark : Marked) → after ≡ presences_after (mark_by kind item.range) (n + 1) ps → mark ≡ marked_in kind (holding ps n) item
-    → next ≡ opened_after (is_some mark.opened) n → holding after next ≡ holding_after kind item.range (holding ps n)
+pub holding_is : (change : Option Change) (ps after : List Presence) (n next : ℕ) (item : Item) (mark : Marked) → after ≡ presences_by change item.range (n + 1) ps
+    → mark ≡ marked_in change (holding ps n) item
+    → next ≡ opened_after (is_some mark.opened) n → holding after next ≡ holding_after change item.range (holding ps n)
 unfolding holding_after marked_in
-holding_is kind ps after n next item mark is made counts =
-    let b = opens_one kind ps item.range in
+holding_is change ps after n next item mark is made counts =
+    let b = opens_one change ps item.range in
     let e : next ≡ opened_after b n = counts ∙ (ap (λ (m : Marked). opened_after (is_some m.opened) n) made ∙ ap (λ v. opened_after v n) (is_some-opened b n)) in
-    ap (λ qs. holding qs next) is ∙ ap (holding (presences_after (mark_by kind item.range) (n + 1) ps)) e
+    ap (λ qs. holding qs next) is ∙ ap (holding (presences_by change item.range (n + 1) ps)) e
 
 -- ## Counters stay low
 
@@ -71,22 +85,22 @@ AllLow-append : (limit n : ℕ) (ps qs : List Presence) → AllLow limit n ps �
 AllLow-append limit n [] qs h k = k
 AllLow-append limit n (p ∷ ps) qs h k = (h.0, AllLow-append limit n ps qs h.1 k)
 
-stepped_low : (limit n d : ℕ) (change : Change) (p : Presence) → p.d + suc n ≤ limit → (stepped change p).d + n ≤ limit
-stepped_low limit n d Structured_up p h = omega arith
-stepped_low limit n d Structured_down p h = omega arith
-stepped_low limit n d Dynamic_up p h = omega arith
-stepped_low limit n d Dynamic_down p h = omega arith
-stepped_low limit n d Dynamic_zero p h = omega arith
+stepped_low : (limit n : ℕ) (change : Change) (p : Presence) → p.s + p.d + suc n ≤ limit → (stepped change p).s + (stepped change p).d + n ≤ limit
+stepped_low limit n Structured_up p h = omega arith
+stepped_low limit n Structured_down p h = omega arith
+stepped_low limit n Dynamic_up p h = omega arith
+stepped_low limit n Dynamic_down p h = omega arith
+stepped_low limit n Dynamic_zero p h = omega arith
 
 AllLow-stepped : (limit n : ℕ) (m : Mark) (ps : List Presence) → AllLow limit (suc n) ps → AllLow limit n (map (presence_after m) ps)
 AllLow-stepped limit n m [] h = tt
 AllLow-stepped limit n m (p ∷ ps) h = (
-  elim (range_contains p.range m.range) as (λ v. (cond v (stepped m.change p) p).d + n ≤ limit) [ true ↦ stepped_low limit n 0 m.change p h.0 | false ↦ omega (arith, h.0) ],
+  elim (range_contains p.range m.range) as (λ v. (cond v (stepped m.change p) p).s + (cond v (stepped m.change p) p).d + n ≤ limit) [ true ↦ stepped_low limit n m.change p h.0 | false ↦ omega (arith, h.0) ],
   AllLow-stepped limit n m ps h.1,
 )
 
-opening_low : (limit n b : ℕ) (m : Mark) → suc n ≤ limit → (opening m b).d + n ≤ limit
-opening_low limit n b m h = stepped_low limit n 0 m.change (record { range = m.range; block = b; s = 0; d = 0 }) (omega arith)
+opening_low : (limit n b : ℕ) (m : Mark) → suc n ≤ limit → (opening m b).s + (opening m b).d + n ≤ limit
+opening_low limit n b m h = stepped_low limit n m.change (record { range = m.range; block = b; s = 0; d = 0 }) (omega arith)
 
 pub AllLow-after : (limit n b : ℕ) (m : Mark) (ps : List Presence) → suc n ≤ limit → AllLow limit (suc n) ps → AllLow limit n (presences_after m b ps)
 AllLow-after limit n b m ps some low =
@@ -104,56 +118,83 @@ pub AllLow-fewer : (limit limit2 n n2 : ℕ) (ps : List Presence) → limit + n2
 AllLow-fewer limit limit2 n n2 [] h low = tt
 AllLow-fewer limit limit2 n n2 (p ∷ ps) h low = (omega (arith, low.0), AllLow-fewer limit limit2 n n2 ps h low.1)
 
-low_holder : (limit n : ℕ) (ps : List Presence) (r : Range) → AllLow limit (suc n) ps → IfSome (holder ps r) (λ p. p.d < limit)
-low_holder limit n [] r low = tt
-low_holder limit n (p ∷ ps) r low =
-    elim (range_contains p.range r) as (λ v. IfSome (cond v (Some p) (holder ps r)) (λ q. q.d < limit))
-    [ true ↦ omega (arith, low.0) | false ↦ low_holder limit n ps r low.1 ]
+-- each item counts a presence up once at most
+pub AllLow-by : (limit n b : ℕ) (change : Option Change) (r : Range) (ps : List Presence) → suc n ≤ limit → AllLow limit (suc n) ps
+    → AllLow limit n (presences_by change r b ps)
+AllLow-by limit n b None r ps some low = AllLow-fewer limit limit (suc n) n ps (omega arith) low
+AllLow-by limit n b (Some change) r ps some low = AllLow-after limit n b (mark_by change r) ps some low
+
+length-by : (change : Option Change) (r : Range) (b : ℕ) (ps : List Presence) → length (presences_by change r b ps) ≤ length ps + 1
+length-by None r b ps = omega arith
+length-by (Some change) r b ps = length-after (mark_by change r) b ps
+
+counter_low : (counter : Counter) (limit n : ℕ) (p : Presence) → p.s + p.d + suc n ≤ limit → counter_of counter p < limit
+counter_low Structured limit n p low = omega arith
+counter_low Dynamic limit n p low = omega arith
+
+low_holder : (counter : Counter) (limit n : ℕ) (ps : List Presence) (r : Range) → AllLow limit (suc n) ps → IfSome (holder ps r) (λ p. counter_of counter p < limit)
+low_holder counter limit n [] r low = tt
+low_holder counter limit n (p ∷ ps) r low =
+    elim (range_contains p.range r) as (λ v. IfSome (cond v (Some p) (holder ps r)) (λ q. counter_of counter q < limit))
+    [ true ↦ counter_low counter limit n p low.0 | false ↦ low_holder counter limit n ps r low.1 ]
 
 -- ## It can be marked
 
-opens_where_none : (ps : List Presence) (r : Range) → holder ps r ≡ None → opens_one EnterData ps r ≡ true
-opens_where_none ps r none = rw (is_present-none ps r none) refl
+opens_where_none : (counter : Counter) (ps : List Presence) (r : Range) → holder ps r ≡ None → opens_one (Some (entry_change counter)) ps r ≡ true
+opens_where_none Structured ps r none = rw (is_present-none ps r none) refl
+opens_where_none Dynamic ps r none = rw (is_present-none ps r none) refl
 
-pub can_mark : (kind : Kind) (ps : List Presence) (r : Range) (capacity n : ℕ) → IsFine capacity kind ps r → AllLow COUNTER_LIMIT n ps → 1 ≤ n → CanMark kind r ps capacity
-can_mark ExitData ps r capacity n fine low some = fine.cells
-can_mark EnterData ps r capacity n fine low some =
+can_enter : (counter : Counter) (ps : List Presence) (r : Range) (capacity n : ℕ) → 0 < r.len → is_partly_present ps r ≡ false
+    → (opens_one (Some (entry_change counter)) ps r ≡ true → used_cells ps + r.len ≤ capacity)
+    → AllLow COUNTER_LIMIT n ps → 1 ≤ n → CanEnter counter r ps capacity
+can_enter counter ps r capacity n cells whole fits low some =
     record {
-      cells = fine.cells;
-      whole = fine.whole;
-      low = low_holder COUNTER_LIMIT 0 ps r (AllLow-fewer COUNTER_LIMIT COUNTER_LIMIT n 1 ps (omega arith) low);
-      fits = λ none. fine.fits (opens_where_none ps r none);
+      cells = cells;
+      whole = whole;
+      low = low_holder counter COUNTER_LIMIT 0 ps r (AllLow-fewer COUNTER_LIMIT COUNTER_LIMIT n 1 ps (omega arith) low);
+      fits = λ none. fits (opens_where_none counter ps r none);
     }
+
+pub can_mark : (k : Kind) (ps : List Presence) (r : Range) (capacity n : ℕ) → IsFine capacity k ps r → HasEntered (change_by k) r ps → AllLow COUNTER_LIMIT n ps
+    → 1 ≤ n → CanMark (change_by k) r ps capacity
+can_mark kind.Data ps r capacity n fine entered low some = can_enter Structured ps r capacity n fine.cells (fine.whole refl) fine.fits low some
+can_mark kind.EndData ps r capacity n fine entered low some = (fine.cells, entered)
+can_mark kind.EnterData ps r capacity n fine entered low some = can_enter Dynamic ps r capacity n fine.cells (fine.whole refl) fine.fits low some
+can_mark (kind.ExitData true) ps r capacity n fine entered low some = fine.cells
+can_mark (kind.ExitData false) ps r capacity n fine entered low some = fine.cells
+can_mark (kind.Update if_present) ps r capacity n fine entered low some = fine.cells
+can_mark kind.IsPresent ps r capacity n fine entered low some = fine.cells
 
 pub opened-most : (b : Bool) (n : ℕ) → opened_after b n ≤ n + 1
 opened-most true n = omega arith
 opened-most false n = omega arith
 
 -- and leaves the counters of the others low
-pub low_rest : (kind : Kind) (ps after : List Presence) (r : Range) (items : List Item) (opened : ℕ) → AllLow COUNTER_LIMIT (length items) ps → 1 ≤ length items → opened + length items ≤ COUNTER_LIMIT
-    → after ≡ presences_after (mark_by kind r) (opened + 1) ps → AllLow COUNTER_LIMIT (length (drop 1 items)) after
-low_rest kind ps after r [] opened low some few is = absurd (omega arith)
-low_rest kind ps after r (i ∷ is) opened low some few at_is = rw at_is (AllLow-after COUNTER_LIMIT (length is) (opened + 1) (mark_by kind r) ps (omega arith) low)
+pub low_rest : (change : Option Change) (ps after : List Presence) (r : Range) (items : List Item) (opened : ℕ) → AllLow COUNTER_LIMIT (length items) ps
+    → 1 ≤ length items → opened + length items ≤ COUNTER_LIMIT
+    → after ≡ presences_by change r (opened + 1) ps → AllLow COUNTER_LIMIT (length (drop 1 items)) after
+low_rest change ps after r [] opened low some few is = absurd (omega arith)
+low_rest change ps after r (i ∷ is) opened low some few at_is = rw at_is (AllLow-by COUNTER_LIMIT (length is) (opened + 1) change r ps (omega arith) low)
 
 -- and room for them in the table
-room_after : (kind : Kind) (t after : Present) (r : Range) (n opened next : ℕ) → HasRoomFor (suc n) t opened → holding after.presences next ≡ holding_after kind r (holding t.presences opened) → after.room ≡ t.room
+room_after : (change : Option Change) (t after : Present) (r : Range) (n opened next : ℕ) → HasRoomFor (suc n) t opened
+    → holding after.presences next ≡ holding_after change r (holding t.presences opened) → after.room ≡ t.room
     → HasRoomFor n after next
 unfolding holding_after
-room_after kind t after r n opened next room is same =
-    let m = mark_by kind r in
-    let made : after.presences ≡ presences_after m (opened + 1) t.presences = ap (λ (h : Holding). h.presences) is in
-    let counts : next ≡ opened_after (opens_one kind t.presences r) opened = ap (λ (h : Holding). h.opened) is in
-    let len : length after.presences ≤ length t.presences + 1 = omega (arith, ap length made, length-after m (opened + 1) t.presences) in
+room_after change t after r n opened next room is same =
+    let made : after.presences ≡ presences_by change r (opened + 1) t.presences = ap (λ (h : Holding). h.presences) is in
+    let counts : next ≡ opened_after (opens_one change t.presences r) opened = ap (λ (h : Holding). h.opened) is in
+    let len : length after.presences ≤ length t.presences + 1 = omega (arith, ap length made, length-by change r (opened + 1) t.presences) in
     record {
       room = omega (arith, len, room.room, same);
-      low = rw made (AllLow-after COUNTER_LIMIT n (opened + 1) m t.presences (omega (arith, room.few)) room.low);
-      few = omega (arith, room.few, counts, opened-most (opens_one kind t.presences r) opened);
+      low = rw made (AllLow-by COUNTER_LIMIT n (opened + 1) change r t.presences (omega (arith, room.few)) room.low);
+      few = omega (arith, room.few, counts, opened-most (opens_one change t.presences r) opened);
     }
 
-pub room_rest : (kind : Kind) (t after : Present) (r : Range) (items : List Item) (opened next : ℕ) → HasRoomFor (length items) t opened → 1 ≤ length items
-    → holding after.presences next ≡ holding_after kind r (holding t.presences opened) → after.room ≡ t.room → HasRoomFor (length (drop 1 items)) after next
-room_rest kind t after r [] opened next room some is same = absurd (omega arith)
-room_rest kind t after r (i ∷ is) opened next room some at_t same = room_after kind t after r (length is) opened next room at_t same
+pub room_rest : (change : Option Change) (t after : Present) (r : Range) (items : List Item) (opened next : ℕ) → HasRoomFor (length items) t opened → 1 ≤ length items
+    → holding after.presences next ≡ holding_after change r (holding t.presences opened) → after.room ≡ t.room → HasRoomFor (length (drop 1 items)) after next
+room_rest change t after r [] opened next room some is same = absurd (omega arith)
+room_rest change t after r (i ∷ is) opened next room some at_t same = room_after change t after r (length is) opened next room at_t same
 
 -- ## The items behind the first, as a slice pattern gives them
 

@@ -2,12 +2,18 @@
 use Rattle.std.specs.Prelude.{ℕ, ◌+◌, Bool, true, false, ◌&&◌, ◌||◌, not, nat_lt, nat_le, List, [], ◌∷◌, length, map, slice_get, Option, Some, None, ℤ}
 use Rattle.acc_base.specs.declared.range.Range.{Range}
 use Rattle.acc_base.specs.declared.fault.Fault.{Fault}
-use Rattle.acc_base.specs.declared.fault.Fault.TheVariants.{BadDevice, BadRange, TooMany, PartlyPresent, DeviceFull}
+use Rattle.acc_base.specs.declared.fault.Fault.TheVariants.{BadDevice, BadRange, TooMany, PartlyPresent, NotPresent, DeviceFull, NoRegion}
 use Rattle.acc_base.specs.Configurations.{Configuration}
 use Rattle.acc_present.specs.Lifetimes.{opened}
-use Rattle.acc_present.specs.Presences.{presences, is_partly_present, used_cells}
+use Rattle.acc_present.specs.Presences.{presences, is_present, is_partly_present, used_cells}
+use Rattle.acc_place.specs.declared.directive.Clause.{Clause}
+use Rattle.acc_place.specs.declared.directive.Clause.TheVariants as clause
 use Rattle.acc_place.specs.declared.directive.Directive.{Directive}
-use Rattle.acc_place.specs.declared.directive.TheConstants.{MAX_ITEMS, MAX_DIRECTIVES}
+use Rattle.acc_place.specs.declared.directive.Kind.{Kind}
+use Rattle.acc_place.specs.declared.directive.Kind.TheVariants as kind
+use Rattle.acc_place.specs.declared.directive.Region.{Region}
+use Rattle.acc_place.specs.declared.directive.TheConstants.{MAX_ITEMS, MAX_REGIONS, MAX_DIRECTIVES}
+use Rattle.acc_place.specs.Regions.{open_region, regions_of}
 use Rattle.acc_place.specs.Standings.{Standing, Walk, Visit, visits, walk_of}
 
 abbrev pub ends_within : Option (List ℤ) → ℕ → Bool
@@ -31,28 +37,52 @@ first_fault (None ∷ rest) = first_fault rest
 abbrev pub has_opened : Visit → Bool
 has_opened v = nat_lt (length (opened v.before)) (length (opened v.after))
 
+-- a question about a range that is partly present is answered
+abbrev pub wants_whole : Kind → Bool
+wants_whole kind.IsPresent = false
+wants_whole k = true
+
+-- `present`, and an update without `if_present`, are about what is present
+abbrev pub wants_presence : Kind → Clause → Bool
+wants_presence kind.Data clause.Present = true
+wants_presence (kind.Update if_present) c = not if_present
+wants_presence k c = false
+
 -- The faults of one item, where those before it have left their marks.
-abbrev pub faults_at : Configuration → Visit → List (Option Fault)
-faults_at config v =
+abbrev pub faults_at : Configuration → Kind → Visit → List (Option Fault)
+faults_at config k v =
     fault_where (not (is_in_array config.arrays v.item.range)) BadRange
-    ∷ fault_where (is_partly_present (presences v.before) v.item.range) PartlyPresent
+    ∷ fault_where (wants_whole k && is_partly_present (presences v.before) v.item.range) PartlyPresent
+    ∷ fault_where (wants_presence k v.item.clause && not (is_present (presences v.before) v.item.range)) NotPresent
     ∷ fault_where (has_opened v && nat_lt config.capacity (used_cells (presences v.after))) DeviceFull
     ∷ []
 
-abbrev pub fault_at : Configuration → Visit → Option Fault
-fault_at config v = first_fault (faults_at config v)
+abbrev pub fault_at : Configuration → Kind → Visit → Option Fault
+fault_at config k v = first_fault (faults_at config k v)
 
-abbrev pub has_too_many : Standing → Walk → Bool
-has_too_many st walk = nat_lt MAX_ITEMS (length walk.items) || nat_le MAX_DIRECTIVES st.accepted
+-- the host is inside as many regions as it can be
+abbrev pub is_deep : Kind → ℕ → List Region → Bool
+is_deep kind.Data host rs = nat_le MAX_REGIONS (length (regions_of host rs))
+is_deep k host rs = false
 
-abbrev pub refusal_on : Configuration → Standing → Directive → Walk → Option Fault
-refusal_on config st d walk =
+abbrev pub has_too_many : Standing → ℕ → Kind → Walk → Bool
+has_too_many st host k walk =
+    nat_lt MAX_ITEMS (length walk.items) || (is_deep k host st.regions || nat_le MAX_DIRECTIVES st.accepted)
+
+-- a region's end without a region
+abbrev pub is_outside : Kind → Option Region → Bool
+is_outside kind.EndData None = true
+is_outside k r = false
+
+abbrev pub refusal_on : Configuration → Standing → ℕ → Directive → Walk → Option Fault
+refusal_on config st host d walk =
     first_fault (
     fault_where (nat_le config.devices d.device) BadDevice
-    ∷ fault_where (has_too_many st walk) TooMany
-    ∷ map (fault_at config) (visits (st.marks walk.device) walk.items)
+    ∷ fault_where (has_too_many st host d.kind walk) TooMany
+    ∷ fault_where (is_outside d.kind (open_region host st.regions)) NoRegion
+    ∷ map (fault_at config d.kind) (visits (st.marks walk.device) walk.items)
     )
 
--- The first fault of a directive after a history, or none.
-unfoldable pub refusal : Configuration → Standing → Directive → Option Fault
-refusal config st d = refusal_on config st d (walk_of d)
+-- The first fault of a host's directive after a history, or none.
+unfoldable pub refusal : Configuration → Standing → ℕ → Directive → Option Fault
+refusal config st host d = refusal_on config st host d (walk_of st host d)

@@ -1,10 +1,16 @@
 -- What a directive places: the operations of its batch, and its answer.
 use Rattle.std.specs.Prelude.{ℕ, ◌+◌, Bool, true, false, not, nat_lt, List, [], ◌∷◌, ◌++◌, length, map, filter, Option, Some, None, replicate, if◌then◌else◌}
-use Rattle.std.specs.List.{flat_map}
+use Rattle.std.specs.List.{flat_map, list_all}
 use Rattle.acc_base.specs.declared.ids.QueueAt.{QueueAt}
+use Rattle.acc_base.specs.declared.range.Range.{Range}
 use Rattle.acc_present.specs.Lifetimes.{Lifetime, opened, live, lives}
+use Rattle.acc_present.specs.Presences.{Presence, presences, holder, is_present}
 use Rattle.acc_place.specs.declared.directive.Clause.{Clause}
-use Rattle.acc_place.specs.declared.directive.Clause.TheVariants.{Copyin, Copyout, Delete}
+use Rattle.acc_place.specs.declared.directive.Clause.TheVariants.{Copy, Copyin, Copyout, UpdateSelf, UpdateDevice}
+use Rattle.acc_place.specs.declared.directive.Directive.{Directive}
+use Rattle.acc_place.specs.declared.directive.Item.{Item}
+use Rattle.acc_place.specs.declared.directive.Kind.{Kind}
+use Rattle.acc_place.specs.declared.directive.Kind.TheVariants as kind
 use Rattle.acc_place.specs.declared.directive.Placed.{Placed}
 use Rattle.acc_batch.specs.declared.operation.Op.{Op}
 use Rattle.acc_batch.specs.declared.operation.Op.TheVariants.{Make, CopyIn, CopyOut, Release}
@@ -14,15 +20,15 @@ use Rattle.acc_place.specs.Standings.{Standing, Walk, Visit, visits}
 
 -- an opening copies in
 abbrev pub copies_in : Clause → Bool
+copies_in Copy = true
 copies_in Copyin = true
-copies_in Copyout = false
-copies_in Delete = false
+copies_in c = false
 
 -- a last exit copies out
 abbrev pub copies_out : Clause → Bool
-copies_out Copyin = false
+copies_out Copy = true
 copies_out Copyout = true
-copies_out Delete = false
+copies_out c = false
 
 abbrev pub opened_block : ℕ → ℕ → List ℕ
 opened_block before after = if nat_lt before after then after ∷ [] else []
@@ -51,9 +57,31 @@ copy_outs v = if copies_out v.item.clause then map (λ b. CopyOut b v.item.range
 abbrev pub releases : Visit → List Op
 releases v = map Release (ended_blocks v)
 
+abbrev pub found_block : Option Presence → List ℕ
+found_block None = []
+found_block (Some p) = p.block ∷ []
+
+-- the block that holds a visit's range before it
+abbrev pub held_blocks : Visit → List ℕ
+held_blocks v = found_block (holder (presences v.before) v.item.range)
+
+-- `self` copies from the device to the host, `device` from the host to the device; an absent range is left alone
+abbrev pub updates_by : Clause → Range → List ℕ → List Op
+updates_by UpdateSelf r blocks = map (λ b. CopyOut b r) blocks
+updates_by UpdateDevice r blocks = map (λ b. CopyIn b r) blocks
+updates_by c r blocks = []
+
+abbrev pub updates : Visit → List Op
+updates v = updates_by v.item.clause v.item.range (held_blocks v)
+
 -- The operations of a batch, group by group, each in written order.
 abbrev pub grouped : List Visit → List Op
-grouped vs = flat_map makes vs ++ (flat_map copy_ins vs ++ (flat_map copy_outs vs ++ flat_map releases vs))
+grouped vs =
+    flat_map makes vs
+    ++ (flat_map copy_ins vs
+    ++ (flat_map updates vs
+    ++ (flat_map copy_outs vs
+    ++ flat_map releases vs)))
 
 unfoldable pub batch_of : Standing → Walk → List Op
 batch_of st walk = grouped (visits (st.marks walk.device) walk.items)
@@ -75,7 +103,16 @@ abbrev pub placed_batch : QueueAt → List Label → List Op → Option (QueueAt
 placed_batch at labels [] = None
 placed_batch at labels (op ∷ ops) = Some (at, next_number at labels)
 
+-- the answer of `acc_is_present`, and of no other directive
+abbrev pub is_answered : Kind → List Presence → List Item → Bool
+is_answered kind.IsPresent ps items = list_all (λ (i : Item). is_present ps i.range) items
+is_answered k ps items = false
+
 -- The answer to a directive that is accepted.
-unfoldable pub answer_of : Standing → Walk → Placed
-answer_of st walk =
-    record { batch = placed_batch (walk_at walk) st.labels (batch_of st walk); counts = replicate 8 0; present = false }
+unfoldable pub answer_of : Standing → Directive → Walk → Placed
+answer_of st d walk =
+    record {
+      batch = placed_batch (walk_at walk) st.labels (batch_of st walk);
+      counts = replicate 8 0;
+      present = is_answered d.kind (presences (st.marks walk.device)) d.items;
+    }

@@ -1,23 +1,29 @@
 -- A place history, the latest entry first, as what it leaves. The counts go with its directives: how many items the
 -- host of each had before it, the latest first.
 use Rattle.std.specs.Prelude.{ℕ, ◌+◌, List, [], ◌∷◌, drop, slice_index_or}
+use Rattle.acc_place.specs.declared.directive.Directive.{Directive}
 use Rattle.acc_place.specs.declared.directive.PlaceEntry.{PlaceEntry}
 use Rattle.acc_place.specs.declared.directive.PlaceEntry.TheVariants as entry
 use Rattle.acc_place.specs.Standings.{Standing, Walk, walk_of, marks_after, with_marks}
 use Rattle.acc_place.specs.Batches.{batch_of, labelled, walk_at}
+use Rattle.acc_place.specs.Regions.{regions_after}
 
 abbrev pub at_first : Standing
-at_first = record { marks = λ device. []; labels = []; accepted = 0 }
+at_first = record { marks = λ device. []; regions = []; labels = []; accepted = 0 }
 
-abbrev pub after_walk : Standing → ℕ → ℕ → Walk → Standing
-after_walk st host items_done walk =
+abbrev pub after_walk : Standing → ℕ → ℕ → Directive → Walk → Standing
+after_walk st host items_done d walk =
     record {
       marks = with_marks walk.device (marks_after (st.marks walk.device) walk.items) st.marks;
+      regions = regions_after host d d.kind st.regions;
       labels = labelled (walk_at walk) host items_done st.labels (batch_of st walk);
       accepted = st.accepted + 1;
     }
 
+abbrev pub after_directive : Standing → ℕ → ℕ → Directive → Standing
+after_directive st host items_done d = after_walk st host items_done d (walk_of st host d)
+
 unfoldable pub standing : List PlaceEntry → List ℕ → Standing
 standing [] counts = at_first
 standing (entry.Accepted host d ∷ before) counts =
-    after_walk (standing before (drop 1 counts)) host (slice_index_or counts 0 0) (walk_of d)
+    after_directive (standing before (drop 1 counts)) host (slice_index_or counts 0 0) d

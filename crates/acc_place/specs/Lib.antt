@@ -1,7 +1,12 @@
 pub mod Accepting
+pub mod BatchExamples
 pub mod Batches
+pub mod Examples
 pub mod Histories
 pub mod Places
 pub mod Plans
+pub mod RefusalExamples
+pub mod RegionExamples
+pub mod Regions
 pub mod Standings
 pub mod Walks

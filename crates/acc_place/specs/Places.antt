@@ -1,17 +1,23 @@
 -- What a place keeps between directives.
-use Rattle.std.specs.Prelude.{◌≡◌, ℕ, ◌+◌, ◌*◌, ◌<◌, ◌≤◌, zero, suc, Bool, true, false, ◌&&◌, List, length, slice_get, Option, None}
+use Rattle.std.specs.Prelude.{◌≡◌, ℕ, ◌+◌, ◌*◌, ◌<◌, ◌≤◌, zero, suc, Bool, true, false, ◌&&◌, List, length, map, filter, All, slice_get, Option, None}
+use Rattle.std.specs.List.{flat_map}
+use Rattle.acc_base.specs.declared.range.Range.{Range}
+use Rattle.acc_base.specs.Ranges.{range_contains}
 use Rattle.acc_base.specs.declared.ids.QueueAt.{QueueAt}
 use Rattle.acc_batch.specs.declared.operation.Label.{Label}
 use Rattle.acc_batch.specs.Labels.{AllAt}
+use Rattle.acc_present.specs.Legality.{AllLegal}
 use Rattle.acc_present.specs.Lifetimes.{opened}
-use Rattle.acc_present.specs.Presences.{presences}
+use Rattle.acc_present.specs.Presences.{Presence, presences, is_present}
 use Rattle.acc_present.specs.Tables.{Present}
 use Rattle.acc_place.specs.declared.directive.Directive.{Directive}
+use Rattle.acc_place.specs.declared.directive.Item.{Item}
+use Rattle.acc_place.specs.declared.directive.Region.{Region}
 use Rattle.acc_place.specs.declared.directive.Target.{Target}
 use Rattle.acc_place.specs.declared.directive.Target.TheVariants.{Plain, Unvalued, Value}
 use Rattle.acc_place.specs.declared.directive.TheConstants.{MAX_ITEMS, MAX_DIRECTIVES}
 use Rattle.acc_place.specs.declared.directive.Waits.{Waits}
-use Rattle.acc_place.specs.declared.directive.Waits.TheVariants.{Nothing, All, Listed}
+use Rattle.acc_place.specs.declared.directive.Waits.TheVariants as waits
 use Rattle.acc_place.specs.Plans.{PlaceView, standing_in}
 use Rattle.acc_place.specs.Standings.{Standing}
 use Rattle.acc_place.specs.Walks.{AllLow}
@@ -22,9 +28,9 @@ has_no_async Unvalued = false
 has_no_async (Value v) = false
 
 abbrev pub has_no_wait : Waits → Bool
-has_no_wait Nothing = true
-has_no_wait All = false
-has_no_wait (Listed vs) = false
+has_no_wait waits.Nothing = true
+has_no_wait waits.All = false
+has_no_wait (waits.Listed vs) = false
 
 -- a directive without an async clause and without a wait clause
 abbrev pub is_synchronous : Directive → Bool
@@ -38,32 +44,57 @@ nth_batch labels (suc n) = slice_get labels n
 abbrev pub sync : QueueAt
 sync = record { device = 0; queue = 0 }
 
--- The table is that of the marks, and the labels are those of the histories, all on queue sync.
-pub record IsTied (st : Standing) (t : Present) (blocks : ℕ) (labels : List Label) : Type 0 where
+-- ## Regions
+
+-- the ranges that the regions of all hosts have entered, as often as they did
+abbrev pub entered_ranges : List Region → List Range
+entered_ranges rs = flat_map (λ (r : Region). map (λ (i : Item). i.range) r.items) rs
+
+abbrev pub count_inside : Range → List Range → ℕ
+count_inside whole rs = length (filter (λ r. range_contains whole r) rs)
+
+-- Each range that a region has entered is present, and the structured counter of a present range is the number of
+-- those inside it.
+pub record IsEnteredBy (rs : List Range) (ps : List Presence) : Type 0 where
+  pub present : All (λ (r : Range). (0 < r.len) × (is_present ps r ≡ true)) rs
+  pub counted : All (λ (p : Presence). p.s ≡ count_inside p.range rs) ps
+
+-- a region is on the one device
+abbrev pub IsHere : Region → Type 0
+IsHere r = r.device ≡ 0
+
+-- The table is that of the marks, and the regions and labels are those of the histories, the labels all on queue sync.
+pub record IsTied (st : Standing) (t : Present) (blocks : ℕ) (regions : List Region) (labels : List Label) : Type 0 where
   pub presences : t.presences ≡ presences (st.marks 0)
+  pub legal : AllLegal (st.marks 0)
   pub opened : blocks ≡ length (opened (st.marks 0))
+  pub inside : st.regions ≡ regions
+  pub all_here : All IsHere regions
+  pub entered : IsEnteredBy (entered_ranges regions) t.presences
   pub labelled : st.labels ≡ labels
   pub single : AllAt sync labels
   pub few : st.accepted ≤ MAX_DIRECTIVES
   pub few_blocks : blocks ≤ MAX_ITEMS * st.accepted
   pub low : AllLow (MAX_ITEMS * st.accepted) 0 t.presences
 
-pub record IsPlace (p : PlaceView) (t : Present) (blocks : ℕ) (labels : List Label) : Type 0 where
+pub record IsPlace (p : PlaceView) (t : Present) (blocks : ℕ) (regions : List Region) (labels : List Label) : Type 0 where
   pub one : p.config.devices ≡ 1
   pub capacity : t.capacity ≡ p.config.capacity
   pub accepted : length p.history ≡ (standing_in p).accepted
   pub counted : length p.counts ≡ length p.history
-  pub tied : IsTied (standing_in p) t blocks labels
+  pub tied : IsTied (standing_in p) t blocks regions labels
 
--- There is memory for one more directive: in the histories, among the labels, and in the table for its items.
-pub record IsRoomy (t : Present) (entries entry_room numbers number_room batches batch_room : ℕ) : Type 0 where
+-- There is memory for one more directive: in the histories, among the regions and the labels, and in the table for its
+-- items.
+pub record IsRoomy (t : Present) (entries entry_room numbers number_room depth region_room batches batch_room : ℕ) : Type 0 where
   pub history : entries < entry_room
   pub counts : numbers < number_room
+  pub regions : depth < region_room
   pub labels : batches < batch_room
   pub table : length t.presences + MAX_ITEMS ≤ t.room
 
 -- There is memory for any directive to be judged, and, if the place is ready, to be accepted.
-pub record HasRooms (is_ready : Bool) (t : Present) (entries entry_room numbers number_room batches batch_room draft_room step_room : ℕ) : Type 0 where
+pub record HasRooms (is_ready : Bool) (t : Present) (entries entry_room numbers number_room depth region_room batches batch_room draft_room step_room : ℕ) : Type 0 where
   pub draft : MAX_ITEMS ≤ draft_room
   pub steps : MAX_ITEMS ≤ step_room
-  pub more : is_ready ≡ true → IsRoomy t entries entry_room numbers number_room batches batch_room
+  pub more : is_ready ≡ true → IsRoomy t entries entry_room numbers number_room depth region_room batches batch_room

@@ -7,11 +7,15 @@ use Rattle.acc_base.specs.Configurations.{Configuration}
 use Rattle.acc_batch.specs.declared.operation.Label.{Label}
 use Rattle.acc_batch.specs.declared.operation.Op.{Op}
 use Rattle.acc_place.specs.declared.directive.Directive.{Directive}
+use Rattle.acc_place.specs.declared.directive.Kind.{Kind}
+use Rattle.acc_place.specs.declared.directive.Kind.TheVariants as kind
 use Rattle.acc_place.specs.declared.directive.PlaceEntry.{PlaceEntry}
 use Rattle.acc_place.specs.declared.directive.PlaceEntry.TheVariants.{Accepted}
+use Rattle.acc_place.specs.declared.directive.Region.{Region}
 use Rattle.acc_place.specs.Accepting.{refusal}
 use Rattle.acc_place.specs.Batches.{batch_of, next_number, walk_at}
 use Rattle.acc_place.specs.Histories.{standing}
+use Rattle.acc_place.specs.Regions.{region_of}
 use Rattle.acc_place.specs.Standings.{Standing, Walk, walk_of}
 
 -- The configuration, the place history with its counts, the latest first, and whether there is memory for one more
@@ -30,12 +34,13 @@ abbrev pub IsRefusal : Option Fault → Fault → Type 0
 IsRefusal (Some fault) f = f ≡ fault
 IsRefusal None f = f ≡ Memory
 
--- A directive of a host with so many items before it; the label of its batch, if it isn't empty, and the batch, until it
--- is handed out; and how many entries the place history had.
+-- A directive of a host with so many items before it; the region that it opens, if it opens one; the label of its batch,
+-- if it isn't empty, and the batch, until it is handed out; and how many entries the place history had.
 pub record PlanView : Type 0 where
   pub host : ℕ
   pub items_done : ℕ
   pub directive : Directive
+  pub region : Option Region
   pub label : Option Label
   pub batch : Option Label
   pub stamp : ℕ
@@ -50,10 +55,16 @@ abbrev pub label_in : Standing → ℕ → ℕ → Walk → Option Label
 label_in st host items_done walk =
     label_for (walk_at walk) (next_number (walk_at walk) st.labels) host items_done (batch_of st walk)
 
--- The place would accept the directive now, with that label, and has the memory for it.
+-- the region that a directive opens
+abbrev pub opened_region : ℕ → Directive → Kind → Option Region
+opened_region host d kind.Data = Some (region_of host d)
+opened_region host d k = None
+
+-- The place would accept the directive now, with that region and that label, and has the memory for it.
 pub record Fits (p : PlaceView) (q : PlanView) : Type 0 where
-  pub accepted : refusal p.config (standing_in p) q.directive ≡ None
-  pub labelled : q.label ≡ label_in (standing_in p) q.host q.items_done (walk_of q.directive)
+  pub accepted : refusal p.config (standing_in p) q.host q.directive ≡ None
+  pub region : q.region ≡ opened_region q.host q.directive q.directive.kind
+  pub labelled : q.label ≡ label_in (standing_in p) q.host q.items_done (walk_of (standing_in p) q.host q.directive)
   pub ready : p.is_ready ≡ true
 
 -- what accepting adds
@@ -73,3 +84,13 @@ pub record IsPlanOf (p : PlaceView) (q : PlanView) : Type 0 where
   pub stamped : q.stamp ≡ length history_then
   pub fitted : Fits (record { config = p.config; history = history_then; counts = counts_then; is_ready = true }) q
   pub ready : history_since ≡ [] → p.is_ready ≡ true
+
+-- A plan stays one of its place where another directive is accepted,
+abbrev pub KeptByAccepting : Type 0
+KeptByAccepting = (p : PlaceView) (q other : PlanView) → IsPlanOf p q → IsPlanOf (place_after p other) q
+
+-- and where one is planned, which changes spare memory alone.
+abbrev pub KeptByPlanning : Type 0
+KeptByPlanning =
+    (p after : PlaceView) (q : PlanView) → after.config ≡ p.config → after.history ≡ p.history → after.counts ≡ p.counts
+    → (p.is_ready ≡ true → after.is_ready ≡ true) → IsPlanOf p q → IsPlanOf after q

@@ -1,18 +1,22 @@
--- What a directive marks, item by item (OpenACC API 3.0, 2.6.6, Enter Data and Exit Data Directives, and 2.7, Data Clauses).
+-- What a history leaves, and what a directive marks after it, item by item (OpenACC API 3.0, 2.6.5, Data Construct,
+-- 2.6.6, Enter Data and Exit Data Directives, and 2.7, Data Clauses).
 use Rattle.std.specs.Prelude.{ℕ, Bool, true, false, List, [], ◌∷◌, map, Option, Some, None, ◌==◌, if◌then◌else◌}
 use Rattle.acc_base.specs.declared.range.Range.{Range}
-use Rattle.acc_present.specs.Marks.{Mark, Change, Structured_up, Structured_down, Dynamic_up, Dynamic_down, Dynamic_zero}
-use Rattle.acc_present.specs.Presences.{presences, is_present}
+use Rattle.acc_batch.specs.declared.operation.Label.{Label}
+use Rattle.acc_place.specs.declared.directive.Directive.{Directive}
 use Rattle.acc_place.specs.declared.directive.Item.{Item}
 use Rattle.acc_place.specs.declared.directive.Kind.{Kind}
 use Rattle.acc_place.specs.declared.directive.Kind.TheVariants as kind
-use Rattle.acc_place.specs.declared.directive.Directive.{Directive}
-use Rattle.acc_batch.specs.declared.operation.Label.{Label}
+use Rattle.acc_place.specs.declared.directive.Region.{Region}
+use Rattle.acc_present.specs.Marks.{Mark, Change, Structured_up, Structured_down, Dynamic_up, Dynamic_down, Dynamic_zero}
+use Rattle.acc_present.specs.Presences.{presences, is_present}
+use Rattle.acc_place.specs.Regions.{open_region}
 
--- What a history leaves: the marks on each device, the latest first; the batches, in the order of placing; and how
--- many directives were accepted.
+-- What a history leaves: the marks on each device, the latest first; the data constructs that the hosts are inside, the
+-- latest first; the batches, in the order of placing; and how many directives were accepted.
 pub record Standing : Type 0 where
   pub marks : ℕ → List Mark
+  pub regions : List Region
   pub labels : List Label
   pub accepted : ℕ
 
@@ -27,19 +31,42 @@ pub record Walk : Type 0 where
   pub queue : ℕ
   pub items : List Asked
 
+-- what a directive asks of each of its items
+abbrev pub exit_by : Bool → Change
+exit_by true = Dynamic_zero
+exit_by false = Dynamic_down
+
+abbrev pub change_by : Kind → Option Change
+change_by kind.Data = Some Structured_up
+change_by kind.EndData = Some Structured_down
+change_by kind.EnterData = Some Dynamic_up
+change_by (kind.ExitData finalize) = Some (exit_by finalize)
+change_by (kind.Update if_present) = None
+change_by kind.IsPresent = None
+
 abbrev pub all_asked : Option Change → List Item → List Asked
 all_asked change items = map (λ i. record { item = i; change = change }) items
 
+-- What a directive acts on.
+pub record Subject : Type 0 where
+  pub device : ℕ
+  pub items : List Item
+
+abbrev pub left_by : Directive → Option Region → Subject
+left_by d None = record { device = d.device; items = [] }
+left_by d (Some r) = record { device = r.device; items = r.items }
+
+-- The end of a data construct acts on the device and the items of its entry, each other directive on its own.
+abbrev pub subject_by : List Region → ℕ → Directive → Kind → Subject
+subject_by rs host d kind.EndData = left_by d (open_region host rs)
+subject_by rs host d k = record { device = d.device; items = d.items }
+
 -- a synchronous directive acts on queue sync
-abbrev pub plain_walk : Directive → Option Change → Walk
-plain_walk d change = record { device = d.device; queue = 0; items = all_asked change d.items }
+abbrev pub walk_on : Subject → Option Change → Walk
+walk_on s change = record { device = s.device; queue = 0; items = all_asked change s.items }
 
-abbrev pub walk_by : Directive → Kind → Walk
-walk_by d kind.EnterData = plain_walk d (Some Dynamic_up)
-walk_by d kind.ExitData = plain_walk d (Some Dynamic_down)
-
-unfoldable pub walk_of : Directive → Walk
-walk_of d = walk_by d d.kind
+unfoldable pub walk_of : Standing → ℕ → Directive → Walk
+walk_of st host d = walk_on (subject_by st.regions host d d.kind) (change_by d.kind)
 
 -- a dynamic exit of a range that is absent takes no action
 abbrev pub made_by : Change → Range → List Mark → Bool

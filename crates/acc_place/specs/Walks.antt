@@ -1,31 +1,39 @@
 -- What the items of a directive make of a device's table, item by item, in the table's own words.
-use Rattle.std.specs.Prelude.{◌≡◌, ℕ, ◌+◌, ◌^◌, ◌<◌, ◌≤◌, Bool, true, false, ◌&&◌, ◌||◌, ◌==◌, not, nat_lt, nat_le, List, [], ◌∷◌, ◌++◌, length, map, Option, Some, None, IfSome, if◌then◌else◌}
+use Rattle.std.specs.Prelude.{◌≡◌, ℕ, ◌+◌, ◌<◌, ◌≤◌, ⊤, Bool, true, false, ◌&&◌, ◌||◌, not, nat_lt, nat_le, List, [], ◌∷◌, ◌++◌, length, Option, Some, None, IfSome, if◌then◌else◌}
 use Rattle.std.specs.List.{flat_map}
-use Rattle.std.specs.Option.{option_to_list}
+use Rattle.std.specs.Option.{option_and_then, option_to_list}
 use Rattle.acc_base.specs.declared.range.Range.{Range}
 use Rattle.acc_base.specs.declared.fault.Fault.{Fault}
-use Rattle.acc_base.specs.declared.fault.Fault.TheVariants.{BadDevice, BadRange, TooMany, PartlyPresent, DeviceFull}
+use Rattle.acc_base.specs.declared.fault.Fault.TheVariants.{BadDevice, BadRange, TooMany, PartlyPresent, NotPresent, DeviceFull, NoRegion}
 use Rattle.acc_base.specs.Configurations.{Configuration}
-use Rattle.acc_present.specs.declared.table.Counter.TheVariants.{Dynamic}
+use Rattle.acc_present.specs.declared.table.Counter.{Counter}
+use Rattle.acc_present.specs.declared.table.Counter.TheVariants.{Structured, Dynamic}
 use Rattle.acc_present.specs.declared.table.TheConstants.{COUNTER_LIMIT}
+use Rattle.acc_present.specs.declared.table.Look.{Look}
+use Rattle.acc_present.specs.declared.table.Look.TheVariants as look
 use Rattle.acc_present.specs.declared.table.Left.{Left}
 use Rattle.acc_present.specs.declared.table.Left.TheVariants as left
-use Rattle.acc_present.specs.Marks.{Change, Dynamic_up, Dynamic_down, Mark}
+use Rattle.acc_present.specs.Legality.{IsEntered}
+use Rattle.acc_present.specs.Marks.{Change, Structured_up, Structured_down, Dynamic_up, Dynamic_down, Dynamic_zero, Mark}
 use Rattle.acc_present.specs.Lifetimes.{can_open}
 use Rattle.acc_present.specs.Presences.{Presence, holder, is_present, is_partly_present, used_cells}
-use Rattle.acc_present.specs.Tables.{Present, entry_mark, exit_mark, kept_after, presences_after, left_of}
+use Rattle.acc_present.specs.Tables.{Present, counter_of, presences_after, left_of}
+use Rattle.acc_place.specs.declared.directive.Clause.{Clause}
+use Rattle.acc_place.specs.declared.directive.Clause.TheVariants.{UpdateSelf, UpdateDevice}
 use Rattle.acc_place.specs.declared.directive.Directive.{Directive}
 use Rattle.acc_place.specs.declared.directive.Item.{Item}
 use Rattle.acc_place.specs.declared.directive.Kind.{Kind}
-use Rattle.acc_place.specs.declared.directive.Kind.TheVariants.{EnterData, ExitData}
+use Rattle.acc_place.specs.declared.directive.Region.{Region}
 use Rattle.acc_place.specs.declared.directive.TheConstants.{MAX_ITEMS, MAX_DIRECTIVES}
 use Rattle.acc_batch.specs.declared.operation.Op.{Op}
 use Rattle.acc_batch.specs.declared.operation.Op.TheVariants as op
 use Rattle.acc_place.specs.declared.plan.Group.{Group}
-use Rattle.acc_place.specs.declared.plan.Group.TheVariants.{Makes, CopyIns, CopyOuts, Releases}
+use Rattle.acc_place.specs.declared.plan.Group.TheVariants.{Makes, CopyIns, Updates, CopyOuts, Releases}
 use Rattle.acc_place.specs.declared.judge.Marked.{Marked}
-use Rattle.acc_place.specs.Accepting.{is_in_array, fault_where, first_fault}
+use Rattle.acc_place.specs.Accepting.{is_in_array, fault_where, first_fault, wants_whole, wants_presence, is_deep, is_outside}
 use Rattle.acc_place.specs.Batches.{copies_in, copies_out}
+use Rattle.acc_place.specs.Regions.{open_region}
+use Rattle.acc_place.specs.Standings.{change_by}
 
 -- What a device has: what is present there, and how many lifetimes were opened.
 pub record Holding : Type 0 where
@@ -35,52 +43,68 @@ pub record Holding : Type 0 where
 abbrev pub holding : List Presence → ℕ → Holding
 holding ps n = record { presences = ps; opened = n }
 
-abbrev pub change_by : Kind → Change
-change_by EnterData = Dynamic_up
-change_by ExitData = Dynamic_down
+abbrev pub mark_by : Change → Range → Mark
+mark_by change r = record { change = change; range = r }
 
-abbrev pub mark_by : Kind → Range → Mark
-mark_by kind r = record { change = change_by kind; range = r }
-
--- the item opens a lifetime
-abbrev pub opens_one : Kind → List Presence → Range → Bool
-opens_one kind ps r = can_open (change_by kind) && not (is_present ps r)
+-- the change opens a lifetime
+abbrev pub opens_one : Option Change → List Presence → Range → Bool
+opens_one None ps r = false
+opens_one (Some change) ps r = can_open change && not (is_present ps r)
 
 abbrev pub opened_after : Bool → ℕ → ℕ
 opened_after true n = n + 1
 opened_after false n = n
 
-unfoldable pub holding_after : Kind → Range → Holding → Holding
-holding_after kind r h =
+abbrev pub presences_by : Option Change → Range → ℕ → List Presence → List Presence
+presences_by None r block ps = ps
+presences_by (Some change) r block ps = presences_after (mark_by change r) block ps
+
+unfoldable pub holding_after : Option Change → Range → Holding → Holding
+holding_after change r h =
     record {
-      presences = presences_after (mark_by kind r) (h.opened + 1) h.presences;
-      opened = opened_after (opens_one kind h.presences r) h.opened;
+      presences = presences_by change r (h.opened + 1) h.presences;
+      opened = opened_after (opens_one change h.presences r) h.opened;
     }
 
-abbrev pub holding_after_all : Kind → Holding → List Item → Holding
-holding_after_all kind h [] = h
-holding_after_all kind h (i ∷ is) = holding_after_all kind (holding_after kind i.range h) is
+abbrev pub holding_after_all : Option Change → Holding → List Item → Holding
+holding_after_all change h [] = h
+holding_after_all change h (i ∷ is) = holding_after_all change (holding_after change i.range h) is
+
+-- ## Faults
 
 -- The fault of an item, where those before it have left their marks.
-unfoldable pub fault_in : Configuration → Kind → List Presence → Range → Option Fault
-fault_in config kind ps r =
+unfoldable pub fault_in : Configuration → Kind → List Presence → Item → Option Fault
+fault_in config k ps i =
     first_fault (
-    fault_where (not (is_in_array config.arrays r)) BadRange
-    ∷ fault_where (is_partly_present ps r) PartlyPresent
-    ∷ fault_where (opens_one kind ps r && nat_lt config.capacity (used_cells ps + r.len)) DeviceFull
+    fault_where (not (is_in_array config.arrays i.range)) BadRange
+    ∷ fault_where (wants_whole k && is_partly_present ps i.range) PartlyPresent
+    ∷ fault_where (wants_presence k i.clause && not (is_present ps i.range)) NotPresent
+    ∷ fault_where (opens_one (change_by k) ps i.range && nat_lt config.capacity (used_cells ps + i.range.len)) DeviceFull
     ∷ []
     )
 
--- the fault of an item that is absent
-abbrev pub capacity_fault : Kind → List Presence → ℕ → Range → Option Fault
-capacity_fault kind ps capacity r = fault_where (can_open (change_by kind) && nat_lt capacity (used_cells ps + r.len)) DeviceFull
+abbrev pub can_open_by : Option Change → Bool
+can_open_by None = false
+can_open_by (Some change) = can_open change
+
+-- the fault of an item that was found so, where so many cells are free
+abbrev pub found_fault : Kind → Item → Look → ℕ → Option Fault
+found_fault k i look.Partly free = fault_where (wants_whole k) PartlyPresent
+found_fault k i (look.Present e) free = None
+found_fault k i look.Absent free =
+    first_fault (
+    fault_where (wants_presence k i.clause) NotPresent
+    ∷ fault_where (can_open_by (change_by k) && nat_lt free i.range.len) DeviceFull
+    ∷ []
+    )
 
 -- The faults of a directive that don't depend on its ranges.
-unfoldable pub limit_fault : Configuration → ℕ → Directive → Option Fault
-limit_fault config accepted d =
+unfoldable pub limit_fault : Configuration → ℕ → List Region → ℕ → Directive → ℕ → Option Fault
+limit_fault config accepted rs host d count =
     first_fault (
     fault_where (nat_le config.devices d.device) BadDevice
-    ∷ fault_where (nat_lt MAX_ITEMS (length d.items) || nat_le MAX_DIRECTIVES accepted) TooMany
+    ∷ fault_where (nat_lt MAX_ITEMS count || (is_deep d.kind host rs || nat_le MAX_DIRECTIVES accepted)) TooMany
+    ∷ fault_where (is_outside d.kind (open_region host rs)) NoRegion
     ∷ []
     )
 
@@ -89,11 +113,20 @@ fault_or (Some fault) other = Some fault
 fault_or None other = other
 
 abbrev pub first_fault_in : Configuration → Kind → Holding → List Item → Option Fault
-first_fault_in config kind h [] = None
-first_fault_in config kind h (i ∷ is) =
-    fault_or (fault_in config kind h.presences i.range) (first_fault_in config kind (holding_after kind i.range h) is)
+first_fault_in config k h [] = None
+first_fault_in config k h (i ∷ is) =
+    fault_or (fault_in config k h.presences i) (first_fault_in config k (holding_after (change_by k) i.range h) is)
 
 -- ## What became of an item
+
+abbrev pub block_held : Option Presence → Option ℕ
+block_held None = None
+block_held (Some p) = Some p.block
+
+abbrev pub block_found : Look → Option ℕ
+block_found look.Absent = None
+block_found look.Partly = None
+block_found (look.Present e) = Some e.block
 
 abbrev pub block_opened : Bool → ℕ → Option ℕ
 block_opened true n = Some (n + 1)
@@ -104,54 +137,66 @@ block_ended left.Nothing = None
 block_ended left.Counted = None
 block_ended (left.Ended b) = Some b
 
-abbrev pub ended_by : Kind → List Presence → Range → Option ℕ
-ended_by EnterData ps r = None
-ended_by ExitData ps r = block_ended (left_of (holder ps r) Dynamic_down)
+abbrev pub ended_by : Option Change → List Presence → Range → Option ℕ
+ended_by None ps r = None
+ended_by (Some change) ps r = if can_open change then None else block_ended (left_of (holder ps r) change)
 
-unfoldable pub marked_in : Kind → Holding → Item → Marked
-marked_in kind h i =
+unfoldable pub marked_in : Option Change → Holding → Item → Marked
+marked_in change h i =
     record {
       item = i;
-      opened = block_opened (opens_one kind h.presences i.range) h.opened;
-      ended = ended_by kind h.presences i.range;
+      held = block_held (holder h.presences i.range);
+      opened = block_opened (opens_one change h.presences i.range) h.opened;
+      ended = ended_by change h.presences i.range;
     }
 
-abbrev pub all_marked : Kind → Holding → List Item → List Marked
-all_marked kind h [] = []
-all_marked kind h (i ∷ is) = marked_in kind h i ∷ all_marked kind (holding_after kind i.range h) is
+abbrev pub all_marked : Option Change → Holding → List Item → List Marked
+all_marked change h [] = []
+all_marked change h (i ∷ is) = marked_in change h i ∷ all_marked change (holding_after change i.range h) is
 
 -- ## The operations
 
-abbrev pub where_so : Bool → Option ℕ → Option ℕ
-where_so true block = block
-where_so false block = None
+-- the block that an operation of a group is for
+abbrev pub block_of : Group → Marked → Option ℕ
+block_of Makes t = t.opened
+block_of CopyIns t = t.opened
+block_of Updates t = t.held
+block_of CopyOuts t = t.ended
+block_of Releases t = t.ended
 
--- the block that an item's operation of a group is for
-abbrev pub block_in : Group → Marked → Option ℕ
-block_in Makes t = t.opened
-block_in CopyIns t = where_so (copies_in t.item.clause) t.opened
-block_in CopyOuts t = where_so (copies_out t.item.clause) t.ended
-block_in Releases t = t.ended
+abbrev pub update_for : Clause → ℕ → Range → Option Op
+update_for UpdateSelf b r = Some (op.CopyOut b r)
+update_for UpdateDevice b r = Some (op.CopyIn b r)
+update_for c b r = None
 
-abbrev pub op_for : Group → ℕ → Range → Op
-op_for Makes b r = op.Make b r
-op_for CopyIns b r = op.CopyIn b r
-op_for CopyOuts b r = op.CopyOut b r
-op_for Releases b r = op.Release b
+abbrev pub op_for : Group → Clause → ℕ → Range → Option Op
+op_for Makes c b r = Some (op.Make b r)
+op_for CopyIns c b r = if copies_in c then Some (op.CopyIn b r) else None
+op_for Updates c b r = update_for c b r
+op_for CopyOuts c b r = if copies_out c then Some (op.CopyOut b r) else None
+op_for Releases c b r = Some (op.Release b)
+
+-- what became of an item, as its operation of a group, if it has one
+abbrev pub op_of : Group → Marked → Option Op
+op_of g t = option_and_then (λ b. op_for g t.item.clause b t.item.range) (block_of g t)
 
 abbrev pub group_ops : Group → Marked → List Op
-group_ops g t = map (λ b. op_for g b t.item.range) (option_to_list (block_in g t))
+group_ops g t = option_to_list (op_of g t)
 
 unfoldable pub marked_ops : List Marked → List Op
 marked_ops ts =
-    flat_map (group_ops Makes) ts ++ (flat_map (group_ops CopyIns) ts ++ (flat_map (group_ops CopyOuts) ts ++ flat_map (group_ops Releases) ts))
+    flat_map (group_ops Makes) ts
+    ++ (flat_map (group_ops CopyIns) ts
+    ++ (flat_map (group_ops Updates) ts
+    ++ (flat_map (group_ops CopyOuts) ts
+    ++ flat_map (group_ops Releases) ts)))
 
--- ## Room
+-- ## Room and conditions
 
--- every dynamic counter can be counted up so often
+-- every present range can be counted up so often
 abbrev pub AllLow : ℕ → ℕ → List Presence → Type 0
 AllLow limit n [] = Unit {0}
-AllLow limit n (p ∷ ps) = (p.d + n ≤ limit) × AllLow limit n ps
+AllLow limit n (p ∷ ps) = (p.s + p.d + n ≤ limit) × AllLow limit n ps
 
 -- a table has room for so many items
 pub record HasRoomFor (n : ℕ) (t : Present) (opened : ℕ) : Type 0 where
@@ -160,24 +205,42 @@ pub record HasRoomFor (n : ℕ) (t : Present) (opened : ℕ) : Type 0 where
   pub few : opened + n ≤ COUNTER_LIMIT
 
 -- A range can be entered.
-pub record CanEnter (r : Range) (ps : List Presence) (capacity : ℕ) : Type 0 where
+pub record CanEnter (counter : Counter) (r : Range) (ps : List Presence) (capacity : ℕ) : Type 0 where
   pub cells : 0 < r.len
   pub whole : is_partly_present ps r ≡ false
-  pub low : IfSome (holder ps r) (λ p. p.d < COUNTER_LIMIT)
+  pub low : IfSome (holder ps r) (λ p. counter_of counter p < COUNTER_LIMIT)
   pub fits : holder ps r ≡ None → used_cells ps + r.len ≤ capacity
 
 -- An item of this range can leave its mark.
-abbrev pub CanMark : Kind → Range → List Presence → ℕ → Type 0
-CanMark EnterData r ps capacity = CanEnter r ps capacity
-CanMark ExitData r ps capacity = 0 < r.len
+abbrev pub CanMark : Option Change → Range → List Presence → ℕ → Type 0
+CanMark None r ps capacity = 0 < r.len
+CanMark (Some Structured_up) r ps capacity = CanEnter Structured r ps capacity
+CanMark (Some Structured_down) r ps capacity = (0 < r.len) × IsEntered (holder ps r)
+CanMark (Some Dynamic_up) r ps capacity = CanEnter Dynamic r ps capacity
+CanMark (Some Dynamic_down) r ps capacity = 0 < r.len
+CanMark (Some Dynamic_zero) r ps capacity = 0 < r.len
 
--- The items have no fault, on a device of this capacity.
-pub record IsFine (capacity : ℕ) (kind : Kind) (ps : List Presence) (r : Range) : Type 0 where
+-- a region leaves only what it has entered
+abbrev pub HasEntered : Option Change → Range → List Presence → Type 0
+HasEntered None r ps = ⊤
+HasEntered (Some Structured_up) r ps = ⊤
+HasEntered (Some Structured_down) r ps = IsEntered (holder ps r)
+HasEntered (Some Dynamic_up) r ps = ⊤
+HasEntered (Some Dynamic_down) r ps = ⊤
+HasEntered (Some Dynamic_zero) r ps = ⊤
+
+-- so does each item in its turn
+abbrev pub AllEntered : Option Change → Holding → List Item → Type 0
+AllEntered change h [] = ⊤
+AllEntered change h (i ∷ is) = HasEntered change i.range h.presences × AllEntered change (holding_after change i.range h) is
+
+-- The item has no fault, on a device of this capacity.
+pub record IsFine (capacity : ℕ) (k : Kind) (ps : List Presence) (r : Range) : Type 0 where
   pub cells : 0 < r.len
-  pub whole : is_partly_present ps r ≡ false
-  pub fits : opens_one kind ps r ≡ true → used_cells ps + r.len ≤ capacity
+  pub whole : wants_whole k ≡ true → is_partly_present ps r ≡ false
+  pub fits : opens_one (change_by k) ps r ≡ true → used_cells ps + r.len ≤ capacity
 
 abbrev pub AllFine : ℕ → Kind → Holding → List Item → Type 0
-AllFine capacity kind h [] = Unit {0}
-AllFine capacity kind h (i ∷ is) =
-    IsFine capacity kind h.presences i.range × AllFine capacity kind (holding_after kind i.range h) is
+AllFine capacity k h [] = ⊤
+AllFine capacity k h (i ∷ is) =
+    IsFine capacity k h.presences i.range × AllFine capacity k (holding_after (change_by k) i.range h) is

@@ -12,26 +12,48 @@ pub const MAX_DIRECTIVES: u64 = 1_099_511_627_776;
 /// The value of `acc_async_noval`, a host's first default async value (OpenACC API 3.0, 2.16, Asynchronous Behavior).
 pub const ASYNC_NOVAL: i64 = -1;
 
-/// A data clause (OpenACC API 3.0, 2.7, Data Clauses).
+/// The most regions of a host inside one another.
+pub const MAX_REGIONS: usize = 32;
+
+/// A data clause (OpenACC API 3.0, 2.7, Data Clauses), or a clause of the update directive (2.14.4).
 #[derive(Clone, Copy, Debug, PartialEq, Eq)]
 pub enum Clause {
+    Copy,
     Copyin,
     Copyout,
+    Create,
+    /// Also the clause of the range that `acc_is_present` asks about.
+    Present,
     Delete,
+    /// `self` of an update, also named `host`: from the device to the host.
+    UpdateSelf,
+    /// `device` of an update: from the host to the device.
+    UpdateDevice,
 }
 
-/// A range of a data clause.
+/// A range of a clause.
 #[derive(Clone, Copy, Debug, PartialEq, Eq)]
 pub struct Item {
     pub clause: Clause,
     pub range: Range,
 }
 
-/// Which directive it is (OpenACC API 3.0, 2.6.6, Enter Data and Exit Data Directives).
+/// Which directive it is.
 #[derive(Clone, Copy, Debug, PartialEq, Eq)]
 pub enum Kind {
+    /// A data construct is entered (OpenACC API 3.0, 2.6.5, Data Construct).
+    Data,
+    /// The innermost data construct that the host is inside is left. The device and the items are those of its entry.
+    EndData,
+    /// `enter data` (2.6.6, Enter Data and Exit Data Directives); also `acc_copyin` and `acc_create` (3.2, Runtime
+    /// Library Routines).
     EnterData,
-    ExitData,
+    /// `exit data`; also `acc_copyout`, `acc_delete` and their `_finalize` forms.
+    ExitData { finalize: bool },
+    /// `update` (2.14.4, Update Directive); also `acc_update_device` and `acc_update_self`.
+    Update { if_present: bool },
+    /// The question `acc_is_present`.
+    IsPresent,
 }
 
 /// The `async` clause as it is written (OpenACC API 3.0, 2.16.1, async clause).
@@ -123,6 +145,14 @@ impl Directive {
             waits,
         })
     }
+}
+
+/// A data construct that a host is inside: the device and the items of its entry.
+#[derive(Drop)]
+pub struct Region {
+    pub host: HostId,
+    pub device: DeviceId,
+    pub items: Listed<Item>,
 }
 
 /// The answer to a directive that was accepted.

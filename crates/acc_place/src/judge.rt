@@ -1,38 +1,69 @@
-ghost use Rattle.std.specs.Prelude.{◌≡◌, ◌+◌, ◌^◌, ◌<◌, ◌≤◌, ◌++◌, length, None, IfNone, vec_len, vec_capacity, is_some};
+ghost use Rattle.std.specs.Prelude.{◌≡◌, ◌+◌, ◌<◌, ◌≤◌, ◌++◌, not, true, length, Some, None, IfNone, IfOk, IfErr, OnOk, vec_len, vec_capacity, is_some};
 ghost use Rattle.acc_present.specs.Drafts.{drafted, IsDraft};
+ghost use Rattle.acc_present.specs.Presences.{holder, is_present};
 ghost use Rattle.acc_present.specs.declared.table.TheConstants.{COUNTER_LIMIT};
-ghost use Rattle.acc_present.specs.Tables.{presences_after};
-ghost use Rattle.acc_place.specs.Accepting.{is_in_array};
-ghost use Rattle.acc_place.specs.Walks.{holding, mark_by, fault_in, capacity_fault, limit_fault, first_fault_in, marked_in, all_marked, opened_after, AllLow, CanMark};
+ghost use Rattle.acc_present.specs.Tables.{entry_mark, presences_after};
+ghost use Rattle.acc_place.specs.Accepting.{is_in_array, is_deep, is_outside, wants_presence};
+ghost use Rattle.acc_place.specs.Regions.{open_region};
+ghost use Rattle.acc_place.specs.Standings.{change_by};
+ghost use Rattle.acc_place.specs.Walks.{holding, presences_by, can_open_by, fault_in, found_fault, limit_fault, first_fault_in, block_found, block_held, block_opened, block_ended, marked_in, all_marked, opened_after, AllLow, HasEntered, AllEntered, CanEnter, CanMark};
 
-use crate::directive::{Directive, Item, Kind, MAX_DIRECTIVES, MAX_ITEMS};
-use acc_base::{BlockId, Config, Fault, Range};
+use crate::directive::{
+    Clause, Directive, Item, Kind, MAX_DIRECTIVES, MAX_ITEMS, MAX_REGIONS, Region,
+};
+use crate::regions::{depth, open_place};
+use acc_base::{BlockId, Config, Fault, HostId, Range};
 use acc_present::{Counter, Draft, Entered, Left, Look, Table};
 
-/// What became of an item: the number of the block of the lifetime that it opened, and of the one that
-/// it ended.
+/// What became of an item: the number of the block that held its range before, of the block of the lifetime that it
+/// opened, and of the one that it ended.
 #[derive(Clone, Copy, Debug, PartialEq, Eq)]
 pub struct Marked {
     pub item: Item,
+    pub held: Option<u64>,
     pub opened: Option<u64>,
     pub ended: Option<u64>,
 }
 
-/// The first fault of a directive that does not depend on its items' ranges.
+/// The first fault of a host's directive on so many items that does not depend on their ranges.
 #[tactic(auto, unfolding(crate::specs::Walks::limit_fault))]
-pub fn limit_of(config: &Config, accepted: usize, directive: &Directive) -> Option<Fault>
-    ensures { result ≡ limit_fault config.now accepted directive.now }
+pub fn limit_of(
+    config: &Config,
+    accepted: usize,
+    regions: &[Region],
+    host: HostId,
+    directive: &Directive,
+    count: usize,
+) -> Option<Fault>
+    ensures { result ≡ limit_fault config.now accepted regions.now host directive.now count }
 {
     if !config.has_device(directive.device) {
         return Some(Fault::BadDevice);
     }
-    if directive.items.as_slice().len() > MAX_ITEMS {
+    if count > MAX_ITEMS || is_deep(regions, host, directive.kind) {
         return Some(Fault::TooMany);
     }
     if accepted as u64 >= MAX_DIRECTIVES {
         return Some(Fault::TooMany);
     }
+    if is_outside(regions, host, directive.kind) {
+        return Some(Fault::NoRegion);
+    }
     None
+}
+
+// Whether a host that enters a data construct is inside as many as it can be.
+fn is_deep(regions: &[Region], host: HostId, kind: Kind) -> bool
+    ensures { result ≡ is_deep kind host regions.now }
+{
+    kind == Kind::Data && depth(regions, host) >= MAX_REGIONS
+}
+
+// Whether a host leaves a data construct, and is inside none.
+fn is_outside(regions: &[Region], host: HostId, kind: Kind) -> bool
+    ensures { result ≡ is_outside kind (open_region host regions.now) }
+{
+    kind == Kind::EndData && open_place(regions, host).is_none()
 }
 
 /// The first fault of the items, each judged with the marks of those before it; where there is none, the steps are
@@ -50,10 +81,11 @@ pub fn judge(
     requires draft_room { length items.now ≤ draft.old.room }
     requires low { AllLow COUNTER_LIMIT (length items.now) table.now.presences }
     requires few { opened + length items.now ≤ COUNTER_LIMIT }
+    requires entered { AllEntered (change_by kind) (holding table.now.presences opened) items.now }
     requires step_room { length items.now ≤ vec_capacity steps.old }
     ensures draft_room { draft.new.room ≡ draft.old.room }
     ensures fault { result ≡ first_fault_in config.now kind (holding table.now.presences opened) items.now }
-    ensures steps { IfNone result (steps.new.items ≡ all_marked kind (holding table.now.presences opened) items.now) }
+    ensures steps { IfNone result (steps.new.items ≡ all_marked (change_by kind) (holding table.now.presences opened) items.now) }
     ensures step_room { vec_capacity steps.new ≡ vec_capacity steps.old }
 {
     draft.begin(table);
@@ -76,67 +108,57 @@ fn walk(
     requires draft_room { length draft.old.changed + length items.now ≤ draft.old.room }
     requires low { AllLow COUNTER_LIMIT (length items.now) (drafted table.now draft.old) }
     requires few { opened + length items.now ≤ COUNTER_LIMIT }
+    requires entered { AllEntered (change_by kind) (holding (drafted table.now draft.old) opened) items.now }
     requires step_room { vec_len steps.old + length items.now ≤ vec_capacity steps.old }
     ensures draft_room { draft.new.room ≡ draft.old.room }
     ensures fault { result ≡ first_fault_in config.now kind (holding (drafted table.now draft.old) opened) items.now }
-    ensures steps { IfNone result (steps.new.items ≡ steps.old.items ++ all_marked kind (holding (drafted table.now draft.old) opened) items.now) }
+    ensures steps { IfNone result (steps.new.items ≡ steps.old.items ++ all_marked (change_by kind) (holding (drafted table.now draft.old) opened) items.now) }
     ensures step_room { vec_capacity steps.new ≡ vec_capacity steps.old }
 {
     match items {
         [] => None,
-        [first, rest @ ..] => {
-            let item = *first;
-            if let Some(fault) = fault_of(table, draft, config, kind, item.range) {
-                return Some(fault);
+        [first, rest @ ..] => match visit(table, draft, config, kind, first, opened) {
+            Err(fault) => Some(fault),
+            Ok(marked) => {
+                steps.push_reserved(marked);
+                let next = count_opened(opened, marked);
+                walk(table, draft, config, kind, rest, next, steps)
             }
-            let marked = mark(table, draft, kind, item, opened);
-            steps.push_reserved(marked);
-            let next = count_opened(opened, marked);
-            walk(table, draft, config, kind, rest, next, steps)
-        }
+        },
     }
 }
 
-// The fault of an item of this range, where the draft has the marks of those before it.
-#[tactic(auto, unfolding(crate::specs::Walks::fault_in))]
-fn fault_of(
+// Judges an item, where the draft has the marks of those before it, and leaves its mark.
+fn visit(
     table: &Table,
-    draft: &Draft,
+    draft: &mut Draft,
     config: &Config,
     kind: Kind,
-    range: Range,
-) -> Option<Fault>
+    item: &Item,
+    opened: u64,
+) -> Result<Marked, Fault>
     requires capacity { table.now.capacity ≡ config.now.capacity }
-    requires draft { IsDraft table.now draft.now }
-    ensures { result ≡ fault_in config.now kind (drafted table.now draft.now) range }
+    requires draft { IsDraft table.now draft.old }
+    requires draft_room { length draft.old.changed < draft.old.room }
+    requires low { AllLow COUNTER_LIMIT 1 (drafted table.now draft.old) }
+    requires few { opened < COUNTER_LIMIT }
+    requires entered { HasEntered (change_by kind) item.now.range (drafted table.now draft.old) }
+    ensures refused { IfErr result (λ fault. fault_in config.now kind (drafted table.now draft.old) item.now ≡ Some fault) }
+    ensures fine { OnOk result (fault_in config.now kind (drafted table.now draft.old) item.now ≡ None) }
+    ensures marked { IfOk result (λ m. m ≡ marked_in (change_by kind) (holding (drafted table.now draft.old) opened) item.now) }
+    ensures draft { OnOk result (IsDraft table.now draft.new) }
+    ensures drafted { OnOk result (drafted table.now draft.new ≡ presences_by (change_by kind) item.now.range (opened + 1) (drafted table.now draft.old)) }
+    ensures changed { OnOk result (length draft.new.changed ≤ length draft.old.changed + 1) }
+    ensures draft_room { draft.new.room ≡ draft.old.room }
 {
-    if !is_in_array(config, range) {
-        return Some(Fault::BadRange);
+    if !is_in_array(config, item.range) {
+        return Err(Fault::BadRange);
     }
-    match draft.look(table, range) {
-        Look::Partly => Some(Fault::PartlyPresent),
-        Look::Present(_) => None,
-        Look::Absent => capacity_fault(table, draft, config.capacity(), kind, range),
-    }
-}
-
-// The fault of an item that is absent, and that would pass the device's capacity.
-fn capacity_fault(
-    table: &Table,
-    draft: &Draft,
-    capacity: u64,
-    kind: Kind,
-    range: Range,
-) -> Option<Fault>
-    requires capacity { table.now.capacity ≡ capacity }
-    requires draft { IsDraft table.now draft.now }
-    ensures { result ≡ capacity_fault kind (drafted table.now draft.now) capacity range }
-{
-    let free = capacity - draft.used_cells();
-    if kind == Kind::EnterData && free < u64::from(range.len) {
-        Some(Fault::DeviceFull)
-    } else {
-        None
+    let found = draft.look(table, item.range);
+    let free = config.capacity() - draft.used_cells();
+    match fault_of(kind, item, &found, free) {
+        Some(fault) => Err(fault),
+        None => Ok(mark(table, draft, kind, item, held_by(&found), opened)),
     }
 }
 
@@ -150,48 +172,140 @@ pub fn is_in_array(config: &Config, range: Range) -> bool
     range.end() <= config.array(range.array).len() as u64
 }
 
-// Leaves an item's mark in the draft.
-#[tactic(auto, unfolding(crate::specs::Walks::marked_in))]
-fn mark(table: &Table, draft: &mut Draft, kind: Kind, item: Item, opened: u64) -> Marked
-    requires draft { IsDraft table.now draft.old }
-    requires draft_room { length draft.old.changed < draft.old.room }
-    requires can { CanMark kind item.range (drafted table.now draft.old) table.now.capacity }
-    requires few { opened < COUNTER_LIMIT }
-    ensures draft { IsDraft table.now draft.new }
-    ensures drafted { drafted table.now draft.new ≡ presences_after (mark_by kind item.range) (opened + 1) (drafted table.now draft.old) }
-    ensures changed { length draft.new.changed ≤ length draft.old.changed + 1 }
-    ensures draft_room { draft.new.room ≡ draft.old.room }
-    ensures result { result ≡ marked_in kind (holding (drafted table.now draft.old) opened) item }
+// The fault of an item that was found so, where so many cells are free.
+fn fault_of(kind: Kind, item: &Item, found: &Look, free: u64) -> Option<Fault>
+    ensures { result ≡ found_fault kind item.now found.now free }
+{
+    match found {
+        Look::Present(_) => None,
+        Look::Partly => {
+            if kind == Kind::IsPresent {
+                None
+            } else {
+                Some(Fault::PartlyPresent)
+            }
+        }
+        Look::Absent => {
+            if wants_presence(kind, item.clause) {
+                Some(Fault::NotPresent)
+            } else if opens(kind) && free < u64::from(item.range.len) {
+                Some(Fault::DeviceFull)
+            } else {
+                None
+            }
+        }
+    }
+}
+
+// Whether an item is only about what is present.
+fn wants_presence(kind: Kind, clause: Clause) -> bool
+    ensures { result ≡ wants_presence kind clause }
 {
     match kind {
-        Kind::EnterData => {
-            let block = opened + 1;
-            let opened = match draft.enter(
-                table,
-                item.range,
-                Counter::Dynamic,
-                BlockId::new(block),
-            ) {
-                Entered::Counted => None,
-                Entered::Opened => Some(block),
-            };
-            Marked {
-                item,
-                opened,
-                ended: None,
-            }
+        Kind::Data => clause == Clause::Present,
+        Kind::Update { if_present } => !if_present,
+        Kind::EndData | Kind::EnterData | Kind::ExitData { .. } | Kind::IsPresent => false,
+    }
+}
+
+// Whether an item that is absent enters.
+fn opens(kind: Kind) -> bool
+    ensures { result ≡ can_open_by (change_by kind) }
+{
+    match kind {
+        Kind::Data | Kind::EnterData => true,
+        Kind::EndData | Kind::ExitData { .. } | Kind::Update { .. } | Kind::IsPresent => false,
+    }
+}
+
+// The block that holds a range that was found so.
+fn held_by(found: &Look) -> Option<u64>
+    ensures { result ≡ block_found found.now }
+{
+    match found {
+        Look::Present(entry) => Some(entry.block.number()),
+        Look::Absent | Look::Partly => None,
+    }
+}
+
+// Leaves an item's mark in the draft.
+#[tactic(auto, unfolding(crate::specs::Walks::marked_in))]
+fn mark(
+    table: &Table,
+    draft: &mut Draft,
+    kind: Kind,
+    item: &Item,
+    held: Option<u64>,
+    opened: u64,
+) -> Marked
+    requires draft { IsDraft table.now draft.old }
+    requires draft_room { length draft.old.changed < draft.old.room }
+    requires can { CanMark (change_by kind) item.now.range (drafted table.now draft.old) table.now.capacity }
+    requires few { opened < COUNTER_LIMIT }
+    requires held { held ≡ block_held (holder (drafted table.now draft.old) item.now.range) }
+    ensures draft { IsDraft table.now draft.new }
+    ensures drafted { drafted table.now draft.new ≡ presences_by (change_by kind) item.now.range (opened + 1) (drafted table.now draft.old) }
+    ensures changed { length draft.new.changed ≤ length draft.old.changed + 1 }
+    ensures draft_room { draft.new.room ≡ draft.old.room }
+    ensures result { result ≡ marked_in (change_by kind) (holding (drafted table.now draft.old) opened) item.now }
+{
+    let range = item.range;
+    let (entered, ended) = match kind {
+        Kind::Data => (
+            enter(table, draft, range, Counter::Structured, opened),
+            None,
+        ),
+        Kind::EndData => (
+            None,
+            ended_by(draft.leave(table, range, Counter::Structured)),
+        ),
+        Kind::EnterData => (enter(table, draft, range, Counter::Dynamic, opened), None),
+        Kind::ExitData { finalize: false } => {
+            (None, ended_by(draft.leave(table, range, Counter::Dynamic)))
         }
-        Kind::ExitData => {
-            let ended = match draft.leave(table, item.range, Counter::Dynamic) {
-                Left::Ended(block) => Some(block.number()),
-                Left::Counted | Left::Nothing => None,
-            };
-            Marked {
-                item,
-                opened: None,
-                ended,
-            }
-        }
+        Kind::ExitData { finalize: true } => (None, ended_by(draft.finalize(table, range))),
+        Kind::Update { .. } | Kind::IsPresent => (None, None),
+    };
+    Marked {
+        item: *item,
+        held,
+        opened: entered,
+        ended,
+    }
+}
+
+// Enters a range in the draft, and gives the block of the lifetime that this opened.
+fn enter(
+    table: &Table,
+    draft: &mut Draft,
+    range: Range,
+    counter: Counter,
+    opened: u64,
+) -> Option<u64>
+    requires draft { IsDraft table.now draft.old }
+    requires draft_room { length draft.old.changed < draft.old.room }
+    requires can { CanEnter counter range (drafted table.now draft.old) table.now.capacity }
+    requires few { opened < COUNTER_LIMIT }
+    ensures draft { IsDraft table.now draft.new }
+    ensures drafted { drafted table.now draft.new ≡ presences_after (entry_mark counter range) (opened + 1) (drafted table.now draft.old) }
+    ensures changed { length draft.new.changed ≤ length draft.old.changed + 1 }
+    ensures draft_room { draft.new.room ≡ draft.old.room }
+    ensures result { result ≡ block_opened (not (is_present (drafted table.now draft.old) range)) opened }
+{
+    let block = opened + 1;
+    match draft.enter(table, range, counter, BlockId::new(block)) {
+        Entered::Counted => None,
+        Entered::Opened => Some(block),
+    }
+}
+
+// The block of the lifetime that an exit ended.
+fn ended_by(left: Left) -> Option<u64>
+    ensures { result ≡ block_ended left }
+{
+    match left {
+        Left::Ended(block) => Some(block.number()),
+        Left::Counted | Left::Nothing => None,
     }
 }
 

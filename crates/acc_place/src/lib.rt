@@ -3,13 +3,18 @@
 
 mod directive;
 mod judge;
+mod laws;
 mod place;
 mod plan;
+mod regions;
 
 pub use directive::{
-    ASYNC_NOVAL, Clause, Directive, Item, Kind, MAX_DIRECTIVES, MAX_ITEMS, PlaceEntry, Placed,
-    Target, Waits,
+    ASYNC_NOVAL, Clause, Directive, Item, Kind, MAX_DIRECTIVES, MAX_ITEMS, MAX_REGIONS, PlaceEntry,
+    Placed, Region, Target, Waits,
 };
 pub use judge::is_in_array;
+pub use laws::{
+    plans_are_kept, worked_batches, worked_directives, worked_refusals, worked_regions,
+};
 pub use place::Place;
 pub use plan::Plan;

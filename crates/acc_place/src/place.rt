@@ -1,27 +1,29 @@
-ghost use Rattle.std.specs.Prelude.{reverse, ◌≡◌, ◌+◌, ◌<◌, ◌≤◌, ◌==◌, ◌++◌, [], ◌∷◌, length, true, None, IfOk, IfErr, OnOk, OnSome, slice_get, vec_len, vec_capacity, ◌^◌};
+ghost use Rattle.std.specs.Prelude.{All, not, reverse, ◌≡◌, ◌+◌, ◌<◌, ◌≤◌, ◌==◌, ◌++◌, [], ◌∷◌, length, true, None, IfOk, IfErr, OnOk, OnSome, slice_get, vec_len, vec_capacity, ◌^◌};
 ghost use Rattle.std.specs.Option.{option_map, option_to_list};
 ghost use Rattle.acc_base.specs.declared.fault.Fault.TheVariants.{Memory};
 ghost use Rattle.acc_batch.specs.Labels.{on_queue};
 ghost use Rattle.acc_present.specs.declared.table.TheConstants.{COUNTER_LIMIT};
 ghost use Rattle.acc_present.specs.Presences.{presences, holder, is_present};
-ghost use Rattle.acc_present.specs.Tables.{entry_presence};
+ghost use Rattle.acc_present.specs.Tables.{entry_mark, entry_presence, presences_after};
 ghost use Rattle.acc_place.specs.Accepting.{refusal};
-ghost use Rattle.acc_place.specs.Batches.{answer_of};
+ghost use Rattle.acc_place.specs.Batches.{answer_of, is_answered};
 ghost use Rattle.acc_place.specs.Places.{IsRoomy, is_synchronous, nth_batch, sync};
 ghost use Rattle.acc_place.specs.Plans.{standing_in, IsRefusal, IsPlanOf, Fits, place_after};
-ghost use Rattle.acc_place.specs.Standings.{walk_of};
-ghost use Rattle.acc_place.specs.Walks.{holding, holding_after, holding_after_all, CanMark, HasRoomFor, AllFine};
+ghost use Rattle.acc_place.specs.Standings.{change_by, walk_of};
+ghost use Rattle.acc_place.specs.Walks.{holding, holding_after, holding_after_all, opened_after, CanEnter, CanMark, HasRoomFor, AllEntered, AllFine};
 
-use crate::directive::{Directive, Item, Kind, MAX_ITEMS, PlaceEntry, Placed};
+use crate::directive::{Directive, Item, Kind, MAX_ITEMS, PlaceEntry, Placed, Region};
 use crate::judge::{Marked, judge, limit_of};
 use crate::plan::{Plan, plan_of};
+use crate::regions::{items_of, settle};
 use acc_base::{BlockId, Config, DeviceId, Fault, HostId, QueueAt, QueueId, Range};
 use acc_batch::Label;
-use acc_present::{Counter, Draft, Entered, Entry, Look, Table};
+use acc_present::{Counter, Draft, Entered, Entry, Table};
 use std::alloc::Global;
 use std::marker::Model;
 
-/// Where directives are judged and accepted: the device's table, and the place history with its counts and labels.
+/// Where directives are judged and accepted: the device's table, the data constructs that the hosts are inside, and the
+/// place history with its counts and labels.
 #[derive(Drop)]
 pub struct Place {
     alloc: Global,
@@ -29,6 +31,8 @@ pub struct Place {
     table: Table,
     history: Vec<PlaceEntry>,
     counts: Vec<u64>,
+    // the data constructs that the hosts are inside, the latest first
+    regions: Vec<Region>,
     labels: Vec<Label>,
     // how many lifetimes have been opened
     opened: u64,
@@ -40,7 +44,7 @@ pub struct Place {
 }
 
 impl Model for Place {
-    ghost use Rattle.std.specs.Prelude.{reverse, vec_len, vec_capacity};
+    ghost use Rattle.std.specs.Prelude.{All, not, reverse, vec_len, vec_capacity};
     ghost use Rattle.acc_place.specs.Plans.{PlaceView};
     ghost use Rattle.acc_place.specs.Places.{IsPlace, HasRooms};
 
@@ -49,8 +53,8 @@ impl Model for Place {
     ghost view = { λ w. record { config = w.config; history = reverse w.history.items; counts = reverse w.counts.items; is_ready = w.is_ready } };
 
     ghost invariant = { λ w.
-        IsPlace (record { config = w.config; history = reverse w.history.items; counts = reverse w.counts.items; is_ready = w.is_ready }) w.table w.opened w.labels.items
-        × HasRooms w.is_ready w.table (vec_len w.history) (vec_capacity w.history) (vec_len w.counts) (vec_capacity w.counts) (vec_len w.labels) (vec_capacity w.labels) w.draft.room (vec_capacity w.steps) };
+        IsPlace (record { config = w.config; history = reverse w.history.items; counts = reverse w.counts.items; is_ready = w.is_ready }) w.table w.opened w.regions.items w.labels.items
+        × HasRooms w.is_ready w.table (vec_len w.history) (vec_capacity w.history) (vec_len w.counts) (vec_capacity w.counts) (vec_len w.regions) (vec_capacity w.regions) (vec_len w.labels) (vec_capacity w.labels) w.draft.room (vec_capacity w.steps) };
 }
 
 impl Place {
@@ -75,6 +79,7 @@ impl Place {
             table,
             history: Vec::new(alloc),
             counts: Vec::new(alloc),
+            regions: Vec::new(alloc),
             labels: Vec::new(alloc),
             opened: 0,
             draft,
@@ -99,16 +104,24 @@ impl Place {
         ensures config { self.new.config ≡ self.old.config }
         ensures history { self.new.history ≡ self.old.history }
         ensures counts { self.new.counts ≡ self.old.counts }
-        ensures refused { IfErr result (λ fault. IsRefusal (refusal self.old.config (standing_in self.old) directive.now) fault) }
+        ensures ready { self.old.is_ready ≡ true → self.new.is_ready ≡ true }
+        ensures refused { IfErr result (λ fault. IsRefusal (refusal self.old.config (standing_in self.old) host directive.now) fault) }
         ensures plan { IfOk result (λ q. (q.host ≡ host) × (q.items_done ≡ items_done) × (q.directive ≡ directive.now)) }
         ensures fits { IfOk result (λ q. Fits self.new q × IsPlanOf self.new q) }
         ensures batch { IfOk result (λ q. q.batch ≡ q.label) }
     {
-        if let Some(fault) = limit_of(&self.config, self.history.len(), directive) {
+        let items = items_of(self.regions.as_slice(), host, directive);
+        let limit = limit_of(
+            &self.config,
+            self.history.len(),
+            self.regions.as_slice(),
+            host,
+            directive,
+            items.len(),
+        );
+        if let Some(fault) = limit {
             return Err(fault);
         }
-        self.table.keeps_order();
-        let items = directive.items.as_slice();
         let opened = self.opened;
         let found = judge(
             &self.table,
@@ -136,6 +149,7 @@ impl Place {
             &mut self.table,
             &mut self.history,
             &mut self.counts,
+            &mut self.regions,
             &mut self.labels,
         )?;
         self.is_ready = true;
@@ -146,23 +160,21 @@ impl Place {
     pub fn accept(&mut self, plan: Plan) -> Placed
         requires { Fits self.old plan }
         ensures place { self.new ≡ place_after self.old plan }
-        ensures answer { result ≡ answer_of (standing_in self.old) (walk_of plan.directive) }
+        ensures answer { result ≡ answer_of (standing_in self.old) plan.directive (walk_of (standing_in self.old) plan.host plan.directive) }
     {
         let Plan {
             host,
             items_done,
             directive,
+            region,
             label,
             ..
         } = plan;
-        self.table.keeps_order();
+        let items = items_of(self.regions.as_slice(), host, &directive);
+        let present = is_answered(&self.table, directive.kind, items);
         let opened = self.opened;
-        self.opened = mark_all(
-            &mut self.table,
-            directive.kind,
-            directive.items.as_slice(),
-            opened,
-        );
+        self.opened = mark_all(&mut self.table, directive.kind, items, opened);
+        settle(&mut self.regions, host, &directive, region);
         self.history
             .push_reserved(PlaceEntry::Accepted { host, directive });
         self.counts.push_reserved(items_done);
@@ -171,7 +183,7 @@ impl Place {
         Placed {
             batch,
             counts: [0; 8],
-            present: false,
+            present,
         }
     }
 
@@ -273,18 +285,30 @@ fn sync_queue() -> QueueAt
     }
 }
 
+// The answer of `acc_is_present`, and of no other directive.
+fn is_answered(table: &Table, kind: Kind, items: &[Item]) -> bool
+    requires cells { All (λ i. 0 < i.range.len) items.now }
+    ensures { result ≡ is_answered kind table.now.presences items.now }
+{
+    kind == Kind::IsPresent
+        && items
+            .iter()
+            .all(|item| table.counters(item.range).is_some())
+}
+
 // Leaves the items' marks in the table, and says how many lifetimes have been opened then.
 fn mark_all(table: &mut Table, kind: Kind, items: &[Item], opened: u64) -> u64
     requires fine { AllFine table.old.capacity kind (holding table.old.presences opened) items.now }
+    requires entered { AllEntered (change_by kind) (holding table.old.presences opened) items.now }
     requires room { HasRoomFor (length items.now) table.old opened }
-    ensures holding { holding table.new.presences result ≡ holding_after_all kind (holding table.old.presences opened) items.now }
+    ensures holding { holding table.new.presences result ≡ holding_after_all (change_by kind) (holding table.old.presences opened) items.now }
     ensures capacity { table.new.capacity ≡ table.old.capacity }
     ensures room { table.new.room ≡ table.old.room }
 {
     match items {
         [] => opened,
         [first, rest @ ..] => {
-            let next = opened_by(table, kind, first.range, opened);
+            let next = mark(table, kind, first.range, opened);
             mark_all(table, kind, rest, next)
         }
     }
@@ -292,23 +316,46 @@ fn mark_all(table: &mut Table, kind: Kind, items: &[Item], opened: u64) -> u64
 
 // Leaves one mark in the table, and says how many lifetimes have been opened then.
 #[tactic(auto, unfolding(crate::specs::Walks::holding_after))]
-fn opened_by(table: &mut Table, kind: Kind, range: Range, opened: u64) -> u64
-    requires can { CanMark kind range table.old.presences table.old.capacity }
+fn mark(table: &mut Table, kind: Kind, range: Range, opened: u64) -> u64
+    requires can { CanMark (change_by kind) range table.old.presences table.old.capacity }
     requires room { length table.old.presences < table.old.room }
     requires few { opened < COUNTER_LIMIT }
-    ensures holding { holding table.new.presences result ≡ holding_after kind range (holding table.old.presences opened) }
+    ensures holding { holding table.new.presences result ≡ holding_after (change_by kind) range (holding table.old.presences opened) }
     ensures capacity { table.new.capacity ≡ table.old.capacity }
     ensures room { table.new.room ≡ table.old.room }
 {
     match kind {
-        Kind::EnterData => match table.enter(range, Counter::Dynamic, BlockId::new(opened + 1)) {
-            Entered::Counted => opened,
-            Entered::Opened => opened + 1,
-        },
-        Kind::ExitData => {
+        Kind::Data => enter(table, range, Counter::Structured, opened),
+        Kind::EnterData => enter(table, range, Counter::Dynamic, opened),
+        Kind::EndData => {
+            let _ = table.leave(range, Counter::Structured);
+            opened
+        }
+        Kind::ExitData { finalize: false } => {
             let _ = table.leave(range, Counter::Dynamic);
             opened
         }
+        Kind::ExitData { finalize: true } => {
+            let _ = table.finalize(range);
+            opened
+        }
+        Kind::Update { .. } | Kind::IsPresent => opened,
+    }
+}
+
+// Enters a range in the table, and says how many lifetimes have been opened then.
+fn enter(table: &mut Table, range: Range, counter: Counter, opened: u64) -> u64
+    requires can { CanEnter counter range table.old.presences table.old.capacity }
+    requires room { length table.old.presences < table.old.room }
+    requires few { opened < COUNTER_LIMIT }
+    ensures presences { table.new.presences ≡ presences_after (entry_mark counter range) (opened + 1) table.old.presences }
+    ensures capacity { table.new.capacity ≡ table.old.capacity }
+    ensures room { table.new.room ≡ table.old.room }
+    ensures result { result ≡ opened_after (not (is_present table.old.presences range)) opened }
+{
+    match table.enter(range, counter, BlockId::new(opened + 1)) {
+        Entered::Counted => opened,
+        Entered::Opened => opened + 1,
     }
 }
 
@@ -334,6 +381,7 @@ fn make_room(
     table: &mut Table,
     history: &mut Vec<PlaceEntry>,
     counts: &mut Vec<u64>,
+    regions: &mut Vec<Region>,
     labels: &mut Vec<Label>,
 ) -> Result<(), Fault>
     ensures presences { table.new.presences ≡ table.old.presences }
@@ -343,13 +391,16 @@ fn make_room(
     ensures history_room { vec_capacity history.old ≤ vec_capacity history.new }
     ensures counts { counts.new.items ≡ counts.old.items }
     ensures counts_room { vec_capacity counts.old ≤ vec_capacity counts.new }
+    ensures regions { regions.new.items ≡ regions.old.items }
+    ensures regions_room { vec_capacity regions.old ≤ vec_capacity regions.new }
     ensures labels { labels.new.items ≡ labels.old.items }
     ensures labels_room { vec_capacity labels.old ≤ vec_capacity labels.new }
-    ensures ok { OnOk result (IsRoomy table.new (vec_len history.new) (vec_capacity history.new) (vec_len counts.new) (vec_capacity counts.new) (vec_len labels.new) (vec_capacity labels.new)) }
+    ensures ok { OnOk result (IsRoomy table.new (vec_len history.new) (vec_capacity history.new) (vec_len counts.new) (vec_capacity counts.new) (vec_len regions.new) (vec_capacity regions.new) (vec_len labels.new) (vec_capacity labels.new)) }
     ensures fault { IfErr result (λ fault. fault ≡ Memory) }
 {
     history.reserve(1)?;
     counts.reserve(1)?;
+    regions.reserve(1)?;
     labels.reserve(1)?;
     table.spare(MAX_ITEMS)?;
     Ok(())

@@ -1,11 +1,14 @@
-ghost use Rattle.std.specs.Prelude.{◌≡◌, ◌++◌, ◌==◌, length, IfOk, IfErr, OnOk, IsTrue};
+ghost use Rattle.std.specs.Prelude.{◌≡◌, ◌++◌, ◌==◌, if◌then◌else◌, length, IfOk, IfErr, OnOk, IsTrue, Some, None};
 ghost use Rattle.std.specs.List.{flat_map};
-ghost use Rattle.acc_place.specs.Plans.{Fits, IsPlanOf, label_for};
-ghost use Rattle.acc_place.specs.Walks.{block_in, op_for, group_ops, marked_ops};
+ghost use Rattle.acc_batch.specs.declared.operation.Op.TheVariants as op;
+ghost use Rattle.acc_place.specs.Batches.{copies_in, copies_out};
+ghost use Rattle.acc_place.specs.Plans.{Fits, IsPlanOf, label_for, opened_region};
+ghost use Rattle.acc_place.specs.Walks.{block_of, op_of, op_for, update_for, group_ops, marked_ops};
 
-use crate::directive::{Clause, Directive};
+use crate::directive::{Clause, Directive, Region};
 use crate::judge::Marked;
 use crate::place::Place;
+use crate::regions::opened_by;
 use acc_base::{BlockId, Fault, HostId, Listed, QueueAt, Range};
 use acc_batch::{Batch, Label, Op};
 use std::alloc::Global;
@@ -16,6 +19,7 @@ use std::marker::Model;
 pub enum Group {
     Makes,
     CopyIns,
+    Updates,
     CopyOuts,
     Releases,
 }
@@ -26,6 +30,7 @@ pub struct Plan {
     pub host: HostId,
     pub items_done: u64,
     pub directive: Directive,
+    pub region: Option<Region>,
     pub label: Option<Label>,
     pub batch: Option<Batch>,
     // how many entries the place history had
@@ -37,7 +42,7 @@ impl Model for Plan {
 
     ghost Value = { PlanView };
 
-    ghost view = { λ q. record { host = q.host; items_done = q.items_done; directive = q.directive; label = q.label; batch = q.batch; stamp = q.stamp } };
+    ghost view = { λ q. record { host = q.host; items_done = q.items_done; directive = q.directive; region = q.region; label = q.label; batch = q.batch; stamp = q.stamp } };
 }
 
 impl Plan {
@@ -72,10 +77,12 @@ pub fn plan_of(
 ) -> Result<Plan, Fault>
     ensures host { IfOk result (λ q. (q.host ≡ host) × (q.items_done ≡ items_done) × (q.stamp ≡ stamp)) }
     ensures directive { IfOk result (λ q. q.directive ≡ directive.now) }
+    ensures region { IfOk result (λ q. q.region ≡ opened_region host directive.now directive.now.kind) }
     ensures label { IfOk result (λ q. q.label ≡ label_for at number host items_done (marked_ops steps.now)) }
     ensures batch { IfOk result (λ q. q.batch ≡ q.label) }
     ensures fault { IfErr result (λ fault. fault ≡ Fault.Memory) }
 {
+    let region = opened_by(alloc, host, directive)?;
     let directive = directive.try_clone(alloc)?;
     let ops = ops_of(alloc, steps)?;
     if ops.is_empty() {
@@ -83,6 +90,7 @@ pub fn plan_of(
             host,
             items_done,
             directive,
+            region,
             label: None,
             batch: None,
             stamp,
@@ -101,6 +109,7 @@ pub fn plan_of(
         host,
         items_done,
         directive,
+        region,
         label: Some(label),
         batch: Some(batch),
         stamp,
@@ -116,6 +125,7 @@ fn ops_of(alloc: Global, steps: &[Marked]) -> Result<Vec<Op>, Fault>
     let mut ops = Vec::new(alloc);
     add_group(Group::Makes, steps, &mut ops)?;
     add_group(Group::CopyIns, steps, &mut ops)?;
+    add_group(Group::Updates, steps, &mut ops)?;
     add_group(Group::CopyOuts, steps, &mut ops)?;
     add_group(Group::Releases, steps, &mut ops)?;
     Ok(ops)
@@ -137,40 +147,83 @@ fn add_op(group: Group, step: Marked, ops: &mut Vec<Op>) -> Result<(), Fault>
     ensures ops { OnOk result (ops.new.items ≡ ops.old.items ++ group_ops group step) }
     ensures fault { IfErr result (λ fault. fault ≡ Fault.Memory) }
 {
-    match block_for(group, step) {
+    match op_of(group, step) {
         None => Ok(()),
-        Some(block) => {
-            ops.push(op_for(group, BlockId::new(block), step.item.range))?;
+        Some(op) => {
+            ops.push(op)?;
             Ok(())
         }
     }
 }
 
-// The block that the step's operation of this group is for.
-fn block_for(group: Group, step: Marked) -> Option<u64>
-    ensures { result ≡ block_in group step }
+// The step's operation of this group, if it has one.
+fn op_of(group: Group, step: Marked) -> Option<Op>
+    ensures { result ≡ op_of group step }
 {
-    match group {
-        Group::Makes => step.opened,
-        Group::CopyIns => match step.item.clause {
-            Clause::Copyin => step.opened,
-            Clause::Copyout | Clause::Delete => None,
-        },
-        Group::CopyOuts => match step.item.clause {
-            Clause::Copyout => step.ended,
-            Clause::Copyin | Clause::Delete => None,
-        },
-        Group::Releases => step.ended,
+    match block_of(group, step) {
+        None => None,
+        Some(block) => op_for(
+            group,
+            step.item.clause,
+            BlockId::new(block),
+            step.item.range,
+        ),
     }
 }
 
-fn op_for(group: Group, block: BlockId, range: Range) -> Op
-    ensures { result ≡ op_for group block range }
+// The block that an operation of this group is for.
+fn block_of(group: Group, step: Marked) -> Option<u64>
+    ensures { result ≡ block_of group step }
 {
     match group {
-        Group::Makes => Op::Make { block, range },
-        Group::CopyIns => Op::CopyIn { block, range },
-        Group::CopyOuts => Op::CopyOut { block, range },
-        Group::Releases => Op::Release { block },
+        Group::Makes | Group::CopyIns => step.opened,
+        Group::Updates => step.held,
+        Group::CopyOuts | Group::Releases => step.ended,
+    }
+}
+
+fn op_for(group: Group, clause: Clause, block: BlockId, range: Range) -> Option<Op>
+    ensures { result ≡ op_for group clause block range }
+{
+    match group {
+        Group::Makes => Some(Op::Make { block, range }),
+        Group::CopyIns => copy_in_for(clause, block, range),
+        Group::Updates => update_for(clause, block, range),
+        Group::CopyOuts => copy_out_for(clause, block, range),
+        Group::Releases => Some(Op::Release { block }),
+    }
+}
+
+// The copy to a block that an item of this clause opened.
+fn copy_in_for(clause: Clause, block: BlockId, range: Range) -> Option<Op>
+    ensures { result ≡ (if copies_in clause then Some (op.CopyIn block range) else None) }
+{
+    match clause {
+        Clause::Copy | Clause::Copyin => Some(Op::CopyIn { block, range }),
+        Clause::Copyout | Clause::Create | Clause::Present | Clause::Delete => None,
+        Clause::UpdateSelf | Clause::UpdateDevice => None,
+    }
+}
+
+// The copy from a block that an item of this clause ended.
+fn copy_out_for(clause: Clause, block: BlockId, range: Range) -> Option<Op>
+    ensures { result ≡ (if copies_out clause then Some (op.CopyOut block range) else None) }
+{
+    match clause {
+        Clause::Copy | Clause::Copyout => Some(Op::CopyOut { block, range }),
+        Clause::Copyin | Clause::Create | Clause::Present | Clause::Delete => None,
+        Clause::UpdateSelf | Clause::UpdateDevice => None,
+    }
+}
+
+// The copy of an update, from or to the block that holds its range.
+fn update_for(clause: Clause, block: BlockId, range: Range) -> Option<Op>
+    ensures { result ≡ update_for clause block range }
+{
+    match clause {
+        Clause::UpdateSelf => Some(Op::CopyOut { block, range }),
+        Clause::UpdateDevice => Some(Op::CopyIn { block, range }),
+        Clause::Copy | Clause::Copyin | Clause::Copyout | Clause::Create => None,
+        Clause::Present | Clause::Delete => None,
     }
 }

@@ -18,7 +18,7 @@ use Rattle.acc_present.proofs.Orders.{table_parts, table_from}
 
 -- ## A table stays one
 
-range_after : (m : Mark) (p : Presence) → (presence_after m p).range ≡ p.range
+pub range_after : (m : Mark) (p : Presence) → (presence_after m p).range ≡ p.range
 range_after m p = elim (cases_Bool (inside p.range m)) [ inl hit ↦ rw hit refl | inr miss ↦ rw miss refl ]
 
 ends_before_all-kept : (a : Range) (m : Mark) (ps : List Presence) → ends_before_all a ps ≡ true → ends_before_all a (kept_after m ps) ≡ true

@@ -7,11 +7,15 @@ mod cells;
 #[cfg(test)]
 mod config;
 #[cfg(test)]
+mod directives;
+#[cfg(test)]
 mod draft;
 #[cfg(test)]
 mod fault;
 #[cfg(test)]
 mod refusal;
+#[cfg(test)]
+mod regions;
 #[cfg(test)]
 mod replay;
 #[cfg(test)]

@@ -9,33 +9,33 @@ use acc_core::{
 use std::alloc::{AllocError, Global};
 use std::test::Fail;
 
-fn sync() -> QueueAt {
+pub fn sync() -> QueueAt {
     QueueAt {
         device: DeviceId::new(0),
         queue: QueueId::SYNC,
     }
 }
 
-fn host() -> Event {
+pub fn host() -> Event {
     Event::Host(HostId::new(0))
 }
 
-fn take() -> Event {
+pub fn take() -> Event {
     Event::Take(sync())
 }
 
-fn perform() -> Event {
+pub fn perform() -> Event {
     Event::Perform(sync())
 }
 
-fn cells(lo: u32, len: u32) -> Range
+pub fn cells(lo: u32, len: u32) -> Range
     ensures { result.len ≡ len }
 {
     Range { array: 0, lo, len }
 }
 
 // A directive without an async clause and a wait clause.
-fn synchronous(kind: Kind, items: Vec<Item>) -> Directive {
+pub fn synchronous(kind: Kind, items: Vec<Item>) -> Directive {
     Directive {
         device: DeviceId::new(0),
         default: ASYNC_NOVAL,
@@ -63,12 +63,12 @@ fn place(
     ))
 }
 
-fn statement(line: u32, act: Act) -> Statement {
+pub fn statement(line: u32, act: Act) -> Statement {
     Statement { line, act }
 }
 
 // One host with these statements, and one array with these opening values.
-fn world_of(
+pub fn world_of(
     alloc: Global,
     array: Vec<i64>,
     capacity: u64,
@@ -87,7 +87,7 @@ fn world_of(
 }
 
 // What a host's print showed.
-fn printed(entry: Option<&WorkEntry>) -> Option<&[i64]> {
+pub fn printed(entry: Option<&WorkEntry>) -> Option<&[i64]> {
     match entry {
         Some(
             WorkEntry::Item {
@@ -100,7 +100,7 @@ fn printed(entry: Option<&WorkEntry>) -> Option<&[i64]> {
 }
 
 // The operation of an entry.
-fn performed(entry: Option<&WorkEntry>) -> Option<Op> {
+pub fn performed(entry: Option<&WorkEntry>) -> Option<Op> {
     match entry {
         Some(WorkEntry::Op { what, .. }) => Some(*what),
         _ => None,
@@ -118,7 +118,13 @@ fn entered_twice_and_left_once(rt: HostRuntime) -> Result<(), Fail> {
         vec![in alloc;
             place(alloc, 3, Kind::EnterData, Clause::Copyin, all)?,
             place(alloc, 4, Kind::EnterData, Clause::Copyin, all)?,
-            place(alloc, 5, Kind::ExitData, Clause::Delete, all)?,
+            place(
+                alloc,
+                5,
+                Kind::ExitData { finalize: false },
+                Clause::Delete,
+                all
+            )?,
         ]?,
     )?;
     let replies = world.run(&[
@@ -232,7 +238,13 @@ fn a_copy_out_brings_back_what_the_device_holds(rt: HostRuntime) -> Result<(), F
                 }
             ),
             statement(5, Act::Print { range: all }),
-            place(alloc, 6, Kind::ExitData, Clause::Copyout, all)?,
+            place(
+                alloc,
+                6,
+                Kind::ExitData { finalize: false },
+                Clause::Copyout,
+                all
+            )?,
             statement(7, Act::Print { range: all }),
         ]?,
     )?;
@@ -351,7 +363,7 @@ fn three_hundred_rounds_of_sixteen_ranges(rt: HostRuntime) -> Result<(), Fail> {
         let kind = if round % 2 == 0 {
             Kind::EnterData
         } else {
-            Kind::ExitData
+            Kind::ExitData { finalize: false }
         };
         statements.push(statement(
             round,
@@ -412,7 +424,13 @@ fn memory_is_refused_to_each_call_that_takes_it(rt: HostRuntime) -> Result<(), F
         4,
         vec![in alloc;
             place(alloc, 3, Kind::EnterData, Clause::Copyin, all)?,
-            place(alloc, 4, Kind::ExitData, Clause::Copyout, all)?,
+            place(
+                alloc,
+                4,
+                Kind::ExitData { finalize: false },
+                Clause::Copyout,
+                all
+            )?,
         ]?,
     )?;
     let mut hoard = Hoard::new(alloc)?;

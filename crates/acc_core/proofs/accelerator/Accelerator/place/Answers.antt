@@ -1,4 +1,4 @@
-use Rattle.std.proofs.Common.{◌≡◌, ◌+◌, ◌<◌, ◌≤◌, Some, None, length, refl, sym, ap, ◌∙◌, arith, deque_capacity}
+use Rattle.std.proofs.Common.{◌≡◌, ◌+◌, ◌<◌, ◌≤◌, length, refl, ap, ◌∙◌, arith, deque_capacity}
 use Rattle.std.proofs.lemmas.List.{length-map}
 use Rattle.std.proofs.lemmas.Result.{err_from_is_err_and}
 use Rattle.acc_batch.specs.Tasks.{op_of}
@@ -7,7 +7,7 @@ use Rattle.acc_base.specs.declared.fault.Fault.TheVariants.{Memory}
 use Rattle.acc_core.specs.Machine.{standing_of}
 use Rattle.acc_place.specs.Plans.{label_in}
 use Rattle.acc_place.specs.Standings.{walk_of}
-use Rattle.acc_core.proofs.Placing.{IsPlanned, planned, batch_empty, batch_placed, acts_on_sync, keeps_empty, keeps_batch, places_empty, places_full, places_batch, places_memory}
+use Rattle.acc_core.proofs.Placing.{planned, batch_empty, batch_placed, acts_on_sync, keeps_empty, keeps_batch, places_full, places_batch, places_memory}
 use Rattle.acc_core.proofs.accelerator.Accelerator.place.Goals as goal
 
 pub invariant_of-self-in-None : goal.invariant_of-self-in-None
@@ -29,11 +29,11 @@ returns-then-len-room c =
     let e = c.in_ok-plan.ensures in
     let items = c.items_of-items_done.result in
     let facts = planned i.place c.plan.new.self c.in_ok-plan.plan c.args.host items d e.config e.history e.counts e.fits.0 e.plan.0 e.plan.1 e.plan.2 in
-    let named = c.in-Some.ensures.batch ∙ (e.batch ∙ (facts.labelled ∙ ap (λ n. label_in (standing_of (the_view i)) c.args.host n (walk_of d)) c.items_of-items_done.ensures)) in
-    let placed = batch_placed (the_view i) c.args.host d c.in-Some.batch (acts_on_sync (the_view i) d c.self.invariant.one_device facts.accepted) named in
+    let named = c.in-Some.ensures.batch ∙ (e.batch ∙ (facts.labelled ∙ ap (λ n. label_in (standing_of (the_view i)) c.args.host n (walk_of (standing_of (the_view i)) c.args.host d)) c.items_of-items_done.ensures)) in
+    let placed = batch_placed (the_view i) c.args.host d c.in-Some.batch (acts_on_sync (the_view i) c.args.host d c.self.invariant.one_device c.self.invariant.legal facts.accepted) named in
     let room = c.room.ensures ∙ (ap (λ x. x.room) c.config.ensures ∙ ap (λ x. x.room) e.config) in
     let full : length i.queue.items ≡ i.place.config.room = omega (arith, i.queue.ok.0, c.len.ensures, c.if-len-room.true, room, c.self.invariant.held_low) in
-    rw (← c.self.view_is) (places_full (the_view i) _ i.work i.queue.items i.taken i.waiting c.args.host d c.self.invariant.parts c.self.invariant.one_device facts.accepted placed.some full
+    rw (← c.self.view_is) (places_full (the_view i) _ i.work i.queue.items i.taken i.waiting c.args.host d c.self.invariant.parts c.self.invariant.one_device c.self.invariant.legal facts.accepted placed.some full
     (rw (e.config, e.history, e.counts) refl))
 
 pub returns-in-None-checked_add : goal.returns-in-None-checked_add
@@ -62,7 +62,7 @@ invariant_of-self-in-Some c =
     let s = c.in_ok-spare-in-Some.ensures in
     let b = c.push_back_reserved.ensures in
     let facts = planned i.place c.plan.new.self c.in_ok-plan.plan c.args.host c.items_of-items_done.result d e.config e.history e.counts e.fits.0 e.plan.0 e.plan.1 e.plan.2 in
-    let named = c.in-Some.ensures.batch ∙ (e.batch ∙ (facts.labelled ∙ ap (λ n. label_in (standing_of (the_view i)) c.args.host n (walk_of d)) c.items_of-items_done.ensures)) in
+    let named = c.in-Some.ensures.batch ∙ (e.batch ∙ (facts.labelled ∙ ap (λ n. label_in (standing_of (the_view i)) c.args.host n (walk_of (standing_of (the_view i)) c.args.host d)) c.items_of-items_done.ensures)) in
     let more : c.in-Some-checked_add.waiting ≡ i.waiting + length c.in-Some.batch.ops =
     omega (arith, c.in-Some-checked_add.ensures, c.len-in-Some.ensures, c.ops.result.now.ok.0, ap length c.ops.ensures.ops, length-map c.ops.result.now.items op_of) in
     let log : length i.work.work + c.in-Some-checked_add.waiting ≤ c.spare.new.self.room = rw (← s.kept.work) s.log in
@@ -81,11 +81,11 @@ returns-in_ok-spare-in-Some c =
     let e = c.in_ok-plan.ensures in
     let s = c.in_ok-spare-in-Some.ensures in
     let facts = planned i.place c.plan.new.self c.in_ok-plan.plan c.args.host c.items_of-items_done.result d e.config e.history e.counts e.fits.0 e.plan.0 e.plan.1 e.plan.2 in
-    let named = c.in-Some.ensures.batch ∙ (e.batch ∙ (facts.labelled ∙ ap (λ n. label_in (standing_of (the_view i)) c.args.host n (walk_of d)) c.items_of-items_done.ensures)) in
-    let placed = batch_placed (the_view i) c.args.host d c.in-Some.batch (acts_on_sync (the_view i) d c.self.invariant.one_device facts.accepted) named in
+    let named = c.in-Some.ensures.batch ∙ (e.batch ∙ (facts.labelled ∙ ap (λ n. label_in (standing_of (the_view i)) c.args.host n (walk_of (standing_of (the_view i)) c.args.host d)) c.items_of-items_done.ensures)) in
+    let placed = batch_placed (the_view i) c.args.host d c.in-Some.batch (acts_on_sync (the_view i) c.args.host d c.self.invariant.one_device c.self.invariant.legal facts.accepted) named in
     let room = c.room.ensures ∙ (ap (λ x. x.room) c.config.ensures ∙ ap (λ x. x.room) e.config) in
     let low : length i.queue.items < i.place.config.room = omega (arith, i.queue.ok.0, c.len.ensures, c.if-len-room.false, room) in
     let fits = λ (full : length i.queue.items ≡ i.place.config.room). absurd (omega (arith, low, full)) in
-    rw (← c.self.view_is) (places_batch (the_view i) _ i.work i.queue.items i.taken i.waiting c.args.host d c.accept-placed.result c.self.invariant.parts c.self.invariant.one_device facts.accepted placed.some fits
-    (rw (c.in-Some.ensures.plan, e.history, e.counts, e.plan.2) at c.accept-placed.ensures.answer)
+    rw (← c.self.view_is) (places_batch (the_view i) _ i.work i.queue.items i.taken i.waiting c.args.host d c.accept-placed.result c.self.invariant.parts c.self.invariant.one_device c.self.invariant.legal facts.accepted placed.some fits
+    (rw (c.in-Some.ensures.plan, e.history, e.counts, e.plan.0, e.plan.2) at c.accept-placed.ensures.answer)
     (rw (c.accept-placed.ensures.place, c.in-Some.ensures.plan, e.config, e.history, e.counts, e.plan.0, e.plan.1, e.plan.2, c.items_of-items_done.ensures, s.kept.work) refl))

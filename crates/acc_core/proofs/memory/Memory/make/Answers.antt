@@ -2,7 +2,6 @@ use Rattle.std.proofs.Common.{◌≡◌, ◌<◌, map, ap, ◌∙◌, arith}
 use Rattle.std.specs.Prelude.{insert}
 use Rattle.std.specs.Vec.{vec_len, vec_capacity}
 use Rattle.std.proofs.lemmas.List.{length-map}
-use Rattle.acc_batch.specs.declared.task.Block.{Block}
 use Rattle.acc_batch.specs.declared.operation.Op.TheVariants.{Make}
 use Rattle.acc_core.specs.Blocks.{row_of}
 use Rattle.acc_core.specs.Memories.{place_of}

@@ -1,22 +1,11 @@
 -- The first fault of a directive, computed: which item it is of, what comes before the items, and where the limits are.
-use Rattle.std.specs.Prelude.{◌≡◌, ℕ, ◌-◌, List, [], ◌∷◌, replicate, Option, Some, None, pos}
-use Rattle.acc_base.specs.declared.fault.Fault.{Fault}
+use Rattle.std.specs.Prelude.{◌≡◌, ℕ, ◌-◌, List, [], ◌∷◌, replicate, Some, None}
 use Rattle.acc_base.specs.declared.fault.Fault.TheVariants.{BadDevice, BadRange, TooMany, PartlyPresent, DeviceFull}
-use Rattle.acc_base.specs.Configurations.{Configuration, configuration}
-use Rattle.acc_place.specs.declared.directive.Directive.{Directive}
 use Rattle.acc_place.specs.declared.directive.TheConstants.{MAX_DIRECTIVES}
 use Rattle.acc_place.specs.Accepting.{refusal}
-use Rattle.acc_core.specs.BatchExamples.{copyin, copyout, standing_after, first_four}
-use Rattle.acc_core.specs.Examples.{cells}
+use Rattle.acc_place.specs.Examples.{small, cells, first_four, copyin, copyout, fault_after}
 use Rattle.acc_place.specs.Histories.{at_first}
 use Rattle.acc_place.specs.Standings.{Standing}
-
--- one array of eight cells, and a device of six
-abbrev pub small : Configuration
-small = configuration 1 1 (replicate 8 (pos 0) ∷ []) 6 64
-
-abbrev pub fault_after : List Directive → Directive → Option Fault
-fault_after ds d = refusal small (standing_after ds) d
 
 -- An earlier item's fault comes before a later one's, whichever they are.
 abbrev pub EarlierItemFirst : Type 0
@@ -37,7 +26,7 @@ abbrev pub LimitsFirst : Type 0
 LimitsFirst =
     (fault_after [] (copyin (replicate 16 (cells 0 1))) ≡ None)
     × (fault_after [] (copyin (replicate 17 (cells 8 1))) ≡ Some TooMany)
-    × (refusal small at_first (record (copyin (replicate 17 (cells 8 1))) { device = 1 }) ≡ Some BadDevice)
+    × (refusal small at_first 0 (record (copyin (replicate 17 (cells 8 1))) { device = 1 }) ≡ Some BadDevice)
 
 -- so many directives were accepted, and nothing is present
 abbrev pub accepted_before : ℕ → Standing
@@ -45,8 +34,8 @@ accepted_before n = record at_first { accepted = n }
 
 abbrev pub LastDirective : Type 0
 LastDirective =
-    (refusal small (accepted_before (MAX_DIRECTIVES - 1)) first_four ≡ None)
-    × (refusal small (accepted_before MAX_DIRECTIVES) first_four ≡ Some TooMany)
+    (refusal small (accepted_before (MAX_DIRECTIVES - 1)) 0 first_four ≡ None)
+    × (refusal small (accepted_before MAX_DIRECTIVES) 0 first_four ≡ Some TooMany)
 
 -- A range without cells, one past its array, one past every number of 32 bits, and one of an array that isn't there.
 abbrev pub RangesOutside : Type 0

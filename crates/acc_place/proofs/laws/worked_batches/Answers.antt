@@ -5,7 +5,7 @@ use Rattle.acc_present.specs.Presences.{presences}
 use Rattle.acc_place.specs.Batches.{batch_of, answer_of}
 use Rattle.acc_place.specs.Histories.{standing}
 use Rattle.acc_place.specs.Standings.{walk_of}
-use Rattle.acc_core.proofs.laws.worked_batches.Goals as goal
+use Rattle.acc_place.proofs.laws.worked_batches.Goals as goal
 
 pub returns-clause-groups : goal.returns-clause-groups
 unfolding standing walk_of batch_of answer_of presences live opened is_before range_contains range_overlaps
@@ -26,11 +26,3 @@ returns-clause-enters c = refl
 pub returns-clause-empty : goal.returns-clause-empty
 unfolding standing walk_of batch_of answer_of presences live opened is_before range_contains range_overlaps
 returns-clause-empty c = (refl, refl)
-
-pub returns-clause-middle : goal.returns-clause-middle
-unfolding standing walk_of batch_of answer_of presences live opened is_before range_contains range_overlaps
-returns-clause-middle c = (refl, refl, refl)
-
-pub returns-clause-seen : goal.returns-clause-seen
-unfolding standing walk_of batch_of answer_of presences live opened is_before range_contains range_overlaps
-returns-clause-seen c = (refl, refl)

@@ -6,7 +6,7 @@ use Rattle.acc_place.specs.Accepting.{refusal}
 use Rattle.acc_place.specs.Batches.{batch_of}
 use Rattle.acc_place.specs.Histories.{standing}
 use Rattle.acc_place.specs.Standings.{walk_of}
-use Rattle.acc_core.proofs.laws.worked_refusals.Goals as goal
+use Rattle.acc_place.proofs.laws.worked_refusals.Goals as goal
 
 pub returns-clause-items : goal.returns-clause-items
 unfolding standing walk_of batch_of refusal presences live opened is_before range_contains range_overlaps

@@ -1,0 +1,47 @@
+-- Counts of performed batches, and prints, computed on short histories.
+use Rattle.std.specs.Prelude.{◌≡◌, List, [], ◌∷◌, map, ℤ, pos}
+use Rattle.acc_base.specs.declared.ids.QueueAt.{QueueAt}
+use Rattle.acc_batch.specs.declared.operation.Op.TheVariants.{Make, CopyIn, CopyOut}
+use Rattle.acc_batch.specs.Labels.{whole}
+use Rattle.acc_core.specs.declared.log.Shown.TheVariants.{Write}
+use Rattle.acc_core.specs.declared.log.WorkEntry.{WorkEntry}
+use Rattle.acc_core.specs.declared.log.WorkEntry.TheVariants as entry
+use Rattle.acc_core.specs.Logs.{value, values_of, done}
+use Rattle.acc_core.specs.Works.{sync}
+use Rattle.acc_place.specs.Examples.{cells, first_four, copyin, after}
+use Rattle.acc_place.specs.Standings.{Standing}
+
+-- two batches of two operations each
+abbrev pub two_batches : Standing
+two_batches = after (copyin (cells 4 2 ∷ []) ∷ first_four ∷ [])
+
+-- the first three of them performed
+abbrev pub three_performed : List WorkEntry
+three_performed =
+    entry.Op sync (Make 2 (cells 4 2)) ∷ entry.Op sync (CopyIn 1 (cells 0 4)) ∷ entry.Op sync (Make 1 (cells 0 4)) ∷ []
+
+abbrev pub noval : QueueAt
+noval = record { device = 0; queue = 1 }
+
+-- a batch counts as performed from its last operation on, and on its own queue
+abbrev pub MiddleOfABatch : Type 0
+MiddleOfABatch =
+    (map (whole two_batches.labels) (0 ∷ 1 ∷ 2 ∷ 3 ∷ 4 ∷ []) ≡ 0 ∷ 0 ∷ 1 ∷ 1 ∷ 2 ∷ [])
+    × (done two_batches.labels three_performed sync ≡ 1)
+    × (done two_batches.labels three_performed noval ≡ 0)
+
+abbrev pub four_values : List (List ℤ)
+four_values = (pos 1 ∷ pos 2 ∷ pos 3 ∷ pos 4 ∷ []) ∷ []
+
+-- cells 0 to 3 were copied in, and then the host wrote cells 0 and 1
+abbrev pub written : List WorkEntry
+written =
+    entry.Item 0 (Write 0 1 (pos 9)) ∷ entry.Item 0 (Write 0 0 (pos 8))
+    ∷ entry.Op sync (CopyIn 1 (cells 0 4)) ∷ entry.Op sync (Make 1 (cells 0 4)) ∷ []
+
+-- a print before a copy out shows the host's values, and one behind it the device's, in the cells that were copied
+abbrev pub CopyOutIsSeen : Type 0
+CopyOutIsSeen =
+    (values_of (value four_values written) (cells 0 4) ≡ pos 8 ∷ pos 9 ∷ pos 3 ∷ pos 4 ∷ [])
+    × (values_of (value four_values (entry.Op sync (CopyOut 1 (cells 1 2)) ∷ written)) (cells 0 4)
+    ≡ pos 8 ∷ pos 2 ∷ pos 3 ∷ pos 4 ∷ [])

@@ -1,0 +1,456 @@
+-- What the open regions have entered: it is present, and counted, through each walk.
+use Rattle.std.proofs.Common.{◌≡◌, ℕ, zero, suc, ◌+◌, ◌<◌, ◌≤◌, Bool, true, false, cond, List, [], ◌∷◌, ◌++◌, length, map, get_or, Option, Some, None, refl, sym, ap, ◌∙◌, arith, inl, inr}
+use Rattle.std.specs.Prelude.{◌||◌, ◌==◌, not, All, filter}
+use Rattle.std.proofs.lemmas.Bool.{cases_Bool, or_parts, or_left, or_right, lt-ltb}
+use Rattle.std.proofs.lemmas.Bool.Decides.{nat_tests}
+use Rattle.std.proofs.lemmas.List.{length-append}
+use Rattle.std.proofs.lemmas.List.Elements.{All-append, All-cons, All-filter, All-head, All-map, All-nil, All-tail, All-weaker, filter-append}
+use Rattle.std.proofs.lemmas.List.Folds.{list_any-append}
+use Rattle.acc_base.specs.declared.range.Range.{Range}
+use Rattle.acc_base.specs.Ranges.{range_contains, range_overlaps}
+use Rattle.acc_present.specs.Legality.{IsEntered}
+use Rattle.acc_present.specs.Lifetimes.{is_before}
+use Rattle.acc_present.specs.Marks.{Change, Structured_up, Structured_down, Dynamic_up, Dynamic_down, Dynamic_zero, Mark}
+use Rattle.acc_present.specs.Presences.{Presence, holder, is_present, is_partly_present, overlaps_any}
+use Rattle.acc_present.specs.Tables.{has_count, is_table, kept_after, opening, presence_after, presence_placed_in, presences_after, structured_after}
+use Rattle.acc_present.proofs.Balancing.{range_after}
+use Rattle.acc_present.proofs.Counting.{kept_none}
+use Rattle.acc_present.proofs.Entering.{no_overlap, stays}
+use Rattle.acc_present.proofs.Marking.{is_table-after}
+use Rattle.acc_present.proofs.OneMore.{range_contains_itself}
+use Rattle.acc_present.proofs.Searching.{is_present-none}
+use Rattle.acc_place.specs.declared.directive.Directive.{Directive}
+use Rattle.acc_place.specs.declared.directive.Item.{Item}
+use Rattle.acc_place.specs.declared.directive.Kind.{Kind}
+use Rattle.acc_place.specs.declared.directive.Kind.TheVariants.{Data, EndData, EnterData, ExitData, Update, IsPresent}
+use Rattle.acc_place.specs.declared.directive.Region.{Region}
+use Rattle.acc_place.specs.declared.directive.TheConstants.{MAX_ITEMS}
+use Rattle.acc_place.specs.Places.{IsEnteredBy, IsHere, count_inside, entered_ranges}
+use Rattle.acc_place.specs.Regions.{open_region, region_of, regions_after, without_open}
+use Rattle.acc_place.specs.Standings.{change_by, exit_by, left_by, subject_by}
+use Rattle.acc_place.specs.Walks.{Holding, holding, holding_after, holding_after_all, mark_by, presences_by, HasEntered, AllEntered, AllFine, IsFine}
+use Rattle.acc_place.proofs.Inside.{none_without}
+
+abbrev IsHeld : List Presence → Range → Type 0
+IsHeld ps r = (0 < r.len) × (is_present ps r ≡ true)
+
+abbrev IsCounted : List Range → Presence → Type 0
+IsCounted rs p = p.s ≡ count_inside p.range rs
+
+abbrev ranges_of : List Item → List Range
+ranges_of items = map (λ (i : Item). i.range) items
+
+-- ## Counts
+
+count-append : (whole : Range) (rs qs : List Range) → count_inside whole (rs ++ qs) ≡ count_inside whole rs + count_inside whole qs
+count-append whole rs qs =
+    ap length (filter-append (range_contains whole) rs qs) ∙ length-append (filter (range_contains whole) rs) (filter (range_contains whole) qs)
+
+count-hit : (whole r : Range) (rs : List Range) → range_contains whole r ≡ true → count_inside whole (r ∷ rs) ≡ count_inside whole rs + 1
+count-hit whole r rs hit = rw hit (omega arith)
+
+count-miss : (whole r : Range) (rs : List Range) → range_contains whole r ≡ false → count_inside whole (r ∷ rs) ≡ count_inside whole rs
+count-miss whole r rs miss = rw miss refl
+
+count_at : (whole : Range) (rs : List Range) (k : ℕ) (d : Range) → k < length rs → range_contains whole (get_or rs k d) ≡ true → 0 < count_inside whole rs
+count_at whole [] k d low has = absurd (omega arith)
+count_at whole (r ∷ rs) zero d low has = omega (arith, count-hit whole r rs has)
+count_at whole (r ∷ rs) (suc k) d low has =
+    let ih = count_at whole rs k d (omega arith) has in
+    elim (cases_Bool (range_contains whole r)) [
+      | inl hit ↦ omega (arith, count-hit whole r rs hit)
+      | inr miss ↦ omega (arith, count-miss whole r rs miss, ih)
+    ]
+
+-- ## The order of the ranges doesn't matter
+
+All-first : {X : Type 0} (P : X → Type 0) (xs ys : List X) → All P (xs ++ ys) → All P xs
+All-first P [] ys h = All-nil P
+All-first P (x ∷ xs) ys h = All-cons P x xs (All-head P x (xs ++ ys) h) (All-first P xs ys (All-tail P x (xs ++ ys) h))
+
+All-last : {X : Type 0} (P : X → Type 0) (xs ys : List X) → All P (xs ++ ys) → All P ys
+All-last P [] ys h = h
+All-last P (x ∷ xs) ys h = All-last P xs ys (All-tail P x (xs ++ ys) h)
+
+count-turned : (whole : Range) (xs ys zs : List Range) → count_inside whole (xs ++ (ys ++ zs)) ≡ count_inside whole (ys ++ (xs ++ zs))
+count-turned whole xs ys zs =
+    omega (arith, count-append whole xs (ys ++ zs), count-append whole ys zs, count-append whole ys (xs ++ zs), count-append whole xs zs)
+
+entered_turned : (xs ys zs : List Range) (ps : List Presence) → IsEnteredBy (xs ++ (ys ++ zs)) ps → IsEnteredBy (ys ++ (xs ++ zs)) ps
+entered_turned xs ys zs ps h =
+    let rest = All-last (IsHeld ps) xs (ys ++ zs) h.present in
+    let held = All-append (IsHeld ps) xs zs (All-first (IsHeld ps) xs (ys ++ zs) h.present) (All-last (IsHeld ps) ys zs rest) in
+    record {
+      present = All-append (IsHeld ps) ys (xs ++ zs) (All-first (IsHeld ps) ys zs rest) held;
+      counted = All-weaker (IsCounted (xs ++ (ys ++ zs))) (IsCounted (ys ++ (xs ++ zs))) (λ p is. is ∙ count-turned p.range xs ys zs) ps h.counted;
+    }
+
+-- ## A mark on what is present
+
+-- what the mark makes of each structured counter is the count of the ranges after it
+abbrev Recounts : Mark → List Range → List Range → Type 0
+Recounts m rs qs = (whole : Range) → cond (range_contains whole m.range) (structured_after m.change (count_inside whole rs)) (count_inside whole rs) ≡ count_inside whole qs
+
+counted_after : (m : Mark) (rs qs : List Range) (p : Presence) → Recounts m rs qs → IsCounted rs p → IsCounted qs (presence_after m p)
+counted_after m rs qs p counts is =
+    let e = counts p.range in
+    elim (cases_Bool (range_contains p.range m.range)) [
+      | inl hit ↦ rw hit (ap (structured_after m.change) is ∙ (rw hit at e))
+      | inr miss ↦ rw miss (is ∙ (rw miss at e))
+    ]
+
+still_present : (m : Mark) (qs : List Range) (ps : List Presence) (r : Range) → ((whole : Range) → range_contains whole r ≡ true → 0 < count_inside whole qs)
+    → All (IsCounted qs) (map (presence_after m) ps) → is_present ps r ≡ true → is_present (kept_after m ps) r ≡ true
+still_present m qs [] r some counted held = absurd cc
+still_present m qs (p ∷ ps) r some counted held =
+    let q = presence_after m p in
+    let rest = All-tail (IsCounted qs) q (map (presence_after m) ps) counted in
+    elim (cases_Bool (range_contains p.range r)) [
+      | inl has ↦
+          let here : range_contains q.range r ≡ true = ap (λ a. range_contains a r) (range_after m p) ∙ has in
+          let is : q.s ≡ count_inside q.range qs = All-head (IsCounted qs) q (map (presence_after m) ps) counted in
+          let positive : has_count q ≡ true = lt-ltb 0 (q.s + q.d) (omega (arith, is, some q.range here)) in
+          rw positive (or_left (range_contains q.range r) (is_present (kept_after m ps) r) here)
+      | inr misses ↦
+          let ih = still_present m qs ps r some rest (rw misses at held) in
+          elim (has_count q) as (λ v. is_present (cond v (q ∷ kept_after m ps) (kept_after m ps)) r ≡ true)
+          [ true ↦ or_right (range_contains q.range r) (is_present (kept_after m ps) r) ih | false ↦ ih ]
+    ]
+
+-- what has a range inside it stays
+entered_kept : (m : Mark) (rs qs : List Range) (ps : List Presence) → Recounts m rs qs → IsEnteredBy rs ps → All (IsHeld ps) qs → IsEnteredBy qs (kept_after m ps)
+entered_kept m rs qs ps counts h held =
+    let counted = All-map (IsCounted qs) (presence_after m) ps (All-weaker (IsCounted rs) (λ p. IsCounted qs (presence_after m p)) (λ p is. counted_after m rs qs p counts is) ps h.counted) in
+    record {
+      present = λ k d low. ((held k d low).0, still_present m qs ps (get_or qs k d) (λ whole has. count_at whole qs k d low has) counted (held k d low).1);
+      counted = All-filter has_count (IsCounted qs) (map (presence_after m) ps) counted;
+    }
+
+recounts_up : (r : Range) (rs : List Range) → Recounts (record { change = Structured_up; range = r }) rs (r ∷ rs)
+recounts_up r rs whole = elim (cases_Bool (range_contains whole r)) [
+  | inl hit ↦ rw hit (omega arith)
+  | inr miss ↦ rw miss refl
+]
+
+recounts_down : (r : Range) (rs : List Range) → Recounts (record { change = Structured_down; range = r }) (r ∷ rs) rs
+recounts_down r rs whole = elim (cases_Bool (range_contains whole r)) [
+  | inl hit ↦ rw hit (omega arith)
+  | inr miss ↦ rw miss refl
+]
+
+recounts_none : (m : Mark) (rs : List Range) → ((n : ℕ) → structured_after m.change n ≡ n) → Recounts m rs rs
+recounts_none m rs same whole =
+    elim (range_contains whole m.range) as (λ v. cond v (structured_after m.change (count_inside whole rs)) (count_inside whole rs) ≡ count_inside whole rs)
+    [ true ↦ same (count_inside whole rs) | false ↦ refl ]
+
+-- ## A lifetime that a mark opens
+
+placed_present : (q : Presence) (ps : List Presence) (r : Range) → is_present ps r ≡ true → is_present (presence_placed_in q ps) r ≡ true
+placed_present q ps r held =
+    list_any-append (λ p. range_contains p.range r) (filter (λ k. not (is_before q.range k.range)) ps) (q ∷ filter (λ k. is_before q.range k.range) ps)
+    ∙ parted ps (range_contains q.range r) held
+  where
+    parted : (ps : List Presence) (b : Bool) → is_present ps r ≡ true
+        → (is_present (filter (λ k. not (is_before q.range k.range)) ps) r || (b || is_present (filter (λ k. is_before q.range k.range) ps) r)) ≡ true
+    parted [] b held = absurd cc
+    parted (p ∷ ps) b held =
+        let before = is_present (filter (λ k. not (is_before q.range k.range)) ps) r in
+        let behind = is_present (filter (λ k. is_before q.range k.range) ps) r in
+        elim (cases_Bool (is_before q.range p.range)) [
+          | inl later ↦ elim (cases_Bool (range_contains p.range r)) [
+            | inl has ↦ rw (later, has) (or_right before (b || true) (or_right b true refl))
+            | inr misses ↦ rw (later, misses) (parted ps b (rw misses at held))
+          ]
+          | inr earlier ↦ elim (cases_Bool (range_contains p.range r)) [
+            | inl has ↦ rw (earlier, has) refl
+            | inr misses ↦ rw (earlier, misses) (parted ps b (rw misses at held))
+          ]
+        ]
+
+placed_itself : (q : Presence) (ps : List Presence) → is_present (presence_placed_in q ps) q.range ≡ true
+placed_itself q ps =
+    let before = filter (λ k. not (is_before q.range k.range)) ps in
+    let behind = filter (λ k. is_before q.range k.range) ps in
+    list_any-append (λ p. range_contains p.range q.range) before (q ∷ behind)
+    ∙ or_right (is_present before q.range) (range_contains q.range q.range || is_present behind q.range)
+    (or_left (range_contains q.range q.range) (is_present behind q.range) (range_contains_itself q.range))
+
+All-placed : (P : Presence → Type 0) (q : Presence) (ps : List Presence) → P q → All P ps → All P (presence_placed_in q ps)
+All-placed P q ps here all =
+    let before = filter (λ (k : Presence). not (is_before q.range k.range)) ps in
+    let behind = filter (λ (k : Presence). is_before q.range k.range) ps in
+    All-append P before (q ∷ behind) (All-filter (λ k. not (is_before q.range k.range)) P ps all)
+    (All-cons P q behind here (All-filter (λ k. is_before q.range k.range) P ps all))
+
+-- a range that is apart from another contains nothing of it
+apart_inside : (a r x : Range) → range_contains a x ≡ true → range_overlaps a r ≡ false → 0 < x.len → range_contains r x ≡ false
+unfolding range_contains range_overlaps
+apart_inside a r x has apart cells = grind (arith, nat_tests, has, apart, cells)
+
+none_of : (ps : List Presence) (r x : Range) → overlaps_any ps r ≡ false → IsHeld ps x → range_contains r x ≡ false
+none_of [] r x apart held = absurd (cc)
+none_of (p ∷ ps) r x apart held =
+    let parts = or_parts (range_overlaps p.range r) (overlaps_any ps r) apart in
+    elim (cases_Bool (range_contains p.range x)) [
+      | inl has ↦ apart_inside p.range r x has parts.0 held.0
+      | inr misses ↦ none_of ps r x parts.1 (held.0, rw misses at held.1)
+    ]
+
+none_inside : (rs : List Range) (ps : List Presence) (r : Range) → overlaps_any ps r ≡ false → All (IsHeld ps) rs → count_inside r rs ≡ 0
+none_inside [] ps r apart held = refl
+none_inside (x ∷ rs) ps r apart held =
+    let miss = none_of ps r x apart (All-head (IsHeld ps) x rs held) in
+    count-miss r x rs miss ∙ none_inside rs ps r apart (All-tail (IsHeld ps) x rs held)
+
+counted_beside : (r : Range) (rs : List Range) (ps : List Presence) → is_present ps r ≡ false → All (IsCounted rs) ps → All (IsCounted (r ∷ rs)) ps
+counted_beside r rs [] absent counted = All-nil (IsCounted (r ∷ rs))
+counted_beside r rs (p ∷ ps) absent counted =
+    let parts = or_parts (range_contains p.range r) (is_present ps r) absent in
+    All-cons (IsCounted (r ∷ rs)) p ps (All-head (IsCounted rs) p ps counted ∙ sym (count-miss p.range r rs parts.0)) (counted_beside r rs ps parts.1 (All-tail (IsCounted rs) p ps counted))
+
+-- ## One item
+
+-- a region that enters a range
+entered_up : (r : Range) (b : ℕ) (rs : List Range) (ps : List Presence) → is_table ps ≡ true → 0 < r.len → is_partly_present ps r ≡ false → IsEnteredBy rs ps
+    → IsEnteredBy (r ∷ rs) (presences_after (record { change = Structured_up; range = r }) b ps)
+entered_up r b rs ps t cells whole h =
+    let m : Mark = record { change = Structured_up; range = r } in
+    elim (cases_Bool (is_present ps r)) [
+      | inl held ↦ rw (← stays m b ps held) (entered_kept m rs (r ∷ rs) ps (recounts_up r rs) h (All-cons (IsHeld ps) r rs (cells, held) h.present))
+      | inr absent ↦
+          let q = opening m b in
+          let none = none_inside rs ps r (no_overlap ps r absent whole) h.present in
+          let one : q.s ≡ count_inside r (r ∷ rs) = omega (arith, count-hit r r rs (range_contains_itself r), none) in
+          rw (absent, kept_none m ps t absent) (record {
+            present = All-cons (IsHeld (presence_placed_in q ps)) r rs (cells, placed_itself q ps)
+                (All-weaker (IsHeld ps) (IsHeld (presence_placed_in q ps)) (λ x held. (held.0, placed_present q ps x held.1)) rs h.present);
+            counted = All-placed (IsCounted (r ∷ rs)) q ps one (counted_beside r rs ps absent h.counted);
+          })
+    ]
+
+-- one that leaves it
+entered_end : (r : Range) (b : ℕ) (rs : List Range) (ps : List Presence) → IsEnteredBy (r ∷ rs) ps → IsEnteredBy rs (presences_after (record { change = Structured_down; range = r }) b ps)
+entered_end r b rs ps h =
+    entered_kept (record { change = Structured_down; range = r }) (r ∷ rs) rs ps (recounts_down r rs) h (All-tail (IsHeld ps) r rs h.present)
+
+-- `enter data`
+entered_enter : (r : Range) (b : ℕ) (rs : List Range) (ps : List Presence) → is_table ps ≡ true → 0 < r.len → is_partly_present ps r ≡ false → IsEnteredBy rs ps
+    → IsEnteredBy rs (presences_after (record { change = Dynamic_up; range = r }) b ps)
+entered_enter r b rs ps t cells whole h =
+    let m : Mark = record { change = Dynamic_up; range = r } in
+    elim (cases_Bool (is_present ps r)) [
+      | inl held ↦ rw (← stays m b ps held) (entered_kept m rs rs ps (recounts_none m rs (λ n. refl)) h h.present)
+      | inr absent ↦
+          let q = opening m b in
+          rw (absent, kept_none m ps t absent) (record {
+            present = All-weaker (IsHeld ps) (IsHeld (presence_placed_in q ps)) (λ x held. (held.0, placed_present q ps x held.1)) rs h.present;
+            counted = All-placed (IsCounted rs) q ps (sym (none_inside rs ps r (no_overlap ps r absent whole) h.present)) h.counted;
+          })
+    ]
+
+-- `exit data`, with `finalize` and without
+entered_exit : (finalize : Bool) (r : Range) (b : ℕ) (rs : List Range) (ps : List Presence) → IsEnteredBy rs ps → IsEnteredBy rs (presences_after (mark_by (exit_by finalize) r) b ps)
+entered_exit true r b rs ps h = (let m = mark_by Dynamic_zero r in entered_kept m rs rs ps (recounts_none m rs (λ n. refl)) h h.present)
+entered_exit false r b rs ps h = (let m = mark_by Dynamic_down r in entered_kept m rs rs ps (recounts_none m rs (λ n. refl)) h h.present)
+
+-- a table stays one
+table_by : (capacity : ℕ) (k : Kind) (ps : List Presence) (r : Range) (b : ℕ) → is_table ps ≡ true → IsFine capacity k ps r → is_table (presences_by (change_by k) r b ps) ≡ true
+table_by capacity Data ps r b t fine = is_table-after (mark_by Structured_up r) b ps t fine.cells (fine.whole refl)
+table_by capacity EndData ps r b t fine = is_table-after (mark_by Structured_down r) b ps t fine.cells (fine.whole refl)
+table_by capacity EnterData ps r b t fine = is_table-after (mark_by Dynamic_up r) b ps t fine.cells (fine.whole refl)
+table_by capacity (ExitData finalize) ps r b t fine = is_table-after (mark_by (exit_by finalize) r) b ps t fine.cells (fine.whole refl)
+table_by capacity (Update if_present) ps r b t fine = t
+table_by capacity IsPresent ps r b t fine = t
+
+-- ## All items
+
+entered_data : (capacity : ℕ) (h : Holding) (items : List Item) (rs : List Range) → is_table h.presences ≡ true → AllFine capacity Data h items → IsEnteredBy rs h.presences
+    → IsEnteredBy (ranges_of items ++ rs) (holding_after_all (Some Structured_up) h items).presences
+unfolding holding_after
+entered_data capacity h [] rs t fine in_all = in_all
+entered_data capacity h (i ∷ is) rs t fine in_all =
+    let b = h.opened + 1 in
+    let next = holding_after (Some Structured_up) i.range h in
+    let one = entered_up i.range b rs h.presences t fine.0.cells (fine.0.whole refl) in_all in
+    let all = entered_data capacity next is (i.range ∷ rs) (table_by capacity Data h.presences i.range b t fine.0) fine.1 one in
+    entered_turned (ranges_of is) (i.range ∷ []) rs (holding_after_all (Some Structured_up) next is).presences all
+
+entered_left : (h : Holding) (items : List Item) (rs : List Range) → IsEnteredBy (ranges_of items ++ rs) h.presences → IsEnteredBy rs (holding_after_all (Some Structured_down) h items).presences
+unfolding holding_after
+entered_left h [] rs in_all = in_all
+entered_left h (i ∷ is) rs in_all =
+    entered_left (holding_after (Some Structured_down) i.range h) is rs (entered_end i.range (h.opened + 1) (ranges_of is ++ rs) h.presences in_all)
+
+-- a kind whose items each keep what the regions have entered
+abbrev Keeps : ℕ → Kind → List Range → Type 0
+Keeps capacity k rs = (ps : List Presence) (r : Range) (b : ℕ) → is_table ps ≡ true → IsFine capacity k ps r → IsEnteredBy rs ps → IsEnteredBy rs (presences_by (change_by k) r b ps)
+
+entered_same : (capacity : ℕ) (k : Kind) (h : Holding) (items : List Item) (rs : List Range) → Keeps capacity k rs → is_table h.presences ≡ true → AllFine capacity k h items → IsEnteredBy rs h.presences
+    → IsEnteredBy rs (holding_after_all (change_by k) h items).presences
+unfolding holding_after
+entered_same capacity k h [] rs keeps t fine in_all = in_all
+entered_same capacity k h (i ∷ is) rs keeps t fine in_all =
+    let b = h.opened + 1 in
+    entered_same capacity k (holding_after (change_by k) i.range h) is rs keeps (table_by capacity k h.presences i.range b t fine.0) fine.1
+    (keeps h.presences i.range b t fine.0 in_all)
+
+-- ## At a region's end
+
+has_entered : (r : Range) (rs : List Range) (ps : List Presence) → IsEnteredBy (r ∷ rs) ps → IsEntered (holder ps r)
+has_entered r rs ps h = by_holder (holder ps r) refl
+  where
+    at_holder : (qs : List Presence) (x : Presence) → All (IsCounted (r ∷ rs)) qs → holder qs r ≡ Some x → 0 < x.s
+    at_holder [] x counted some = absurd cc
+    at_holder (p ∷ qs) x counted some = elim (cases_Bool (range_contains p.range r)) [
+      | inl has ↦
+          let same : Some p ≡ Some x = rw has at some in
+          let e : p ≡ x = cc in
+          let is = All-head (IsCounted (r ∷ rs)) p qs counted in
+          rw (← e) (omega (arith, is, count-hit p.range r rs has))
+      | inr misses ↦ at_holder qs x (All-tail (IsCounted (r ∷ rs)) p qs counted) (rw misses at some)
+    ]
+
+    by_holder : (o : Option Presence) → holder ps r ≡ o → IsEntered o
+    by_holder None none = absurd (let absent = is_present-none ps r none in let held = (All-head (IsHeld ps) r rs h.present).1 in cc)
+    by_holder (Some x) some = at_holder ps x h.counted some
+
+all_entered : (h : Holding) (items : List Item) (others : List Range) → IsEnteredBy (ranges_of items ++ others) h.presences → AllEntered (Some Structured_down) h items
+unfolding holding_after
+all_entered h [] others in_all = tt
+all_entered h (i ∷ is) others in_all =
+    let rs = ranges_of is ++ others in (
+      has_entered i.range rs h.presences in_all,
+      all_entered (holding_after (Some Structured_down) i.range h) is others (entered_end i.range (h.opened + 1) rs h.presences in_all),
+    )
+
+-- each item is inside a present range that a region has entered, in its turn
+pub entered_items : (ps : List Presence) (n : ℕ) (items : List Item) (others : List Range) → is_table ps ≡ true → IsEnteredBy (map (λ (i : Item). i.range) items ++ others) ps → AllEntered (Some Structured_down) (holding ps n) items
+entered_items ps n items others t h = all_entered (holding ps n) items others h
+
+-- ## The open region, and the others
+
+no_entry_needed : (change : Option Change) (h : Holding) (items : List Item) → ((r : Range) (ps : List Presence) → HasEntered change r ps) → AllEntered change h items
+no_entry_needed change h [] free = tt
+no_entry_needed change h (i ∷ is) free = (free i.range h.presences, no_entry_needed change (holding_after change i.range h) is free)
+
+open_all : (P : Range → Type 0) (host : ℕ) (rs : List Region) (x : Region) → open_region host rs ≡ Some x → All P (entered_ranges rs) → All P (ranges_of x.items ++ entered_ranges (without_open host rs))
+open_all P host [] x some all = absurd cc
+open_all P host (r ∷ rs) x some all = elim (cases_Bool (r.host == host)) [
+  | inl its_own ↦
+      let same : Some r ≡ Some x = rw its_own at some in
+      let e : r ≡ x = cc in
+      rw (its_own, ← e) all
+  | inr another ↦
+      let first = All-first P (ranges_of r.items) (entered_ranges rs) all in
+      let rest = open_all P host rs x (rw another at some) (All-last P (ranges_of r.items) (entered_ranges rs) all) in
+      rw another
+      (All-append P (ranges_of x.items) (ranges_of r.items ++ entered_ranges (without_open host rs)) (All-first P (ranges_of x.items) (entered_ranges (without_open host rs)) rest)
+      (All-append P (ranges_of r.items) (entered_ranges (without_open host rs)) first (All-last P (ranges_of x.items) (entered_ranges (without_open host rs)) rest)))
+]
+
+open_counts : (whole : Range) (host : ℕ) (rs : List Region) (x : Region) → open_region host rs ≡ Some x
+    → count_inside whole (entered_ranges rs) ≡ count_inside whole (ranges_of x.items ++ entered_ranges (without_open host rs))
+open_counts whole host [] x some = absurd cc
+open_counts whole host (r ∷ rs) x some = elim (cases_Bool (r.host == host)) [
+  | inl its_own ↦
+      let same : Some r ≡ Some x = rw its_own at some in
+      let e : r ≡ x = cc in
+      rw (its_own, ← e) refl
+  | inr another ↦
+      let others = entered_ranges (without_open host rs) in
+      let ih = open_counts whole host rs x (rw another at some) in
+      rw another
+      (omega (
+        arith,
+        ih,
+        count-append whole (ranges_of r.items) (entered_ranges rs),
+        count-append whole (ranges_of x.items) others,
+        count-turned whole (ranges_of x.items) (ranges_of r.items) others,
+        count-append whole (ranges_of r.items) (ranges_of x.items ++ others),
+      ))
+]
+
+entered_open : (host : ℕ) (rs : List Region) (x : Region) (ps : List Presence) → open_region host rs ≡ Some x → IsEnteredBy (entered_ranges rs) ps
+    → IsEnteredBy (ranges_of x.items ++ entered_ranges (without_open host rs)) ps
+entered_open host rs x ps some h =
+    record {
+      present = open_all (IsHeld ps) host rs x some h.present;
+      counted = All-weaker (IsCounted (entered_ranges rs)) (IsCounted (ranges_of x.items ++ entered_ranges (without_open host rs))) (λ p is. is ∙ open_counts p.range host rs x some) ps h.counted;
+    }
+
+-- ## What a directive's items need, and what they leave
+
+-- a region's end is about what the region has entered
+pub entered_subject : (rs : List Region) (host : ℕ) (d : Directive) (k : Kind) (ps : List Presence) (n : ℕ) → is_table ps ≡ true → IsEnteredBy (entered_ranges rs) ps
+    → AllEntered (change_by k) (holding ps n) (subject_by rs host d k).items
+entered_subject rs host d Data ps n t h = no_entry_needed (Some Structured_up) (holding ps n) d.items (λ r qs. tt)
+entered_subject rs host d EndData ps n t h = by_open (open_region host rs) refl
+  where
+    by_open : (o : Option Region) → open_region host rs ≡ o → AllEntered (Some Structured_down) (holding ps n) (left_by d o).items
+    by_open None none = tt
+    by_open (Some x) some = entered_items ps n x.items (entered_ranges (without_open host rs)) t (entered_open host rs x ps some h)
+entered_subject rs host d EnterData ps n t h = no_entry_needed (Some Dynamic_up) (holding ps n) d.items (λ r qs. tt)
+entered_subject rs host d (ExitData true) ps n t h = no_entry_needed (Some Dynamic_zero) (holding ps n) d.items (λ r qs. tt)
+entered_subject rs host d (ExitData false) ps n t h = no_entry_needed (Some Dynamic_down) (holding ps n) d.items (λ r qs. tt)
+entered_subject rs host d (Update if_present) ps n t h = no_entry_needed None (holding ps n) d.items (λ r qs. tt)
+entered_subject rs host d IsPresent ps n t h = no_entry_needed None (holding ps n) d.items (λ r qs. tt)
+
+-- the open regions after a directive have entered what is present then
+pub entered_after : (capacity : ℕ) (rs : List Region) (host : ℕ) (d : Directive) (k : Kind) (ps : List Presence) (n : ℕ) → is_table ps ≡ true → AllFine capacity k (holding ps n) (subject_by rs host d k).items
+    → IsEnteredBy (entered_ranges rs) ps → IsEnteredBy (entered_ranges (regions_after host d k rs)) (holding_after_all (change_by k) (holding ps n) (subject_by rs host d k).items).presences
+entered_after capacity rs host d Data ps n t fine h = entered_data capacity (holding ps n) d.items (entered_ranges rs) t fine h
+entered_after capacity rs host d EndData ps n t fine h = by_open (open_region host rs) refl
+  where
+    by_open : (o : Option Region) → open_region host rs ≡ o → IsEnteredBy (entered_ranges (without_open host rs)) (holding_after_all (Some Structured_down) (holding ps n) (left_by d o).items).presences
+    by_open None none = rw (none_without host rs none) h
+    by_open (Some x) some = entered_left (holding ps n) x.items (entered_ranges (without_open host rs)) (entered_open host rs x ps some h)
+entered_after capacity rs host d EnterData ps n t fine h =
+    entered_same capacity EnterData (holding ps n) d.items (entered_ranges rs) (λ qs r b u f g. entered_enter r b (entered_ranges rs) qs u f.cells (f.whole refl) g) t fine h
+entered_after capacity rs host d (ExitData finalize) ps n t fine h =
+    entered_same capacity (ExitData finalize) (holding ps n) d.items (entered_ranges rs) (λ qs r b u f g. entered_exit finalize r b (entered_ranges rs) qs g) t fine h
+entered_after capacity rs host d (Update if_present) ps n t fine h =
+    entered_same capacity (Update if_present) (holding ps n) d.items (entered_ranges rs) (λ qs r b u f g. g) t fine h
+entered_after capacity rs host d IsPresent ps n t fine h = entered_same capacity IsPresent (holding ps n) d.items (entered_ranges rs) (λ qs r b u f g. g) t fine h
+
+-- ## Regions stay on the one device
+
+open_is_here : (host : ℕ) (rs : List Region) (x : Region) → open_region host rs ≡ Some x → All IsHere rs → IsHere x
+open_is_here host [] x some all = absurd cc
+open_is_here host (r ∷ rs) x some all = elim (cases_Bool (r.host == host)) [
+  | inl its_own ↦
+      let same : Some r ≡ Some x = rw its_own at some in
+      let e : r ≡ x = cc in
+      rw (← e) (All-head IsHere r rs all)
+  | inr another ↦ open_is_here host rs x (rw another at some) (All-tail IsHere r rs all)
+]
+
+without_regions : (host : ℕ) (rs : List Region) → All IsHere rs → All IsHere (without_open host rs)
+without_regions host [] all = all
+without_regions host (r ∷ rs) all =
+    let first = All-head IsHere r rs all in
+    let rest = All-tail IsHere r rs all in
+    elim (cases_Bool (r.host == host)) [
+      | inl its_own ↦ rw its_own rest
+      | inr another ↦ rw another (All-cons IsHere r (without_open host rs) first (without_regions host rs rest))
+    ]
+
+-- a directive acts on the one device
+pub subject_device : (rs : List Region) (host : ℕ) (d : Directive) (k : Kind) → d.device ≡ 0 → All IsHere rs → (subject_by rs host d k).device ≡ 0
+subject_device rs host d Data here all = here
+subject_device rs host d EndData here all = by_open (open_region host rs) refl
+  where
+    by_open : (o : Option Region) → open_region host rs ≡ o → (left_by d o).device ≡ 0
+    by_open None none = here
+    by_open (Some x) some = open_is_here host rs x some all
+subject_device rs host d EnterData here all = here
+subject_device rs host d (ExitData finalize) here all = here
+subject_device rs host d (Update if_present) here all = here
+subject_device rs host d IsPresent here all = here
+
+pub regions_kept : (rs : List Region) (host : ℕ) (d : Directive) (k : Kind) → d.device ≡ 0 → All IsHere rs → All IsHere (regions_after host d k rs)
+regions_kept rs host d Data here all = All-cons IsHere (region_of host d) rs here all
+regions_kept rs host d EndData here all = without_regions host rs all
+regions_kept rs host d EnterData here all = all
+regions_kept rs host d (ExitData finalize) here all = all
+regions_kept rs host d (Update if_present) here all = all
+regions_kept rs host d IsPresent here all = all

@@ -1,0 +1,54 @@
+ghost use Rattle.acc_place.specs.BatchExamples.{GroupByGroup, PartIsCopiedOut, LeavesOnce, EntersAgain, EmptyBatch};
+ghost use Rattle.acc_place.specs.RefusalExamples.{EarlierItemFirst, ItemBeforeCounts, LimitsFirst, LastDirective, RangesOutside, CapacityReached};
+ghost use Rattle.acc_place.specs.RegionExamples.{AbsentAtEntry, PresentAtEntry, LastExit, NotTheLastExit, Nested, OwnRegion, Depth, Entries, ExitsInside, Updates, Questions, ItemsInTurn};
+ghost use Rattle.acc_place.specs.Plans.{KeptByAccepting, KeptByPlanning};
+
+/// A plan stays one of its place, whatever is accepted or planned since: `Plan::fits` can always be asked.
+pub fn plans_are_kept()
+    ensures accepted { KeptByAccepting }
+    ensures planned { KeptByPlanning }
+{}
+
+/// What data constructs mean, computed on short histories: each clause where its range is absent, present, and
+/// at its last exit; regions inside one another; regions of two hosts; and how deep they go.
+pub fn worked_regions()
+    ensures absent { AbsentAtEntry }
+    ensures present { PresentAtEntry }
+    ensures last { LastExit }
+    ensures counted { NotTheLastExit }
+    ensures nested { Nested }
+    ensures own { OwnRegion }
+    ensures depth { Depth }
+{}
+
+/// What `enter data`, `exit data`, `update` and `acc_is_present` mean, computed likewise, and the first fault of
+/// several items.
+pub fn worked_directives()
+    ensures entries { Entries }
+    ensures inside { ExitsInside }
+    ensures updates { Updates }
+    ensures questions { Questions }
+    ensures items { ItemsInTurn }
+{}
+
+/// The first fault of a directive computed on corner cases: several faulty items, an item after those
+/// before it, the limits before the items, the last directive of a run, ranges that aren't in an array, and
+/// a device that is filled exactly.
+pub fn worked_refusals()
+    ensures items { EarlierItemFirst }
+    ensures before { ItemBeforeCounts }
+    ensures limits { LimitsFirst }
+    ensures last { LastDirective }
+    ensures ranges { RangesOutside }
+    ensures capacity { CapacityReached }
+{}
+
+/// Batches computed on corner cases: two items, a part that is copied out, a range that leaves twice or enters
+/// again, an empty batch.
+pub fn worked_batches()
+    ensures groups { GroupByGroup }
+    ensures part { PartIsCopiedOut }
+    ensures leaves { LeavesOnce }
+    ensures enters { EntersAgain }
+    ensures empty { EmptyBatch }
+{}

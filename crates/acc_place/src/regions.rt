@@ -1,0 +1,81 @@
+ghost use Rattle.std.specs.Prelude.{◌≡◌, ◌<◌, [], length, remove, slice_get, vec_len, vec_capacity, IfSome, IfOk, IfErr};
+ghost use Rattle.std.specs.Option.{option_and_then};
+ghost use Rattle.acc_place.specs.Plans.{opened_region};
+ghost use Rattle.acc_place.specs.Regions.{regions_of, open_region, without_open, regions_after};
+ghost use Rattle.acc_place.specs.Standings.{subject_by};
+
+use crate::directive::{Directive, Item, Kind, Region};
+use acc_base::{Fault, HostId};
+use std::alloc::Global;
+
+/// How many data constructs a host is inside.
+pub fn depth(regions: &[Region], host: HostId) -> usize
+    ensures { result ≡ length (regions_of host regions.now) }
+{
+    regions.iter().filter(|region| region.host == host).count()
+}
+
+/// Where the innermost data construct stands that a host is inside.
+pub fn open_place(regions: &[Region], host: HostId) -> Option<usize>
+    ensures found { option_and_then (slice_get regions.now) result ≡ open_region host regions.now }
+    ensures without { IfSome result (λ i. remove regions.now i ≡ without_open host regions.now) }
+    ensures within { IfSome result (λ i. i < length regions.now) }
+{
+    regions.iter().position(|region| region.host == host)
+}
+
+/// The items that a host's directive acts on: its own, or those of the data construct that it ends.
+pub fn items_of<'a>(regions: &'a [Region], host: HostId, directive: &'a Directive) -> &'a [Item]
+    ensures { result.now ≡ (subject_by regions.now host directive.now directive.now.kind).items }
+{
+    if directive.kind != Kind::EndData {
+        return directive.items.as_slice();
+    }
+    match open_place(regions, host) {
+        Some(i) => regions[i].items.as_slice(),
+        None => &[],
+    }
+}
+
+/// The data construct that a host's directive enters, if it enters one.
+pub fn opened_by(
+    alloc: Global,
+    host: HostId,
+    directive: &Directive,
+) -> Result<Option<Region>, Fault>
+    ensures region { IfOk result (λ region. region ≡ opened_region host directive.now directive.now.kind) }
+    ensures fault { IfErr result (λ fault. fault ≡ Fault.Memory) }
+{
+    if directive.kind != Kind::Data {
+        return Ok(None);
+    }
+    let items = directive.items.try_clone(alloc)?;
+    Ok(Some(Region {
+        host,
+        device: directive.device,
+        items,
+    }))
+}
+
+/// The host enters a data construct, or leaves its innermost one, or neither.
+pub fn settle(
+    regions: &mut Vec<Region>,
+    host: HostId,
+    directive: &Directive,
+    opened: Option<Region>,
+)
+    requires opened { opened ≡ opened_region host directive.now directive.now.kind }
+    requires room { vec_len regions.old < vec_capacity regions.old }
+    ensures regions { regions.new.items ≡ regions_after host directive.now directive.now.kind regions.old.items }
+    ensures room { vec_capacity regions.new ≡ vec_capacity regions.old }
+{
+    if let Some(region) = opened {
+        let _ = regions.insert(0, region);
+        return;
+    }
+    if directive.kind == Kind::EndData {
+        if let Some(i) = open_place(regions.as_slice(), host) {
+            let _ = regions.remove(i);
+        }
+    }
+}
