@@ -7,8 +7,6 @@ mod cells;
 #[cfg(test)]
 mod config;
 #[cfg(test)]
-mod directives;
-#[cfg(test)]
 mod draft;
 #[cfg(test)]
 mod fault;
