@@ -6,7 +6,7 @@ use acc_base::{BlockId, Fault, Range};
 use acc_raw::Cells;
 use std::alloc::Global;
 
-/// A block of a device: its range, and a cell for each cell of that range.
+/// A block of a device: its range and its cells.
 #[derive(Drop)]
 pub struct Block {
     pub block: BlockId,

@@ -17,9 +17,8 @@ use Rattle.acc_place.specs.declared.directive.PlaceEntry.{PlaceEntry}
 use Rattle.acc_place.specs.declared.directive.PlaceEntry.TheVariants as noted
 use Rattle.acc_place.specs.Accepting.{is_in_array, ends_within, first_fault, fault_where, fault_at, refusal}
 use Rattle.acc_place.specs.Batches.{copies_in, copies_out, opened_blocks, ended_blocks, held_blocks, makes, copy_ins, updates, updates_by, copy_outs, releases, grouped, batch_of, walk_at}
-use Rattle.acc_place.specs.Histories.{standing, after_walk}
+use Rattle.acc_place.specs.Histories.{AllAccepted, standing, after_walk}
 use Rattle.acc_batch.specs.Labels.{ops_of}
-use Rattle.acc_core.specs.Legality.{AllAccepted}
 use Rattle.acc_place.specs.Standings.{Standing, Walk, walk_of, Visit, visits}
 use Rattle.acc_core.proofs.Faultless.{first_fault_none, no_fault_at, no_fault_of}
 use Rattle.acc_core.proofs.Queues.{ops_of-labelled}

@@ -15,8 +15,8 @@ use Rattle.acc_place.specs.declared.directive.PlaceEntry.{PlaceEntry}
 use Rattle.acc_place.specs.declared.directive.PlaceEntry.TheVariants as noted
 use Rattle.acc_place.specs.Standings.{Standing, Asked, walk_of, Visit, visits, marks_after}
 use Rattle.acc_place.specs.Batches.{opened_blocks, ended_blocks, makes, copy_ins, updates, copy_outs, releases, grouped, batch_of}
-use Rattle.acc_place.specs.Histories.{standing, after_walk, at_first}
-use Rattle.acc_core.specs.Legality.{made, Made, released, AllAccepted}
+use Rattle.acc_place.specs.Histories.{AllAccepted, standing, after_walk, at_first}
+use Rattle.acc_core.specs.Legality.{made, Made, released}
 use Rattle.acc_batch.specs.Labels.{ops_of, AllAt}
 use Rattle.acc_core.specs.Works.{sync}
 use Rattle.acc_core.proofs.Members.{no_member}

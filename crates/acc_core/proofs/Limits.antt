@@ -13,8 +13,7 @@ use Rattle.acc_batch.specs.declared.operation.Label.{Label}
 use Rattle.acc_batch.specs.declared.operation.Op.{Op}
 use Rattle.acc_place.specs.Accepting.{refusal, is_deep}
 use Rattle.acc_place.specs.Batches.{batch_of, labelled, next_number, walk_at}
-use Rattle.acc_place.specs.Histories.{standing}
-use Rattle.acc_core.specs.Legality.{AllAccepted}
+use Rattle.acc_place.specs.Histories.{AllAccepted, standing}
 use Rattle.acc_place.specs.Standings.{Standing, walk_of}
 use Rattle.acc_core.proofs.Faultless.{no_fault_of}
 

@@ -18,20 +18,14 @@ use Rattle.acc_batch.specs.declared.operation.Label.{Label}
 use Rattle.acc_batch.specs.declared.operation.Op.{Op}
 use Rattle.acc_batch.specs.declared.operation.Op.TheVariants.{Make, CopyIn, CopyOut, Release}
 use Rattle.acc_core.specs.declared.program.Host.{Host}
-use Rattle.acc_place.specs.Accepting.{refusal, is_in_array}
+use Rattle.acc_place.specs.Accepting.{is_in_array}
 use Rattle.acc_place.specs.Batches.{answer_of}
-use Rattle.acc_place.specs.Histories.{standing}
+use Rattle.acc_place.specs.Histories.{AllAccepted, standing}
 use Rattle.acc_batch.specs.Labels.{on_queue, ops_of, batch_at, whole}
 use Rattle.acc_core.specs.Logs.{one_more, performed, device_ops, value, values_of, all_done, host_allows}
 use Rattle.acc_core.specs.Machine.{State, standing_of, Runs}
 use Rattle.acc_place.specs.Standings.{Standing, walk_of}
 use Rattle.acc_core.specs.Steps.{HostEntry, Gave, Had, Follows}
-
--- Each directive was accepted after those before it.
-abbrev pub AllAccepted : Configuration → List PlaceEntry → List ℕ → Type 0
-AllAccepted config [] counts = Unit {0}
-AllAccepted config (noted.Accepted host d ∷ before) counts =
-    (refusal config (standing before (drop 1 counts)) host d ≡ None) × AllAccepted config before (drop 1 counts)
 
 abbrev pub IsPrefix : List Op → List Op → Type 0
 IsPrefix xs ys = (more : List Op) × (xs ++ more ≡ ys)

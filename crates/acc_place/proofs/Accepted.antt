@@ -149,6 +149,7 @@ none_or (Some f) b h = absurd (cc)
 -- what is known of it
 pub record IsFree (config : Configuration) (st : Standing) (host : ℕ) (d : Directive) (t : Present) (blocks : ℕ) (regions : List Region) : Type 0 where
   pub within : IsWithin config st.accepted (length (items_in regions host d)) d
+  pub faultless : first_fault_in config d.kind (holding t.presences blocks) (items_in regions host d) ≡ None
   pub fine : AllFine config.capacity d.kind (holding t.presences blocks) (items_in regions host d)
   subject : IsSubject st host d t blocks regions
 
@@ -158,9 +159,11 @@ is_free config st host d t blocks regions labels tied one accepted =
     let none = none_or (limit_in config st.accepted regions host d) _ (sym (refusal_is config st host d t blocks regions labels tied) ∙ accepted) in
     let items = items_in regions host d in
     let within = is_within config st.accepted regions host d (length items) none in
+    let faultless = sym (refused_by_items config st host d t blocks regions labels tied one none) ∙ accepted in
     record {
       within = within;
-      fine = all_fine config d.kind (holding t.presences blocks) items (sym (refused_by_items config st host d t blocks regions labels tied one none) ∙ accepted);
+      faultless = faultless;
+      fine = all_fine config d.kind (holding t.presences blocks) items faultless;
       subject = is_subject st host d t blocks regions labels tied (only_device d.device config.devices one within.here);
     }
 

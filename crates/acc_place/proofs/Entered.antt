@@ -25,7 +25,8 @@ use Rattle.acc_place.specs.declared.directive.Kind.{Kind}
 use Rattle.acc_place.specs.declared.directive.Kind.TheVariants.{Data, EndData, EnterData, ExitData, Update, IsPresent}
 use Rattle.acc_place.specs.declared.directive.Region.{Region}
 use Rattle.acc_place.specs.declared.directive.TheConstants.{MAX_ITEMS}
-use Rattle.acc_place.specs.Places.{IsEnteredBy, IsHere, count_inside, entered_ranges}
+use Rattle.acc_place.specs.Counts.{IsEnteredBy, count_inside, entered_ranges}
+use Rattle.acc_place.specs.Places.{IsHere}
 use Rattle.acc_place.specs.Regions.{open_region, region_of, regions_after, without_open}
 use Rattle.acc_place.specs.Standings.{change_by, exit_by, left_by, subject_by}
 use Rattle.acc_place.specs.Walks.{Holding, holding, holding_after, holding_after_all, mark_by, presences_by, HasEntered, AllEntered, AllFine, IsFine}
@@ -412,26 +413,26 @@ entered_after capacity rs host d (Update if_present) ps n t fine h =
     entered_same capacity (Update if_present) (holding ps n) d.items (entered_ranges rs) (λ qs r b u f g. g) t fine h
 entered_after capacity rs host d IsPresent ps n t fine h = entered_same capacity IsPresent (holding ps n) d.items (entered_ranges rs) (λ qs r b u f g. g) t fine h
 
--- ## Regions stay on the one device
+-- ## The open region is one of them, and the others stay
 
-open_is_here : (host : ℕ) (rs : List Region) (x : Region) → open_region host rs ≡ Some x → All IsHere rs → IsHere x
-open_is_here host [] x some all = absurd cc
-open_is_here host (r ∷ rs) x some all = elim (cases_Bool (r.host == host)) [
+pub open_has : (P : Region → Type 0) (host : ℕ) (rs : List Region) (x : Region) → open_region host rs ≡ Some x → All P rs → P x
+open_has P host [] x some all = absurd cc
+open_has P host (r ∷ rs) x some all = elim (cases_Bool (r.host == host)) [
   | inl its_own ↦
       let same : Some r ≡ Some x = rw its_own at some in
       let e : r ≡ x = cc in
-      rw (← e) (All-head IsHere r rs all)
-  | inr another ↦ open_is_here host rs x (rw another at some) (All-tail IsHere r rs all)
+      rw (← e) (All-head P r rs all)
+  | inr another ↦ open_has P host rs x (rw another at some) (All-tail P r rs all)
 ]
 
-without_regions : (host : ℕ) (rs : List Region) → All IsHere rs → All IsHere (without_open host rs)
-without_regions host [] all = all
-without_regions host (r ∷ rs) all =
-    let first = All-head IsHere r rs all in
-    let rest = All-tail IsHere r rs all in
+pub without_all : (P : Region → Type 0) (host : ℕ) (rs : List Region) → All P rs → All P (without_open host rs)
+without_all P host [] all = all
+without_all P host (r ∷ rs) all =
+    let first = All-head P r rs all in
+    let rest = All-tail P r rs all in
     elim (cases_Bool (r.host == host)) [
       | inl its_own ↦ rw its_own rest
-      | inr another ↦ rw another (All-cons IsHere r (without_open host rs) first (without_regions host rs rest))
+      | inr another ↦ rw another (All-cons P r (without_open host rs) first (without_all P host rs rest))
     ]
 
 -- a directive acts on the one device
@@ -441,7 +442,7 @@ subject_device rs host d EndData here all = by_open (open_region host rs) refl
   where
     by_open : (o : Option Region) → open_region host rs ≡ o → (left_by d o).device ≡ 0
     by_open None none = here
-    by_open (Some x) some = open_is_here host rs x some all
+    by_open (Some x) some = open_has IsHere host rs x some all
 subject_device rs host d EnterData here all = here
 subject_device rs host d (ExitData finalize) here all = here
 subject_device rs host d (Update if_present) here all = here
@@ -449,7 +450,7 @@ subject_device rs host d IsPresent here all = here
 
 pub regions_kept : (rs : List Region) (host : ℕ) (d : Directive) (k : Kind) → d.device ≡ 0 → All IsHere rs → All IsHere (regions_after host d k rs)
 regions_kept rs host d Data here all = All-cons IsHere (region_of host d) rs here all
-regions_kept rs host d EndData here all = without_regions host rs all
+regions_kept rs host d EndData here all = without_all IsHere host rs all
 regions_kept rs host d EnterData here all = all
 regions_kept rs host d (ExitData finalize) here all = all
 regions_kept rs host d (Update if_present) here all = all

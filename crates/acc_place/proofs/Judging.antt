@@ -129,6 +129,13 @@ not_both : (a b : Bool) → (a && b) ≡ false → a ≡ true → b ≡ false
 not_both true b h is = h
 not_both false b h is = absurd cc
 
+-- its range lies in its array
+pub inside_item : (config : Configuration) (k : Kind) (ps : List Presence) (i : Item) → fault_in config k ps i ≡ None → is_in_array config.arrays i.range ≡ true
+unfolding fault_in
+inside_item config k ps i none =
+    let full = nat_lt config.capacity (used_cells ps + i.range.len) in
+    (none_of_four (is_in_array config.arrays i.range) (wants_whole k && is_partly_present ps i.range) (wants_presence k i.clause && not (is_present ps i.range)) (opens_one (change_by k) ps i.range && full) none).0
+
 -- such an item is fine
 pub fine_item : (config : Configuration) (k : Kind) (ps : List Presence) (i : Item) → fault_in config k ps i ≡ None → IsFine config.capacity k ps i.range
 unfolding fault_in

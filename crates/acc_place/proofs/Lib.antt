@@ -1,4 +1,5 @@
 mod Accepted
+mod Counted
 mod Entered
 mod Inside
 mod Judging

@@ -29,7 +29,7 @@ use Rattle.acc_place.specs.Accepting.{refusal}
 use Rattle.acc_place.specs.Batches.{answer_of, batch_of, is_answered, next_number, placed_batch, walk_at}
 use Rattle.acc_place.specs.Histories.{standing, after_directive}
 use Rattle.acc_place.specs.Places.{IsPlace, IsHere, nth_batch, sync}
-use Rattle.acc_place.specs.Plans.{KeptByAccepting, KeptByPlanning, PlaceView, PlanView, standing_in, IsRefusal, IsPlanOf, Fits, label_for, label_in, opened_region, place_after}
+use Rattle.acc_place.specs.Plans.{KeptByAccepting, KeptByPlanning, KeptByTaking, PlaceView, PlanView, standing_in, IsRefusal, IsPlanOf, Fits, label_for, label_in, opened_region, place_after}
 use Rattle.acc_place.specs.Regions.{regions_after}
 use Rattle.acc_place.specs.Standings.{Standing, Walk, change_by, subject_by, walk_of}
 use Rattle.acc_place.specs.Walks.{holding, holding_after_all, limit_fault, first_fault_in, marked_ops, all_marked}
@@ -86,6 +86,7 @@ accepted_place p q t after blocks next regions labels h fits is same =
       capacity = same ∙ h.capacity;
       accepted = omega (arith, h.accepted, ap (λ (k : Standing). k.accepted) st);
       counted = omega (arith, h.counted);
+      lawful = (fits.accepted, h.lawful);
       tied = rw st tied;
     }
 
@@ -156,6 +157,7 @@ first_place config history counts regions labels t no_history no_counts no_regio
       capacity = same;
       accepted = refl;
       counted = refl;
+      lawful = tt;
       tied =
           record {
             presences = none;
@@ -177,7 +179,7 @@ first_place config history counts regions labels t no_history no_counts no_regio
 -- a place with memory for one more directive
 pub ready_place : (config : Configuration) (history : List PlaceEntry) (counts : List ℕ) (is_ready : Bool) (t : Present) (blocks : ℕ) (regions : List Region) (labels : List Label) → IsPlace (viewed config history counts is_ready) t blocks regions labels
     → IsPlace (viewed config history counts true) t blocks regions labels
-ready_place config history counts is_ready t blocks regions labels h = record { one = h.one; capacity = h.capacity; accepted = h.accepted; counted = h.counted; tied = h.tied }
+ready_place config history counts is_ready t blocks regions labels h = record { one = h.one; capacity = h.capacity; accepted = h.accepted; counted = h.counted; lawful = h.lawful; tied = h.tied }
 
 pub fits_plan : (p : PlaceView) (host : ℕ) (d : Directive) (t : Present) (blocks : ℕ) (regions : List Region) (labels : List Label) (q : PlanView) → IsPlace p t blocks regions labels → refusal p.config (standing_in p) host d ≡ None
     → q.host ≡ host → q.directive ≡ d → q.region ≡ opened_region host d d.kind
@@ -267,6 +269,24 @@ plan_beside p after q config history counts ready h =
       fitted = rw config h.fitted;
       ready = λ none. ready (h.ready none);
     }
+
+-- and where its batch is handed out
+pub plan_without : KeptByTaking
+plan_without p q = (
+  λ h. record {
+    history_then = h.history_then;
+    history_since = h.history_since;
+    counts_then = h.counts_then;
+    counts_since = h.counts_since;
+    history = h.history;
+    counts = h.counts;
+    counted = h.counted;
+    stamped = h.stamped;
+    fitted = record { accepted = h.fitted.accepted; region = h.fitted.region; labelled = h.fitted.labelled; ready = h.fitted.ready };
+    ready = h.ready;
+  },
+  λ h. record { accepted = h.accepted; region = h.region; labelled = h.labelled; ready = h.ready },
+)
 
 -- ## What is asked of a place
 

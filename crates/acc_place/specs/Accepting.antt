@@ -1,4 +1,5 @@
--- When a directive is accepted, and its first fault where it is not.
+-- When a directive is accepted, and its first fault where it is not (OpenACC API 3.0, 2.6.5, Data Construct, 2.6.6, Enter
+-- Data and Exit Data Directives, 2.7, Data Clauses, and 2.14.4, Update Directive).
 use Rattle.std.specs.Prelude.{ℕ, ◌+◌, Bool, true, false, ◌&&◌, ◌||◌, not, nat_lt, nat_le, List, [], ◌∷◌, length, map, slice_get, Option, Some, None, ℤ}
 use Rattle.acc_base.specs.declared.range.Range.{Range}
 use Rattle.acc_base.specs.declared.fault.Fault.{Fault}

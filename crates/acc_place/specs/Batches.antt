@@ -1,4 +1,5 @@
--- What a directive places: the operations of its batch, and its answer.
+-- What a directive places: the operations of its batch, and its answer (OpenACC API 3.0, 2.7, Data Clauses, 2.14.4, Update
+-- Directive, and 3.2, Runtime Library Routines).
 use Rattle.std.specs.Prelude.{ℕ, ◌+◌, Bool, true, false, not, nat_lt, List, [], ◌∷◌, ◌++◌, length, map, filter, Option, Some, None, replicate, if◌then◌else◌}
 use Rattle.std.specs.List.{flat_map, list_all}
 use Rattle.acc_base.specs.declared.ids.QueueAt.{QueueAt}

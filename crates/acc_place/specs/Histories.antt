@@ -1,10 +1,12 @@
--- A place history, the latest entry first, as what it leaves. The counts go with its directives: how many items the
--- host of each had before it, the latest first.
-use Rattle.std.specs.Prelude.{ℕ, ◌+◌, List, [], ◌∷◌, drop, slice_index_or}
+-- A place history, the latest entry first, as what it leaves (OpenACC API 3.0, 2.6.7, Reference Counters). The counts go
+-- with its directives: how many items the host of each had before it, the latest first.
+use Rattle.std.specs.Prelude.{◌≡◌, ℕ, ◌+◌, List, [], ◌∷◌, drop, slice_index_or, None}
+use Rattle.acc_base.specs.Configurations.{Configuration}
 use Rattle.acc_place.specs.declared.directive.Directive.{Directive}
 use Rattle.acc_place.specs.declared.directive.PlaceEntry.{PlaceEntry}
 use Rattle.acc_place.specs.declared.directive.PlaceEntry.TheVariants as entry
 use Rattle.acc_place.specs.Standings.{Standing, Walk, walk_of, marks_after, with_marks}
+use Rattle.acc_place.specs.Accepting.{refusal}
 use Rattle.acc_place.specs.Batches.{batch_of, labelled, walk_at}
 use Rattle.acc_place.specs.Regions.{regions_after}
 
@@ -27,3 +29,9 @@ unfoldable pub standing : List PlaceEntry → List ℕ → Standing
 standing [] counts = at_first
 standing (entry.Accepted host d ∷ before) counts =
     after_directive (standing before (drop 1 counts)) host (slice_index_or counts 0 0) d
+
+-- Each directive was accepted after those before it.
+abbrev pub AllAccepted : Configuration → List PlaceEntry → List ℕ → Type 0
+AllAccepted config [] counts = Unit {0}
+AllAccepted config (entry.Accepted host d ∷ before) counts =
+    (refusal config (standing before (drop 1 counts)) host d ≡ None) × AllAccepted config before (drop 1 counts)

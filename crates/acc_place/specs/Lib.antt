@@ -1,6 +1,7 @@
 pub mod Accepting
 pub mod BatchExamples
 pub mod Batches
+pub mod Counts
 pub mod Examples
 pub mod Histories
 pub mod Places

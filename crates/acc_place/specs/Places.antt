@@ -1,23 +1,21 @@
 -- What a place keeps between directives.
-use Rattle.std.specs.Prelude.{◌≡◌, ℕ, ◌+◌, ◌*◌, ◌<◌, ◌≤◌, zero, suc, Bool, true, false, ◌&&◌, List, length, map, filter, All, slice_get, Option, None}
-use Rattle.std.specs.List.{flat_map}
-use Rattle.acc_base.specs.declared.range.Range.{Range}
-use Rattle.acc_base.specs.Ranges.{range_contains}
+use Rattle.std.specs.Prelude.{◌≡◌, ℕ, ◌+◌, ◌*◌, ◌<◌, ◌≤◌, zero, suc, Bool, true, false, ◌&&◌, List, length, All, slice_get, Option, None}
 use Rattle.acc_base.specs.declared.ids.QueueAt.{QueueAt}
 use Rattle.acc_batch.specs.declared.operation.Label.{Label}
 use Rattle.acc_batch.specs.Labels.{AllAt}
 use Rattle.acc_present.specs.Legality.{AllLegal}
 use Rattle.acc_present.specs.Lifetimes.{opened}
-use Rattle.acc_present.specs.Presences.{Presence, presences, is_present}
+use Rattle.acc_present.specs.Presences.{presences}
 use Rattle.acc_present.specs.Tables.{Present}
 use Rattle.acc_place.specs.declared.directive.Directive.{Directive}
-use Rattle.acc_place.specs.declared.directive.Item.{Item}
 use Rattle.acc_place.specs.declared.directive.Region.{Region}
 use Rattle.acc_place.specs.declared.directive.Target.{Target}
 use Rattle.acc_place.specs.declared.directive.Target.TheVariants.{Plain, Unvalued, Value}
 use Rattle.acc_place.specs.declared.directive.TheConstants.{MAX_ITEMS, MAX_DIRECTIVES}
 use Rattle.acc_place.specs.declared.directive.Waits.{Waits}
 use Rattle.acc_place.specs.declared.directive.Waits.TheVariants as waits
+use Rattle.acc_place.specs.Counts.{IsEnteredBy, entered_ranges}
+use Rattle.acc_place.specs.Histories.{AllAccepted}
 use Rattle.acc_place.specs.Plans.{PlaceView, standing_in}
 use Rattle.acc_place.specs.Standings.{Standing}
 use Rattle.acc_place.specs.Walks.{AllLow}
@@ -44,21 +42,6 @@ nth_batch labels (suc n) = slice_get labels n
 abbrev pub sync : QueueAt
 sync = record { device = 0; queue = 0 }
 
--- ## Regions
-
--- the ranges that the regions of all hosts have entered, as often as they did
-abbrev pub entered_ranges : List Region → List Range
-entered_ranges rs = flat_map (λ (r : Region). map (λ (i : Item). i.range) r.items) rs
-
-abbrev pub count_inside : Range → List Range → ℕ
-count_inside whole rs = length (filter (λ r. range_contains whole r) rs)
-
--- Each range that a region has entered is present, and the structured counter of a present range is the number of
--- those inside it.
-pub record IsEnteredBy (rs : List Range) (ps : List Presence) : Type 0 where
-  pub present : All (λ (r : Range). (0 < r.len) × (is_present ps r ≡ true)) rs
-  pub counted : All (λ (p : Presence). p.s ≡ count_inside p.range rs) ps
-
 -- a region is on the one device
 abbrev pub IsHere : Region → Type 0
 IsHere r = r.device ≡ 0
@@ -82,6 +65,7 @@ pub record IsPlace (p : PlaceView) (t : Present) (blocks : ℕ) (regions : List 
   pub capacity : t.capacity ≡ p.config.capacity
   pub accepted : length p.history ≡ (standing_in p).accepted
   pub counted : length p.counts ≡ length p.history
+  pub lawful : AllAccepted p.config p.history p.counts
   pub tied : IsTied (standing_in p) t blocks regions labels
 
 -- There is memory for one more directive: in the histories, among the regions and the labels, and in the table for its

@@ -94,3 +94,10 @@ abbrev pub KeptByPlanning : Type 0
 KeptByPlanning =
     (p after : PlaceView) (q : PlanView) → after.config ≡ p.config → after.history ≡ p.history → after.counts ≡ p.counts
     → (p.is_ready ≡ true → after.is_ready ≡ true) → IsPlanOf p q → IsPlanOf after q
+
+-- It stays one, and fits as it did, where its batch is handed out.
+abbrev pub without_batch : PlanView → PlanView
+without_batch q = record q { batch = None }
+
+abbrev pub KeptByTaking : Type 0
+KeptByTaking = (p : PlaceView) (q : PlanView) → (IsPlanOf p q → IsPlanOf p (without_batch q)) × (Fits p q → Fits p (without_batch q))

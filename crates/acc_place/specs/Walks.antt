@@ -1,4 +1,5 @@
--- What the items of a directive make of a device's table, item by item, in the table's own words.
+-- What the items of a directive make of a device's table, item by item, in the table's own words. Only private contracts
+-- and proofs cite it: what a public call promises is said by the definitions, which proofs tie to these.
 use Rattle.std.specs.Prelude.{◌≡◌, ℕ, ◌+◌, ◌<◌, ◌≤◌, ⊤, Bool, true, false, ◌&&◌, ◌||◌, not, nat_lt, nat_le, List, [], ◌∷◌, ◌++◌, length, Option, Some, None, IfSome, if◌then◌else◌}
 use Rattle.std.specs.List.{flat_map}
 use Rattle.std.specs.Option.{option_and_then, option_to_list}

@@ -1,12 +1,22 @@
 ghost use Rattle.acc_place.specs.BatchExamples.{GroupByGroup, PartIsCopiedOut, LeavesOnce, EntersAgain, EmptyBatch};
 ghost use Rattle.acc_place.specs.RefusalExamples.{EarlierItemFirst, ItemBeforeCounts, LimitsFirst, LastDirective, RangesOutside, CapacityReached};
 ghost use Rattle.acc_place.specs.RegionExamples.{AbsentAtEntry, PresentAtEntry, LastExit, NotTheLastExit, Nested, OwnRegion, Depth, Entries, ExitsInside, Updates, Questions, ItemsInTurn};
-ghost use Rattle.acc_place.specs.Plans.{KeptByAccepting, KeptByPlanning};
+ghost use Rattle.acc_place.specs.Counts.{AcceptedAreCounted, EnteredCanBeLeft};
+ghost use Rattle.acc_place.specs.Plans.{KeptByAccepting, KeptByPlanning, KeptByTaking};
 
-/// A plan stays one of its place, whatever is accepted or planned since: `Plan::fits` can always be asked.
+/// After accepted directives the structured counter of each present range is the number of the ranges inside it that
+/// open data constructs have entered; so a data construct that a host is inside can be left.
+pub fn accepted_directives_are_counted()
+    ensures counted { AcceptedAreCounted }
+    ensures left { EnteredCanBeLeft }
+{}
+
+/// A plan stays one of its place, whatever is accepted or planned since and whether or not its batch is handed out:
+/// `Plan::fits` can always be asked.
 pub fn plans_are_kept()
     ensures accepted { KeptByAccepting }
     ensures planned { KeptByPlanning }
+    ensures taken { KeptByTaking }
 {}
 
 /// What data constructs mean, computed on short histories: each clause where its range is absent, present, and

@@ -7,6 +7,7 @@ ghost use Rattle.acc_present.specs.Presences.{presences, holder, is_present};
 ghost use Rattle.acc_present.specs.Tables.{entry_mark, entry_presence, presences_after};
 ghost use Rattle.acc_place.specs.Accepting.{refusal};
 ghost use Rattle.acc_place.specs.Batches.{answer_of, is_answered};
+ghost use Rattle.acc_place.specs.Histories.{AllAccepted};
 ghost use Rattle.acc_place.specs.Places.{IsRoomy, is_synchronous, nth_batch, sync};
 ghost use Rattle.acc_place.specs.Plans.{standing_in, IsRefusal, IsPlanOf, Fits, place_after};
 ghost use Rattle.acc_place.specs.Standings.{change_by, walk_of};
@@ -58,7 +59,7 @@ impl Model for Place {
 }
 
 impl Place {
-    /// A place without directives.
+    /// A place without directives, for a configuration of one device.
     ///
     /// # Errors
     ///
@@ -89,7 +90,7 @@ impl Place {
     }
 
     /// What accepting a directive of this host, which has so many items, would add. Nothing is added but spare
-    /// memory.
+    /// memory. The directive is synchronous, by `Directive::is_synchronous`.
     ///
     /// # Errors
     ///
@@ -107,6 +108,7 @@ impl Place {
         ensures ready { self.old.is_ready ≡ true → self.new.is_ready ≡ true }
         ensures refused { IfErr result (λ fault. IsRefusal (refusal self.old.config (standing_in self.old) host directive.now) fault) }
         ensures plan { IfOk result (λ q. (q.host ≡ host) × (q.items_done ≡ items_done) × (q.directive ≡ directive.now)) }
+        ensures stamp { IfOk result (λ q. q.stamp ≡ length self.new.history) }
         ensures fits { IfOk result (λ q. Fits self.new q × IsPlanOf self.new q) }
         ensures batch { IfOk result (λ q. q.batch ≡ q.label) }
     {
@@ -156,7 +158,7 @@ impl Place {
         Ok(plan)
     }
 
-    /// Accepts the directive of a plan. Takes no memory.
+    /// Accepts the directive of a plan that fits, by `Plan::fits`. Takes no memory.
     pub fn accept(&mut self, plan: Plan) -> Placed
         requires { Fits self.old plan }
         ensures place { self.new ≡ place_after self.old plan }
@@ -207,14 +209,14 @@ impl Place {
         self.table.counters(range)
     }
 
-    /// The entry of the device's table at this place, by array, then by lower bound.
-    pub fn nth(&self, device: DeviceId, place: usize) -> Option<&Entry>
+    /// The entry of the device's table with this index, by array, then by lower bound.
+    pub fn nth(&self, device: DeviceId, index: usize) -> Option<&Entry>
         requires device { device < self.now.config.devices }
-        ensures entry { option_map (λ e. entry_presence e.now) result ≡ slice_get (presences ((standing_in self.now).marks device)) place }
-        ensures next { OnSome result (place + 1 < 2 ^ 64) }
+        ensures entry { option_map (λ e. entry_presence e.now) result ≡ slice_get (presences ((standing_in self.now).marks device)) index }
+        ensures next { OnSome result (index + 1 < 2 ^ 64) }
     {
         let _ = device;
-        self.table.nth(place)
+        self.table.nth(index)
     }
 
     /// How many batches were placed on a queue.
@@ -246,13 +248,15 @@ impl Place {
         }
     }
 
-    /// The directives that were accepted, in order.
+    /// The directives that were accepted, in order, each after those before it.
     pub fn history(&self) -> &[PlaceEntry]
-        ensures { result.now ≡ reverse self.now.history }
+        ensures history { result.now ≡ reverse self.now.history }
+        ensures accepted { AllAccepted self.now.config self.now.history self.now.counts }
     {
         self.history.as_slice()
     }
 
+    /// The configuration that it was made for.
     pub fn config(&self) -> &Config
         ensures { result.now ≡ self.now.config }
     {

@@ -27,14 +27,17 @@ pub enum Group {
 /// A directive that can be accepted, with all the memory that this needs, and its batch.
 #[derive(Drop)]
 pub struct Plan {
-    pub host: HostId,
-    pub items_done: u64,
-    pub directive: Directive,
-    pub region: Option<Region>,
-    pub label: Option<Label>,
-    pub batch: Option<Batch>,
+    pub(crate) host: HostId,
+    pub(crate) items_done: u64,
+    pub(crate) directive: Directive,
+    // the data construct that it enters, if it enters one
+    pub(crate) region: Option<Region>,
+    // the label of its batch, if it has one
+    pub(crate) label: Option<Label>,
+    // the batch, until it is handed out
+    pub(crate) batch: Option<Batch>,
     // how many entries the place history had
-    pub stamp: usize,
+    pub(crate) stamp: usize,
 }
 
 impl Model for Plan {
@@ -46,7 +49,8 @@ impl Model for Plan {
 }
 
 impl Plan {
-    /// Whether no other directive was accepted since the plan was made.
+    /// Whether no other directive was accepted by the place since it made the plan. The place has to be the one
+    /// that made it; `plans_are_kept` says that it stays so.
     pub fn fits(&self, place: &Place) -> bool
         requires { IsPlanOf place.now self.now }
         ensures stamp { result ≡ (self.now.stamp == length place.now.history) }

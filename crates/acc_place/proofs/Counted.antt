@@ -1,0 +1,152 @@
+-- The counters after accepted directives, and a region's end.
+use Rattle.std.proofs.Common.{◌≡◌, ℕ, ◌+◌, ◌<◌, ◌≤◌, Bool, true, false, List, [], ◌∷◌, ◌++◌, length, Option, Some, None, refl, sym, ap, ◌∙◌, arith}
+use Rattle.std.specs.Prelude.{All, not, ◌||◌, nat_lt, nat_le, drop, slice_index_or}
+use Rattle.std.specs.Option.{option_to_list}
+use Rattle.std.proofs.lemmas.Bool.Decides.{nat_tests}
+use Rattle.std.proofs.lemmas.List.Elements.{All-cons, All-nil, All-head, All-tail}
+use Rattle.acc_base.specs.declared.fault.Fault.{Fault}
+use Rattle.acc_base.specs.declared.range.Range.{Range}
+use Rattle.acc_base.specs.Configurations.{Configuration}
+use Rattle.acc_batch.specs.declared.operation.Label.{Label}
+use Rattle.acc_present.specs.Legality.{IsEntered}
+use Rattle.acc_present.specs.Presences.{Presence, presences, holder, is_present}
+use Rattle.acc_present.specs.Tables.{Present}
+use Rattle.acc_present.specs.Marks.{Structured_down}
+use Rattle.acc_present.proofs.Searching.{is_present-some, not_partly}
+use Rattle.acc_place.specs.declared.directive.Directive.{Directive}
+use Rattle.acc_place.specs.declared.directive.Item.{Item}
+use Rattle.acc_place.specs.declared.directive.Kind.{Kind}
+use Rattle.acc_place.specs.declared.directive.Kind.TheVariants.{Data, EndData, EnterData, ExitData, Update, IsPresent}
+use Rattle.acc_place.specs.declared.directive.PlaceEntry.{PlaceEntry}
+use Rattle.acc_place.specs.declared.directive.PlaceEntry.TheVariants as entry
+use Rattle.acc_place.specs.declared.directive.Region.{Region}
+use Rattle.acc_place.specs.declared.directive.TheConstants.{MAX_ITEMS, MAX_DIRECTIVES}
+use Rattle.acc_place.specs.Accepting.{is_in_array, refusal}
+use Rattle.acc_place.specs.Counts.{AcceptedAreCounted, EnteredCanBeLeft}
+use Rattle.acc_place.specs.Histories.{AllAccepted, standing}
+use Rattle.acc_place.specs.Places.{IsTied, IsHere}
+use Rattle.acc_place.specs.Plans.{label_in}
+use Rattle.acc_place.specs.Regions.{open_region, region_of, regions_after}
+use Rattle.acc_place.specs.Standings.{Standing, change_by, left_by, subject_by, walk_of}
+use Rattle.acc_place.specs.Walks.{Holding, holding, holding_after, holding_after_all, fault_in, fault_or, first_fault_in, limit_fault, AllEntered}
+use Rattle.acc_place.proofs.Accepted.{items_in, is_free, refused_by_items, entered_in, tied_after}
+use Rattle.acc_place.proofs.Entered.{open_has, without_all}
+use Rattle.acc_place.proofs.Judging.{inside_item}
+use Rattle.acc_place.proofs.Planning.{first_place}
+
+-- ## The table of a history
+
+record HasTable (st : Standing) : Type 0 where
+  table : Present
+  blocks : ℕ
+  labels : List Label
+  tied : IsTied st table blocks st.regions labels
+
+tables : (config : Configuration) (history : List PlaceEntry) (counts : List ℕ) → config.devices ≡ 1 → AllAccepted config history counts → HasTable (standing history counts)
+unfolding standing
+tables config [] counts one all =
+    let empty : Present = record { presences = []; capacity = config.capacity; room = 0 } in
+    record { table = empty; blocks = 0; labels = []; tied = (first_place config [] [] [] [] empty refl refl refl refl one refl refl).tied }
+tables config (entry.Accepted host d ∷ before) counts one all =
+    let st = standing before (drop 1 counts) in
+    let h = tables config before (drop 1 counts) one all.1 in
+    let items_done = slice_index_or counts 0 0 in
+    let free = is_free config st host d h.table h.blocks st.regions h.labels h.tied one all.0 in
+    let next = holding_after_all (change_by d.kind) (holding h.table.presences h.blocks) (items_in st.regions host d) in
+    let after : Present = record { presences = next.presences; capacity = config.capacity; room = 0 } in
+    let label = label_in st host items_done (walk_of st host d) in
+    record {
+      table = after;
+      blocks = next.opened;
+      labels = h.labels ++ option_to_list label;
+      tied = tied_after config st d host items_done h.table after h.blocks next.opened st.regions h.labels label h.tied free refl refl;
+    }
+
+pub accepted_counted : AcceptedAreCounted
+accepted_counted config history counts one all =
+    let h = tables config history counts one all in
+    record { legal = h.tied.legal; entered = rw (← h.tied.presences) h.tied.entered }
+
+-- ## The items of an open region
+
+abbrev AllInside : Configuration → List Item → Type 0
+AllInside config items = All (λ (i : Item). is_in_array config.arrays i.range ≡ true) items
+
+-- a region was entered by an accepted directive
+abbrev IsSound : Configuration → Region → Type 0
+IsSound config r = (length r.items ≤ MAX_ITEMS) × AllInside config r.items
+
+none_both : (a b : Option Fault) → fault_or a b ≡ None → (a ≡ None) × (b ≡ None)
+none_both None b h = (refl, h)
+none_both (Some f) b h = absurd (cc)
+
+all_inside : (config : Configuration) (k : Kind) (h : Holding) (items : List Item) → first_fault_in config k h items ≡ None → AllInside config items
+all_inside config k h [] none = All-nil (λ (i : Item). is_in_array config.arrays i.range ≡ true)
+all_inside config k h (i ∷ is) none =
+    let parts = none_both (fault_in config k h.presences i) (first_fault_in config k (holding_after (change_by k) i.range h) is) none in
+    All-cons (λ (i : Item). is_in_array config.arrays i.range ≡ true) i is (inside_item config k h.presences i parts.0) (all_inside config k (holding_after (change_by k) i.range h) is parts.1)
+
+sound_after : (config : Configuration) (host : ℕ) (d : Directive) (k : Kind) (rs : List Region) → length (subject_by rs host d k).items ≤ MAX_ITEMS → AllInside config (subject_by rs host d k).items
+    → All (IsSound config) rs → All (IsSound config) (regions_after host d k rs)
+sound_after config host d Data rs short inside all = All-cons (IsSound config) (region_of host d) rs (short, inside) all
+sound_after config host d EndData rs short inside all = without_all (IsSound config) host rs all
+sound_after config host d EnterData rs short inside all = all
+sound_after config host d (ExitData finalize) rs short inside all = all
+sound_after config host d (Update if_present) rs short inside all = all
+sound_after config host d IsPresent rs short inside all = all
+
+all_sound : (config : Configuration) (history : List PlaceEntry) (counts : List ℕ) → config.devices ≡ 1 → AllAccepted config history counts → All (IsSound config) (standing history counts).regions
+unfolding standing
+all_sound config [] counts one all = All-nil (IsSound config)
+all_sound config (entry.Accepted host d ∷ before) counts one all =
+    let st = standing before (drop 1 counts) in
+    let h = tables config before (drop 1 counts) one all.1 in
+    let free = is_free config st host d h.table h.blocks st.regions h.labels h.tied one all.0 in
+    let inside = all_inside config d.kind (holding h.table.presences h.blocks) (items_in st.regions host d) free.faultless in
+    sound_after config host d d.kind st.regions free.within.short inside
+    (all_sound config before (drop 1 counts) one all.1)
+
+-- ## A region's end
+
+is_held : (ps : List Presence) (r : Range) → IsEntered (holder ps r) → is_present ps r ≡ true
+is_held ps r entered = by_holder (holder ps r) refl entered
+  where
+    by_holder : (o : Option Presence) → holder ps r ≡ o → IsEntered o → is_present ps r ≡ true
+    by_holder None none entered = absurd entered
+    by_holder (Some p) some entered = is_present-some ps r p some
+
+no_fault : (config : Configuration) (ps : List Presence) (i : Item) → is_in_array config.arrays i.range ≡ true → IsEntered (holder ps i.range) → fault_in config EndData ps i ≡ None
+unfolding fault_in
+no_fault config ps i inside entered = rw (inside, not_partly ps i.range (is_held ps i.range entered)) refl
+
+no_faults : (config : Configuration) (h : Holding) (items : List Item) → AllInside config items → AllEntered (Some Structured_down) h items → first_fault_in config EndData h items ≡ None
+no_faults config h [] inside entered = refl
+no_faults config h (i ∷ is) inside entered =
+    let P = λ (i : Item). is_in_array config.arrays i.range ≡ true in
+    ap (λ f. fault_or f (first_fault_in config EndData (holding_after (Some Structured_down) i.range h) is)) (no_fault config h.presences i (All-head P i is inside) entered.0)
+    ∙ no_faults config (holding_after (Some Structured_down) i.range h) is (All-tail P i is inside) entered.1
+
+no_limit : (config : Configuration) (accepted : ℕ) (rs : List Region) (host : ℕ) (d : Directive) (count : ℕ) (r : Region) → config.devices ≡ 1 → accepted < MAX_DIRECTIVES → d.kind ≡ EndData → d.device ≡ 0
+    → open_region host rs ≡ Some r → count ≤ MAX_ITEMS → limit_fault config accepted rs host d count ≡ None
+unfolding limit_fault
+no_limit config accepted rs host d count r one few end here inside short =
+    let short_test : nat_lt MAX_ITEMS count ≡ false = grind (arith, nat_tests, short) in
+    let few_test : nat_le MAX_DIRECTIVES accepted ≡ false = grind (arith, nat_tests, few) in
+    rw (one, here, end, inside, short_test, few_test) refl
+
+at_end : (k : Kind) (h : Holding) (items : List Item) → k ≡ EndData → AllEntered (change_by k) h items → AllEntered (Some Structured_down) h items
+at_end k h items is entered = rw is at entered
+
+pub entered_left : EnteredCanBeLeft
+entered_left config history counts host d r one all few end here inside =
+    let st = standing history counts in
+    let h = tables config history counts one all in
+    let sound = open_has (IsSound config) host st.regions r inside (all_sound config history counts one all) in
+    let items : items_in st.regions host d ≡ r.items =
+    ap (λ k. (subject_by st.regions host d k).items) end ∙ ap (λ o. (left_by d o).items) inside in
+    let limit = no_limit config st.accepted st.regions host d (length (items_in st.regions host d)) r one few end here inside (rw items sound.0) in
+    let entered : AllEntered (Some Structured_down) (holding h.table.presences h.blocks) (items_in st.regions host d) =
+    at_end d.kind (holding h.table.presences h.blocks) (items_in st.regions host d) end (entered_in st host d h.table h.blocks st.regions h.labels h.tied) in
+    refused_by_items config st host d h.table h.blocks st.regions h.labels h.tied one limit
+    ∙ (ap (λ k. first_fault_in config k (holding h.table.presences h.blocks) (items_in st.regions host d)) end
+    ∙ no_faults config (holding h.table.presences h.blocks) (items_in st.regions host d) (rw items sound.1) entered)

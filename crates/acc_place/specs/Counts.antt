@@ -1,0 +1,51 @@
+-- The counters and the data constructs that hosts are inside (OpenACC API 3.0, 2.6.7, Reference Counters): what holds of
+-- them after directives that were each accepted after those before it.
+use Rattle.std.specs.Prelude.{◌≡◌, ℕ, ◌<◌, true, List, length, map, filter, All, Option, Some, None}
+use Rattle.std.specs.List.{flat_map}
+use Rattle.acc_base.specs.declared.range.Range.{Range}
+use Rattle.acc_base.specs.Ranges.{range_contains}
+use Rattle.acc_base.specs.Configurations.{Configuration}
+use Rattle.acc_present.specs.Legality.{AllLegal}
+use Rattle.acc_present.specs.Presences.{Presence, presences, is_present}
+use Rattle.acc_place.specs.declared.directive.Directive.{Directive}
+use Rattle.acc_place.specs.declared.directive.Item.{Item}
+use Rattle.acc_place.specs.declared.directive.Kind.TheVariants.{EndData}
+use Rattle.acc_place.specs.declared.directive.PlaceEntry.{PlaceEntry}
+use Rattle.acc_place.specs.declared.directive.Region.{Region}
+use Rattle.acc_place.specs.declared.directive.TheConstants.{MAX_DIRECTIVES}
+use Rattle.acc_place.specs.Accepting.{refusal}
+use Rattle.acc_place.specs.Histories.{AllAccepted, standing}
+use Rattle.acc_place.specs.Regions.{open_region}
+use Rattle.acc_place.specs.Standings.{Standing}
+
+-- the ranges that the regions of all hosts have entered, as often as they did
+abbrev pub entered_ranges : List Region → List Range
+entered_ranges rs = flat_map (λ (r : Region). map (λ (i : Item). i.range) r.items) rs
+
+abbrev pub count_inside : Range → List Range → ℕ
+count_inside whole rs = length (filter (λ r. range_contains whole r) rs)
+
+-- Each range that a region has entered is present, and the structured counter of a present range is the number of
+-- those inside it.
+pub record IsEnteredBy (rs : List Range) (ps : List Presence) : Type 0 where
+  pub present : All (λ (r : Range). (0 < r.len) × (is_present ps r ≡ true)) rs
+  pub counted : All (λ (p : Presence). p.s ≡ count_inside p.range rs) ps
+
+-- On the one device the marks are legal, and the structured counters are those of the open regions.
+pub record IsCounted (st : Standing) : Type 0 where
+  pub legal : AllLegal (st.marks 0)
+  pub entered : IsEnteredBy (entered_ranges st.regions) (presences (st.marks 0))
+
+-- Accepted directives keep it so,
+abbrev pub AcceptedAreCounted : Type 0
+AcceptedAreCounted =
+    (config : Configuration) (history : List PlaceEntry) (counts : List ℕ)
+    → config.devices ≡ 1 → AllAccepted config history counts → IsCounted (standing history counts)
+
+-- and a data construct that a host is inside can be left, until the last directive of a run.
+abbrev pub EnteredCanBeLeft : Type 0
+EnteredCanBeLeft =
+    (config : Configuration) (history : List PlaceEntry) (counts : List ℕ) (host : ℕ) (d : Directive) (r : Region)
+    → config.devices ≡ 1 → AllAccepted config history counts → (standing history counts).accepted < MAX_DIRECTIVES
+    → d.kind ≡ EndData → d.device ≡ 0 → open_region host (standing history counts).regions ≡ Some r
+    → refusal config (standing history counts) host d ≡ None
