@@ -11,12 +11,15 @@ pub fn accepted_directives_are_counted()
     ensures left { EnteredCanBeLeft }
 {}
 
-/// A plan stays one of its place, whatever is accepted or planned since and whether or not its batch is handed out:
-/// `Plan::fits` can always be asked.
+/// A plan stays one of its place, whatever is accepted or planned since: `Plan::fits` can always be asked.
 pub fn plans_are_kept()
     ensures accepted { KeptByAccepting }
     ensures planned { KeptByPlanning }
-    ensures taken { KeptByTaking }
+{}
+
+/// It stays one, and fits as it did, where its batch is handed out.
+pub fn plans_outlast_their_batches()
+    ensures { KeptByTaking }
 {}
 
 /// What data constructs mean, computed on short histories: each clause where its range is absent, present, and

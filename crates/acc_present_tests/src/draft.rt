@@ -1,44 +1,12 @@
 ghost use Rattle.std.specs.Prelude.{◌≡◌, ◌+◌, ◌<◌, ◌≤◌, length};
 ghost use Rattle.acc_present.specs.Drafts.{IsDraft};
 
-use crate::refusal::Hoard;
+use crate::fixtures::{CELLS, cells, entered_into};
 use acc_base::{BlockId, Fault, Range};
 use acc_present::{Counter, Draft, Entered, Entry, Left, Look, Table};
+use acc_scarce::Hoard;
 use std::process::Abort;
 use std::test::Fail;
-
-const CELLS: u64 = 1_000_000;
-
-fn cells(lo: u32, len: u32) -> Range
-    ensures array { result.array ≡ 0 }
-    ensures lo { result.lo ≡ lo }
-    ensures len { result.len ≡ len }
-{
-    Range { array: 0, lo, len }
-}
-
-// Enters a range into the table itself, with all that has to be tested before.
-fn entered_into(rt: &impl Abort, table: &mut Table, range: Range, block: u64) -> Entered
-    requires capacity { table.old.capacity ≡ CELLS }
-    requires cells { 0 < range.len }
-    ensures { table.new.capacity ≡ CELLS }
-{
-    assert!(rt; table.spare(1).is_ok());
-    let used = table.used_cells();
-    assert!(rt; used < CELLS - 1_000);
-    assert!(rt; range.len < 1_000);
-    match table.look(range) {
-        Look::Absent => table.enter(range, Counter::Dynamic, BlockId::new(block)),
-        Look::Present(entry) => {
-            assert!(rt; entry.d < 1_000);
-            table.enter(range, Counter::Dynamic, BlockId::new(block))
-        }
-        Look::Partly => {
-            assert!(rt; false, "partly present");
-            Entered::Counted
-        }
-    }
-}
 
 // Enters a range into a draft, with all that has to be tested before.
 fn drafted_into(

@@ -1,10 +1,10 @@
 ghost use Rattle.std.specs.Prelude.{◌≡◌};
 ghost use Rattle.acc_raw.specs.Windows.{IsWithin, AreApart};
 
-use crate::refusal::{Hoard, Purse};
 use acc_base::Fault;
 use acc_raw::{Cells, Window};
-use std::alloc::Global;
+use acc_scarce::at_each_amount;
+use std::alloc::{AllocError, Global};
 use std::process::Abort;
 use std::test::Fail;
 
@@ -78,52 +78,45 @@ fn two_windows_are_lent(rt: HostRuntime) -> Result<(), Fail> {
     Ok(())
 }
 
+// The numbers below a count, in order.
+fn numbers_below(alloc: Global, count: usize) -> Result<Vec<i64>, AllocError> {
+    let mut values = Vec::new(alloc);
+    let mut next = 0i64;
+    for _ in 0..count {
+        values.push(next)?;
+        next = next.wrapping_add(1);
+    }
+    Ok(values)
+}
+
+// The upper half of the numbers below 65,536, in order, and then the lower half.
+fn check_swapped(rt: &impl Abort, values: &[i64]) {
+    let mut wanted = 32_768i64;
+    for value in values {
+        assert_eq!(rt; *value, wanted);
+        wanted = wanted.wrapping_add(1) % 65_536;
+    }
+}
+
 #[test]
 fn the_longest_row_of_an_array(rt: HostRuntime) -> Result<(), Fail> {
-    let mut values = Vec::new(rt.alloc());
-    for value in 0..65_536i64 {
-        values.push(value)?;
-    }
+    let mut values = numbers_below(rt.alloc(), 65_536)?;
     assert_eq!(rt; values.len(), 65_536);
     let mut cells = Cells::zeroed(rt.alloc(), values.len())?;
     cells.copy_from(0, values.as_slice());
     let (low, high) = cells.two(window(0, 32_768), window(32_768, 32_768));
     low.swap_with_slice(high);
     assert_eq!(rt; cells.len(), 65_536);
-    assert_eq!(rt; cells.get(0), 32_768);
-    assert_eq!(rt; cells.get(65_535), 32_767);
     cells.copy_to(0, values.as_mut_slice());
-    for (place, value) in values.iter().enumerate() {
-        assert_eq!(rt; *value, (place as i64 + 32_768) % 65_536);
-    }
+    check_swapped(&rt, values.as_slice());
     Ok(())
 }
 
 #[test]
 fn a_row_is_refused_until_there_is_memory(rt: HostRuntime) -> Result<(), Fail> {
     let alloc = rt.alloc();
-    let mut purse = Purse::new(alloc)?;
-    let mut hoard = Hoard::new(alloc)?;
-    hoard.fill(alloc);
-    let mut refusals = 0u32;
-    let mut others = 0u32;
-    let mut made = None;
-    for _ in 0..Purse::GIFTS {
-        match Cells::zeroed(alloc, 100) {
-            Ok(cells) => {
-                made = Some(cells);
-                break;
-            }
-            Err(Fault::Memory) => refusals = refusals.wrapping_add(1),
-            Err(_) => others = others.wrapping_add(1),
-        }
-        if !purse.give() {
-            break;
-        }
-    }
-    hoard.free();
+    let (refusals, cells) = at_each_amount(alloc, || Cells::zeroed(alloc, 100))?;
     assert!(rt; 1 < refusals);
-    assert_eq!(rt; others, 0);
-    assert_eq!(rt; made.map(|cells| cells.len()), Some(100));
+    assert_eq!(rt; cells.len(), 100);
     Ok(())
 }

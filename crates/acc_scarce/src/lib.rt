@@ -1,3 +1,7 @@
+//! Memory that is refused, at each amount in turn: for tests of what calls answer where memory is scarce.
+#![tactic(auto)]
+
+use acc_base::Fault;
 use std::alloc::{AllocError, Global};
 
 /// Blocks that take up the whole address space, so that an allocation is refused.
@@ -10,7 +14,11 @@ pub struct Hoard {
 const MOST_BLOCKS: usize = 200_000;
 
 impl Hoard {
-    /// A hoard with the room for what it will hold.
+    /// An empty hoard, with the room for what it will hold.
+    ///
+    /// # Errors
+    ///
+    /// Where memory is refused.
     pub fn new(alloc: Global) -> Result<Hoard, AllocError> {
         Ok(Hoard {
             blocks: Vec::with_capacity(alloc, MOST_BLOCKS)?,
@@ -29,6 +37,7 @@ impl Hoard {
         self.blocks.clear();
     }
 
+    // Takes blocks of so many bytes until there is none.
     fn take_all_of(&mut self, alloc: Global, size: usize) {
         for _ in 0..MOST_BLOCKS {
             match Vec::with_capacity(alloc, size) {
@@ -54,6 +63,10 @@ impl Purse {
     pub const GIFTS: u32 = 7_000;
 
     /// A full purse. It has less than the amount for which an allocator takes a place of its own.
+    ///
+    /// # Errors
+    ///
+    /// Where memory is refused.
     pub fn new(alloc: Global) -> Result<Purse, AllocError> {
         Ok(Purse {
             bytes: Vec::with_capacity(alloc, 120_000)?,
@@ -69,4 +82,36 @@ impl Purse {
         self.bytes.shrink_to(capacity - 16);
         self.bytes.capacity() < capacity
     }
+}
+
+/// Makes a call with each amount of memory, from none on, until it answers something else than want of memory: how often
+/// it was refused before, and what it then gave.
+///
+/// # Errors
+///
+/// The call's fault, if it has another one than `Memory`; `Memory` where it was refused at every amount, or where there
+/// is none to begin with.
+pub fn at_each_amount<T: Drop, F: FnMut() -> Result<T, Fault>>(
+    alloc: Global,
+    mut call: F,
+) -> Result<(u32, T), Fault>
+    requires { F.IsAlwaysCallable call }
+{
+    let mut purse = Purse::new(alloc)?;
+    let mut hoard = Hoard::new(alloc)?;
+    let mut refusals = 0u32;
+    let mut answer = Err(Fault::Memory);
+    hoard.fill(alloc);
+    for _ in 0..Purse::GIFTS {
+        answer = call();
+        if !matches!(&answer, Err(Fault::Memory)) {
+            break;
+        }
+        refusals = refusals.wrapping_add(1);
+        if !purse.give() {
+            break;
+        }
+    }
+    hoard.free();
+    Ok((refusals, answer?))
 }

@@ -1,7 +1,7 @@
-use crate::refusal::{Hoard, Purse};
 use crate::streams::{End, Late, Narrow, Trickle};
 use acc_base::Fault;
 use acc_driver::{DriverFault, Ended, INPUT_TURNS, Options, ReadFault, ReadKind, replay_one};
+use acc_scarce::{Hoard, Purse};
 use std::alloc::Global;
 use std::io::Read;
 use std::test::Fail;

@@ -1,39 +1,13 @@
-use crate::world::{
-    cells, host, perform, performed, printed, statement, sync, synchronous, take, world_of,
+use crate::fixtures::{
+    ALL, EXIT, FINALIZE, FINISHED, Line, UPDATE, UPDATE_IF_PRESENT, cells, copy_in, copy_out, host,
+    item, make, make_of, perform, performed, printed, refused, release, reply_to, sync, take,
+    world_of,
 };
-use acc_base::{BlockId, DeviceId, Fault, HostId, Range};
-use acc_core::{Act, Clause, HostState, Item, Kind, Op, Statement, World};
-use std::alloc::{AllocError, Global};
+use acc_base::{DeviceId, Fault, HostId, Range};
+use acc_core::{Clause, HostState, Item, Kind, Op, World};
+use std::alloc::Global;
 use std::process::Abort;
 use std::test::Fail;
-
-const ALL: Range = Range {
-    array: 0,
-    lo: 0,
-    len: 4,
-};
-
-const EXIT: Kind = Kind::ExitData { finalize: false };
-
-const FINALIZE: Kind = Kind::ExitData { finalize: true };
-
-const UPDATE: Kind = Kind::Update { if_present: false };
-
-const UPDATE_IF_PRESENT: Kind = Kind::Update { if_present: true };
-
-// A line of a program.
-#[derive(Clone, Copy)]
-enum Line {
-    // a directive with one range
-    One(Kind, Clause, Range),
-    // an update of two ranges
-    Update(Item, Item),
-    // a data construct with two ranges
-    Create(Range, Range),
-    End,
-    Write(u32, i64),
-    Print,
-}
 
 // A program over four cells that are 1, 2, 3, 4 and a device of four, and what it leaves.
 #[derive(Drop)]
@@ -48,98 +22,12 @@ struct Case<'a> {
     shown: &'a [i64],
 }
 
-const FINISHED: HostState = HostState::Finished;
-
-// The host was refused at its statement of this number, from 0.
-fn refused(ended: u32, fault: Fault) -> HostState {
-    HostState::Refused {
-        ended: ended as usize,
-        line: ended,
-        fault,
-    }
-}
-
-fn make(block: u64) -> Op {
-    Op::Make {
-        block: BlockId::new(block),
-        range: ALL,
-    }
-}
-
-fn copy_in(range: Range) -> Op {
-    Op::CopyIn {
-        block: BlockId::new(1),
-        range,
-    }
-}
-
-fn copy_out(range: Range) -> Op {
-    Op::CopyOut {
-        block: BlockId::new(1),
-        range,
-    }
-}
-
-fn release(block: u64) -> Op {
-    Op::Release {
-        block: BlockId::new(block),
-    }
-}
-
-fn item(clause: Clause, range: Range) -> Item {
-    Item { clause, range }
-}
-
-fn items_of(alloc: Global, line: Line) -> Result<Vec<Item>, AllocError> {
-    let items = match line {
-        Line::One(_, clause, range) => vec![in alloc; item(clause, range)]?,
-        Line::Update(first, second) => vec![in alloc; first, second]?,
-        Line::Create(first, second) => {
-            vec![in alloc; item(Clause::Create, first), item(Clause::Create, second)]?
-        }
-        Line::End | Line::Write(..) | Line::Print => Vec::new(alloc),
-    };
-    Ok(items)
-}
-
-fn act_of(alloc: Global, line: Line) -> Result<Act, AllocError> {
-    let kind = match line {
-        Line::One(kind, ..) => kind,
-        Line::Update(..) => UPDATE,
-        Line::Create(..) => Kind::Data,
-        Line::End => Kind::EndData,
-        Line::Write(cell, value) => {
-            return Ok(Act::Write {
-                array: 0,
-                cell,
-                value,
-            });
-        }
-        Line::Print => return Ok(Act::Print { range: ALL }),
-    };
-    let items = items_of(alloc, line)?;
-    Ok(Act::Place {
-        directive: synchronous(kind, items),
-    })
-}
-
-// The lines have their numbers from 0 on.
-fn statements_of(alloc: Global, lines: &[Line]) -> Result<Vec<Statement>, Fail> {
-    let mut statements = Vec::new(alloc);
-    let mut number = 0u32;
-    for line in lines {
-        statements.push(statement(number, act_of(alloc, *line)?))?;
-        number = number.wrapping_add(1);
-    }
-    Ok(statements)
-}
-
 // So many turns, each of one event for the host, one take and one operation.
 fn turns(world: &mut World, count: u32) {
     for _ in 0..count {
-        let _ = world.step(host());
-        let _ = world.step(take());
-        let _ = world.step(perform());
+        let _ = reply_to(world, host());
+        let _ = reply_to(world, take());
+        let _ = reply_to(world, perform());
     }
 }
 
@@ -155,9 +43,7 @@ fn operations_of(alloc: Global, world: &World) -> Result<Vec<Op>, Fail> {
 }
 
 fn check(rt: &impl Abort, alloc: Global, case: &Case) -> Result<(), Fail> {
-    let opening = vec![in alloc; 1i64, 2, 3, 4]?;
-    let statements = statements_of(alloc, case.lines)?;
-    let mut world = world_of(alloc, opening, 4, statements)?;
+    let mut world = world_of(alloc, case.lines)?;
     turns(&mut world, 100);
     let first = world.nth(DeviceId::new(0), 0);
     assert_eq!(rt;
@@ -172,6 +58,10 @@ fn check(rt: &impl Abort, alloc: Global, case: &Case) -> Result<(), Fail> {
         assert_eq!(rt; printed(world.log().last()), Some(case.shown));
     }
     Ok(())
+}
+
+fn create(range: Range) -> Item {
+    item(Clause::Create, range)
 }
 
 #[test]
@@ -255,10 +145,7 @@ fn an_overlap_is_refused_behind_a_part(rt: HostRuntime) -> Result<(), Fail> {
         ],
         present: Some((cells(0, 3), 0, 2)),
         batches: 1,
-        operations: &[Op::Make {
-            block: BlockId::new(1),
-            range: cells(0, 3),
-        }],
+        operations: &[make_of(1, cells(0, 3))],
         state: refused(2, Fault::PartlyPresent),
         shown: &[],
     };
@@ -291,10 +178,7 @@ fn an_update_of_a_partly_present_range_is_refused(rt: HostRuntime) -> Result<(),
         ],
         present: Some((cells(0, 2), 0, 1)),
         batches: 1,
-        operations: &[Op::Make {
-            block: BlockId::new(1),
-            range: cells(0, 2),
-        }],
+        operations: &[make_of(1, cells(0, 2))],
         state: refused(1, Fault::PartlyPresent),
         shown: &[],
     };
@@ -429,7 +313,8 @@ fn an_update_from_the_device_and_then_to_it(rt: HostRuntime) -> Result<(), Fail>
             Line::One(Kind::EnterData, Clause::Copyin, ALL),
             Line::Write(0, 9),
             Line::Write(1, 8),
-            Line::Update(
+            Line::Two(
+                UPDATE,
                 item(Clause::UpdateSelf, cells(1, 2)),
                 item(Clause::UpdateDevice, cells(0, 2)),
             ),
@@ -458,7 +343,8 @@ fn an_update_to_the_device_and_then_from_it(rt: HostRuntime) -> Result<(), Fail>
             Line::One(Kind::EnterData, Clause::Copyin, ALL),
             Line::Write(0, 9),
             Line::Write(1, 8),
-            Line::Update(
+            Line::Two(
+                UPDATE,
                 item(Clause::UpdateDevice, cells(0, 2)),
                 item(Clause::UpdateSelf, cells(1, 2)),
             ),
@@ -484,23 +370,17 @@ fn an_update_to_the_device_and_then_from_it(rt: HostRuntime) -> Result<(), Fail>
 fn cells_are_free_behind_a_region(rt: HostRuntime) -> Result<(), Fail> {
     let case = Case {
         lines: &[
-            Line::Create(cells(0, 2), cells(2, 2)),
+            Line::Two(Kind::Data, create(cells(0, 2)), create(cells(2, 2))),
             Line::End,
             Line::One(Kind::Data, Clause::Create, ALL),
             Line::End,
-            Line::Create(cells(0, 3), cells(2, 2)),
+            Line::Two(Kind::Data, create(cells(0, 3)), create(cells(2, 2))),
         ],
         present: None,
         batches: 4,
         operations: &[
-            Op::Make {
-                block: BlockId::new(1),
-                range: cells(0, 2),
-            },
-            Op::Make {
-                block: BlockId::new(2),
-                range: cells(2, 2),
-            },
+            make_of(1, cells(0, 2)),
+            make_of(2, cells(2, 2)),
             release(1),
             release(2),
             make(3),

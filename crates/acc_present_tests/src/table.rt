@@ -1,58 +1,11 @@
 ghost use Rattle.std.specs.Prelude.{◌≡◌, ◌<◌};
 
-use crate::refusal::Hoard;
+use crate::fixtures::{CELLS, cells, entered_by, entered_into};
 use acc_base::{BlockId, Fault, Range};
 use acc_present::{Counter, Entered, Left, Look, Table};
+use acc_scarce::Hoard;
 use std::process::Abort;
 use std::test::Fail;
-
-const CELLS: u64 = 1_000_000;
-
-fn cells(lo: u32, len: u32) -> Range
-    ensures array { result.array ≡ 0 }
-    ensures lo { result.lo ≡ lo }
-    ensures len { result.len ≡ len }
-{
-    Range { array: 0, lo, len }
-}
-
-// Enters a range, with all that has to be tested before.
-fn entered_by(
-    rt: &impl Abort,
-    table: &mut Table,
-    range: Range,
-    counter: Counter,
-    block: u64,
-) -> Entered
-    requires capacity { table.old.capacity ≡ CELLS }
-    requires cells { 0 < range.len }
-    ensures { table.new.capacity ≡ CELLS }
-{
-    assert!(rt; table.spare(1).is_ok());
-    let used = table.used_cells();
-    assert!(rt; used < CELLS - 1_000);
-    assert!(rt; range.len < 1_000);
-    match table.look(range) {
-        Look::Absent => table.enter(range, counter, BlockId::new(block)),
-        Look::Present(entry) => {
-            assert!(rt; entry.s < 1_000);
-            assert!(rt; entry.d < 1_000);
-            table.enter(range, counter, BlockId::new(block))
-        }
-        Look::Partly => {
-            assert!(rt; false, "partly present");
-            Entered::Counted
-        }
-    }
-}
-
-fn entered_into(rt: &impl Abort, table: &mut Table, range: Range, block: u64) -> Entered
-    requires capacity { table.old.capacity ≡ CELLS }
-    requires cells { 0 < range.len }
-    ensures { table.new.capacity ≡ CELLS }
-{
-    entered_by(rt, table, range, Counter::Dynamic, block)
-}
 
 // A region leaves a range that it entered.
 fn left_by_region(rt: &impl Abort, table: &mut Table, range: Range) -> Left

@@ -1,0 +1,9 @@
+//! Tests of worlds of events: what no contract says.
+#![tactic(auto)]
+
+#[cfg(test)]
+mod fixtures;
+#[cfg(test)]
+mod regions;
+#[cfg(test)]
+mod world;

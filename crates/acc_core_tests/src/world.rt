@@ -1,0 +1,433 @@
+use crate::fixtures::{
+    ALL, EXIT, FINISHED, Line, cells, copy_in, copy_out, host, item, make, make_of, perform,
+    performed, place, printed, queue, refused, release, reply_to, statement, sync, take, world_of,
+    world_with,
+};
+use acc_base::{Config, DeviceId, Fault, HostId, Listed, Range};
+use acc_core::{
+    Clause, Event, HostProgram, HostState, Item, Kind, Op, Outcome, Reply, Statement, Totals,
+    WorkEntry, World,
+};
+use acc_scarce::Hoard;
+use std::alloc::{AllocError, Global};
+use std::process::Abort;
+use std::test::Fail;
+
+/// An entry of the log: an operation, what a print showed, or another item.
+#[derive(Clone, Copy)]
+enum Logged<'a> {
+    Op(Op),
+    Print(&'a [i64]),
+    Item,
+}
+
+/// A program over four cells that are 1, 2, 3, 4 and a device of four, the events of a run, and what it leaves.
+#[derive(Clone, Copy)]
+struct Run<'a> {
+    lines: &'a [Line],
+    events: &'a [(Event, Reply)],
+    counters: &'a [(Range, Option<(u64, u64)>)],
+    batches: u64,
+    operations: u64,
+    places: usize,
+    log: &'a [Logged<'a>],
+    state: HostState,
+}
+
+// The events of a run, alone.
+fn events_of(alloc: Global, run: &Run) -> Result<Vec<Event>, AllocError> {
+    let mut events = Vec::new(alloc);
+    for (event, _) in run.events {
+        events.push(*event)?;
+    }
+    Ok(events)
+}
+
+fn check_replies(rt: &impl Abort, replies: &[Reply], run: &Run) {
+    assert_eq!(rt; replies.len(), run.events.len());
+    for (reply, (event, wanted)) in replies.iter().zip(run.events) {
+        assert_eq!(rt; *reply, *wanted, "{event:?}");
+    }
+}
+
+fn check_log(rt: &impl Abort, log: &[WorkEntry], run: &Run) {
+    assert_eq!(rt; log.len(), run.log.len());
+    for (entry, wanted) in log.iter().zip(run.log) {
+        let (op, print) = match wanted {
+            Logged::Op(op) => (Some(*op), None),
+            Logged::Print(values) => (None, Some(*values)),
+            Logged::Item => (None, None),
+        };
+        assert_eq!(rt; performed(Some(entry)), op);
+        assert_eq!(rt; printed(Some(entry)), print);
+    }
+}
+
+// The present ranges are those with counters.
+fn check_counters(rt: &impl Abort, world: &World, run: &Run) {
+    assert_eq!(rt; world.devices(), 1);
+    let mut count = 0usize;
+    for (range, counters) in run.counters {
+        assert!(rt; 0 < range.len);
+        assert_eq!(rt;
+            world.counters(DeviceId::new(0), *range),
+            *counters,
+            "{range:?}"
+        );
+        if counters.is_some() {
+            assert_eq!(rt;
+                world.nth(DeviceId::new(0), count).map(|e| e.range),
+                Some(*range)
+            );
+            count = count.wrapping_add(1);
+        }
+    }
+    assert_eq!(rt; world.nth(DeviceId::new(0), count).copied(), None);
+}
+
+fn check_outcome(rt: &impl Abort, outcome: &Outcome, run: &Run) {
+    assert_eq!(rt; outcome.places.len(), run.places);
+    check_log(rt, outcome.works.as_slice(), run);
+    assert_eq!(rt; outcome.hosts.as_slice(), [run.state].as_slice());
+}
+
+fn check(rt: &impl Abort, alloc: Global, run: &Run) -> Result<(), Fail> {
+    let mut world = world_of(alloc, run.lines)?;
+    let events = events_of(alloc, run)?;
+    let replies = world.run(events.as_slice())?;
+    check_replies(rt, replies.as_slice(), run);
+    check_counters(rt, &world, run);
+    check_log(rt, world.log(), run);
+    assert_eq!(rt; world.state(HostId::new(0)), Some(run.state));
+    assert_eq!(rt; world.state(HostId::new(1)), None);
+    let totals = Totals {
+        batches: run.batches,
+        operations: run.operations,
+        performed: run.operations,
+    };
+    assert_eq!(rt; world.totals(sync()), totals);
+    check_outcome(rt, &world.outcome(), run);
+    Ok(())
+}
+
+#[test]
+fn entered_twice_and_left_once(rt: HostRuntime) -> Result<(), Fail> {
+    let run = Run {
+        lines: &[
+            Line::One(Kind::EnterData, Clause::Copyin, ALL),
+            Line::One(Kind::EnterData, Clause::Copyin, ALL),
+            Line::One(EXIT, Clause::Delete, ALL),
+        ],
+        events: &[
+            (host(), Reply::Did),
+            (host(), Reply::Idle),
+            (take(), Reply::Did),
+            (take(), Reply::Idle),
+            (perform(), Reply::Did),
+            (perform(), Reply::Did),
+            (perform(), Reply::Idle),
+            (host(), Reply::Did),
+            (host(), Reply::Did),
+            (host(), Reply::Did),
+            (host(), Reply::Idle),
+        ],
+        counters: &[(ALL, Some((0, 1)))],
+        batches: 1,
+        operations: 2,
+        places: 3,
+        log: &[Logged::Op(make(1)), Logged::Op(copy_in(ALL)), Logged::Item],
+        state: FINISHED,
+    };
+    check(&rt, rt.alloc(), &run)
+}
+
+#[test]
+fn an_overlapping_range_is_refused(rt: HostRuntime) -> Result<(), Fail> {
+    let run = Run {
+        lines: &[
+            Line::One(Kind::EnterData, Clause::Copyin, cells(0, 3)),
+            Line::One(Kind::EnterData, Clause::Copyin, cells(2, 2)),
+        ],
+        events: &[
+            (host(), Reply::Did),
+            (take(), Reply::Did),
+            (perform(), Reply::Did),
+            (perform(), Reply::Did),
+            (host(), Reply::Did),
+            (host(), Reply::Refused(Fault::PartlyPresent)),
+            (host(), Reply::Idle),
+        ],
+        counters: &[(cells(0, 3), Some((0, 1))), (cells(2, 2), None)],
+        batches: 1,
+        operations: 2,
+        places: 1,
+        log: &[
+            Logged::Op(make_of(1, cells(0, 3))),
+            Logged::Op(copy_in(cells(0, 3))),
+            Logged::Item,
+        ],
+        state: refused(1, Fault::PartlyPresent),
+    };
+    check(&rt, rt.alloc(), &run)
+}
+
+#[test]
+fn a_copy_out_brings_back_what_the_device_holds(rt: HostRuntime) -> Result<(), Fail> {
+    let run = Run {
+        lines: &[
+            Line::One(Kind::EnterData, Clause::Copyin, ALL),
+            Line::Write(0, 9),
+            Line::Print,
+            Line::One(EXIT, Clause::Copyout, ALL),
+            Line::Print,
+        ],
+        events: &[
+            (host(), Reply::Did),
+            (take(), Reply::Did),
+            (perform(), Reply::Did),
+            (perform(), Reply::Did),
+            (host(), Reply::Did),
+            (host(), Reply::Did),
+            (host(), Reply::Did),
+            (host(), Reply::Did),
+            (take(), Reply::Did),
+            (perform(), Reply::Did),
+            (perform(), Reply::Did),
+            (host(), Reply::Did),
+            (host(), Reply::Did),
+        ],
+        counters: &[(ALL, None)],
+        batches: 2,
+        operations: 4,
+        places: 2,
+        log: &[
+            Logged::Op(make(1)),
+            Logged::Op(copy_in(ALL)),
+            Logged::Item,
+            Logged::Item,
+            Logged::Print(&[9, 2, 3, 4]),
+            Logged::Op(copy_out(ALL)),
+            Logged::Op(release(1)),
+            Logged::Item,
+            Logged::Print(&[1, 2, 3, 4]),
+        ],
+        state: FINISHED,
+    };
+    check(&rt, rt.alloc(), &run)
+}
+
+#[test]
+fn seventeen_ranges_are_too_many(rt: HostRuntime) -> Result<(), Fail> {
+    let run = Run {
+        lines: &[
+            Line::Many(Kind::Data, item(Clause::Create, ALL), 16),
+            Line::Many(Kind::EnterData, item(Clause::Copyin, ALL), 17),
+        ],
+        events: &[
+            (host(), Reply::Did),
+            (take(), Reply::Did),
+            (perform(), Reply::Did),
+            (host(), Reply::Did),
+            (host(), Reply::Refused(Fault::TooMany)),
+        ],
+        counters: &[(ALL, Some((16, 0)))],
+        batches: 1,
+        operations: 1,
+        places: 1,
+        log: &[Logged::Op(make(1)), Logged::Item],
+        state: refused(1, Fault::TooMany),
+    };
+    check(&rt, rt.alloc(), &run)
+}
+
+// Neither a batch is taken from the queue nor an operation performed there.
+fn check_unused(rt: &impl Abort, world: &mut World, device: u8, number: u8) {
+    let taken = reply_to(world, Event::Take(queue(device, number)));
+    let performed = reply_to(world, Event::Perform(queue(device, number)));
+    assert_eq!(rt; (taken, performed), (Reply::Idle, Reply::Idle));
+}
+
+#[test]
+fn nothing_happens_on_queues_and_hosts_that_are_not_used(rt: HostRuntime) -> Result<(), Fail> {
+    let lines = [Line::One(Kind::EnterData, Clause::Copyin, ALL)];
+    let mut world = world_of(rt.alloc(), &lines)?;
+    assert_eq!(rt; reply_to(&mut world, host()), Reply::Did);
+    for number in 1..8u8 {
+        check_unused(&rt, &mut world, 0, number);
+    }
+    check_unused(&rt, &mut world, 1, 0);
+    assert_eq!(rt;
+        reply_to(&mut world, Event::Host(HostId::new(1))),
+        Reply::Idle
+    );
+    assert_eq!(rt; reply_to(&mut world, take()), Reply::Did);
+    Ok(())
+}
+
+#[test]
+fn a_world_has_one_device_and_one_host(rt: HostRuntime) -> Result<(), Fail> {
+    let alloc = rt.alloc();
+    let two_devices = Config::new(2, 0, Vec::new(alloc), 4, 64)?;
+    assert_eq!(rt;
+        World::new(alloc, two_devices, Vec::new(alloc)).err(),
+        Some(Fault::BadDevice)
+    );
+    let two_hosts = Config::new(1, 2, Vec::new(alloc), 4, 64)?;
+    let programs = vec![in alloc;
+        HostProgram {
+            host: HostId::new(0),
+            statements: Listed::from_vec(Vec::new(alloc)),
+        },
+        HostProgram {
+            host: HostId::new(1),
+            statements: Listed::from_vec(Vec::new(alloc)),
+        },
+    ]?;
+    assert_eq!(rt;
+        World::new(alloc, two_hosts, programs).err(),
+        Some(Fault::TooMany)
+    );
+    Ok(())
+}
+
+// Sixteen ranges of a thousand cells each.
+fn sixteen_ranges(alloc: Global, clause: Clause) -> Result<Vec<Item>, AllocError> {
+    let mut items = Vec::new(alloc);
+    for number in 0..16u32 {
+        items.push(item(clause, cells(number * 1_000, 1_000)))?;
+    }
+    Ok(items)
+}
+
+// They enter and leave so often.
+fn rounds_of(alloc: Global, count: u32) -> Result<Vec<Statement>, AllocError> {
+    let mut statements = Vec::new(alloc);
+    for _ in 0..count {
+        let entered = sixteen_ranges(alloc, Clause::Copyin)?;
+        statements.push(statement(0, place(Kind::EnterData, entered)))?;
+        let left = sixteen_ranges(alloc, Clause::Copyout)?;
+        statements.push(statement(0, place(EXIT, left)))?;
+    }
+    Ok(statements)
+}
+
+// One of their directives is placed and performed.
+fn perform_round(rt: &impl Abort, world: &mut World) {
+    assert_eq!(rt; reply_to(world, host()), Reply::Did);
+    assert_eq!(rt; reply_to(world, take()), Reply::Did);
+    for _ in 0..32u32 {
+        assert_eq!(rt; reply_to(world, perform()), Reply::Did);
+    }
+    assert_eq!(rt; reply_to(world, perform()), Reply::Idle);
+    assert_eq!(rt; reply_to(world, host()), Reply::Did);
+}
+
+#[test]
+fn three_hundred_rounds_of_sixteen_ranges(rt: HostRuntime) -> Result<(), Fail> {
+    let alloc = rt.alloc();
+    let statements = rounds_of(alloc, 300)?;
+    let mut world = world_with(alloc, vec![in alloc; 5i64; 16_000]?, statements)?;
+    for _ in 0..600u32 {
+        perform_round(&rt, &mut world);
+    }
+    assert_eq!(rt; world.step(host()), Reply::Idle);
+    assert_eq!(rt; world.devices(), 1);
+    assert_eq!(rt; world.nth(DeviceId::new(0), 0).copied(), None);
+    let outcome = world.outcome();
+    assert_eq!(rt; outcome.places.len(), 600);
+    assert_eq!(rt; outcome.works.len(), 600 * 33);
+    assert_eq!(rt; outcome.hosts.as_slice(), [FINISHED].as_slice());
+    Ok(())
+}
+
+// A step for which there is no memory.
+fn scarce_step(alloc: Global, world: &mut World, event: Event) -> Result<Reply, AllocError> {
+    let mut hoard = Hoard::new(alloc)?;
+    hoard.fill(alloc);
+    let reply = reply_to(world, event);
+    hoard.free();
+    Ok(reply)
+}
+
+// A run of so many events that there is no memory for the list of their replies.
+fn scarce_run(alloc: Global, world: &mut World) -> Result<Option<Fault>, AllocError> {
+    let many = vec![in alloc; host(); 100_000]?;
+    let mut hoard = Hoard::new(alloc)?;
+    hoard.fill(alloc);
+    let replies = world.run(many.as_slice());
+    hoard.free();
+    Ok(replies.err())
+}
+
+fn scarce_outcome(alloc: Global, world: World) -> Result<Outcome, AllocError> {
+    let mut hoard = Hoard::new(alloc)?;
+    hoard.fill(alloc);
+    let outcome = world.outcome();
+    hoard.free();
+    Ok(outcome)
+}
+
+/// A run that can't have its list of replies changes nothing.
+#[test]
+fn memory_is_refused_to_a_run(rt: HostRuntime) -> Result<(), Fail> {
+    let lines = [Line::One(Kind::EnterData, Clause::Copyin, ALL)];
+    let mut world = world_of(rt.alloc(), &lines)?;
+    let refused = scarce_run(rt.alloc(), &mut world)?;
+    assert_eq!(rt; refused, Some(Fault::Memory));
+    assert_eq!(rt; world.devices(), 1);
+    assert_eq!(rt; world.nth(DeviceId::new(0), 0).copied(), None);
+    assert_eq!(rt; reply_to(&mut world, host()), Reply::Did);
+    Ok(())
+}
+
+/// Queues perform without memory what was placed with it; a directive that can't have its memory is refused, and its
+/// host stays so; the outcome takes none.
+#[test]
+fn memory_is_refused_to_a_step(rt: HostRuntime) -> Result<(), Fail> {
+    let alloc = rt.alloc();
+    let lines = [
+        Line::One(Kind::EnterData, Clause::Copyin, ALL),
+        Line::One(EXIT, Clause::Copyout, ALL),
+    ];
+    let events = [
+        (true, host(), Reply::Did),
+        (false, take(), Reply::Did),
+        (false, perform(), Reply::Did),
+        (false, perform(), Reply::Did),
+        (true, host(), Reply::Did),
+        (false, host(), Reply::Refused(Fault::Memory)),
+        (true, host(), Reply::Idle),
+    ];
+    let mut world = world_of(alloc, &lines)?;
+    for (has_memory, event, wanted) in events {
+        let reply = if has_memory {
+            reply_to(&mut world, event)
+        } else {
+            scarce_step(alloc, &mut world, event)?
+        };
+        assert_eq!(rt; reply, wanted, "{event:?}");
+    }
+    assert_eq!(rt; world.devices(), 1);
+    assert_eq!(rt; world.counters(DeviceId::new(0), ALL), Some((0, 1)));
+    let outcome = scarce_outcome(alloc, world)?;
+    assert_eq!(rt; outcome.places.len(), 1);
+    assert_eq!(rt;
+        outcome.hosts.as_slice(),
+        [refused(1, Fault::Memory)].as_slice()
+    );
+    Ok(())
+}
+
+#[test]
+fn memory_is_refused_to_a_new_world(rt: HostRuntime) -> Result<(), Fail> {
+    let alloc = rt.alloc();
+    let arrays = vec![in alloc; vec![in alloc; 0i64; 60_000]?]?;
+    let config = Config::new(1, 0, arrays, 4, 64)?;
+    let programs = Vec::new(alloc);
+    let mut hoard = Hoard::new(alloc)?;
+    hoard.fill(alloc);
+    let refused = World::new(alloc, config, programs);
+    hoard.free();
+    assert_eq!(rt; refused.err(), Some(Fault::Memory));
+    Ok(())
+}

@@ -1,0 +1,7 @@
+//! Tests of replays, from bytes to bytes: what no contract says.
+#![tactic(auto)]
+
+#[cfg(test)]
+mod replay;
+#[cfg(test)]
+mod streams;

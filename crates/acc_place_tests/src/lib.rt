@@ -1,0 +1,17 @@
+//! Tests of batches and of directives on a place: what no contract says.
+#![tactic(auto)]
+
+#[cfg(test)]
+mod accepted;
+#[cfg(test)]
+mod batch;
+#[cfg(test)]
+mod copies;
+#[cfg(test)]
+mod fixtures;
+#[cfg(test)]
+mod memory;
+#[cfg(test)]
+mod plans;
+#[cfg(test)]
+mod refused;
