@@ -54,6 +54,13 @@ impl Cells {
         self.cells.len()
     }
 
+    /// All values, in their order.
+    pub fn as_slice(&self) -> &[i64]
+        ensures { result.now ≡ self.now }
+    {
+        self.cells.as_slice()
+    }
+
     /// The value of a cell.
     pub fn get(&self, at: usize) -> i64
         requires { at < length self.now }

@@ -1,0 +1,13 @@
+use Rattle.std.proofs.Common.{List, subst}
+use Rattle.acc_kernel.specs.Jobs.{Use, AreRows, IsJob}
+use Rattle.acc_kernel.proofs.job.Job.keeps.Goals as goal
+
+pub returns : goal.returns
+returns c =
+    subst IsJob c.self.view_is
+    (record {
+      distinct = c.self.invariant.1;
+      reached = c.self.invariant.2;
+      inputs = subst (λ (uses : List Use). AreRows uses c.self.inside.inputs.rows) c.self.invariant.0 c.keeps_shape.ensures;
+      outputs = c.keeps_shape-2.ensures;
+    })

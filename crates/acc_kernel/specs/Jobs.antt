@@ -1,0 +1,78 @@
+-- A loop with the cells that it uses: the values before it, and those that it gives.
+use Rattle.std.specs.Prelude.{◌≡◌, ◌≢◌, ℕ, ℤ, ◌+◌, ◌<◌, ◌+ℤ◌, ◌-ℤ◌, pos, negsuc, not, ◌==◌, ◌&&◌, int_le, int_lt, Bool, IsTrue, List, [], length, map, replicate, slice_index_or}
+use Rattle.std.specs.List.{AllPairs, position_or_len, range_with_len}
+use Rattle.acc_base.specs.declared.range.Range.{Range}
+use Rattle.acc_kernel.specs.Kernels.{Loop, Reaches, value_after}
+use Rattle.acc_kernel.specs.Trees.{Reference}
+
+-- a use: the block that has the cells of a range
+abbrev pub Use : Type 0
+Use = ℕ × Range
+
+abbrev pub no_use : Use
+no_use = (0, record { array = 0; lo = 0; len = 0 })
+
+-- the place of the first use of an array, or how many there are
+abbrev pub place_of : List Use → ℕ → ℕ
+place_of uses array = position_or_len (λ u. u.1.array == array) uses
+
+-- the range of that use, or one without a cell
+abbrev pub range_of : List Use → ℕ → Range
+range_of uses array = (slice_index_or uses (place_of uses array) no_use).1
+
+abbrev pub has_cell : List Use → ℕ → ℤ → Bool
+has_cell uses array cell =
+    int_le (pos (range_of uses array).lo) cell && int_lt cell (pos ((range_of uses array).lo + (range_of uses array).len))
+
+-- the value so far into a row, and 0 outside it
+abbrev pub value_in : List ℤ → ℤ → ℤ
+value_in row (pos n) = slice_index_or row n (pos 0)
+value_in row (negsuc n) = pos 0
+
+-- the value of a cell, where each use has its row
+abbrev pub cell_in : List Use → List (List ℤ) → ℕ → ℤ → ℤ
+cell_in uses rows array cell =
+    value_in (slice_index_or rows (place_of uses array) []) (cell -ℤ pos (range_of uses array).lo)
+
+-- each array is used at most once
+abbrev pub AreDistinct : List Use → Type 0
+AreDistinct uses = AllPairs (λ u v. u.1.array ≢ v.1.array) uses
+
+-- they have all cells that the loop reaches
+abbrev pub HoldReached : Loop → List Use → Type 0
+HoldReached k uses = (array : ℕ) (cell : ℤ) → Reaches k array cell → IsTrue (has_cell uses array cell)
+
+-- the uses don't have the cell of a reference at the first or at the last index
+abbrev pub is_lacking : ℤ → ℤ → List Use → Reference → Bool
+is_lacking first last uses r =
+    not (has_cell uses r.array (first +ℤ r.offset) && has_cell uses r.array (last +ℤ r.offset))
+
+-- a row for each use, with a value for each of its cells
+pub record AreRows (uses : List Use) (rows : List (List ℤ)) : Type 0 where
+  pub count : length rows ≡ length uses
+  pub lengths : (place : ℕ) → place < length uses → length (slice_index_or rows place []) ≡ (slice_index_or uses place no_use).1.len
+
+pub record Computation : Type 0 where
+  pub kernel : Loop
+  pub uses : List Use
+  pub inputs : List (List ℤ)
+  pub outputs : List (List ℤ)
+
+-- zeros, before any input was set
+abbrev pub zero_rows : List Use → List (List ℤ)
+zero_rows uses = map (λ u. replicate u.1.len (pos 0)) uses
+
+-- the values of a range's cells after the loop
+abbrev pub values_after : Loop → (ℕ → ℤ → ℤ) → Range → List ℤ
+values_after k cells r = map (λ cell. value_after k cells r.array (pos cell)) (range_with_len r.lo r.len)
+
+-- what the loop gives of these inputs, by the uses
+abbrev pub computed : Computation → List (List ℤ)
+computed c = map (λ u. values_after c.kernel (cell_in c.uses c.inputs) u.1) c.uses
+
+-- what a job keeps
+pub record IsJob (c : Computation) : Type 0 where
+  pub distinct : AreDistinct c.uses
+  pub reached : HoldReached c.kernel c.uses
+  pub inputs : AreRows c.uses c.inputs
+  pub outputs : AreRows c.uses c.outputs

@@ -1,0 +1,47 @@
+ghost use Rattle.std.specs.Prelude.{◌≡◌};
+ghost use Rattle.acc_kernel.specs.Faults.{code_of, name_of};
+
+use thiserror::Error;
+
+/// Why a loop was refused. Its text is its code and its name, as `K2 NoStatement`.
+#[derive(Clone, Copy, Debug, PartialEq, Eq, Error)]
+#[error("{} {}", self.code(), self.name())]
+pub enum KernelFault {
+    /// An array that the loop assigns is read off the index.
+    ReadsAssigned,
+    /// There is no statement.
+    NoStatement,
+    /// An expression is too deep.
+    TooDeep,
+    /// A bound, or an offset, is too far from zero.
+    TooFar,
+    /// There are too many statements.
+    TooMany,
+}
+
+impl KernelFault {
+    /// `K1` to `K4`; too many statements are `F5`, as other counts are.
+    pub fn code(&self) -> &'static str
+        ensures { result.now ≡ code_of self.now }
+    {
+        match self {
+            KernelFault::ReadsAssigned => "K1",
+            KernelFault::NoStatement => "K2",
+            KernelFault::TooDeep => "K3",
+            KernelFault::TooFar => "K4",
+            KernelFault::TooMany => "F5",
+        }
+    }
+
+    pub fn name(&self) -> &'static str
+        ensures { result.now ≡ name_of self.now }
+    {
+        match self {
+            KernelFault::ReadsAssigned => "ReadsAssigned",
+            KernelFault::NoStatement => "NoStatement",
+            KernelFault::TooDeep => "TooDeep",
+            KernelFault::TooFar => "TooFar",
+            KernelFault::TooMany => "TooMany",
+        }
+    }
+}

@@ -1,0 +1,127 @@
+ghost use Rattle.std.specs.Prelude.{◌≡◌, ◌<◌, [], length, slice_index_or, slice_set, IfOk, IfErr};
+ghost use Rattle.acc_base.specs.declared.fault.Fault.TheVariants as fault;
+ghost use Rattle.acc_kernel.specs.Jobs.{AreDistinct, AreRows, HoldReached, IsJob, no_use, zero_rows, computed};
+
+use crate::kernel::Kernel;
+use crate::rows::Rows;
+use acc_base::{BlockId, Fault, Range};
+use std::alloc::Global;
+use std::marker::Model;
+
+/// A loop with room for the cells that it uses: the inputs, which are the values before the loop, and the outputs.
+#[derive(Drop)]
+pub struct Job {
+    kernel: Kernel,
+    inputs: Rows,
+    outputs: Rows,
+}
+
+impl Model for Job {
+    ghost use Rattle.std.specs.Prelude.{◌≡◌};
+    ghost use Rattle.std.specs.Coded.{codes};
+    ghost use Rattle.acc_kernel.specs.contracts.expr.Expr as expr;
+    ghost use Rattle.acc_kernel.specs.Jobs.{Computation, AreDistinct, HoldReached};
+
+    ghost Value = { Computation };
+
+    ghost coded = { Prim.hlevel (codes, expr.the_row.coded) };
+
+    ghost view = { λ j. record { kernel = j.kernel; uses = j.outputs.uses; inputs = j.inputs.rows; outputs = j.outputs.rows } };
+
+    ghost invariant = { λ j. (j.inputs.uses ≡ j.outputs.uses) × AreDistinct j.outputs.uses × HoldReached j.kernel j.outputs.uses };
+}
+
+impl Job {
+    /// Copies the loop and its uses, with room for their cells, all zero at first.
+    ///
+    /// # Errors
+    ///
+    /// `Memory` where memory is refused.
+    pub fn new(alloc: Global, kernel: &Kernel, uses: &[(BlockId, Range)]) -> Result<Self, Fault>
+        requires distinct { AreDistinct uses.now }
+        requires reached { HoldReached kernel.now uses.now }
+        ensures kernel { IfOk result (λ j. j.kernel ≡ kernel.now) }
+        ensures uses { IfOk result (λ j. j.uses ≡ uses.now) }
+        ensures inputs { IfOk result (λ j. j.inputs ≡ zero_rows uses.now) }
+        ensures fault { IfErr result (λ f. f ≡ fault.Memory) }
+    {
+        let kernel = kernel.try_clone(alloc)?;
+        let inputs = Rows::zeroed(alloc, uses)?;
+        let outputs = Rows::zeroed(alloc, uses)?;
+        Ok(Job {
+            kernel,
+            inputs,
+            outputs,
+        })
+    }
+
+    /// The uses differ in their arrays, have all cells that the loop reaches, and each has its inputs and outputs.
+    pub fn keeps(&self)
+        ensures { IsJob self.now }
+    {
+        self.inputs.keeps_shape();
+        self.outputs.keeps_shape();
+    }
+
+    pub fn kernel(&self) -> &Kernel
+        ensures { result.now ≡ self.now.kernel }
+    {
+        &self.kernel
+    }
+
+    /// The blocks with the ranges that it uses of them.
+    pub fn uses(&self) -> &[(BlockId, Range)]
+        ensures { result.now ≡ self.now.uses }
+    {
+        self.outputs.uses()
+    }
+
+    /// The inputs of a use, by its place.
+    pub fn input(&self, place: usize) -> &[i64]
+        requires { place < length self.now.uses }
+        ensures { result.now ≡ slice_index_or self.now.inputs place [] }
+    {
+        self.inputs.row(place)
+    }
+
+    /// The outputs of a use, by its place.
+    pub fn output(&self, place: usize) -> &[i64]
+        requires { place < length self.now.uses }
+        ensures { result.now ≡ slice_index_or self.now.outputs place [] }
+    {
+        self.outputs.row(place)
+    }
+
+    /// Sets the inputs of a use, one value for each cell of its range.
+    pub fn set_input(&mut self, place: usize, values: &[i64])
+        requires place { place < length self.old.uses }
+        requires len { length values.now ≡ (slice_index_or self.old.uses place no_use).1.len }
+        ensures { self.new ≡ record self.old { inputs = slice_set self.old.inputs place values.now } }
+    {
+        self.inputs.fill(place, values);
+    }
+
+    /// Gives each cell's output the value that the loop gives the cell. It takes no memory.
+    pub fn compute(&mut self)
+        ensures { self.new ≡ record self.old { outputs = computed self.old } }
+    {
+        self.inputs.keeps_shape();
+        self.outputs.keeps_shape();
+        copy_rows(&self.inputs, &mut self.outputs);
+        self.kernel.run(&mut self.outputs);
+        self.outputs.keeps_shape();
+    }
+}
+
+// Fills the target's rows with the source's, of the same uses.
+fn copy_rows(source: &Rows, target: &mut Rows)
+    requires uses { source.now.uses ≡ target.old.uses }
+    requires source { AreRows source.now.uses source.now.rows }
+    requires target { AreRows target.old.uses target.old.rows }
+    ensures uses { target.new.uses ≡ target.old.uses }
+    ensures rows { target.new.rows ≡ source.now.rows }
+{
+    for place in 0..source.uses().len() {
+        target.fill(place, source.row(place));
+    }
+}

@@ -1,0 +1,24 @@
+ghost use Rattle.acc_kernel.specs.Examples.{WrapsRound, Calculates, Compares, Chooses, Reads, TakesTurns};
+ghost use Rattle.acc_kernel.specs.LoopExamples.{CountsRound, FiveAndSix, ReachesBothParts, ReachesNothing, OrdersArrays, KeepsLimits, KeepsTurnsApart, OrdersFaults};
+
+/// The values of some expressions, and what some turns write.
+pub fn worked_values()
+    ensures wraps { WrapsRound }
+    ensures calculates { Calculates }
+    ensures compares { Compares }
+    ensures chooses { Chooses }
+    ensures reads { Reads }
+    ensures turns { TakesTurns }
+{}
+
+/// What some loops give and reach, and the faults of others.
+pub fn worked_loops()
+    ensures counts_round { CountsRound }
+    ensures five_and_six { FiveAndSix }
+    ensures both_parts { ReachesBothParts }
+    ensures nothing { ReachesNothing }
+    ensures arrays { OrdersArrays }
+    ensures limits { KeepsLimits }
+    ensures turns_apart { KeepsTurnsApart }
+    ensures faults { OrdersFaults }
+{}

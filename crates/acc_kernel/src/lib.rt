@@ -1,0 +1,29 @@
+//! Loops: expressions, the statements of a loop, what it reaches, and the values that it gives.
+#![tactic(auto)]
+
+mod assign;
+mod expr;
+mod fault;
+mod job;
+mod kernel;
+mod laws;
+mod limits;
+mod reach;
+mod rows;
+mod sign;
+mod stack;
+mod step;
+mod uses;
+mod window;
+
+pub use assign::Assign;
+pub use expr::Expr;
+pub use fault::KernelFault;
+pub use job::Job;
+pub use kernel::Kernel;
+pub use laws::{worked_loops, worked_values};
+pub use limits::{MAX_DEPTH, MAX_DISTANCE, MAX_STATEMENTS};
+pub use reach::Reach;
+pub use sign::Sign;
+pub use uses::are_distinct;
+pub use window::Window;

@@ -1,0 +1,25 @@
+ghost use Rattle.std.specs.Prelude.{◌≡◌};
+ghost use Rattle.acc_kernel.specs.Kernels.{widened};
+
+/// The least and the greatest cell of an array that a loop reaches.
+#[derive(Clone, Copy, Debug, PartialEq, Eq)]
+pub struct Reach {
+    pub first: i64,
+    pub last: i64,
+}
+
+/// The least and the greatest offset, with one more.
+pub(crate) fn widened(span: Option<Reach>, offset: i64) -> Option<Reach>
+    ensures { result ≡ widened span offset }
+{
+    match span {
+        None => Some(Reach {
+            first: offset,
+            last: offset,
+        }),
+        Some(r) => Some(Reach {
+            first: r.first.min(offset),
+            last: r.last.max(offset),
+        }),
+    }
+}

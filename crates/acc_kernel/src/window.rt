@@ -1,0 +1,30 @@
+ghost use Rattle.std.specs.Prelude.{◌≡◌, ℕ, ℤ, Bool, IsTrue};
+ghost use Rattle.acc_kernel.specs.Cells.{with_cell};
+
+/// Cells of some arrays, that a loop reads and writes.
+pub trait Window {
+    /// Whether it has a cell of an array.
+    ghost has: { Self → ℕ → ℤ → Bool };
+
+    /// What the cells hold, by the array and the cell.
+    ghost cells: { Self → ℕ → ℤ → ℤ };
+
+    /// What else of it stays when cells are written.
+    ghost keeps: { Self → Self → Type 0 };
+
+    /// The value of a cell.
+    fn get(&self, array: u8, cell: i64) -> i64
+        requires { IsTrue (has self.now array cell) }
+        ensures { result ≡ cells self.now array cell };
+
+    /// Writes one cell.
+    fn set(&mut self, array: u8, cell: i64, value: i64)
+        requires { IsTrue (has self.old array cell) }
+        ensures has { has self.new ≡ has self.old }
+        ensures cells { cells self.new ≡ with_cell (cells self.old) array cell value }
+        ensures keeps { keeps self.old self.new };
+
+    ghost keeps_itself: { (w : Self) → keeps w w };
+
+    ghost keeps_on: { (u v w : Self) → keeps u v → keeps v w → keeps u w };
+}

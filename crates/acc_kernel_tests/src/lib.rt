@@ -1,0 +1,11 @@
+//! Tests of loops: what no contract says.
+#![tactic(auto)]
+
+#[cfg(test)]
+mod computed;
+#[cfg(test)]
+mod faults;
+#[cfg(test)]
+mod memory;
+#[cfg(test)]
+mod window;

@@ -1,0 +1,115 @@
+use acc_base::{BlockId, Fault, Range};
+use acc_kernel::{Assign, Job, Kernel, Sign, are_distinct};
+use acc_parts::{Part, expr_of};
+use std::alloc::Global;
+
+/// How many cells a loop assigns.
+pub const CELLS: u32 = 1_000;
+
+// x[i] and its neighbours, where x is array 0
+const BEFORE: Part = Part::Read(0, -1);
+
+const HERE: Part = Part::Read(0, 0);
+
+const BEHIND: Part = Part::Read(0, 1);
+
+const PLUS: Part = Part::Binary(Sign::Plus);
+
+const TIMES: Part = Part::Binary(Sign::Times);
+
+const LESS: Part = Part::Binary(Sign::Less);
+
+/// `y[i] = 3 * x[i] + 7`
+const SCALE: [Part; 5] = [Part::Number(3), HERE, TIMES, Part::Number(7), PLUS];
+
+/// `y[i] = x[i - 1] + 2 * x[i] + x[i + 1]`
+const SMOOTH: [Part; 7] = [BEFORE, Part::Number(2), HERE, TIMES, PLUS, BEHIND, PLUS];
+
+/// `y[i] = x[i] < 50 ? x[i] * x[i] : -x[i]`
+const CHOOSE: [Part; 9] = [
+    HERE,
+    Part::Number(50),
+    LESS,
+    HERE,
+    HERE,
+    TIMES,
+    HERE,
+    Part::Negate,
+    Part::Choose,
+];
+
+/// `y[i] = ((((x[i] * i + 1) * i + 2) * i + 3) * i + 4) * i + 5`
+const POWERS: [Part; 21] = [
+    HERE,
+    Part::Index,
+    TIMES,
+    Part::Number(1),
+    PLUS,
+    Part::Index,
+    TIMES,
+    Part::Number(2),
+    PLUS,
+    Part::Index,
+    TIMES,
+    Part::Number(3),
+    PLUS,
+    Part::Index,
+    TIMES,
+    Part::Number(4),
+    PLUS,
+    Part::Index,
+    TIMES,
+    Part::Number(5),
+    PLUS,
+];
+
+/// The names of the loops.
+pub const NAMES: [&str; 4] = ["scale", "smooth", "choose", "powers"];
+
+/// The value that the loop of a name assigns.
+pub fn parts_of(name: &str) -> &'static [Part] {
+    match name {
+        "scale" => &SCALE,
+        "smooth" => &SMOOTH,
+        "choose" => &CHOOSE,
+        "powers" => &POWERS,
+        _ => &[],
+    }
+}
+
+/// A job that computes it for i from 1 to `CELLS`, where x has some values.
+pub fn job_of(alloc: Global, parts: &[Part]) -> Result<Option<Job>, Fault> {
+    let mut statements = Vec::new(alloc);
+    let value = expr_of(alloc, parts)?;
+    statements.push(Assign { array: 1, value })?;
+    let Ok(kernel) = Kernel::new(1, i64::from(CELLS) + 1, statements) else {
+        return Ok(None);
+    };
+    let uses = [whole(1, 0), whole(2, 1)];
+    if !are_distinct(&uses) || !kernel.is_held_by(&uses) {
+        return Ok(None);
+    }
+    let mut job = Job::new(alloc, &kernel, &uses)?;
+    fill(alloc, &mut job)?;
+    Ok(Some(job))
+}
+
+// An array with its cells from 0 to one behind the last that is assigned.
+fn whole(block: u64, array: u8) -> (BlockId, Range) {
+    let len = CELLS + 2;
+    (BlockId::new(block), Range { array, lo: 0, len })
+}
+
+// Sets x[n] to 37 n modulo 101.
+fn fill(alloc: Global, job: &mut Job) -> Result<(), Fault> {
+    let mut values = Vec::new(alloc);
+    for n in 0..CELLS + 2 {
+        values.push(i64::from(n * 37 % 101))?;
+    }
+    if let Some((_, range)) = job.uses().first() {
+        if values.len() == range.len as usize {
+            job.set_input(0, values.as_slice());
+        }
+    }
+    Ok(())
+}
