@@ -1,6 +1,7 @@
 mod Flagging
 mod Holding
 mod Keeping
+mod Listing
 mod Reaching
 mod Rowing
 pub mod Running

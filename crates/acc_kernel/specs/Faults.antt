@@ -4,7 +4,7 @@ use Rattle.std.specs.List.{All, list_any}
 use Rattle.std.specs.Ordering.{int_eq}
 use Rattle.acc_kernel.specs.declared.assign.Assign.{Assign}
 use Rattle.acc_kernel.specs.declared.fault.KernelFault.{KernelFault}
-use Rattle.acc_kernel.specs.declared.fault.KernelFault.TheVariants.{ReadsAssigned, NoStatement, TooDeep, TooFar, TooMany}
+use Rattle.acc_kernel.specs.declared.fault.KernelFault.TheVariants.{ReadsAssigned, NoStatement, TooDeep, TooFar, TooMany, Memory}
 use Rattle.acc_kernel.specs.declared.limits.TheConstants.{MAX_DEPTH, MAX_DISTANCE, MAX_STATEMENTS}
 use Rattle.acc_kernel.specs.Kernels.{Loop, references}
 use Rattle.acc_kernel.specs.Trees.{Reference, depth_of}
@@ -15,6 +15,7 @@ code_of NoStatement = codes "K2"
 code_of TooDeep = codes "K3"
 code_of TooFar = codes "K4"
 code_of TooMany = codes "F5"
+code_of Memory = codes "F11"
 
 abbrev pub name_of : KernelFault → List ℕ
 name_of ReadsAssigned = codes "ReadsAssigned"
@@ -22,6 +23,7 @@ name_of NoStatement = codes "NoStatement"
 name_of TooDeep = codes "TooDeep"
 name_of TooFar = codes "TooFar"
 name_of TooMany = codes "TooMany"
+name_of Memory = codes "Memory"
 
 -- some statement assigns the array
 abbrev pub is_assigned : List Assign → ℕ → Bool
@@ -55,6 +57,11 @@ fault_of k =
     else (if list_any is_deep k.statements then Some TooDeep
     else (if has_far k then Some TooFar
     else (if nat_lt MAX_STATEMENTS (length k.statements) then Some TooMany else None))))
+
+-- why a loop is refused: its first fault, and want of memory where it has none
+abbrev pub IsRefusal : Option KernelFault → KernelFault → Type 0
+IsRefusal (Some fault) f = f ≡ fault
+IsRefusal None f = f ≡ Memory
 
 abbrev pub IsNear : ℤ → Type 0
 IsNear n = (neg_ℤ MAX_DISTANCE ≤ℤ n) × (n ≤ℤ MAX_DISTANCE)

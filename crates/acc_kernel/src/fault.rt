@@ -1,6 +1,7 @@
 ghost use Rattle.std.specs.Prelude.{◌≡◌};
 ghost use Rattle.acc_kernel.specs.Faults.{code_of, name_of};
 
+use std::alloc::AllocError;
 use thiserror::Error;
 
 /// Why a loop was refused. Its text is its code and its name, as `K2 NoStatement`.
@@ -17,10 +18,12 @@ pub enum KernelFault {
     TooFar,
     /// There are too many statements.
     TooMany,
+    /// Memory was refused.
+    Memory,
 }
 
 impl KernelFault {
-    /// `K1` to `K4`; too many statements are `F5`, as other counts are.
+    /// `K1` to `K4`; too many statements are `F5`, as other counts are, and want of memory is `F11`.
     pub fn code(&self) -> &'static str
         ensures { result.now ≡ code_of self.now }
     {
@@ -30,6 +33,7 @@ impl KernelFault {
             KernelFault::TooDeep => "K3",
             KernelFault::TooFar => "K4",
             KernelFault::TooMany => "F5",
+            KernelFault::Memory => "F11",
         }
     }
 
@@ -42,6 +46,18 @@ impl KernelFault {
             KernelFault::TooDeep => "TooDeep",
             KernelFault::TooFar => "TooFar",
             KernelFault::TooMany => "TooMany",
+            KernelFault::Memory => "Memory",
         }
+    }
+}
+
+impl From<AllocError> for KernelFault {
+    ghost use Rattle.std.specs.Prelude.{◌≡◌};
+    ghost use Rattle.acc_kernel.specs.declared.fault.KernelFault.TheVariants.{Memory};
+
+    ghost from_gives = { λ _ fault. fault ≡ Memory };
+
+    fn from(_refused: AllocError) -> Self {
+        KernelFault::Memory
     }
 }

@@ -43,6 +43,7 @@ impl Job {
         ensures kernel { IfOk result (λ j. j.kernel ≡ kernel.now) }
         ensures uses { IfOk result (λ j. j.uses ≡ uses.now) }
         ensures inputs { IfOk result (λ j. j.inputs ≡ zero_rows uses.now) }
+        ensures outputs { IfOk result (λ j. j.outputs ≡ zero_rows uses.now) }
         ensures fault { IfErr result (λ f. f ≡ fault.Memory) }
     {
         let kernel = kernel.try_clone(alloc)?;
@@ -110,6 +111,19 @@ impl Job {
         copy_rows(&self.inputs, &mut self.outputs);
         self.kernel.run(&mut self.outputs);
         self.outputs.keeps_shape();
+    }
+
+    /// The loop and its uses, without the room for their cells. It takes no memory.
+    pub fn into_parts(self) -> (Kernel, Vec<(BlockId, Range)>)
+        ensures kernel { result.0 ≡ self.kernel }
+        ensures uses { result.1.items ≡ self.uses }
+    {
+        let Job {
+            kernel,
+            outputs,
+            ..
+        } = self;
+        (kernel, outputs.into_uses())
     }
 }
 

@@ -1,6 +1,7 @@
 //! Loops: expressions, the statements of a loop, what it reaches, and the values that it gives.
 #![tactic(auto)]
 
+mod arrays;
 mod assign;
 mod expr;
 mod fault;
@@ -8,9 +9,9 @@ mod job;
 mod kernel;
 mod laws;
 mod limits;
+mod operator;
 mod reach;
 mod rows;
-mod sign;
 mod stack;
 mod step;
 mod uses;
@@ -23,7 +24,7 @@ pub use job::Job;
 pub use kernel::Kernel;
 pub use laws::{worked_loops, worked_values};
 pub use limits::{MAX_DEPTH, MAX_DISTANCE, MAX_STATEMENTS};
+pub use operator::Operator;
 pub use reach::Reach;
-pub use sign::Sign;
 pub use uses::are_distinct;
 pub use window::Window;

@@ -1,34 +1,35 @@
+use crate::fixtures::{Row, statements_of};
 use acc_base::{BlockId, Fault, Range};
-use acc_kernel::{Assign, Job, Kernel, Sign, are_distinct};
+use acc_kernel::{Assign, Job, Kernel, Operator, are_distinct};
 use acc_parts::Part::{self, Choose, Index, Negate, Number, Read};
 use acc_parts::expr_of;
 use std::alloc::Global;
 use std::process::Abort;
 use std::test::Fail;
 
-const PLUS: Part = Part::Binary(Sign::Plus);
+const PLUS: Part = Part::Binary(Operator::Plus);
 
-const MINUS: Part = Part::Binary(Sign::Minus);
+const MINUS: Part = Part::Binary(Operator::Minus);
 
-const TIMES: Part = Part::Binary(Sign::Times);
+const TIMES: Part = Part::Binary(Operator::Times);
 
-const LESS: Part = Part::Binary(Sign::Less);
+const LESS: Part = Part::Binary(Operator::Less);
 
-const AT_MOST: Part = Part::Binary(Sign::AtMost);
+const AT_MOST: Part = Part::Binary(Operator::AtMost);
 
-const MORE: Part = Part::Binary(Sign::More);
+const MORE: Part = Part::Binary(Operator::More);
 
-const AT_LEAST: Part = Part::Binary(Sign::AtLeast);
+const AT_LEAST: Part = Part::Binary(Operator::AtLeast);
 
-const EQUAL: Part = Part::Binary(Sign::Equal);
+const EQUAL: Part = Part::Binary(Operator::Equal);
 
-const DIFFERS: Part = Part::Binary(Sign::Differs);
+const DIFFERS: Part = Part::Binary(Operator::Differs);
 
 /// A loop, and what its arrays x and y have before it and after it.
 struct Case {
     lo: i64,
     hi: i64,
-    statements: &'static [(u8, &'static [Part])],
+    statements: &'static [Row],
     before: [&'static [i64]; 2],
     after: [&'static [i64]; 2],
 }
@@ -335,18 +336,6 @@ const LOOPS: [Case; 9] = [
     },
 ];
 
-fn statements_of(alloc: Global, table: &[(u8, &[Part])]) -> Result<Vec<Assign>, Fault> {
-    let mut statements = Vec::new(alloc);
-    for (array, parts) in table {
-        let value = expr_of(alloc, parts)?;
-        statements.push(Assign {
-            array: *array,
-            value,
-        })?;
-    }
-    Ok(statements)
-}
-
 // An array's cells from 0 on, as many as there are values.
 fn whole(array: u8, values: &[i64]) -> (BlockId, Range) {
     let len = u32::try_from(values.len()).unwrap_or(0);
@@ -391,7 +380,7 @@ fn check(
 fn loops_give_their_values(rt: HostRuntime) -> Result<(), Fail> {
     for case in &LOOPS {
         let statements = statements_of(rt.alloc(), case.statements)?;
-        let kernel = Kernel::new(case.lo, case.hi, statements)?;
+        let kernel = Kernel::new(rt.alloc(), case.lo, case.hi, statements)?;
         let x = (case.before[0], case.after[0]);
         let y = (case.before[1], case.after[1]);
         check(&rt, rt.alloc(), &kernel, x, y)?;
@@ -409,7 +398,7 @@ fn check_value(
     let mut statements = Vec::new(alloc);
     let value = expr_of(alloc, parts)?;
     statements.push(Assign { array: 1, value })?;
-    match Kernel::new(1, 3, statements) {
+    match Kernel::new(alloc, 1, 3, statements) {
         Ok(kernel) => {
             let y = [0, values[0], values[1], 0];
             check(rt, alloc, &kernel, (x, x), (&[0; 4], &y))

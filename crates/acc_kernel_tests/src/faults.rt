@@ -1,5 +1,5 @@
 use acc_base::Fault;
-use acc_kernel::{Assign, Expr, Kernel, KernelFault, MAX_DISTANCE, Reach, Sign};
+use acc_kernel::{Assign, Expr, Kernel, KernelFault, MAX_DISTANCE, Operator, Reach};
 use acc_parts::Part::{self, Choose, Index, Negate, Number, Read};
 use acc_parts::expr_of;
 use std::alloc::Global;
@@ -13,6 +13,7 @@ fn the_texts_of_kernel_faults(rt: HostRuntime) -> Result<(), Fail> {
         (KernelFault::TooDeep, "K3 TooDeep"),
         (KernelFault::TooFar, "K4 TooFar"),
         (KernelFault::TooMany, "F5 TooMany"),
+        (KernelFault::Memory, "F11 Memory"),
     ];
     for (fault, text) in &texts {
         let shown = format!(in rt.alloc(); "{fault}")?;
@@ -54,7 +55,7 @@ fn depths_and_counts_at_their_limits(rt: HostRuntime) -> Result<(), Fail> {
         let value = minus_signs(rt.alloc(), *signs)?;
         assert_eq!(rt; value.depth(), *signs + 1);
         let statements = repeated(rt.alloc(), *count, &value)?;
-        assert_eq!(rt; Kernel::new(0, 1, statements).err(), *fault);
+        assert_eq!(rt; Kernel::new(rt.alloc(), 0, 1, statements).err(), *fault);
     }
     Ok(())
 }
@@ -73,7 +74,7 @@ fn bounds_at_their_limits(rt: HostRuntime) -> Result<(), Fail> {
     let index = Expr::index(rt.alloc())?;
     for (lo, hi, fault) in &cases {
         let statements = repeated(rt.alloc(), 1, &index)?;
-        assert_eq!(rt; Kernel::new(*lo, *hi, statements).err(), *fault);
+        assert_eq!(rt; Kernel::new(rt.alloc(), *lo, *hi, statements).err(), *fault);
     }
     Ok(())
 }
@@ -96,7 +97,10 @@ const FAULTS: [(&[Part], Option<KernelFault>); 11] = [
         &[Number(0), Index, Read(0, 65_537), Choose],
         Some(KernelFault::ReadsAssigned),
     ),
-    (&[Read(0, 0), Read(1, 1), Part::Binary(Sign::Plus)], None),
+    (
+        &[Read(0, 0), Read(1, 1), Part::Binary(Operator::Plus)],
+        None,
+    ),
 ];
 
 #[test]
@@ -104,7 +108,7 @@ fn expressions_have_their_faults(rt: HostRuntime) -> Result<(), Fail> {
     for (parts, fault) in &FAULTS {
         let value = expr_of(rt.alloc(), parts)?;
         let statements = repeated(rt.alloc(), 1, &value)?;
-        assert_eq!(rt; Kernel::new(0, 2, statements).err(), *fault);
+        assert_eq!(rt; Kernel::new(rt.alloc(), 0, 2, statements).err(), *fault);
     }
     Ok(())
 }
@@ -120,7 +124,7 @@ fn what_a_loop_reaches(rt: HostRuntime) -> Result<(), Fail> {
     let value = expr_of(rt.alloc(), &[Index, Read(1, -2), Read(1, 3), Choose])?;
     for (lo, hi, read, assigned) in &cases {
         let statements = repeated(rt.alloc(), 1, &value)?;
-        let kernel = Kernel::new(*lo, *hi, statements)?.try_clone(rt.alloc())?;
+        let kernel = Kernel::new(rt.alloc(), *lo, *hi, statements)?.try_clone(rt.alloc())?;
         let reach = |(first, last): (i64, i64)| Reach { first, last };
         assert_eq!(rt; kernel.reach(0), assigned.map(reach));
         assert_eq!(rt; kernel.reach(1), read.map(reach));

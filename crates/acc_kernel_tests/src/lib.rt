@@ -2,9 +2,13 @@
 #![tactic(auto)]
 
 #[cfg(test)]
+mod arrays;
+#[cfg(test)]
 mod computed;
 #[cfg(test)]
 mod faults;
+#[cfg(test)]
+mod fixtures;
 #[cfg(test)]
 mod memory;
 #[cfg(test)]

@@ -1,26 +1,71 @@
+use crate::fixtures::{Row, statements_of};
 use acc_base::{BlockId, Fault, Range};
-use acc_kernel::{Assign, Expr, Job, Kernel, Sign, are_distinct};
+use acc_kernel::{Assign, Expr, Job, Kernel, KernelFault, Operator, are_distinct};
 use acc_parts::Part::{self, Choose, Index, Negate, Number, Read};
 use acc_parts::expr_of;
 use acc_scarce::at_each_amount;
 use std::alloc::Global;
 use std::test::Fail;
 
-/// `-(i * 5) ? x[i + 2] : x[i]`
+/// `-(i * 5) ? y[i + 2] : y[i]`, where y is array 1
 const PARTS: [Part; 7] = [
     Index,
     Number(5),
-    Part::Binary(Sign::Times),
+    Part::Binary(Operator::Times),
     Negate,
     Read(1, 2),
     Read(1, 0),
     Choose,
 ];
 
-fn kernel_of(alloc: Global, value: Expr) -> Result<Option<Kernel>, Fault> {
-    let mut statements = Vec::new(alloc);
-    statements.push(Assign { array: 0, value })?;
-    Ok(Kernel::new(0, 2, statements).ok())
+/// `x[i] = -(i * 5) ? y[i + 2] : y[i]`, where x is array 0 and y is array 1
+const LOOP: [Row; 1] = [(0, &PARTS)];
+
+// A loop from 0 to 1, or none where it is refused for another reason than want of memory.
+fn kernel_of(alloc: Global, statements: Vec<Assign>) -> Result<Option<Kernel>, Fault> {
+    match Kernel::new(alloc, 0, 2, statements) {
+        Ok(kernel) => Ok(Some(kernel)),
+        Err(KernelFault::Memory) => Err(Fault::Memory),
+        Err(_) => Ok(None),
+    }
+}
+
+// Sixteen statements that refer to the arrays 0 to 31 in order. No memory is given back while they are made.
+fn pairs(alloc: Global) -> Result<Vec<Assign>, Fault> {
+    let mut statements = Vec::with_capacity(alloc, 16)?;
+    for n in 0..16u8 {
+        let value = Expr::read(alloc, 2 * n + 1, 0)?;
+        statements.push(Assign {
+            array: 2 * n,
+            value,
+        })?;
+    }
+    Ok(statements)
+}
+
+/// Each loop is of statements that are made for it, and these may be refused, too.
+#[test]
+fn a_loop_is_refused_until_there_is_memory(rt: HostRuntime) -> Result<(), Fail> {
+    let alloc = rt.alloc();
+    let mut made = 0u32;
+    let (refusals, kernel) = at_each_amount(alloc, || {
+        let statements = pairs(alloc)?;
+        made = made.wrapping_add(1);
+        kernel_of(alloc, statements)
+    })?;
+    assert!(rt;
+        4 < made && made < refusals,
+        "{made} loops, {refusals} refusals"
+    );
+    let Some(kernel) = kernel else {
+        assert!(rt; false, "refused");
+        return Ok(());
+    };
+    assert_eq!(rt; kernel.arrays().len(), 32);
+    for (place, array) in kernel.arrays().iter().enumerate() {
+        assert_eq!(rt; usize::from(*array), place);
+    }
+    Ok(())
 }
 
 /// Each call that makes an expression is refused at some amount.
@@ -39,13 +84,14 @@ fn expressions_are_refused_until_there_is_memory(rt: HostRuntime) -> Result<(), 
 #[test]
 fn copies_of_a_loop_are_refused_until_there_is_memory(rt: HostRuntime) -> Result<(), Fail> {
     let alloc = rt.alloc();
-    let Some(kernel) = kernel_of(alloc, expr_of(alloc, &PARTS)?)? else {
+    let Some(kernel) = kernel_of(alloc, statements_of(alloc, &LOOP)?)? else {
         assert!(rt; false, "refused");
         return Ok(());
     };
     let (refusals, copy) = at_each_amount(alloc, || kernel.try_clone(alloc))?;
     assert!(rt; 1 < refusals);
     assert_eq!(rt; copy.statements().len(), 1);
+    assert_eq!(rt; copy.arrays(), [0, 1].as_slice());
     Ok(())
 }
 
@@ -78,7 +124,7 @@ fn job_of(alloc: Global, kernel: &Kernel, len: u32) -> Result<Option<Job>, Fault
 #[test]
 fn a_job_is_refused_until_there_is_memory(rt: HostRuntime) -> Result<(), Fail> {
     let alloc = rt.alloc();
-    let Some(kernel) = kernel_of(alloc, expr_of(alloc, &PARTS)?)? else {
+    let Some(kernel) = kernel_of(alloc, statements_of(alloc, &LOOP)?)? else {
         assert!(rt; false, "refused");
         return Ok(());
     };

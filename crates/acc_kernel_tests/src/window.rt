@@ -1,5 +1,5 @@
 use acc_base::{BlockId, Fault, Range};
-use acc_kernel::{Assign, Kernel, Sign, Window};
+use acc_kernel::{Assign, Kernel, Operator, Window};
 use acc_parts::{Part, expr_of};
 use std::alloc::Global;
 use std::test::Fail;
@@ -40,7 +40,7 @@ fn after(alloc: Global, parts: &[Part], value: i64) -> Result<Option<i64>, Fault
         array: 0,
         value: expr,
     })?;
-    let Ok(kernel) = Kernel::new(0, 1, statements) else {
+    let Ok(kernel) = Kernel::new(alloc, 0, 1, statements) else {
         return Ok(None);
     };
     let uses = [(
@@ -64,7 +64,7 @@ fn a_turn_goes_through_a_window(rt: HostRuntime) -> Result<(), Fail> {
     let square = [
         Part::Read(0, 0),
         Part::Read(0, 0),
-        Part::Binary(Sign::Times),
+        Part::Binary(Operator::Times),
     ];
     assert_eq!(rt; after(rt.alloc(), &square, 9)?, Some(81));
     assert_eq!(rt; after(rt.alloc(), &[Part::Index], 9)?, Some(0));

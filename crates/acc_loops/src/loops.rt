@@ -1,5 +1,5 @@
 use acc_base::{BlockId, Fault, Range};
-use acc_kernel::{Assign, Job, Kernel, Sign, are_distinct};
+use acc_kernel::{Assign, Job, Kernel, Operator, are_distinct};
 use acc_parts::{Part, expr_of};
 use std::alloc::Global;
 
@@ -13,11 +13,11 @@ const HERE: Part = Part::Read(0, 0);
 
 const BEHIND: Part = Part::Read(0, 1);
 
-const PLUS: Part = Part::Binary(Sign::Plus);
+const PLUS: Part = Part::Binary(Operator::Plus);
 
-const TIMES: Part = Part::Binary(Sign::Times);
+const TIMES: Part = Part::Binary(Operator::Times);
 
-const LESS: Part = Part::Binary(Sign::Less);
+const LESS: Part = Part::Binary(Operator::Less);
 
 /// `y[i] = 3 * x[i] + 7`
 const SCALE: [Part; 5] = [Part::Number(3), HERE, TIMES, Part::Number(7), PLUS];
@@ -82,7 +82,7 @@ pub fn job_of(alloc: Global, parts: &[Part]) -> Result<Option<Job>, Fault> {
     let mut statements = Vec::new(alloc);
     let value = expr_of(alloc, parts)?;
     statements.push(Assign { array: 1, value })?;
-    let Ok(kernel) = Kernel::new(1, i64::from(CELLS) + 1, statements) else {
+    let Ok(kernel) = Kernel::new(alloc, 1, i64::from(CELLS) + 1, statements) else {
         return Ok(None);
     };
     let uses = [whole(1, 0), whole(2, 1)];

@@ -2,7 +2,7 @@
 #![tactic(auto)]
 
 use acc_base::Fault;
-use acc_kernel::{Expr, Sign};
+use acc_kernel::{Expr, Operator};
 use std::alloc::Global;
 
 /// A part of an expression, which stands behind the parts that it is made of.
@@ -12,7 +12,7 @@ pub enum Part {
     Index,
     Read(u8, i64),
     Negate,
-    Binary(Sign),
+    Binary(Operator),
     Choose,
 }
 
@@ -38,7 +38,7 @@ fn add(alloc: Global, part: Part, stack: &mut Vec<Expr>) -> Result<(), Fault> {
         Part::Index => Expr::index(alloc)?,
         Part::Read(array, offset) => Expr::read(alloc, array, offset)?,
         Part::Negate => return negate(stack),
-        Part::Binary(sign) => return join(sign, stack),
+        Part::Binary(operator) => return join(operator, stack),
         Part::Choose => return choose(stack),
     };
     stack.push(expr)?;
@@ -52,10 +52,10 @@ fn negate(stack: &mut Vec<Expr>) -> Result<(), Fault> {
     }
 }
 
-fn join(sign: Sign, stack: &mut Vec<Expr>) -> Result<(), Fault> {
+fn join(operator: Operator, stack: &mut Vec<Expr>) -> Result<(), Fault> {
     let right = stack.pop();
     match (stack.last_mut(), right) {
-        (Some(left), Some(right)) => left.binary(sign, &right),
+        (Some(left), Some(right)) => left.binary(operator, &right),
         _ => Ok(()),
     }
 }
