@@ -1,5 +1,6 @@
-ghost use Rattle.std.specs.Prelude.{◌≡◌, ◌++◌, [], ◌∷◌, IfOk, IfErr, OnOk};
-ghost use Rattle.acc_batch.specs.Tasks.{ops_in, AllReady};
+ghost use Rattle.std.specs.Prelude.{◌≡◌, ◌<◌, ◌++◌, [], ◌∷◌, length, IfOk, IfErr, OnOk};
+ghost use Rattle.std.specs.List.{All};
+ghost use Rattle.acc_batch.specs.Tasks.{ops_in, HasItsCells, AllReady};
 
 use crate::operation::{Label, Op};
 use crate::task::Task;
@@ -17,10 +18,14 @@ pub struct Batch {
 
 impl Model for Batch {
     ghost use Rattle.std.specs.Prelude.{◌≡◌};
+    ghost use Rattle.std.specs.Coded.{codes};
+    ghost use Rattle.acc_kernel.specs.contracts.expr.Expr as expr;
     ghost use Rattle.acc_batch.specs.declared.operation.Label.{Label};
     ghost use Rattle.acc_batch.specs.Tasks.{ops_in, AllReady};
 
     ghost Value = { Label };
+
+    ghost coded = { Prim.hlevel (codes, expr.the_row.coded) };
 
     ghost view = { λ b. b.label };
 
@@ -30,12 +35,15 @@ impl Model for Batch {
 impl Batch {
     ghost use Rattle.acc_base.specs.declared.fault.Fault.TheVariants as fault;
 
-    /// The batch of a label, with the memory that performing it needs.
+    /// The batch of a label, with the memory that performing it needs. The label has an operation, and its operations
+    /// have their cells, by `Label::has_its_cells`.
     ///
     /// # Errors
     ///
     /// `Memory` where memory is refused.
     pub fn new(alloc: Global, label: Label) -> Result<Self, Fault>
+        requires operation { 0 < length label.ops }
+        requires cells { All HasItsCells label.ops }
         ensures label { IfOk result (λ b. b ≡ label) }
         ensures fault { IfErr result (λ f. f ≡ fault.Memory) }
     {
@@ -71,21 +79,23 @@ impl Batch {
 
 // The tasks that perform these operations.
 fn tasks_of(alloc: Global, ops: &[Op]) -> Result<VecDeque<Task>, Fault>
+    requires { All HasItsCells ops.now }
     ensures ops { IfOk result (λ tasks. ops_in tasks.items ≡ ops.now) }
     ensures ready { IfOk result (λ tasks. AllReady tasks.items) }
     ensures fault { IfErr result (λ f. f ≡ Fault.Memory) }
 {
     let mut tasks = VecDeque::new(alloc);
     for op in ops {
-        add_task(alloc, *op, &mut tasks)?;
+        add_task(alloc, op, &mut tasks)?;
     }
     Ok(tasks)
 }
 
 // Adds the task that performs one more operation.
-fn add_task(alloc: Global, op: Op, tasks: &mut VecDeque<Task>) -> Result<(), Fault>
-    requires { AllReady tasks.old.items }
-    ensures tasks { OnOk result (ops_in tasks.new.items ≡ ops_in tasks.old.items ++ op ∷ []) }
+fn add_task(alloc: Global, op: &Op, tasks: &mut VecDeque<Task>) -> Result<(), Fault>
+    requires cells { HasItsCells op.now }
+    requires ready { AllReady tasks.old.items }
+    ensures tasks { OnOk result (ops_in tasks.new.items ≡ ops_in tasks.old.items ++ op.now ∷ []) }
     ensures ready { OnOk result (AllReady tasks.new.items) }
     ensures fault { IfErr result (λ f. f ≡ Fault.Memory) }
 {

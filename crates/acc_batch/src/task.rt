@@ -1,8 +1,9 @@
 ghost use Rattle.std.specs.Prelude.{◌≡◌, IfOk, IfErr};
-ghost use Rattle.acc_batch.specs.Tasks.{op_of, IsReady};
+ghost use Rattle.acc_batch.specs.Tasks.{op_of, HasItsCells, IsReady};
 
 use crate::operation::Op;
-use acc_base::{BlockId, Fault, Range};
+use acc_base::{BlockId, Fault, Listed, Range};
+use acc_kernel::Job;
 use acc_raw::Cells;
 use std::alloc::Global;
 
@@ -22,6 +23,8 @@ pub enum Task {
     CopyIn { block: BlockId, range: Range },
     CopyOut { block: BlockId, range: Range },
     Release { block: BlockId },
+    /// The job has the loop and its uses, with room for their cells, whose inputs are all zero.
+    Run { job: Job },
 }
 
 impl Task {
@@ -32,8 +35,9 @@ impl Task {
     /// # Errors
     ///
     /// `Memory` where memory is refused.
-    pub fn new(alloc: Global, op: Op) -> Result<Self, Fault>
-        ensures op { IfOk result (λ t. op_of t ≡ op) }
+    pub fn new(alloc: Global, op: &Op) -> Result<Self, Fault>
+        requires cells { HasItsCells op.now }
+        ensures op { IfOk result (λ t. op_of t ≡ op.now) }
         ensures ready { IfOk result IsReady }
         ensures fault { IfErr result (λ f. f ≡ fault.Memory) }
     {
@@ -41,36 +45,45 @@ impl Task {
             Op::Make { block, range } => {
                 let cells = Cells::zeroed(alloc, range.len as usize)?;
                 let block = Block {
-                    block,
-                    range,
+                    block: *block,
+                    range: *range,
                     cells,
                 };
                 Ok(Task::Make { block })
             }
-            Op::CopyIn { block, range } => Ok(Task::CopyIn { block, range }),
-            Op::CopyOut { block, range } => Ok(Task::CopyOut { block, range }),
-            Op::Release { block } => Ok(Task::Release { block }),
+            Op::CopyIn { block, range } => Ok(Task::CopyIn {
+                block: *block,
+                range: *range,
+            }),
+            Op::CopyOut { block, range } => Ok(Task::CopyOut {
+                block: *block,
+                range: *range,
+            }),
+            Op::Release { block } => Ok(Task::Release { block: *block }),
+            Op::Run { kernel, uses } => {
+                let job = Job::new(alloc, kernel, uses.as_slice())?;
+                Ok(Task::Run { job })
+            }
         }
     }
 
-    /// The operation that it performs.
-    pub fn op(&self) -> Op
-        ensures { result ≡ op_of self.now }
+    /// The operation that it performs, without the memory for it. It takes none.
+    pub fn into_op(self) -> Op
+        ensures { result ≡ op_of self }
     {
         match self {
-            Task::Make { block } => Op::Make {
-                block: block.block,
-                range: block.range,
-            },
-            Task::CopyIn { block, range } => Op::CopyIn {
-                block: *block,
-                range: *range,
-            },
-            Task::CopyOut { block, range } => Op::CopyOut {
-                block: *block,
-                range: *range,
-            },
-            Task::Release { block } => Op::Release { block: *block },
+            Task::Make { block } => {
+                let Block { block, range, .. } = block;
+                Op::Make { block, range }
+            }
+            Task::CopyIn { block, range } => Op::CopyIn { block, range },
+            Task::CopyOut { block, range } => Op::CopyOut { block, range },
+            Task::Release { block } => Op::Release { block },
+            Task::Run { job } => {
+                let (kernel, uses) = job.into_parts();
+                let uses = Listed::from_vec(uses);
+                Op::Run { kernel, uses }
+            }
         }
     }
 }

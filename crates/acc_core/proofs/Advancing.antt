@@ -1,22 +1,20 @@
 -- The queue performs an operation.
-use Rattle.std.proofs.Common.{◌≡◌, ℕ, ◌+◌, ◌-◌, ◌<◌, ◌≤◌, Bool, true, false, List, [], ◌∷◌, ◌++◌, length, take, drop, refl, sym, ap, subst, ◌∙◌, arith}
-use Rattle.std.specs.Prelude.{All, MatchBool}
+use Rattle.std.proofs.Common.{◌≡◌, ℕ, ◌+◌, ◌-◌, ◌<◌, ◌≤◌, Bool, true, false, List, [], ◌∷◌, length, take, refl, sym, ap, subst, ◌∙◌, arith}
+use Rattle.std.specs.Prelude.{MatchBool}
 use Rattle.std.proofs.lemmas.List.{length-append, length-drop}
-use Rattle.std.proofs.lemmas.List.Elements.{All-nil, All-cons, All-head, All-tail, All-drop}
 use Rattle.acc_batch.specs.declared.operation.Label.{Label}
 use Rattle.acc_core.specs.declared.event.Event.TheVariants as event
 use Rattle.acc_core.specs.declared.log.WorkEntry.TheVariants as entry
 use Rattle.acc_batch.specs.declared.operation.Op.{Op}
-use Rattle.acc_batch.specs.declared.operation.Op.TheVariants.{Make, CopyIn, CopyOut, Release}
+use Rattle.acc_batch.specs.declared.operation.Op.TheVariants.{Make, CopyIn, CopyOut, Release, Run}
 use Rattle.acc_batch.specs.Labels.{on_queue, ops_of, batch_at}
-use Rattle.acc_core.specs.Legality.{Legal, made}
+use Rattle.acc_core.specs.Legality.{made}
 use Rattle.acc_core.specs.Logs.{performed, host_allows}
 use Rattle.acc_core.specs.Machine.{State, is_there, perform_step, step, idle, did, with_op}
 use Rattle.acc_core.specs.Ties.{IsAccelerator, Queued, labels_of, performed_count}
 use Rattle.acc_core.specs.Works.{WorkView, sync, lane_allows, Performs, HasPerformed, NextMayFollow}
-use Rattle.acc_core.proofs.CopiedCells.{HasCells, all_cells}
 use Rattle.acc_core.proofs.Keeping.{legal_performed}
-use Rattle.acc_core.proofs.Lanes.{batch_at_next, ops_of_all, ops_of-take-le, take_one_more}
+use Rattle.acc_core.proofs.Lanes.{batch_at_next, ops_of-take-le, take_one_more}
 use Rattle.acc_core.proofs.Performing.{next_uses_live}
 use Rattle.acc_core.proofs.Remembering.{may_perform, remembers_performed, length_rows}
 use Rattle.acc_core.proofs.Taking.{with_taken, lane_is_rest}
@@ -35,22 +33,12 @@ makes_one (Make b r) = omega arith
 makes_one (CopyIn b r) = omega arith
 makes_one (CopyOut b r) = omega arith
 makes_one (Release b) = omega arith
+makes_one (Run k uses) = omega arith
 
 -- what is in the lane is waiting
 pub lane_waits : (w : State) (v : WorkView) (queue : List Label) (t waiting : ℕ) → Queued w v queue t waiting → length v.lane ≤ waiting
 lane_waits w v queue t waiting q =
     omega (arith, ap length q.in_lane, length-drop (performed_count w) (ops_of (take t (labels_of w))), ops_of-take-le t (labels_of w), q.performed_taken, q.all_waiting)
-
-all_first : (P : Op → Type 0) (xs ys : List Op) → All P (xs ++ ys) → All P xs
-all_first P [] ys h = All-nil P
-all_first P (x ∷ xs) ys h = All-cons P x xs (All-head P x (xs ++ ys) h) (all_first P xs ys (All-tail P x (xs ++ ys) h))
-
--- the lane's operations have cells
-lane_cells : (w : State) (v : WorkView) (queue : List Label) (t waiting : ℕ) → Legal w → Queued w v queue t waiting → All HasCells v.lane
-lane_cells w v queue t waiting legal q =
-    rw q.in_lane (All-drop HasCells (performed_count w) (ops_of (take t (labels_of w)))
-    (all_first HasCells (ops_of (take t (labels_of w))) (ops_of (drop t (labels_of w)))
-    (rw (ops_of_all t (labels_of w)) at (all_cells w.config w.history w.counts legal.accepted))))
 
 -- the next operation may follow
 pub next_may_follow : (w : State) (v : WorkView) (queue : List Label) (t waiting queue_room : ℕ) → IsAccelerator (with_taken w t) v queue t waiting queue_room → v.work ≡ w.work → NextMayFollow v v.lane
@@ -65,9 +53,8 @@ next_may_follow w v queue t waiting queue_room a same = may v.lane refl
         let waits : 1 ≤ waiting = omega (arith, ap length e, lane_waits (with_taken w t) v queue t waiting q) in
         let next = lane_is_rest (with_taken w t) v queue t waiting q ∙ e in
         let uses = next_uses_live (with_taken w t) sync op ops a.one_device a.legal next in
-        let cells = All-head HasCells op ops (rw e at (lane_cells (with_taken w t) v queue t waiting a.legal q)) in
         record {
-          allowed = may_perform (with_taken w t) v op a.memory a.legal.live_blocks uses cells (omega (arith, q.block_room, makes_one op, waits));
+          allowed = may_perform (with_taken w t) v op a.memory a.legal.live_blocks uses (omega (arith, q.block_room, makes_one op, waits));
           room = omega (arith, q.log_room, ap length same, waits);
         }
 

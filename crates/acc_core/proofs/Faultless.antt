@@ -1,16 +1,21 @@
 -- An accepted directive has none of the faults.
-use Rattle.std.proofs.Common.{◌≡◌, ℕ, ◌<◌, Bool, true, false, List, [], ◌∷◌, map, refl, Some, None, Option}
-use Rattle.std.specs.Prelude.{not, nat_le}
+use Rattle.std.proofs.Common.{◌≡◌, ℕ, ◌<◌, Bool, true, false, List, [], ◌∷◌, ◌++◌, map, refl, Some, None, Option}
+use Rattle.std.specs.Prelude.{not, nat_le, ℤ}
 use Rattle.std.proofs.lemmas.Bool.{leb-false}
 use Rattle.acc_base.specs.declared.fault.Fault.{Fault}
-use Rattle.acc_base.specs.declared.fault.Fault.TheVariants.{BadDevice, BadRange, TooMany, NoRegion}
+use Rattle.acc_base.specs.declared.fault.Fault.TheVariants.{BadDevice, BadRange, TooMany, OutsideRange, NoRegion}
 use Rattle.acc_base.specs.Configurations.{Configuration}
+use Rattle.acc_present.specs.declared.change.Change.{Change}
+use Rattle.acc_present.specs.declared.change.Change.TheVariants.{StructuredDown}
 use Rattle.acc_present.specs.Marks.{Mark}
 use Rattle.acc_place.specs.declared.directive.Directive.{Directive}
+use Rattle.acc_place.specs.declared.directive.Item.{Item}
 use Rattle.acc_place.specs.declared.directive.Kind.{Kind}
+use Rattle.acc_place.specs.declared.directive.Kind.TheVariants as kind
 use Rattle.acc_place.specs.Regions.{open_region}
-use Rattle.acc_place.specs.Standings.{Standing, Asked, walk_of, visits}
-use Rattle.acc_place.specs.Accepting.{is_in_array, first_fault, fault_where, fault_at, refusal, has_too_many, is_outside}
+use Rattle.acc_place.specs.Standings.{Standing, Asked, all_asked, change_by, ends_by, subject_by, walk_of, visits}
+use Rattle.acc_place.specs.Accepting.{is_in_array, first_fault, fault_where, fault_at, refusal, has_too_many, is_outside, is_past}
+use Rattle.acc_core.proofs.Ends.{asks_of}
 use Rattle.acc_core.proofs.Uses.{marked_by, visit}
 use Rattle.acc_core.proofs.Groups.{AllInArrays}
 
@@ -18,6 +23,12 @@ use Rattle.acc_core.proofs.Groups.{AllInArrays}
 pub first_fault_none : (x : Option Fault) (xs : List (Option Fault)) → first_fault (x ∷ xs) ≡ None → (x ≡ None) × (first_fault xs ≡ None)
 first_fault_none None xs h = (refl, h)
 first_fault_none (Some f) xs h = cc
+
+-- where no fault is found there is none among the first of them
+no_fault_among : (xs ys : List (Option Fault)) → first_fault (xs ++ ys) ≡ None → first_fault xs ≡ None
+no_fault_among [] ys h = refl
+no_fault_among (None ∷ xs) ys h = no_fault_among xs ys h
+no_fault_among (Some f ∷ xs) ys h = cc
 
 -- a test that would be a fault has failed where there is none
 pub no_fault : (b : Bool) (f : Fault) → fault_where b f ≡ None → b ≡ false
@@ -48,21 +59,49 @@ unfolding refusal
 no_fault_of config st host d h =
     let walk = walk_of st host d in
     let items = map (fault_at config d.kind) (visits (st.marks walk.device) walk.items) in
+    let past = fault_where (is_past walk.runs (map (λ a. a.item) walk.items)) OutsideRange ∷ [] in
     let region = fault_where (is_outside d.kind (open_region host st.regions)) NoRegion in
     let limits = fault_where (has_too_many st host d.kind walk) TooMany in
-    let first = first_fault_none (fault_where (nat_le config.devices d.device) BadDevice) (limits ∷ region ∷ items) h in
-    let second = first_fault_none limits (region ∷ items) first.1 in
-    let third = first_fault_none region items second.1 in
+    let first = first_fault_none (fault_where (nat_le config.devices d.device) BadDevice) (limits ∷ region ∷ (items ++ past)) h in
+    let second = first_fault_none limits (region ∷ (items ++ past)) first.1 in
+    let third = first_fault_none region (items ++ past) second.1 in
     record {
       device = no_fault (nat_le config.devices d.device) BadDevice first.0;
       few = no_fault (has_too_many st host d.kind walk) TooMany second.0;
-      items = third.1;
+      items = no_fault_among items past third.1;
     }
+
+-- two lists of items, one behind the other
+in_arrays-append : (arrays : List (List ℤ)) (xs ys : List Asked) → AllInArrays arrays xs → AllInArrays arrays ys → AllInArrays arrays (xs ++ ys)
+in_arrays-append arrays [] ys h k = k
+in_arrays-append arrays (x ∷ xs) ys h k = (h.0, in_arrays-append arrays xs ys h.1 k)
+
+-- whatever is asked of the items
+in_arrays_asked : (arrays : List (List ℤ)) (one other : Option Change) (items : List Item) → AllInArrays arrays (all_asked one items) → AllInArrays arrays (all_asked other items)
+in_arrays_asked arrays one other [] h = tt
+in_arrays_asked arrays one other (i ∷ items) h = (h.0, in_arrays_asked arrays one other items h.1)
+
+-- so the ranges of items that leave again lie in their arrays too
+ends_in_arrays : (arrays : List (List ℤ)) (k : Kind) (change : Option Change) (items : List Item) → AllInArrays arrays (all_asked change items) → AllInArrays arrays (ends_by k items)
+ends_in_arrays arrays kind.Data change items h = tt
+ends_in_arrays arrays kind.EndData change items h = tt
+ends_in_arrays arrays kind.EnterData change items h = tt
+ends_in_arrays arrays (kind.ExitData finalize) change items h = tt
+ends_in_arrays arrays (kind.Update if_present) change items h = tt
+ends_in_arrays arrays (kind.Loop k) change items h = in_arrays_asked arrays change (Some StructuredDown) items h
+ends_in_arrays arrays kind.IsPresent change items h = tt
+
+-- and so do all ranges of a walk
+walk_in_arrays : (arrays : List (List ℤ)) (st : Standing) (host : ℕ) (d : Directive) → AllInArrays arrays (walk_of st host d).items → AllInArrays arrays (asks_of (walk_of st host d))
+unfolding walk_of
+walk_in_arrays arrays st host d h =
+    let items = (subject_by st.lengths st.regions host d d.kind).items in
+    in_arrays-append arrays (all_asked (change_by d.kind) items) (ends_by d.kind items) h (ends_in_arrays arrays d.kind (change_by d.kind) items h)
 
 -- What an accepted directive has kept to: its device is there, and the ranges that it acts on lie in their arrays.
 pub record IsFit (config : Configuration) (st : Standing) (host : ℕ) (d : Directive) : Type 0 where
   pub device : d.device < config.devices
-  pub inside : AllInArrays config.arrays (walk_of st host d).items
+  pub inside : AllInArrays config.arrays (asks_of (walk_of st host d))
 
 -- an accepted directive is fit
 pub accepted_fits : (config : Configuration) (st : Standing) (host : ℕ) (d : Directive) → refusal config st host d ≡ None → IsFit config st host d
@@ -71,5 +110,5 @@ accepted_fits config st host d h =
     let walk = walk_of st host d in
     record {
       device = leb-false config.devices d.device none.device;
-      inside = all_in_arrays config d.kind walk.items (st.marks walk.device) none.items;
+      inside = walk_in_arrays config.arrays st host d (all_in_arrays config d.kind walk.items (st.marks walk.device) none.items);
     }

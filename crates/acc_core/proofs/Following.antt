@@ -126,7 +126,7 @@ Stands-follow host own items s = rw s.entries (follows_from host.ended host.phas
 all_follow : (w : State) (h : ℕ) (hosts : List Host) → AllStand w h hosts → AllFollow w h hosts
 all_follow w h [] a = tt
 all_follow w h (host ∷ hosts) a = (
-  Stands-follow host (own_of h w.history w.counts) (items_shown h w.work) a.0,
+  Stands-follow host (own_of w.config h w.history w.counts) (items_shown h w.work) a.0,
   all_follow w (h + 1) hosts a.1,
 )
 

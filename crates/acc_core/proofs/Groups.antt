@@ -1,6 +1,6 @@
 -- Each group of a directive's batch uses live blocks.
 use Rattle.std.proofs.Common.{inl, inr, ◌≡◌, ℕ, ◌<◌, ◌≤◌, true, false, cond, List, [], ◌∷◌, ◌++◌, length, map, refl, sym, ap, ◌∙◌, arith}
-use Rattle.std.specs.Prelude.{Contains, All, not, filter, IsTrue, ℤ}
+use Rattle.std.specs.Prelude.{Contains, All, not, filter, IsTrue, ℤ, Option, Some, None}
 use Rattle.std.specs.List.{flat_map}
 use Rattle.std.proofs.lemmas.Bool.{cases_Bool, ltb-true}
 use Rattle.std.proofs.lemmas.List.{append_assoc, append-nil}
@@ -11,13 +11,18 @@ use Rattle.acc_base.proofs.Sets.{includes_from_test}
 use Rattle.acc_present.specs.Marks.{Mark}
 use Rattle.acc_present.specs.Lifetimes.{Lifetime, opened, live, lives}
 use Rattle.acc_batch.specs.declared.operation.Op.{Op}
-use Rattle.acc_batch.specs.declared.operation.Op.TheVariants.{Make, CopyIn, CopyOut, Release}
+use Rattle.acc_batch.specs.declared.operation.Op.TheVariants.{Make, CopyIn, CopyOut, Release, Run}
+use Rattle.acc_kernel.specs.Jobs.{Use}
+use Rattle.acc_kernel.specs.Kernels.{Loop, arrays_of}
+use Rattle.acc_place.specs.Implicit.{item_of}
+use Rattle.acc_place.specs.declared.directive.Item.{Item}
 use Rattle.acc_place.specs.Standings.{Asked, Visit, visits}
 use Rattle.acc_place.specs.declared.directive.Clause.{Clause}
 use Rattle.acc_place.specs.declared.directive.Clause.TheVariants.{Copy, Copyin, Copyout, Create, Present, Delete, UpdateSelf, UpdateDevice}
-use Rattle.acc_place.specs.Batches.{opened_blocks, ended_blocks, held_blocks, makes, copy_ins, updates, updates_by, copy_outs, releases, copies_in, copies_out}
+use Rattle.acc_place.specs.Batches.{opened_blocks, ended_blocks, holding_blocks, makes, copy_ins, updates, updates_by, use_by, uses_of, runs_by, copy_outs, releases, copies_in, copies_out}
 use Rattle.acc_place.specs.Accepting.{is_in_array}
-use Rattle.acc_core.specs.Legality.{Made, made, released, HoldsBlock}
+use Rattle.acc_core.specs.Legality.{made, released, HoldsBlock}
+use Rattle.acc_memory.specs.Memories.{Made}
 use Rattle.acc_core.proofs.Members.{no_member, member_first, member_rest, member_one, member_filter, member_map, Apart, apart_filter}
 use Rattle.acc_core.proofs.Blocks.{numbered}
 use Rattle.acc_core.proofs.Uses.{made-append, released-append, AllUse, AllUse-append, marked_by, visit_is, visit, made_of, Booked, booked_more, ended_is, held_block_is, is_opened, new_made, new_is_made, live_member}
@@ -29,16 +34,25 @@ pub record HoldsIn (makings : List Made) (gone : List ℕ) (range : Range) (bloc
   pub not_gone : Contains gone block → ⊥
   pub inside : Includes whole_range range
 
+-- So is the block of a loop's use, with the use's range.
+abbrev pub IsUsed : List Made → List ℕ → Use → Type 0
+IsUsed makings gone u = HoldsIn makings gone u.1 u.0
+
 -- a block that is held by what operations made and released is held by the operations
 holds_block : (before : List Op) (makings : List Made) (gone : List ℕ) (r : Range) (b : ℕ) → made before ≡ makings → released before ≡ gone → HoldsIn makings gone r b → HoldsBlock before b r
 holds_block before makings gone r b e f h = record { whole_range = h.whole_range; is_made = rw e h.is_made; not_released = rw f h.not_gone; inside = h.inside }
 
--- An operation that makes and releases no block, and uses a live one.
+-- so is each block that a loop uses
+holds_uses : (before : List Op) (makings : List Made) (gone : List ℕ) (uses : List Use) → made before ≡ makings → released before ≡ gone → All (IsUsed makings gone) uses → All (λ (u : Use). HoldsBlock before u.0 u.1) uses
+holds_uses before makings gone uses e f h = All-weaker (IsUsed makings gone) (λ (u : Use). HoldsBlock before u.0 u.1) (λ u k. holds_block before makings gone u.1 u.0 e f k) uses h
+
+-- An operation that makes and releases no block, and uses live ones.
 abbrev pub Copies : List Made → List ℕ → Op → Type 0
 Copies makings gone (Make b r) = ⊥
 Copies makings gone (CopyIn b r) = HoldsIn makings gone r b
 Copies makings gone (CopyOut b r) = HoldsIn makings gone r b
 Copies makings gone (Release b) = ⊥
+Copies makings gone (Run k uses) = All (IsUsed makings gone) uses
 
 -- an operation that makes no block leaves what was made
 made_same : (before : List Op) (op : Op) (makings : List Made) → made (op ∷ []) ≡ [] → made before ≡ makings → made (before ++ op ∷ []) ≡ makings
@@ -61,6 +75,10 @@ copies_use arrays (CopyOut b r ∷ ops) before makings gone e f h = (
   copies_use arrays ops (before ++ CopyOut b r ∷ []) makings gone (made_same before (CopyOut b r) makings refl e) (released_same before (CopyOut b r) gone refl f) (All-tail (Copies makings gone) (CopyOut b r) ops h),
 )
 copies_use arrays (Release b ∷ ops) before makings gone e f h = absurd (All-head (Copies makings gone) (Release b) ops h)
+copies_use arrays (Run k uses ∷ ops) before makings gone e f h = (
+  holds_uses before makings gone uses e f (All-head (Copies makings gone) (Run k uses) ops h),
+  copies_use arrays ops (before ++ Run k uses ∷ []) makings gone (made_same before (Run k uses) makings refl e) (released_same before (Run k uses) gone refl f) (All-tail (Copies makings gone) (Run k uses) ops h),
+)
 
 -- a list of such copies makes and releases nothing
 pub no_copy_makes : (ops : List Op) (makings : List Made) (gone : List ℕ) → All (Copies makings gone) ops → (made ops ≡ []) × (released ops ≡ [])
@@ -69,6 +87,7 @@ no_copy_makes (Make b r ∷ ops) makings gone h = absurd (All-head (Copies makin
 no_copy_makes (CopyIn b r ∷ ops) makings gone h = no_copy_makes ops makings gone (All-tail (Copies makings gone) (CopyIn b r) ops h)
 no_copy_makes (CopyOut b r ∷ ops) makings gone h = no_copy_makes ops makings gone (All-tail (Copies makings gone) (CopyOut b r) ops h)
 no_copy_makes (Release b ∷ ops) makings gone h = absurd (All-head (Copies makings gone) (Release b) ops h)
+no_copy_makes (Run k uses ∷ ops) makings gone h = no_copy_makes ops makings gone (All-tail (Copies makings gone) (Run k uses) ops h)
 
 -- what each member has, all have
 all_from_members : {X : Type 0} (P : X → Type 0) (xs : List X) → ((x : X) → Contains xs x → P x) → All P xs
@@ -78,7 +97,7 @@ all_from_members P xs h = All-weaker (Contains xs) P h xs (All-contains_itself x
 pub record Holds (makings : List Made) (gone : List ℕ) (v : Visit) : Type 0 where
   pub opened_held : (b : ℕ) → Contains (opened_blocks v) b → HoldsIn makings gone v.item.range b
   pub ended_held : (b : ℕ) → Contains (ended_blocks v) b → HoldsIn makings gone v.item.range b
-  pub held_held : (b : ℕ) → Contains (held_blocks v) b → HoldsIn makings gone v.item.range b
+  pub held_held : (b : ℕ) → Contains (holding_blocks v.before v.item.range) b → HoldsIn makings gone v.item.range b
 
 -- a visit's copies in are such copies
 pub copy_ins_of : (makings : List Made) (gone : List ℕ) (v : Visit) → Holds makings gone v → All (Copies makings gone) (copy_ins v)
@@ -110,8 +129,8 @@ updates_held Delete r blocks makings gone h = All-nil (Copies makings gone)
 -- a visit's updates are such copies
 pub updates_of : (makings : List Made) (gone : List ℕ) (v : Visit) → Holds makings gone v → All (Copies makings gone) (updates v)
 updates_of makings gone v h =
-    updates_held v.item.clause v.item.range (held_blocks v) makings gone
-    (all_from_members (HoldsIn makings gone v.item.range) (held_blocks v) h.held_held)
+    updates_held v.item.clause v.item.range (holding_blocks v.before v.item.range) makings gone
+    (all_from_members (HoldsIn makings gone v.item.range) (holding_blocks v.before v.item.range) h.held_held)
 
 -- a group of such copies over all visits
 pub copies_of : (f : Visit → List Op) (makings : List Made) (gone : List ℕ) (vs : List Visit) → ((v : Visit) → Holds makings gone v → All (Copies makings gone) (f v)) → All (Holds makings gone) vs → All (Copies makings gone) (flat_map f vs)
@@ -142,6 +161,35 @@ opened_is ms a b c =
 held_by : (makings : List Made) (gone : List ℕ) (l : Lifetime) (r : Range) (b : ℕ) → l.block ≡ b → Contains makings (made_of l) → (Contains gone l.block → ⊥) → Includes l.range r → HoldsIn makings gone r b
 held_by makings gone l r b e makes not_gone has = rw (← e) (record { whole_range = l.range; is_made = makes; not_gone = not_gone; inside = has })
 
+-- a block that holds a range after these marks is held
+pub holding_held : (ms : List Mark) (makings : List Made) (gone : List ℕ) (all : List Made) (first : List ℕ) → Booked ms makings gone → ((x : Made) → Contains makings x → Contains all x) → ((b : ℕ) → Contains first b → Contains gone b)
+    → (r : Range) (b : ℕ) → Contains (holding_blocks ms r) b → HoldsIn all first r b
+holding_held ms makings gone all first h sub less r b c =
+    let k = held_block_is ms r b c in
+    held_by all first k.lifetime r b k.named (sub (made_of k.lifetime) (h.made_all k.lifetime k.member))
+    (λ g. h.gone_dead k.lifetime k.member k.lived (less k.lifetime.block g))
+    (includes_from_test k.lifetime.range r k.around)
+
+-- so is what a loop uses of one array
+use_held : (makings : List Made) (gone : List ℕ) (ms : List Mark) (i : Option Item) → ((r : Range) (b : ℕ) → Contains (holding_blocks ms r) b → HoldsIn makings gone r b) → All (IsUsed makings gone) (use_by ms i)
+use_held makings gone ms None h = All-nil (IsUsed makings gone)
+use_held makings gone ms (Some i) h =
+    All-map (IsUsed makings gone) (λ b. (b, i.range)) (holding_blocks ms i.range) (all_from_members (HoldsIn makings gone i.range) (holding_blocks ms i.range) (h i.range))
+
+-- and of all these arrays
+uses_held : (makings : List Made) (gone : List ℕ) (ms : List Mark) (items : List Item) (arrays : List ℕ) → ((r : Range) (b : ℕ) → Contains (holding_blocks ms r) b → HoldsIn makings gone r b)
+    → All (IsUsed makings gone) (flat_map (λ array. use_by ms (item_of array items)) arrays)
+uses_held makings gone ms items [] h = All-nil (IsUsed makings gone)
+uses_held makings gone ms items (array ∷ arrays) h =
+    All-append (IsUsed makings gone) (use_by ms (item_of array items)) (flat_map (λ other. use_by ms (item_of other items)) arrays)
+    (use_held makings gone ms (item_of array items) h) (uses_held makings gone ms items arrays h)
+
+-- A directive's loop, if it runs one, uses live blocks.
+pub run_of : (makings : List Made) (gone : List ℕ) (ms : List Mark) (run : Option Loop) (items : List Item) → ((r : Range) (b : ℕ) → Contains (holding_blocks ms r) b → HoldsIn makings gone r b) → All (Copies makings gone) (runs_by run items ms)
+run_of makings gone ms None items h = All-nil (Copies makings gone)
+run_of makings gone ms (Some k) items h =
+    All-cons (Copies makings gone) (Run k (uses_of k items ms)) [] (uses_held makings gone ms items (arrays_of k) h) (All-nil (Copies makings gone))
+
 -- From what was made and released before a directive, each visit's blocks are held.
 pub visits_hold : (asks : List Asked) (ms : List Mark) (makings : List Made) (gone : List ℕ) (all : List Made) (first : List ℕ) → Booked ms makings gone →
     ((x : Made) → Contains (makings ++ makings_of (visits ms asks)) x → Contains all x) → ((b : ℕ) → Contains first b → Contains gone b) → All (Holds all first) (visits ms asks)
@@ -167,12 +215,7 @@ visits_hold (a ∷ asks) ms makings gone all first h sub less =
           (sub (made_of e.lifetime) (Contains-append_left makings (makings_of (visits ms (a ∷ asks))) (made_of e.lifetime) (h.made_all e.lifetime e.member)))
           (λ g. h.gone_dead e.lifetime e.member e.lived (less e.lifetime.block g))
           (includes_from_test e.lifetime.range a.item.range (v.ended e.lifetime e.member e.lived e.over));
-      held_held = λ b c.
-          let k = held_block_is ms a b c in
-          held_by all first k.lifetime a.item.range b k.named
-          (sub (made_of k.lifetime) (Contains-append_left makings (makings_of (visits ms (a ∷ asks))) (made_of k.lifetime) (h.made_all k.lifetime k.member)))
-          (λ g. h.gone_dead k.lifetime k.member k.lived (less k.lifetime.block g))
-          (includes_from_test k.lifetime.range a.item.range k.around);
+      held_held = λ b c. holding_held ms makings gone all first h (λ x d. sub x (Contains-append_left makings (makings_of (visits ms (a ∷ asks))) x d)) less a.item.range b c;
     })
     (visits_hold asks (marked_by ms a) (makings ++ here) (gone ++ ended_blocks (visit ms a)) all first (booked_more ms a makings gone h)
     (λ x c. sub x (rw (split, ← append_assoc makings here later) c))

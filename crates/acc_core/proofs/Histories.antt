@@ -2,8 +2,9 @@
 use Rattle.std.proofs.Common.{◌≡◌, ℕ, ◌<◌, List, [], ◌∷◌, ◌++◌, drop, map, refl, sym, ap, ◌∙◌}
 use Rattle.std.specs.Prelude.{All, Contains, ℤ, slice_index_or}
 use Rattle.std.specs.List.{flat_map}
+use Rattle.std.proofs.lemmas.Grind.{flat_map-append}
 use Rattle.std.proofs.lemmas.List.{append_assoc, append-nil}
-use Rattle.std.proofs.lemmas.List.Elements.{All-nil}
+use Rattle.std.proofs.lemmas.List.Elements.{All-nil, Contains-append_left}
 use Rattle.acc_base.specs.declared.range.Range.{Range}
 use Rattle.acc_base.specs.Configurations.{Configuration}
 use Rattle.acc_present.specs.Marks.{Mark}
@@ -13,16 +14,18 @@ use Rattle.acc_batch.specs.declared.operation.Op.TheVariants.{Make}
 use Rattle.acc_place.specs.declared.directive.Directive.{Directive}
 use Rattle.acc_place.specs.declared.directive.PlaceEntry.{PlaceEntry}
 use Rattle.acc_place.specs.declared.directive.PlaceEntry.TheVariants as noted
-use Rattle.acc_place.specs.Standings.{Standing, Asked, walk_of, Visit, visits, marks_after}
-use Rattle.acc_place.specs.Batches.{opened_blocks, ended_blocks, makes, copy_ins, updates, copy_outs, releases, grouped, batch_of}
+use Rattle.acc_place.specs.Standings.{Standing, Asked, Walk, walk_of, Visit, visits, all_visits, marks_after, marks_between, marks_behind}
+use Rattle.acc_place.specs.Batches.{opened_blocks, ended_blocks, makes, copy_ins, runs, updates, copy_outs, releases, grouped, batch_of}
 use Rattle.acc_place.specs.Histories.{AllAccepted, standing, after_walk, at_first}
-use Rattle.acc_core.specs.Legality.{made, Made, released}
+use Rattle.acc_core.specs.Legality.{made, released}
+use Rattle.acc_memory.specs.Memories.{Made}
 use Rattle.acc_batch.specs.Labels.{ops_of, AllAt}
 use Rattle.acc_core.specs.Works.{sync}
 use Rattle.acc_core.proofs.Members.{no_member}
 use Rattle.acc_core.proofs.Queues.{all_at_labelled, ops_of-labelled}
 use Rattle.acc_core.proofs.Uses.{AllUse, made-append, released-append, AllUse-append, marked_by, visit, Booked, booked_more}
-use Rattle.acc_core.proofs.Groups.{copies_use, no_copy_makes, copies_of, copy_ins_of, updates_of, copy_outs_of, makings_of, visits_hold, AllInArrays, makes_use, made_releases, released_releases, releases_use}
+use Rattle.acc_core.proofs.Ends.{asks_of, all_visits_are, marks_behind_are}
+use Rattle.acc_core.proofs.Groups.{Copies, copies_use, no_copy_makes, copies_of, copy_ins_of, run_of, updates_of, copy_outs_of, makings_of, holding_held, visits_hold, AllInArrays, makes_use, made_releases, released_releases, releases_use}
 use Rattle.acc_core.proofs.Faultless.{accepted_fits}
 use Rattle.acc_core.proofs.OneDevice.{IsThere, there_after, sync_walk, walk_is}
 
@@ -72,13 +75,14 @@ booked_all (a ∷ asks) ms makings gone h =
     (booked_all asks (marked_by ms a) (makings ++ here) (gone ++ ended_blocks (visit ms a)) (booked_more ms a makings gone h))
 
 -- A batch behind operations that stand to the marks so far.
-pub record Batched (arrays : List (List ℤ)) (ms : List Mark) (asks : List Asked) (before : List Op) : Type 0 where
-  pub use_live : AllUse arrays before (grouped (visits ms asks))
-  pub booked : Booked (marks_after ms asks) (made (before ++ grouped (visits ms asks))) (released (before ++ grouped (visits ms asks)))
+pub record Batched (arrays : List (List ℤ)) (ms : List Mark) (asks : List Asked) (run before : List Op) : Type 0 where
+  pub use_live : AllUse arrays before (grouped run (visits ms asks))
+  pub booked : Booked (marks_after ms asks) (made (before ++ grouped run (visits ms asks))) (released (before ++ grouped run (visits ms asks)))
 
 -- a batch of ranges in their arrays uses live blocks, and stands to the lifetimes after it
-pub batch_uses : (arrays : List (List ℤ)) (ms : List Mark) (asks : List Asked) (before : List Op) → Booked ms (made before) (released before) → AllInArrays arrays asks → Batched arrays ms asks before
-batch_uses arrays ms asks before h inside =
+pub batch_uses : (arrays : List (List ℤ)) (ms : List Mark) (asks : List Asked) (run before : List Op) → Booked ms (made before) (released before) → AllInArrays arrays asks
+    → All (Copies (made before ++ makings_of (visits ms asks)) (released before)) run → Batched arrays ms asks run before
+batch_uses arrays ms asks run before h inside runs_live =
     let vs = visits ms asks in
     let making = flat_map makes vs in
     let ins = flat_map copy_ins vs in
@@ -92,32 +96,68 @@ batch_uses arrays ms asks before h inside =
     let up = copies_of updates all first vs (updates_of all first) holds in
     let out = copies_of copy_outs all first vs (copy_outs_of all first) holds in
     let none_in = no_copy_makes ins all first into in
+    let none_run = no_copy_makes run all first runs_live in
     let none_up = no_copy_makes ups all first up in
     let none_out = no_copy_makes outs all first out in
     let made_1 : made (before ++ making) ≡ all = made-append before making in
     let gone_1 : released (before ++ making) ≡ first = released_quiet before making (makes_release_none vs) in
-    let made_2 : made ((before ++ making) ++ ins) ≡ all = made_quiet (before ++ making) ins none_in.0 ∙ made_1 in
-    let gone_2 : released ((before ++ making) ++ ins) ≡ first = released_quiet (before ++ making) ins none_in.1 ∙ gone_1 in
     let in_done = (before ++ making) ++ ins in
-    let made_3 : made (in_done ++ ups) ≡ all = made_quiet in_done ups none_up.0 ∙ made_2 in
-    let gone_3 : released (in_done ++ ups) ≡ first = released_quiet in_done ups none_up.1 ∙ gone_2 in
-    let made_4 : made ((in_done ++ ups) ++ outs) ≡ all = made_quiet (in_done ++ ups) outs none_out.0 ∙ made_3 in
-    let gone_4 : released ((in_done ++ ups) ++ outs) ≡ first = released_quiet (in_done ++ ups) outs none_out.1 ∙ gone_3 in
-    let made_5 : made (((in_done ++ ups) ++ outs) ++ releasing) ≡ all = made_quiet ((in_done ++ ups) ++ outs) releasing (releases_make_none vs) ∙ made_4 in
-    let gone_5 : released (((in_done ++ ups) ++ outs) ++ releasing) ≡ first ++ flat_map ended_blocks vs =
-    released-append ((in_done ++ ups) ++ outs) releasing ∙ (ap (λ r. r ++ released releasing) gone_4 ∙ ap (λ r. first ++ r) (released_by vs)) in
-    let whole : before ++ grouped vs ≡ ((in_done ++ ups) ++ outs) ++ releasing =
-    sym (append_assoc before making (ins ++ (ups ++ (outs ++ releasing))))
-    ∙ (sym (append_assoc (before ++ making) ins (ups ++ (outs ++ releasing)))
-    ∙ (sym (append_assoc in_done ups (outs ++ releasing)) ∙ sym (append_assoc (in_done ++ ups) outs releasing))) in
+    let made_2 : made in_done ≡ all = made_quiet (before ++ making) ins none_in.0 ∙ made_1 in
+    let gone_2 : released in_done ≡ first = released_quiet (before ++ making) ins none_in.1 ∙ gone_1 in
+    let run_done = in_done ++ run in
+    let made_3 : made run_done ≡ all = made_quiet in_done run none_run.0 ∙ made_2 in
+    let gone_3 : released run_done ≡ first = released_quiet in_done run none_run.1 ∙ gone_2 in
+    let up_done = run_done ++ ups in
+    let made_4 : made up_done ≡ all = made_quiet run_done ups none_up.0 ∙ made_3 in
+    let gone_4 : released up_done ≡ first = released_quiet run_done ups none_up.1 ∙ gone_3 in
+    let out_done = up_done ++ outs in
+    let made_5 : made out_done ≡ all = made_quiet up_done outs none_out.0 ∙ made_4 in
+    let gone_5 : released out_done ≡ first = released_quiet up_done outs none_out.1 ∙ gone_4 in
+    let made_6 : made (out_done ++ releasing) ≡ all = made_quiet out_done releasing (releases_make_none vs) ∙ made_5 in
+    let gone_6 : released (out_done ++ releasing) ≡ first ++ flat_map ended_blocks vs =
+    released-append out_done releasing ∙ (ap (λ r. r ++ released releasing) gone_5 ∙ ap (λ r. first ++ r) (released_by vs)) in
+    let whole : before ++ grouped run vs ≡ out_done ++ releasing =
+    sym (append_assoc before making (ins ++ (run ++ (ups ++ (outs ++ releasing)))))
+    ∙ (sym (append_assoc (before ++ making) ins (run ++ (ups ++ (outs ++ releasing))))
+    ∙ (sym (append_assoc in_done run (ups ++ (outs ++ releasing)))
+    ∙ (sym (append_assoc run_done ups (outs ++ releasing)) ∙ sym (append_assoc up_done outs releasing)))) in
     record {
       use_live =
-          AllUse-append arrays before making (ins ++ (ups ++ (outs ++ releasing))) (makes_use arrays asks ms before h.made_low inside)
-          (AllUse-append arrays (before ++ making) ins (ups ++ (outs ++ releasing)) (copies_use arrays ins (before ++ making) all first made_1 gone_1 into)
-          (AllUse-append arrays in_done ups (outs ++ releasing) (copies_use arrays ups in_done all first made_2 gone_2 up)
-          (AllUse-append arrays (in_done ++ ups) outs releasing (copies_use arrays outs (in_done ++ ups) all first made_3 gone_3 out)
-          (releases_use arrays asks ms (made before) ((in_done ++ ups) ++ outs) (rw gone_4 h) (λ x c. rw made_4 c)))));
-      booked = rw (whole, made_5, gone_5) (booked_all asks ms (made before) first h);
+          AllUse-append arrays before making (ins ++ (run ++ (ups ++ (outs ++ releasing)))) (makes_use arrays asks ms before h.made_low inside)
+          (AllUse-append arrays (before ++ making) ins (run ++ (ups ++ (outs ++ releasing))) (copies_use arrays ins (before ++ making) all first made_1 gone_1 into)
+          (AllUse-append arrays in_done run (ups ++ (outs ++ releasing)) (copies_use arrays run in_done all first made_2 gone_2 runs_live)
+          (AllUse-append arrays run_done ups (outs ++ releasing) (copies_use arrays ups run_done all first made_3 gone_3 up)
+          (AllUse-append arrays up_done outs releasing (copies_use arrays outs up_done all first made_4 gone_4 out)
+          (releases_use arrays asks ms (made before) out_done (rw gone_5 h) (λ x c. rw made_5 c))))));
+      booked = rw (whole, made_6, gone_6) (booked_all asks ms (made before) first h);
+    }
+
+-- the loop of a walk uses what is there after its items, and nothing is released before it
+run_uses : (ms : List Mark) (walk : Walk) (before : List Op) → Booked ms (made before) (released before) → All (Copies (made before ++ makings_of (visits ms (asks_of walk))) (released before)) (runs walk ms)
+run_uses ms walk before h =
+    let entered = visits ms walk.items in
+    let left = visits (marks_after ms walk.items) walk.ends in
+    let split : makings_of (visits ms (asks_of walk)) ≡ makings_of entered ++ makings_of left =
+    ap makings_of (all_visits_are ms walk) ∙ (ap made (flat_map-append makes entered left) ∙ made-append (flat_map makes entered) (flat_map makes left)) in
+    let between = marks_between ms walk in
+    rw split
+    (run_of (made before ++ (makings_of entered ++ makings_of left)) (released before) between walk.runs (map (λ a. a.item) walk.items)
+    (holding_held between (made before ++ makings_of entered) (released before ++ flat_map ended_blocks entered) (made before ++ (makings_of entered ++ makings_of left)) (released before) (booked_all walk.items ms (made before) (released before) h)
+    (λ x c. rw (← append_assoc (made before) (makings_of entered) (makings_of left)) (Contains-append_left (made before ++ makings_of entered) (makings_of left) x c))
+    (λ b c. Contains-append_left (released before) (flat_map ended_blocks entered) b c)))
+
+-- The batch of a walk behind operations that stand to the marks so far.
+pub record WalkBatched (arrays : List (List ℤ)) (ms : List Mark) (walk : Walk) (before : List Op) : Type 0 where
+  pub use_live : AllUse arrays before (grouped (runs walk ms) (all_visits ms walk))
+  pub booked : Booked (marks_behind ms walk) (made (before ++ grouped (runs walk ms) (all_visits ms walk))) (released (before ++ grouped (runs walk ms) (all_visits ms walk)))
+
+-- a walk over ranges in their arrays places a batch that uses live blocks, and stands to the lifetimes after it
+pub walk_uses : (arrays : List (List ℤ)) (ms : List Mark) (walk : Walk) (before : List Op) → Booked ms (made before) (released before) → AllInArrays arrays (asks_of walk) → WalkBatched arrays ms walk before
+walk_uses arrays ms walk before h inside =
+    let b = batch_uses arrays ms (asks_of walk) (runs walk ms) before h inside (run_uses ms walk before h) in
+    record {
+      use_live = rw (all_visits_are ms walk) at b.use_live;
+      booked = rw (all_visits_are ms walk, marks_behind_are ms walk) at b.booked;
     }
 
 -- no marks have opened no lifetime
@@ -134,7 +174,7 @@ pub record Placed (config : Configuration) (st : Standing) : Type 0 where
   pub there : All (IsThere config) st.regions
 
 -- before the first directive nothing is placed
-placed_none : (config : Configuration) → Placed config at_first
+placed_none : (config : Configuration) → Placed config (at_first config)
 placed_none config = record {
   use_live = tt;
   booked = record {
@@ -148,27 +188,28 @@ placed_none config = record {
 }
 
 -- one more walk places what uses live blocks, and stands to the lifetimes after it
-placed_more : (config : Configuration) (st : Standing) (host items_done : ℕ) (d : Directive) (asks : List Asked) → Placed config st → d.device < config.devices → AllInArrays config.arrays asks
-    → Placed config (after_walk st host items_done d (sync_walk asks))
+placed_more : (config : Configuration) (st : Standing) (host items_done : ℕ) (d : Directive) (walk : Walk) → Placed config st → d.device < config.devices → AllInArrays config.arrays (asks_of walk)
+    → Placed config (after_walk st host items_done d (sync_walk walk))
 unfolding batch_of
-placed_more config st host items_done d asks h low inside =
+placed_more config st host items_done d walk h low inside =
     let ops = ops_of st.labels in
-    let vs = visits (st.marks 0) asks in
-    let b = batch_uses config.arrays (st.marks 0) asks ops h.booked inside in
-    let all = ops_of-labelled sync host items_done st.labels (grouped vs) in
+    let ms = st.marks 0 in
+    let batch = grouped (runs walk ms) (all_visits ms walk) in
+    let b = walk_uses config.arrays ms walk ops h.booked inside in
+    let all = ops_of-labelled sync host items_done st.labels batch in
     record {
-      use_live = rw all (AllUse-append config.arrays [] ops (grouped vs) h.use_live b.use_live);
+      use_live = rw all (AllUse-append config.arrays [] ops batch h.use_live b.use_live);
       booked = rw all b.booked;
-      on_sync = all_at_labelled sync host items_done st.labels (grouped vs) h.on_sync;
+      on_sync = all_at_labelled sync host items_done st.labels batch h.on_sync;
       there = there_after config host d d.kind st.regions low h.there;
     }
 
 -- All operations that accepted directives place, in order, use live blocks.
-pub placed_use : (config : Configuration) (history : List PlaceEntry) (counts : List ℕ) → config.devices ≡ 1 → AllAccepted config history counts → Placed config (standing history counts)
+pub placed_use : (config : Configuration) (history : List PlaceEntry) (counts : List ℕ) → config.devices ≡ 1 → AllAccepted config history counts → Placed config (standing config history counts)
 unfolding standing
 placed_use config [] counts one h = placed_none config
 placed_use config (noted.Accepted host d ∷ before) counts one h =
-    let st = standing before (drop 1 counts) in
+    let st = standing config before (drop 1 counts) in
     let ih = placed_use config before (drop 1 counts) one h.1 in
     let fit = accepted_fits config st host d h.0 in
-    rw (walk_is config st host d one ih.there fit.device) (placed_more config st host (slice_index_or counts 0 0) d (walk_of st host d).items ih fit.device fit.inside)
+    rw (walk_is config st host d one ih.there fit.device) (placed_more config st host (slice_index_or counts 0 0) d (walk_of st host d) ih fit.device fit.inside)

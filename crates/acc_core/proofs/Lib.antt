@@ -1,13 +1,10 @@
 mod Advancing
 mod Blocks
-mod Calls
 mod Changes
-mod CopiedCells
-mod Copying
 mod Counters
 mod Done
-mod Effects
 mod Elsewhere
+mod Ends
 mod Faultless
 mod Following
 mod Groups
@@ -22,12 +19,10 @@ mod Members
 mod OneDevice
 mod Opening
 mod Performing
-mod Places
 mod Placing
 mod QueueTotals
 mod Queues
 mod Remembering
-mod Rows
 mod Runs
 mod Showing
 mod Starts

@@ -37,11 +37,11 @@ pub record IsFew (st : Standing) : Type 0 where
   pub labels : length st.labels ≤ st.accepted
   pub accepted : st.accepted ≤ MAX_DIRECTIVES
 
-pub few_batches : (config : Configuration) (history : List PlaceEntry) (counts : List ℕ) → AllAccepted config history counts → IsFew (standing history counts)
+pub few_batches : (config : Configuration) (history : List PlaceEntry) (counts : List ℕ) → AllAccepted config history counts → IsFew (standing config history counts)
 unfolding standing
 few_batches config [] counts h = record { labels = omega arith; accepted = omega arith }
 few_batches config (noted.Accepted host d ∷ before) counts h =
-    let st = standing before (drop 1 counts) in
+    let st = standing config before (drop 1 counts) in
     let ih = few_batches config before (drop 1 counts) h.1 in
     let more = labelled_more (walk_at (walk_of st host d)) host (slice_index_or counts 0 0) st.labels (batch_of st (walk_of st host d)) in
     record { labels = omega (arith, ih.labels, more); accepted = omega (arith, accepted_few config st host d h.0) }

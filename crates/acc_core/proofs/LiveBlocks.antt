@@ -9,11 +9,10 @@ use Rattle.std.proofs.lemmas.List.Folds.{find-append}
 use Rattle.acc_core.specs.declared.log.WorkEntry.{WorkEntry}
 use Rattle.acc_core.specs.declared.log.WorkEntry.TheVariants as entry
 use Rattle.acc_batch.specs.declared.operation.Op.{Op}
-use Rattle.acc_batch.specs.declared.operation.Op.TheVariants.{Make, CopyIn, CopyOut, Release}
-use Rattle.acc_place.specs.Accepting.{is_in_array}
-use Rattle.acc_core.specs.Legality.{Made, made, released, UsesLive, AllLive}
+use Rattle.acc_batch.specs.declared.operation.Op.TheVariants.{Make, CopyIn, CopyOut, Release, Run}
+use Rattle.acc_core.specs.Legality.{made, released, UsesLive, AllLive}
 use Rattle.acc_core.specs.Logs.{device_ops}
-use Rattle.acc_core.specs.Memories.{block_placed_in, blocks_after, find_block}
+use Rattle.acc_memory.specs.Memories.{Made, block_placed_in, blocks_after, find_block}
 use Rattle.acc_core.specs.Ties.{blocks_by, blocks_in}
 use Rattle.acc_core.proofs.Members.{no_member, member_one}
 use Rattle.acc_core.proofs.Uses.{made-append, released-append}
@@ -76,11 +75,10 @@ find_kept b bs c differ = rw (find_passed (λ n. not (n == b)) bs c, ne_eqb c b 
 find_none : (b : ℕ) (bs : List Made) (c : ℕ) → find_block bs c ≡ None → find_block (filter (λ k. not (k.block == b)) bs) c ≡ None
 find_none b bs c none = rw (find_passed (λ n. not (n == b)) bs c, none) (sym (no_choice (not (c == b)) None))
 
--- A block that was made and not released is there, with its range; one that was never made is not; and the range of each lies in its array.
-pub record Held (arrays : List (List ℤ)) (makings : List Made) (gone : List ℕ) (bs : List Made) : Type 0 where
+-- A block that was made and not released is there, with its range; one that was never made is not.
+pub record Held (makings : List Made) (gone : List ℕ) (bs : List Made) : Type 0 where
   pub there : (m : Made) → Contains makings m → (Contains gone m.block → ⊥) → find_block bs m.block ≡ Some m
   pub absent : (b : ℕ) → (Contains (map (λ (m : Made). m.block) makings) b → ⊥) → find_block bs b ≡ None
-  pub inside : (m : Made) → Contains makings m → is_in_array arrays m.range ≡ true
 
 -- a list of one has that member
 member_only : {X : Type 0} (x : X) → Contains (x ∷ []) x
@@ -100,17 +98,16 @@ number_member makings m c =
         (λ x d. Contains-append_right (k.block ∷ []) (map (λ (y : Made). y.block) ms) x.block d) ms (numbers ms))
 
 -- so it is before the first operation
-held_first : (arrays : List (List ℤ)) → Held arrays [] [] []
-held_first arrays = record {
+held_first : Held [] [] []
+held_first = record {
   there = λ m c live. absurd (no_member m c);
   absent = λ b none. refl;
-  inside = λ m c. absurd (no_member m c);
 }
 
 -- so it is after a block is made that never was
-held_make : (arrays : List (List ℤ)) (makings : List Made) (gone : List ℕ) (bs : List Made) (b : Made) → Held arrays makings gone bs →
-    (Contains (map (λ (m : Made). m.block) makings) b.block → ⊥) → is_in_array arrays b.range ≡ true → Held arrays (makings ++ b ∷ []) gone (block_placed_in b bs)
-held_make arrays makings gone bs b h fresh fits = record {
+held_make : (makings : List Made) (gone : List ℕ) (bs : List Made) (b : Made) → Held makings gone bs →
+    (Contains (map (λ (m : Made). m.block) makings) b.block → ⊥) → Held (makings ++ b ∷ []) gone (block_placed_in b bs)
+held_make makings gone bs b h fresh = record {
   there = λ m c live. elim (Contains-append_cases makings (b ∷ []) m c) [
     | inl old ↦
         find_beside b bs m.block (λ same. fresh (rw same (number_member makings m old))) ∙ h.there m old live
@@ -119,21 +116,16 @@ held_make arrays makings gone bs b h fresh fits = record {
   absent = λ c none.
       find_beside b bs c (λ same. none (rw (map-append (λ (m : Made). m.block) makings (b ∷ []), ← same) (Contains-append_right (map (λ (m : Made). m.block) makings) (b.block ∷ []) b.block (member_only b.block))))
       ∙ h.absent c (λ d. none (rw (map-append (λ (m : Made). m.block) makings (b ∷ [])) (Contains-append_left (map (λ (m : Made). m.block) makings) (b.block ∷ []) c d)));
-  inside = λ m c. elim (Contains-append_cases makings (b ∷ []) m c) [
-    | inl old ↦ h.inside m old
-    | inr new ↦ rw (← member_one m b new) fits
-  ];
 }
 
 -- so it is after a block is released
-held_release : (arrays : List (List ℤ)) (makings : List Made) (gone : List ℕ) (bs : List Made) (b : ℕ) → Held arrays makings gone bs →
-    Held arrays makings (gone ++ b ∷ []) (filter (λ k. not (k.block == b)) bs)
-held_release arrays makings gone bs b h = record {
+held_release : (makings : List Made) (gone : List ℕ) (bs : List Made) (b : ℕ) → Held makings gone bs →
+    Held makings (gone ++ b ∷ []) (filter (λ k. not (k.block == b)) bs)
+held_release makings gone bs b h = record {
   there = λ m c live.
       find_kept b bs m.block (λ same. live (rw same (Contains-append_right gone (b ∷ []) b (member_only b))))
       ∙ h.there m c (λ d. live (Contains-append_left gone (b ∷ []) m.block d));
   absent = λ c none. find_none b bs c (h.absent c none);
-  inside = h.inside;
 }
 
 -- the blocks after one more operation are what it makes of those before it
@@ -142,22 +134,24 @@ blocks_by_more bs [] op = refl
 blocks_by_more bs (x ∷ ops) op = blocks_by_more (blocks_after x bs) ops op
 
 -- so it is after one more operation that uses live blocks
-held_after : (arrays : List (List ℤ)) (ops : List Op) (bs : List Made) (op : Op) → Held arrays (made ops) (released ops) bs → UsesLive arrays op ops →
-    Held arrays (made (ops ++ op ∷ [])) (released (ops ++ op ∷ [])) (blocks_after op bs)
+held_after : (arrays : List (List ℤ)) (ops : List Op) (bs : List Made) (op : Op) → Held (made ops) (released ops) bs → UsesLive arrays op ops →
+    Held (made (ops ++ op ∷ [])) (released (ops ++ op ∷ [])) (blocks_after op bs)
 held_after arrays ops bs (Make b r) h u =
     rw (made-append ops (Make b r ∷ []), released-append ops (Make b r ∷ []), append-nil (released ops))
-    (held_make arrays (made ops) (released ops) bs (record { block = b; range = r }) h u.0 u.1)
+    (held_make (made ops) (released ops) bs (record { block = b; range = r }) h u.0)
 held_after arrays ops bs (CopyIn b r) h u =
     rw (made-append ops (CopyIn b r ∷ []), released-append ops (CopyIn b r ∷ []), append-nil (made ops), append-nil (released ops)) h
 held_after arrays ops bs (CopyOut b r) h u =
     rw (made-append ops (CopyOut b r ∷ []), released-append ops (CopyOut b r ∷ []), append-nil (made ops), append-nil (released ops)) h
 held_after arrays ops bs (Release b) h u =
     rw (made-append ops (Release b ∷ []), released-append ops (Release b ∷ []), append-nil (made ops))
-    (held_release arrays (made ops) (released ops) bs b h)
+    (held_release (made ops) (released ops) bs b h)
+held_after arrays ops bs (Run k uses) h u =
+    rw (made-append ops (Run k uses ∷ []), released-append ops (Run k uses ∷ []), append-nil (made ops), append-nil (released ops)) h
 
 -- So it is after each log whose operations use live blocks.
-pub held_in : (arrays : List (List ℤ)) (work : List WorkEntry) → AllLive arrays work → Held arrays (made (device_ops 0 work)) (released (device_ops 0 work)) (blocks_in work)
-held_in arrays [] live = held_first arrays
+pub held_in : (arrays : List (List ℤ)) (work : List WorkEntry) → AllLive arrays work → Held (made (device_ops 0 work)) (released (device_ops 0 work)) (blocks_in work)
+held_in arrays [] live = held_first
 held_in arrays (entry.Item host shown ∷ before) live = held_in arrays before live
 held_in arrays (entry.Op at op ∷ before) live =
     let ih = held_in arrays before live.1 in

@@ -22,13 +22,15 @@ use Rattle.acc_place.specs.Histories.{standing}
 use Rattle.acc_place.specs.Plans.{PlaceView, PlanView, standing_in, Fits, label_for, label_in}
 use Rattle.acc_batch.specs.Labels.{on_queue, ops_of}
 use Rattle.acc_core.specs.Legality.{Legal}
-use Rattle.acc_core.specs.Logs.{items_of}
+use Rattle.acc_core.specs.Logs.{items_of, value}
 use Rattle.acc_core.specs.Machine.{State, standing_of, accepting, is_empty, is_full, held}
 use Rattle.acc_place.specs.Standings.{walk_of}
+use Rattle.acc_memory.specs.Memories.{rows_on, room_on}
 use Rattle.acc_core.specs.Ties.{Queued, Remembers, IsAccelerator, IsLaneOf, labels_of, performed_count}
 use Rattle.acc_core.specs.Works.{WorkView, HasMadeRoom, sync}
 use Rattle.acc_core.proofs.Faultless.{accepted_fits}
 use Rattle.acc_core.proofs.Histories.{placed_use}
+use Rattle.acc_core.proofs.Remembering.{shows_same}
 use Rattle.acc_core.proofs.OneDevice.{walk_is}
 use Rattle.acc_core.proofs.Keeping.{legal_accepted, legal_hosts, labels_accepted, more_labels}
 use Rattle.acc_base.proofs.SameQueue.{same_queue_itself}
@@ -131,7 +133,7 @@ ops_more ls l = ops_of-append ls (l ∷ []) ∙ ap (λ r. ops_of ls ++ r) (appen
 queued_more : (w w' : State) (v v' : WorkView) (queue : List Label) (b : Label) (t waiting waiting' : ℕ) → Queued w v queue t waiting
     → labels_of w' ≡ labels_of w ++ b ∷ [] → w'.work ≡ w.work → HasMadeRoom v v' → b.at ≡ sync → b.host < MAX_HOSTS
     → 0 < length b.ops → waiting' ≡ waiting + length b.ops
-    → length w.work + waiting' ≤ v'.room → length v'.memory.rows + waiting' ≤ v'.memory.room
+    → length w.work + waiting' ≤ v'.room → length (rows_on v'.memory 0) + waiting' ≤ room_on v'.memory 0
     → Queued w' v' (queue ++ b ∷ []) t waiting'
 queued_more w w' v v' queue b t waiting waiting' q e f k at host some more log_room block_room =
     let ls = labels_of w in
@@ -155,8 +157,8 @@ queued_more w w' v v' queue b t waiting waiting' q e f k at host some more log_r
 -- the memory shows the same values where room was made
 pub remembers_room : (w w' : State) (v v' : WorkView) → Remembers w v → w'.config ≡ w.config → w'.work ≡ w.work → HasMadeRoom v v' → Remembers w' v'
 remembers_room w w' v v' r c f k = record {
-  shows = rw (c, f, k.arrays, k.rows) r.shows;
-  blocks = rw (f, k.rows) r.blocks;
+  shows = rw (c, f) (shows_same v.memory v'.memory (value w.config.arrays w.work) k.arrays k.rows r.shows);
+  blocks = rw (f, k.rows 0) r.blocks;
   lengths = rw (c, k.arrays) r.lengths;
 }
 
@@ -206,7 +208,7 @@ batch_placed w host d b at is =
 pub keeps_batch : (w w' : State) (v v' : WorkView) (queue : List Label) (b : Label) (t waiting waiting' room room' host : ℕ) (d : Directive)
     → IsAccelerator w v queue t waiting room → refusal w.config (standing_of w) host d ≡ None → w' ≡ after_accept w host d → HasMadeRoom v v'
     → Some b ≡ label_in (standing_of w) host (items_of host w.work) (walk_of (standing_of w) host d) → host < MAX_HOSTS → length queue < w.config.room → waiting' ≡ waiting + length b.ops → length w.work + waiting' ≤ v'.room
-    → length v'.memory.rows + waiting' ≤ v'.memory.room → room ≤ room' → IsAccelerator w' v' (queue ++ b ∷ []) t waiting' room'
+    → length (rows_on v'.memory 0) + waiting' ≤ room_on v'.memory 0 → room ≤ room' → IsAccelerator w' v' (queue ++ b ∷ []) t waiting' room'
 keeps_batch w w' v v' queue b t waiting waiting' room room' host d a e is k named low fits more log_room block_room wider =
     let at = acts_on_sync w host d a.one_device a.legal e in
     let l = batch_placed w host d b at named in
@@ -274,7 +276,7 @@ pub record IsPlanned (p : PlaceView) (host items_done : ℕ) (d : Directive) (la
 pub planned : (p after : PlaceView) (q : PlanView) (host items_done : ℕ) (d : Directive) → after.config ≡ p.config → after.history ≡ p.history → after.counts ≡ p.counts → Fits after q
     → q.host ≡ host → q.items_done ≡ items_done → q.directive ≡ d → IsPlanned p host items_done d q.label
 planned p after q host items_done d config history counts fits same_host same_items same =
-    let st : standing_in after ≡ standing_in p = ap (λ xs. standing xs after.counts) history ∙ ap (standing p.history) counts in
+    let st : standing_in after ≡ standing_in p = ap (λ c. standing c after.history after.counts) config ∙ (ap (λ xs. standing p.config xs after.counts) history ∙ ap (standing p.config p.history) counts) in
     record {
       accepted =
           sym (ap (λ x. refusal x (standing_in after) q.host q.directive) config

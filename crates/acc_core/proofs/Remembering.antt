@@ -1,21 +1,23 @@
 -- The memory goes on to show what the log says.
-use Rattle.std.proofs.Common.{◌≡◌, ℕ, zero, suc, ◌+◌, ◌-◌, ◌<◌, ◌≤◌, true, List, [], ◌∷◌, length, refl, sym, ap, ◌∙◌, arith, Some, None, Option}
-use Rattle.std.specs.Prelude.{not, filter, nat_lt, ◌==◌, ℤ, slice_get, is_some}
-use Rattle.std.proofs.lemmas.Bool.{and_parts, leb-true, le-leb}
+use Rattle.std.proofs.Common.{◌≡◌, ℕ, zero, suc, ◌+◌, ◌≤◌, true, List, [], ◌∷◌, length, refl, sym, ap, ◌∙◌, arith}
+use Rattle.std.specs.Prelude.{not, filter, nat_lt, ◌==◌, ℤ, IsTrue, slice_get, is_some}
+use Rattle.std.proofs.lemmas.Bool.{and_parts}
 use Rattle.std.proofs.lemmas.List.{length-append, length-map}
+use Rattle.std.proofs.lemmas.List.Elements.{All-weaker}
 use Rattle.std.proofs.lemmas.List.Filters.{length-filter_both}
 use Rattle.acc_base.specs.declared.range.Range.{Range}
 use Rattle.acc_core.specs.declared.log.Shown.{Shown}
 use Rattle.acc_batch.specs.declared.operation.Op.{Op}
-use Rattle.acc_batch.specs.declared.operation.Op.TheVariants.{Make, CopyIn, CopyOut, Release}
-use Rattle.acc_place.specs.Accepting.{ends_within}
-use Rattle.acc_core.specs.Legality.{Made, made, UsesLive, AllLive, HoldsBlock}
+use Rattle.acc_batch.specs.declared.operation.Op.TheVariants.{Make, CopyIn, CopyOut, Release, Run}
+use Rattle.acc_place.specs.Accepting.{ends_within, is_in_array}
+use Rattle.acc_core.specs.Legality.{made, UsesLive, AllLive, HoldsBlock}
 use Rattle.acc_core.specs.Logs.{device_ops, value}
 use Rattle.acc_core.specs.Machine.{State, with_op, with_item}
-use Rattle.acc_core.specs.Memories.{Cells, held_blocks, blocks_after, lengths_of, HasRange, has_array, find_block, MayPerform}
+use Rattle.acc_kernel.specs.Jobs.{Use}
+use Rattle.acc_memory.specs.Memories.{Made, Cells, Shows, is_held, cell_of, rows_on, room_on, held_blocks, blocks_after, lengths_of, HasRange, reaches, ends_in, has_array, find_block, MayPerform}
 use Rattle.acc_core.specs.Ties.{Remembers}
 use Rattle.acc_core.specs.Works.{WorkView, HasPerformed, HasShown, sync}
-use Rattle.acc_core.proofs.CopiedCells.{HasCells}
+use Rattle.acc_memory.specs.Values.{Cell, Host_cell, Block_cell, values_from, values_of}
 use Rattle.acc_core.proofs.LiveBlocks.{held_in, blocks_by_more}
 
 -- The memory shows the values of the log after an operation is performed.
@@ -34,51 +36,63 @@ remembers_shown w v v' h item r s = record {
   lengths = s.lengths ∙ r.lengths;
 }
 
--- of arrays with the same lengths, an end lies within both or neither
-pub same_ends : (xs ys : List (List ℤ)) (array end : ℕ) → lengths_of xs ≡ lengths_of ys → ends_within (slice_get xs array) end ≡ ends_within (slice_get ys array) end
-same_ends [] [] array end e = refl
-same_ends [] (y ∷ ys) array end e = cc
-same_ends (x ∷ xs) [] array end e = cc
-same_ends (x ∷ xs) (y ∷ ys) zero end e =
-    let first : length x ≡ length y = cc in
-    rw first refl
-same_ends (x ∷ xs) (y ∷ ys) (suc array) end e =
-    let others : lengths_of xs ≡ lengths_of ys = cc in
-    same_ends xs ys array end others
+-- A memory with the same cells shows the same.
+pub shows_same : (m n : Cells) (was : Cell → ℤ) → n.arrays ≡ m.arrays → ((d : ℕ) → rows_on n d ≡ rows_on m d) → Shows m was → Shows n was
+shows_same m n was arrays rows shows = λ cell. by_cell cell
+  where
+    by_cell : (c : Cell) → IsTrue (is_held n c) → cell_of n c ≡ was c
+    by_cell (Host_cell array cell) held = rw arrays (shows (Host_cell array cell) held)
+    by_cell (Block_cell d block cell) held = rw (rows d) (shows (Block_cell d block cell) (rw (rows d) at held))
 
--- an end before one that lies within an array lies within it
-ends_before : (array : Option (List ℤ)) (near far : ℕ) → near ≤ far → ends_within array far ≡ true → ends_within array near ≡ true
-ends_before None near far low h = h
-ends_before (Some cells) near far low h = le-leb near (length cells) (omega (arith, leb-true far (length cells) h))
+-- equal values of cells one after another
+same_values : (f g : ℕ → ℤ) (lo n : ℕ) → ((i : ℕ) → f i ≡ g i) → values_from f lo n ≡ values_from g lo n
+same_values f g lo zero same = refl
+same_values f g lo (suc n) same = rw (same lo) (ap (λ zs. g lo ∷ zs) (same_values f g (lo + 1) n same))
 
--- a range that has a cell, in a block that is live, is one that a copy may use
-range_of_block : (w : State) (v : WorkView) (b : ℕ) (r : Range) → Remembers w v → AllLive w.config.arrays w.work → HoldsBlock (device_ops 0 w.work) b r → 0 < r.len → HasRange (held_blocks v.memory) b r × (has_array v.memory r ≡ true)
-range_of_block w v b r m live u some =
-    let held = held_in w.config.arrays w.work live in
-    let whole : Made = record { block = b; range = u.whole_range } in
-    let first = u.inside r.array r.lo (refl, omega arith, omega (arith, some)) in
-    let last = u.inside r.array (r.lo + (r.len - 1)) (refl, omega arith, omega (arith, some)) in
-    let high : r.lo + r.len ≤ u.whole_range.lo + u.whole_range.len = omega (arith, last.2, some) in
-    let fits = and_parts (nat_lt 0 u.whole_range.len) (ends_within (slice_get w.config.arrays u.whole_range.array) (u.whole_range.lo + u.whole_range.len)) (held.inside whole u.is_made) in
-    let here : ends_within (slice_get w.config.arrays r.array) (u.whole_range.lo + u.whole_range.len) ≡ true = rw first.0 fits.1 in (
-      record { whole_range = u.whole_range; held = rw m.blocks (held.there whole u.is_made u.not_released); low = first.1; high = high },
-      ends_before (slice_get v.memory.arrays r.array) (r.lo + r.len) (u.whole_range.lo + u.whole_range.len) high
-          (same_ends v.memory.arrays w.config.arrays r.array (u.whole_range.lo + u.whole_range.len) m.lengths ∙ here),
-    )
+-- The cells of a range of a host array have the values that the memory shows.
+pub shows_values : (m : Cells) (r : Range) (was : Cell → ℤ) → Shows m was → values_of (cell_of m) r ≡ values_of was r
+shows_values m r was shows =
+    same_values (λ i. cell_of m (Host_cell r.array i)) (λ i. was (Host_cell r.array i)) r.lo r.len (λ i. shows (Host_cell r.array i) refl)
+
+-- an array is as long as its length says
+reaches_is : (arrays : List (List ℤ)) (array end : ℕ) → reaches (slice_get (lengths_of arrays) array) end ≡ ends_within (slice_get arrays array) end
+reaches_is [] array end = refl
+reaches_is (cells ∷ arrays) zero end = refl
+reaches_is (cells ∷ arrays) (suc array) end = reaches_is arrays array end
+
+-- A range that lies in its array ends in it, also where the memory's arrays are only as long.
+pub has_same : (m : Cells) (arrays : List (List ℤ)) (r : Range) → lengths_of m.arrays ≡ lengths_of arrays → is_in_array arrays r ≡ true → has_array m r ≡ true
+has_same m arrays r e inside =
+    ap (λ lengths. ends_in lengths r) e
+    ∙ (reaches_is arrays r.array (r.lo + r.len) ∙ (and_parts (nat_lt 0 r.len) (ends_within (slice_get arrays r.array) (r.lo + r.len)) inside).1)
+
+-- a range in a live block is one that a copy may use
+range_of_block : (w : State) (v : WorkView) (b : ℕ) (r : Range) → Remembers w v → AllLive w.config.arrays w.work → HoldsBlock (device_ops 0 w.work) b r → HasRange (held_blocks v.memory 0) b r
+range_of_block w v b r m live u = record {
+  whole_range = u.whole_range;
+  held = rw m.blocks ((held_in w.config.arrays w.work live).there (record { block = b; range = u.whole_range }) u.is_made u.not_released);
+  inside = u.inside;
+}
 
 -- a live block is there
-live_block : (w : State) (v : WorkView) (b : ℕ) (r : Range) → Remembers w v → AllLive w.config.arrays w.work → HoldsBlock (device_ops 0 w.work) b r → is_some (find_block (held_blocks v.memory) b) ≡ true
+live_block : (w : State) (v : WorkView) (b : ℕ) (r : Range) → Remembers w v → AllLive w.config.arrays w.work → HoldsBlock (device_ops 0 w.work) b r → is_some (find_block (held_blocks v.memory 0) b) ≡ true
 live_block w v b r m live u =
     let there = (held_in w.config.arrays w.work live).there (record { block = b; range = u.whole_range }) u.is_made u.not_released in
     rw (m.blocks, there) refl
 
 -- An operation that uses live blocks may be performed.
-pub may_perform : (w : State) (v : WorkView) (op : Op) → Remembers w v → AllLive w.config.arrays w.work → UsesLive w.config.arrays op (device_ops 0 w.work) → HasCells op
-    → length v.memory.rows + length (made (op ∷ [])) ≤ v.memory.room → MayPerform v.memory op
-may_perform w v (Make b r) m live u some room = (rw m.blocks ((held_in w.config.arrays w.work live).absent b u.0), omega (arith, room))
-may_perform w v (CopyIn b r) m live u some room = range_of_block w v b r m live u some
-may_perform w v (CopyOut b r) m live u some room = range_of_block w v b r m live u some
-may_perform w v (Release b) m live u some room = live_block w v b u.0 m live u.1
+pub may_perform : (w : State) (v : WorkView) (op : Op) → Remembers w v → AllLive w.config.arrays w.work → UsesLive w.config.arrays op (device_ops 0 w.work)
+    → length (rows_on v.memory 0) + length (made (op ∷ [])) ≤ room_on v.memory 0 → MayPerform v.memory 0 op
+may_perform w v (Make b r) m live u room = (
+  rw m.blocks ((held_in w.config.arrays w.work live).absent b u.0),
+  has_same v.memory w.config.arrays r m.lengths u.1,
+  omega (arith, room),
+)
+may_perform w v (CopyIn b r) m live u room = range_of_block w v b r m live u
+may_perform w v (CopyOut b r) m live u room = range_of_block w v b r m live u
+may_perform w v (Release b) m live u room = live_block w v b u.0 m live u.1
+may_perform w v (Run k uses) m live u room =
+    All-weaker (λ (x : Use). HoldsBlock (device_ops 0 w.work) x.0 x.1) (λ (x : Use). HasRange (held_blocks v.memory 0) x.0 x.1) (λ x h. range_of_block w v x.0 x.1 m live h) uses u
 
 -- An operation adds no more blocks than it makes.
 pub length_blocks : (op : Op) (bs : List Made) → length (blocks_after op bs) ≤ length bs + length (made (op ∷ []))
@@ -89,15 +103,16 @@ length_blocks (Make b r) bs =
     omega (arith, both, length-append low (record { block = b; range = r } ∷ high))
 length_blocks (CopyIn b r) bs = omega arith
 length_blocks (CopyOut b r) bs = omega arith
+length_blocks (Run k uses) bs = omega arith
 length_blocks (Release b) bs =
     let both : length (filter (λ (k : Made). k.block == b) bs) + length (filter (λ (k : Made). not (k.block == b)) bs) ≡ length bs = length-filter_both (λ k. k.block == b) (λ k. not (k.block == b)) (λ k. refl) bs in
     omega (arith, both)
 
 -- the rows are as many as the blocks that are there
-pub length_held : (m : Cells) → length (held_blocks m) ≡ length m.rows
-length_held m = length-map m.rows (λ row. record { block = row.block; range = row.range })
+pub length_held : (m : Cells) → length (held_blocks m 0) ≡ length (rows_on m 0)
+length_held m = length-map (rows_on m 0) (λ row. record { block = row.block; range = row.range })
 
 -- The memory has no more rows than it had, and those that the operation made.
-pub length_rows : (v v' : WorkView) (op : Op) (ops : List Op) → HasPerformed v v' op ops → length v'.memory.rows ≤ length v.memory.rows + length (made (op ∷ []))
+pub length_rows : (v v' : WorkView) (op : Op) (ops : List Op) → HasPerformed v v' op ops → length (rows_on v'.memory 0) ≤ length (rows_on v.memory 0) + length (made (op ∷ []))
 length_rows v v' op ops h =
-    omega (arith, length_held v'.memory, length_held v.memory, ap length h.blocks, length_blocks op (held_blocks v.memory))
+    omega (arith, length_held v'.memory, length_held v.memory, ap length h.blocks, length_blocks op (held_blocks v.memory 0))

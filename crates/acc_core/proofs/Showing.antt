@@ -1,6 +1,6 @@
 -- An item of a host joins the log of an accelerator.
 use Rattle.std.proofs.Common.{◌≡◌, ℕ, ◌+◌, ◌<◌, List, ◌∷◌, length, refl, sym, ap, subst, ◌∙◌, arith}
-use Rattle.std.specs.Prelude.{ℤ, Result, Ok, Err, OnOk, OnErr}
+use Rattle.std.specs.Prelude.{Result, Ok, Err, OnOk, OnErr}
 use Rattle.acc_base.specs.declared.fault.Fault.{Fault}
 use Rattle.acc_base.specs.declared.range.Range.{Range}
 use Rattle.acc_batch.specs.declared.operation.Label.{Label}
@@ -8,17 +8,16 @@ use Rattle.acc_core.specs.declared.log.Shown.{Shown}
 use Rattle.acc_core.specs.declared.log.Shown.TheVariants.{Print}
 use Rattle.acc_core.specs.declared.log.TheConstants.{MAX_HOST_ITEMS}
 use Rattle.acc_core.specs.declared.log.WorkEntry.TheVariants as entry
-use Rattle.acc_place.specs.Accepting.{is_in_array}
 use Rattle.acc_core.specs.Legality.{ShowsTruth}
 use Rattle.acc_core.specs.Logs.{all_items, value}
 use Rattle.acc_core.specs.Machine.{State}
-use Rattle.acc_core.specs.Memories.{lengths_of}
+use Rattle.acc_memory.specs.Memories.{rows_on}
 use Rattle.acc_core.specs.Ties.{IsAccelerator, labels_of}
 use Rattle.acc_core.specs.Works.{WorkView, HasMadeRoom, HasShown, HasPrinted}
 use Rattle.acc_core.proofs.Advancing.{with_work}
 use Rattle.acc_core.proofs.Keeping.{legal_item}
 use Rattle.acc_core.proofs.Placing.{remembers_room}
-use Rattle.acc_core.proofs.Remembering.{remembers_shown, length_held, same_ends}
+use Rattle.acc_core.proofs.Remembering.{remembers_shown, length_held}
 
 -- more room leaves an accelerator what it is
 pub roomier : {w : State} {v v' : WorkView} {queue : List Label} {t waiting queue_room : ℕ} → IsAccelerator w v queue t waiting queue_room → HasMadeRoom v v' → IsAccelerator w v' queue t waiting queue_room
@@ -51,16 +50,12 @@ roomier {w = w} {v = v} {v' = v'} a h =
         performed_taken = q.performed_taken;
         all_waiting = q.all_waiting;
         log_room = omega (arith, q.log_room, h.room);
-        block_room = omega (arith, q.block_room, h.block_room, ap length h.rows);
+        block_room = omega (arith, q.block_room, h.block_room, ap length (h.rows 0));
         hosts = q.hosts;
         lane_host = rw h.lane_host q.lane_host;
       };
       memory = remembers_room w w v v' a.memory refl refl h;
     }
-
--- a range lies in its array where the arrays are as long
-pub same_array : (xs ys : List (List ℤ)) (r : Range) → lengths_of xs ≡ lengths_of ys → is_in_array xs r ≡ is_in_array ys r
-same_array xs ys r e = rw (same_ends xs ys r.array (r.lo + r.len) e) refl
 
 -- an item that shows what is so, and finds room
 pub shown : (w : State) (v v' : WorkView) (queue : List Label) (t waiting queue_room h : ℕ) (item : Shown) → IsAccelerator w v queue t waiting queue_room → v.work ≡ w.work → HasShown v v' h item
@@ -69,7 +64,7 @@ pub shown : (w : State) (v v' : WorkView) (queue : List Label) (t waiting queue_
 shown w v v' queue t waiting queue_room h item a same s room few truth =
     let q = a.parts in
     let work : v'.work ≡ entry.Item h item ∷ w.work = s.work ∙ ap (λ r. entry.Item h item ∷ r) same in
-    let rows : length v'.memory.rows ≡ length v.memory.rows = omega (arith, length_held v'.memory, length_held v.memory, ap length s.blocks) in
+    let rows : length (rows_on v'.memory 0) ≡ length (rows_on v.memory 0) = omega (arith, length_held v'.memory, length_held v.memory, ap length s.blocks) in
     subst (λ work. IsAccelerator (record w { work = work }) v' queue t waiting queue_room) (sym work) (record {
       one_device = a.one_device;
       legal = legal_item w h item a.legal truth;

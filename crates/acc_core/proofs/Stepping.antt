@@ -27,7 +27,8 @@ use Rattle.acc_place.specs.Batches.{answer_of}
 use Rattle.acc_core.specs.Following.{Owes, OwesFor, Behind, Rise, Stands, StandsIn, AllStand}
 use Rattle.acc_batch.specs.Labels.{on_queue, batch_at}
 use Rattle.acc_core.specs.Legality.{Own, own_of, items_shown, merged}
-use Rattle.acc_core.specs.Logs.{performed, items_of, all_items, value, values_of, all_done, host_allows}
+use Rattle.acc_core.specs.Logs.{performed, items_of, all_items, value, all_done, host_allows}
+use Rattle.acc_memory.specs.Values.{values_of}
 use Rattle.acc_core.specs.Machine.{State, Outcome, Step, Runs, standing_of, is_there, taken_on, held, rest, with_host, in_phase, refused, next_statement, with_item, item_step, accepting, after_place, is_full, place_step, act_step, statement_step, host_step, named_step, take_step, perform_step, queue_step, with_op, step}
 use Rattle.acc_place.specs.Standings.{walk_of}
 use Rattle.acc_core.specs.Steps.{HostEntry, Gave, Had, Owed, nothing_owed, owes_seen, owed_by, settled, Ends}
@@ -149,17 +150,17 @@ stand_refused : (w : State) (h : ℕ) (host : Host) (fault : Fault) → HostsSta
 stand_refused w h host fault a s =
     let new = in_phase host (phase.Refused fault) in
     stand_set w (with_host w h new) h 0 h w.hosts new (omega arith) (λ k x ne t. t)
-    (stands_refused host fault (own_of h w.history w.counts) (items_shown h w.work) s) a
+    (stands_refused host fault (own_of w.config h w.history w.counts) (items_shown h w.work) s) a
 
 -- an item is its host's alone
-stand_item : (w : State) (h : ℕ) (host : Host) (x : Shown) → HostsStand w → Stands (next_statement host) (own_of h w.history w.counts) (items_shown h w.work ++ Had x ∷ []) → HostsStand (with_item (with_host w h (next_statement host)) h x)
+stand_item : (w : State) (h : ℕ) (host : Host) (x : Shown) → HostsStand w → Stands (next_statement host) (own_of w.config h w.history w.counts) (items_shown h w.work ++ Had x ∷ []) → HostsStand (with_item (with_host w h (next_statement host)) h x)
 stand_item w h host x a s =
     let new = with_item (with_host w h (next_statement host)) h x in
     stand_set w new h 0 h w.hosts (next_statement host) (omega arith)
     (λ k y ne t. rw (ne_eqb h k ne) t) (rw (eq-eqb h h refl) s) a
 
 -- an item is recorded, or refused
-stand_item_step : (no_memory : Bool) (w : State) (h : ℕ) (host : Host) (in_array : Bool) (x : Shown) → HostsStand w → StandsIn w h host → Stands (next_statement host) (own_of h w.history w.counts) (items_shown h w.work ++ Had x ∷ []) → HostsStand (item_step no_memory w h host in_array x).state
+stand_item_step : (no_memory : Bool) (w : State) (h : ℕ) (host : Host) (in_array : Bool) (x : Shown) → HostsStand w → StandsIn w h host → Stands (next_statement host) (own_of w.config h w.history w.counts) (items_shown h w.work ++ Had x ∷ []) → HostsStand (item_step no_memory w h host in_array x).state
 stand_item_step no_memory w h host in_array x a s after =
     let not_made = λ (fault : Fault). stand_refused w h host fault a s in
     stand_if no_memory _ _ (λ e. not_made Memory) (λ e.
@@ -173,7 +174,7 @@ stand_accepted w h host s d a at ready e is =
     let placed = answer_of (standing_of w) d (walk_of (standing_of w) h d) in
     let o : Own = record { items_before = items_of h w.work; directive = d; placed = placed } in
     let next = after_place (owed_by placed) host in
-    let after = stands_placed (owed_by placed) host (own_of h w.history w.counts) (items_shown h w.work) s o at ready e is (sym (items_length h w.work)) refl in
+    let after = stands_placed (owed_by placed) host (own_of w.config h w.history w.counts) (items_shown h w.work) s o at ready e is (sym (items_length h w.work)) refl in
     stand_set w (accepting w h next d) h 0 h w.hosts next (omega arith)
     (λ k y ne t. rw (ne_eqb h k ne) t) (rw (eq-eqb h h refl) after) a
 
@@ -192,14 +193,14 @@ stand_act_step no_memory w h host s (act.Write array cell value) a at ready e is
     let clear = none_behind host (slice_get host.statements host.ended) at.behind ready at.next in
     let x = Had (shown.Write array cell value) in
     stand_item_step no_memory w h host _ (shown.Write array cell value) a at
-    (stands_item host (own_of h w.history w.counts) (items_shown h w.work) s x at e
+    (stands_item host (own_of w.config h w.history w.counts) (items_shown h w.work) s x at e
     (subst (λ (b : Act). Ends b (at.behind ++ x ∷ [])) (sym is) (ap (λ (r : List HostEntry). r ++ x ∷ []) clear)))
 stand_act_step no_memory w h host s (act.Print range) a at ready e is =
     let clear = none_behind host (slice_get host.statements host.ended) at.behind ready at.next in
     let values = values_of (value w.config.arrays w.work) range in
     let x = Had (shown.Print range values) in
     stand_item_step no_memory w h host _ (shown.Print range values) a at
-    (stands_item host (own_of h w.history w.counts) (items_shown h w.work) s x at e
+    (stands_item host (own_of w.config h w.history w.counts) (items_shown h w.work) s x at e
     (subst (λ (b : Act). Ends b (at.behind ++ x ∷ [])) (sym is) (values, ap (λ (r : List HostEntry). r ++ x ∷ []) clear)))
 
 -- the item that is owed ends its statement
@@ -229,7 +230,7 @@ stand_host_step no_memory w h host (phase.Waits device counts) a at e =
     let owes = subst (λ (p : Phase). Behind p next at.behind) e at.next in
     stand_if (all_done (standing_of w).labels w.work device 0 counts) _ _
     (λ f. stand_item_step no_memory w h host true (shown.Seen device counts) a at
-    (stands_seen host (own_of h w.history w.counts) (items_shown h w.work) device counts next at refl owes))
+    (stands_seen host (own_of w.config h w.history w.counts) (items_shown h w.work) device counts next at refl owes))
     (λ f. a)
 stand_host_step no_memory w h host (phase.Refused fault) a at e = a
 

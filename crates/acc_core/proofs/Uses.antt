@@ -6,14 +6,16 @@ use Rattle.std.proofs.lemmas.List.{append_assoc, append-nil}
 use Rattle.std.proofs.lemmas.List.Elements.{Contains-append_cases, Contains-append_left, Contains-append_right}
 use Rattle.acc_base.specs.declared.range.Range.{Range}
 use Rattle.acc_base.specs.Ranges.{range_contains}
-use Rattle.acc_present.specs.Marks.{Mark, Change}
+use Rattle.acc_present.specs.declared.change.Change.{Change}
+use Rattle.acc_present.specs.Marks.{Mark}
 use Rattle.acc_present.specs.Lifetimes.{Lifetime, opened, live, lives}
 use Rattle.acc_present.specs.Presences.{presence_of, presences, holder}
 use Rattle.acc_batch.specs.declared.operation.Op.{Op}
-use Rattle.acc_batch.specs.declared.operation.Op.TheVariants.{Make, CopyIn, CopyOut, Release}
+use Rattle.acc_batch.specs.declared.operation.Op.TheVariants.{Make, CopyIn, CopyOut, Release, Run}
 use Rattle.acc_place.specs.Standings.{Asked, Visit, made_by, one_mark, marked}
-use Rattle.acc_place.specs.Batches.{ended_blocks, found_block, held_blocks, makes}
-use Rattle.acc_core.specs.Legality.{Made, made, released, UsesLive}
+use Rattle.acc_place.specs.Batches.{ended_blocks, found_block, holding_blocks, makes}
+use Rattle.acc_core.specs.Legality.{made, released, UsesLive}
+use Rattle.acc_memory.specs.Memories.{Made}
 use Rattle.acc_core.proofs.Members.{no_member, member_first, member_rest, member_one, member_filter, member_map, apart_same}
 use Rattle.acc_core.proofs.Blocks.{numbered, opened_one, lives_before, ended_inside}
 
@@ -29,6 +31,7 @@ made-append (Make b r ∷ xs) ys = ap (λ ms. record { block = b; range = r } �
 made-append (CopyIn b r ∷ xs) ys = made-append xs ys
 made-append (CopyOut b r ∷ xs) ys = made-append xs ys
 made-append (Release b ∷ xs) ys = made-append xs ys
+made-append (Run k uses ∷ xs) ys = made-append xs ys
 
 -- and what they released
 pub released-append : (xs ys : List Op) → released (xs ++ ys) ≡ released xs ++ released ys
@@ -37,6 +40,7 @@ released-append (Make b r ∷ xs) ys = released-append xs ys
 released-append (CopyIn b r ∷ xs) ys = released-append xs ys
 released-append (CopyOut b r ∷ xs) ys = released-append xs ys
 released-append (Release b ∷ xs) ys = ap (λ bs. b ∷ bs) (released-append xs ys)
+released-append (Run k uses ∷ xs) ys = released-append xs ys
 
 -- two lists of operations use live blocks where each does in its place
 pub AllUse-append : (arrays : List (List ℤ)) (before xs ys : List Op) → AllUse arrays before xs → AllUse arrays (before ++ xs) ys → AllUse arrays before (xs ++ ys)
@@ -160,11 +164,11 @@ found_in ms (l ∷ ls) r b c = elim (cases_Bool (range_contains l.range r)) [
       record { lifetime = f.lifetime; member = member_rest f.lifetime l ls f.member; named = f.named; around = f.around }
 ]
 
--- the block that holds a visit's range before it is such a block
-pub held_block_is : (ms : List Mark) (a : Asked) (b : ℕ) → Contains (held_blocks (visit ms a)) b → IsHeld ms a.item.range b
+-- the block that holds a range is such a block
+pub held_block_is : (ms : List Mark) (r : Range) (b : ℕ) → Contains (holding_blocks ms r) b → IsHeld ms r b
 unfolding presences
-held_block_is ms a b c =
-    let f = found_in ms (live ms) a.item.range b c in
+held_block_is ms r b c =
+    let f = found_in ms (live ms) r b c in
     let h = live_member ms f.lifetime f.member in
     record { lifetime = f.lifetime; member = h.1; lived = h.0; named = f.named; around = f.around }
 

@@ -56,7 +56,7 @@ pub record Stands (host : Host) (own : List Own) (items : List HostEntry) : Type
   pub next : Behind host.phase (slice_get host.statements host.ended) behind
 
 abbrev pub StandsIn : State → ℕ → Host → Type 0
-StandsIn w h host = Stands host (own_of h w.history w.counts) (items_shown h w.work)
+StandsIn w h host = Stands host (own_of w.config h w.history w.counts) (items_shown h w.work)
 
 -- Each host stands so, from number h on.
 abbrev pub AllStand : State → ℕ → List Host → Type 0

@@ -1,5 +1,5 @@
 -- What holds of the histories after any list of events.
-use Rattle.std.specs.Prelude.{◌≡◌, ◌↔◌, ℕ, ◌+◌, ◌-◌, ◌≤◌, ◌==◌, IsTrue, List, [], ◌∷◌, ◌++◌, length, map, take, drop, slice_index_or, Contains, None, ℤ}
+use Rattle.std.specs.Prelude.{◌≡◌, ◌↔◌, ℕ, ◌+◌, ◌-◌, ◌≤◌, ◌==◌, IsTrue, List, [], ◌∷◌, ◌++◌, length, map, take, drop, slice_index_or, All, Contains, ℤ}
 use Rattle.acc_base.specs.declared.ids.QueueAt.{QueueAt}
 use Rattle.acc_base.specs.declared.range.Range.{Range}
 use Rattle.acc_base.specs.Configurations.{Configuration}
@@ -16,13 +16,16 @@ use Rattle.acc_core.specs.declared.log.WorkEntry.{WorkEntry}
 use Rattle.acc_core.specs.declared.log.WorkEntry.TheVariants as entry
 use Rattle.acc_batch.specs.declared.operation.Label.{Label}
 use Rattle.acc_batch.specs.declared.operation.Op.{Op}
-use Rattle.acc_batch.specs.declared.operation.Op.TheVariants.{Make, CopyIn, CopyOut, Release}
+use Rattle.acc_batch.specs.declared.operation.Op.TheVariants.{Make, CopyIn, CopyOut, Release, Run}
 use Rattle.acc_core.specs.declared.program.Host.{Host}
 use Rattle.acc_place.specs.Accepting.{is_in_array}
 use Rattle.acc_place.specs.Batches.{answer_of}
 use Rattle.acc_place.specs.Histories.{AllAccepted, standing}
 use Rattle.acc_batch.specs.Labels.{on_queue, ops_of, batch_at, whole}
-use Rattle.acc_core.specs.Logs.{one_more, performed, device_ops, value, values_of, all_done, host_allows}
+use Rattle.acc_kernel.specs.Jobs.{Use}
+use Rattle.acc_memory.specs.Memories.{Made}
+use Rattle.acc_memory.specs.Values.{values_of}
+use Rattle.acc_core.specs.Logs.{one_more, performed, device_ops, value, all_done, host_allows}
 use Rattle.acc_core.specs.Machine.{State, standing_of, Runs}
 use Rattle.acc_place.specs.Standings.{Standing, walk_of}
 use Rattle.acc_core.specs.Steps.{HostEntry, Gave, Had, Follows}
@@ -49,16 +52,13 @@ InHostOrder opening labels (entry.Item host shown ∷ before) =
     ShowsTruth opening labels shown before × InHostOrder opening labels before
 
 -- the blocks that were made, with their ranges, and those that were released
-pub record Made : Type 0 where
-  pub block : ℕ
-  pub range : Range
-
 abbrev pub made : List Op → List Made
 made [] = []
 made (Make b r ∷ ops) = record { block = b; range = r } ∷ made ops
 made (CopyIn b r ∷ ops) = made ops
 made (CopyOut b r ∷ ops) = made ops
 made (Release b ∷ ops) = made ops
+made (Run k uses ∷ ops) = made ops
 
 abbrev pub released : List Op → List ℕ
 released [] = []
@@ -66,6 +66,7 @@ released (Make b r ∷ ops) = released ops
 released (CopyIn b r ∷ ops) = released ops
 released (CopyOut b r ∷ ops) = released ops
 released (Release b ∷ ops) = b ∷ released ops
+released (Run k uses ∷ ops) = released ops
 
 -- A block was made and not released, and the range lies in its range.
 pub record HoldsBlock (before : List Op) (block : ℕ) (range : Range) : Type 0 where
@@ -80,6 +81,7 @@ UsesLive arrays (Make b r) before = ¬ Contains (map (λ m. m.block) (made befor
 UsesLive arrays (CopyIn b r) before = HoldsBlock before b r
 UsesLive arrays (CopyOut b r) before = HoldsBlock before b r
 UsesLive arrays (Release b) before = (r : Range) × HoldsBlock before b r
+UsesLive arrays (Run k uses) before = All (λ (u : Use). HoldsBlock before u.0 u.1) uses
 
 abbrev pub AllLive : List (List ℤ) → List WorkEntry → Type 0
 AllLive arrays [] = Unit {0}
@@ -107,12 +109,12 @@ abbrev pub own_after : Standing → ℕ → ℕ → Directive → Own
 own_after st host items_done d =
     record { items_before = items_done; directive = d; placed = answer_of st d (walk_of st host d) }
 
-abbrev pub own_of : ℕ → List PlaceEntry → List ℕ → List Own
-own_of host [] counts = []
-own_of host (noted.Accepted h d ∷ before) counts =
+abbrev pub own_of : Configuration → ℕ → List PlaceEntry → List ℕ → List Own
+own_of config host [] counts = []
+own_of config host (noted.Accepted h d ∷ before) counts =
     one_more (h == host)
-    (own_of host before (drop 1 counts))
-    (own_after (standing before (drop 1 counts)) h (slice_index_or counts 0 0) d)
+    (own_of config host before (drop 1 counts))
+    (own_after (standing config before (drop 1 counts)) h (slice_index_or counts 0 0) d)
 
 -- the directives in their order, each behind as many items as its count says; `gone` items stand already
 abbrev pub merged : ℕ → List Own → List HostEntry → List HostEntry
@@ -122,7 +124,7 @@ merged gone (o ∷ os) items =
     ++ Gave o.directive o.placed ∷ merged o.items_before os (drop (o.items_before - gone) items)
 
 abbrev pub entries_of : State → ℕ → List HostEntry
-entries_of w host = merged 0 (own_of host w.history w.counts) (items_shown host w.work)
+entries_of w host = merged 0 (own_of w.config host w.history w.counts) (items_shown host w.work)
 
 -- Each host's entries follow its program.
 abbrev pub AllFollow : State → ℕ → List Host → Type 0

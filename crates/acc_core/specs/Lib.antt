@@ -1,16 +1,13 @@
 pub mod Answers
-pub mod Blocks
 pub mod Examples
 pub mod Following
 pub mod Legality
 pub mod LogExamples
 pub mod Logs
 pub mod Machine
-pub mod Memories
 pub mod Place
 pub mod Present
 pub mod Steps
 pub mod Ties
-pub mod Values
 pub mod Works
 pub mod Worlds

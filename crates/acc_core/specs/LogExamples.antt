@@ -1,14 +1,16 @@
 -- Counts of performed batches, and prints, computed on short histories.
 use Rattle.std.specs.Prelude.{◌≡◌, List, [], ◌∷◌, map, ℤ, pos}
 use Rattle.acc_base.specs.declared.ids.QueueAt.{QueueAt}
-use Rattle.acc_batch.specs.declared.operation.Op.TheVariants.{Make, CopyIn, CopyOut}
+use Rattle.acc_batch.specs.declared.operation.Op.TheVariants.{Make, CopyIn, CopyOut, Run}
 use Rattle.acc_batch.specs.Labels.{whole}
 use Rattle.acc_core.specs.declared.log.Shown.TheVariants.{Write}
 use Rattle.acc_core.specs.declared.log.WorkEntry.{WorkEntry}
 use Rattle.acc_core.specs.declared.log.WorkEntry.TheVariants as entry
-use Rattle.acc_core.specs.Logs.{value, values_of, done}
+use Rattle.acc_core.specs.Logs.{value, done}
 use Rattle.acc_core.specs.Works.{sync}
+use Rattle.acc_memory.specs.Values.{values_of}
 use Rattle.acc_place.specs.Examples.{cells, first_four, copyin, after}
+use Rattle.acc_place.specs.LoopExamples.{counts_up}
 use Rattle.acc_place.specs.Standings.{Standing}
 
 -- two batches of two operations each
@@ -45,3 +47,16 @@ CopyOutIsSeen =
     (values_of (value four_values written) (cells 0 4) ≡ pos 8 ∷ pos 9 ∷ pos 3 ∷ pos 4 ∷ [])
     × (values_of (value four_values (entry.Op sync (CopyOut 1 (cells 1 2)) ∷ written)) (cells 0 4)
     ≡ pos 8 ∷ pos 2 ∷ pos 3 ∷ pos 4 ∷ [])
+
+-- then a loop adds 1 to cells 0 to 1 of the block, and another to cells 0 to 2
+abbrev pub counted_up : List WorkEntry
+counted_up =
+    entry.Op sync (Run (counts_up 3) ((1, cells 0 4) ∷ []))
+    ∷ entry.Op sync (Run (counts_up 2) ((1, cells 0 4) ∷ [])) ∷ written
+
+-- loops work on the device's values: a print shows nothing of that before a copy out, and behind it all of it
+abbrev pub LoopIsSeen : Type 0
+LoopIsSeen =
+    (values_of (value four_values counted_up) (cells 0 4) ≡ pos 8 ∷ pos 9 ∷ pos 3 ∷ pos 4 ∷ [])
+    × (values_of (value four_values (entry.Op sync (CopyOut 1 (cells 0 4)) ∷ counted_up)) (cells 0 4)
+    ≡ pos 3 ∷ pos 4 ∷ pos 4 ∷ pos 4 ∷ [])

@@ -1,7 +1,6 @@
 -- What a work log, the latest entry first, says of queues, hosts and cells.
-use Rattle.std.specs.Prelude.{ℕ, zero, suc, ◌+◌, Bool, true, false, ◌&&◌, ◌==◌, nat_le, List, [], ◌∷◌, ◌++◌, length, slice_get, Option, Some, None, ℤ, pos, if◌then◌else◌}
+use Rattle.std.specs.Prelude.{ℕ, ◌+◌, Bool, true, false, ◌&&◌, ◌==◌, nat_le, List, [], ◌∷◌, ◌++◌, length, slice_get, Option, Some, None, ℤ, pos}
 use Rattle.acc_base.specs.declared.ids.QueueAt.{QueueAt}
-use Rattle.acc_base.specs.declared.range.Range.{Range}
 use Rattle.acc_base.specs.Queues.{same_queue}
 use Rattle.acc_core.specs.declared.log.Shown.{Shown}
 use Rattle.acc_core.specs.declared.log.Shown.TheVariants.{Write, Print, Seen}
@@ -10,7 +9,7 @@ use Rattle.acc_core.specs.declared.log.WorkEntry.TheVariants as entry
 use Rattle.acc_batch.specs.declared.operation.Op.{Op}
 use Rattle.acc_batch.specs.declared.operation.Label.{Label}
 use Rattle.acc_batch.specs.Labels.{on_queue, whole}
-use Rattle.acc_core.specs.Values.{Cell, Host_cell, Block_cell, after_op}
+use Rattle.acc_memory.specs.Values.{Cell, Host_cell, Block_cell, or_empty, or_zero, after_op, after_write}
 
 -- one more behind these, or not
 abbrev pub one_more : {X : Type 0} → Bool → List X → X → List X
@@ -45,19 +44,9 @@ all_items (entry.Op at op ∷ before) = all_items before
 all_items (entry.Item h shown ∷ before) = all_items before + 1
 
 abbrev pub after_item : Shown → (Cell → ℤ) → Cell → ℤ
-after_item (Write a i value) was (Host_cell array cell) =
-    if (array == a) && (cell == i) then value else was (Host_cell array cell)
-after_item (Write a i value) was (Block_cell d block cell) = was (Block_cell d block cell)
-after_item (Print range values) was c = was c
-after_item (Seen device counts) was c = was c
-
-abbrev pub or_empty : Option (List ℤ) → List ℤ
-or_empty None = []
-or_empty (Some zs) = zs
-
-abbrev pub or_zero : Option ℤ → ℤ
-or_zero None = pos 0
-or_zero (Some z) = z
+after_item (Write a i value) was = after_write a i value was
+after_item (Print range values) was = was
+after_item (Seen device counts) was = was
 
 -- The value of a cell: what the latest entry that writes it wrote, else its opening value.
 abbrev pub value : List (List ℤ) → List WorkEntry → Cell → ℤ
@@ -65,14 +54,6 @@ value opening [] (Host_cell array cell) = or_zero (slice_get (or_empty (slice_ge
 value opening [] (Block_cell device block cell) = pos 0
 value opening (entry.Op at op ∷ before) c = after_op at.device op (value opening before) c
 value opening (entry.Item host shown ∷ before) c = after_item shown (value opening before) c
-
-abbrev pub values_from : (ℕ → ℤ) → ℕ → ℕ → List ℤ
-values_from at lo zero = []
-values_from at lo (suc n) = at lo ∷ values_from at (lo + 1) n
-
--- what a print of a range shows
-abbrev pub values_of : (Cell → ℤ) → Range → List ℤ
-values_of at r = values_from (λ i. at (Host_cell r.array i)) r.lo r.len
 
 -- how many batches of a queue are performed
 abbrev pub done : List Label → List WorkEntry → QueueAt → ℕ

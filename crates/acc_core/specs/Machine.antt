@@ -30,7 +30,8 @@ use Rattle.acc_place.specs.Accepting.{refusal, is_in_array}
 use Rattle.acc_place.specs.Batches.{batch_of, answer_of, walk_at}
 use Rattle.acc_place.specs.Histories.{standing}
 use Rattle.acc_batch.specs.Labels.{on_queue, ops_of, batch_at}
-use Rattle.acc_core.specs.Logs.{performed, items_of, all_items, value, values_of, all_done, host_allows}
+use Rattle.acc_core.specs.Logs.{performed, items_of, all_items, value, all_done, host_allows}
+use Rattle.acc_memory.specs.Values.{values_of}
 use Rattle.acc_place.specs.Standings.{Standing, Walk, walk_of}
 use Rattle.acc_core.specs.Steps.{Owed, nothing_owed, owes_seen, owed_by}
 
@@ -49,7 +50,7 @@ state_at_first config hosts =
     record { config = config; history = []; counts = []; work = []; taken = replicate (queue_count config) 0; hosts = hosts }
 
 abbrev pub standing_of : State → Standing
-standing_of w = standing w.history w.counts
+standing_of w = standing w.config w.history w.counts
 
 abbrev pub is_there : State → QueueAt → Bool
 is_there w at = nat_lt at.device w.config.devices && nat_lt at.queue QUEUES

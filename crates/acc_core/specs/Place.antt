@@ -5,7 +5,7 @@ pub use Rattle.acc_place.specs.declared.directive.Clause.TheVariants.{Copy, Copy
 pub use Rattle.acc_place.specs.declared.directive.Directive.{Directive}
 pub use Rattle.acc_place.specs.declared.directive.Item.{Item}
 pub use Rattle.acc_place.specs.declared.directive.Kind.{Kind}
-pub use Rattle.acc_place.specs.declared.directive.Kind.TheVariants.{Data, EndData, EnterData, ExitData, Update, IsPresent}
+pub use Rattle.acc_place.specs.declared.directive.Kind.TheVariants.{Data, EndData, EnterData, ExitData, Update, Loop, IsPresent}
 pub use Rattle.acc_place.specs.declared.directive.Region.{Region}
 pub use Rattle.acc_place.specs.declared.directive.Target.TheVariants.{Plain}
 pub use Rattle.acc_place.specs.declared.directive.Waits.TheVariants.{Nothing}

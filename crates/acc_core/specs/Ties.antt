@@ -6,11 +6,11 @@ use Rattle.acc_core.specs.declared.log.WorkEntry.{WorkEntry}
 use Rattle.acc_batch.specs.declared.operation.Label.{Label}
 use Rattle.acc_batch.specs.declared.operation.Op.{Op}
 use Rattle.acc_batch.specs.Labels.{on_queue, ops_of}
-use Rattle.acc_core.specs.Legality.{Legal, Made}
+use Rattle.acc_core.specs.Legality.{Legal}
 use Rattle.acc_core.specs.Logs.{performed, device_ops, value, all_items}
 use Rattle.acc_core.specs.declared.log.TheConstants.{MAX_HOST_ITEMS}
 use Rattle.acc_core.specs.Machine.{State, standing_of}
-use Rattle.acc_core.specs.Memories.{Shows, held_blocks, blocks_after, lengths_of}
+use Rattle.acc_memory.specs.Memories.{Made, Shows, rows_on, room_on, held_blocks, blocks_after, lengths_of}
 use Rattle.acc_place.specs.Plans.{PlaceView}
 use Rattle.acc_core.specs.Works.{WorkView, sync}
 
@@ -65,14 +65,14 @@ pub record Queued (w : State) (v : WorkView) (queue : List Label) (taken waiting
   pub performed_taken : performed_count w ≤ length (ops_of (take taken (labels_of w)))
   pub all_waiting : waiting + performed_count w ≡ length (ops_of (labels_of w))
   pub log_room : length w.work + waiting ≤ v.room
-  pub block_room : length v.memory.rows + waiting ≤ v.memory.room
+  pub block_room : length (rows_on v.memory 0) + waiting ≤ room_on v.memory 0
   pub hosts : All (λ (l : Label). l.host < MAX_HOSTS) (labels_of w)
   pub lane_host : v.lane_host < MAX_HOSTS
 
 -- The memory shows the values of the log.
 pub record Remembers (w : State) (v : WorkView) : Type 0 where
   pub shows : Shows v.memory (value w.config.arrays w.work)
-  pub blocks : held_blocks v.memory ≡ blocks_in w.work
+  pub blocks : held_blocks v.memory 0 ≡ blocks_in w.work
   pub lengths : lengths_of v.memory.arrays ≡ lengths_of w.config.arrays
 
 -- What holds of an accelerator between two calls.

@@ -8,9 +8,9 @@ use Rattle.acc_core.specs.declared.log.Shown.TheVariants.{Print}
 use Rattle.acc_core.specs.declared.log.WorkEntry.{WorkEntry}
 use Rattle.acc_core.specs.declared.log.WorkEntry.TheVariants as entry
 use Rattle.acc_batch.specs.declared.operation.Op.{Op}
-use Rattle.acc_core.specs.Logs.{items_of, all_items, after_item, values_of}
-use Rattle.acc_core.specs.Memories.{Cells, Shows, held_blocks, blocks_after, lengths_of, MayPerform}
-use Rattle.acc_core.specs.Values.{Cell, after_op}
+use Rattle.acc_core.specs.Logs.{items_of, all_items, after_item}
+use Rattle.acc_memory.specs.Memories.{Cells, Shows, rows_on, room_on, held_blocks, blocks_after, lengths_of, MayPerform}
+use Rattle.acc_memory.specs.Values.{Cell, values_of, after_op}
 
 abbrev pub sync : QueueAt
 sync = record { device = 0; queue = 0 }
@@ -31,7 +31,7 @@ lane_allows w = nat_le w.lane_items (items_of w.lane_host w.work)
 
 -- The lane's next operation may be performed, and there is room for it.
 pub record MayFollow (w : WorkView) (op : Op) : Type 0 where
-  pub allowed : MayPerform w.memory op
+  pub allowed : MayPerform w.memory 0 op
   pub room : length w.work < w.room
 
 abbrev pub NextMayFollow : WorkView → List Op → Type 0
@@ -41,9 +41,9 @@ NextMayFollow w (op ∷ ops) = MayFollow w op
 -- An operation was performed: the memory shows its effect, and it joined the log.
 pub record HasPerformed (old new : WorkView) (op : Op) (ops : List Op) : Type 0 where
   pub shows : (was : Cell → ℤ) → Shows old.memory was → Shows new.memory (after_op 0 op was)
-  pub blocks : held_blocks new.memory ≡ blocks_after op (held_blocks old.memory)
+  pub blocks : held_blocks new.memory 0 ≡ blocks_after op (held_blocks old.memory 0)
   pub lengths : lengths_of new.memory.arrays ≡ lengths_of old.memory.arrays
-  pub block_room : new.memory.room ≡ old.memory.room
+  pub block_room : room_on new.memory 0 ≡ room_on old.memory 0
   pub work : new.work ≡ entry.Op sync op ∷ old.work
   pub room : new.room ≡ old.room
   pub lane : new.lane ≡ ops
@@ -59,9 +59,9 @@ Performs old (op ∷ ops) answer new =
 -- An item of a host joined the log: the memory shows what it wrote, if it did.
 pub record HasShown (old new : WorkView) (host : ℕ) (item : Shown) : Type 0 where
   pub shows : (was : Cell → ℤ) → Shows old.memory was → Shows new.memory (after_item item was)
-  pub blocks : held_blocks new.memory ≡ held_blocks old.memory
+  pub blocks : held_blocks new.memory 0 ≡ held_blocks old.memory 0
   pub lengths : lengths_of new.memory.arrays ≡ lengths_of old.memory.arrays
-  pub block_room : new.memory.room ≡ old.memory.room
+  pub block_room : room_on new.memory 0 ≡ room_on old.memory 0
   pub work : new.work ≡ entry.Item host item ∷ old.work
   pub room : new.room ≡ old.room
   pub lane : new.lane ≡ old.lane
@@ -81,9 +81,9 @@ pub record HasMadeRoom (old new : WorkView) : Type 0 where
   pub lane_host : new.lane_host ≡ old.lane_host
   pub lane_items : new.lane_items ≡ old.lane_items
   pub arrays : new.memory.arrays ≡ old.memory.arrays
-  pub rows : new.memory.rows ≡ old.memory.rows
+  pub rows : (d : ℕ) → rows_on new.memory d ≡ rows_on old.memory d
   pub room : old.room ≤ new.room
-  pub block_room : old.memory.room ≤ new.memory.room
+  pub block_room : room_on old.memory 0 ≤ room_on new.memory 0
 
 -- the counters of the hosts' items
 abbrev pub AreCounted : List ℕ → List WorkEntry → Type 0

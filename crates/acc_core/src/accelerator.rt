@@ -35,11 +35,15 @@ pub struct Accelerator {
 }
 
 impl Model for Accelerator {
+    ghost use Rattle.std.specs.Coded.{codes};
     ghost use Rattle.std.specs.VecDeque.{deque_capacity};
     ghost use Rattle.acc_core.specs.Machine.{State};
     ghost use Rattle.acc_core.specs.Ties.{state_of_parts, IsAccelerator};
+    ghost use Rattle.acc_kernel.specs.contracts.expr.Expr as expr;
 
     ghost Value = { State };
+
+    ghost coded = { Prim.hlevel (codes, expr.the_row.coded) };
 
     ghost view = { λ a. state_of_parts a.place a.work a.taken };
 

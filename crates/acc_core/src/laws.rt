@@ -1,21 +1,25 @@
-ghost use Rattle.acc_core.specs.Examples.{EnteredTwice, OverlapRefused, StaleHostCopy};
+ghost use Rattle.acc_core.specs.Examples.{EnteredTwice, OverlapRefused, StaleHostCopy, LoopRuns, LoopOnPresent};
 ghost use Rattle.acc_core.specs.Legality.{WholeIsGreatest};
-ghost use Rattle.acc_core.specs.LogExamples.{MiddleOfABatch, CopyOutIsSeen};
+ghost use Rattle.acc_core.specs.LogExamples.{MiddleOfABatch, CopyOutIsSeen, LoopIsSeen};
 ghost use Rattle.acc_core.specs.Machine.{EachQueueIsCounted};
 
-/// The machine computed on three programs: a range that enters twice and leaves once, a range that
-/// overlaps a present one, and a host write under a present range.
+/// The machine computed on five programs: a range that enters twice and leaves once, a range that
+/// overlaps a present one, a host write under a present range, a loop with clauses that runs where another one is
+/// refused, and a loop over what is present.
 pub fn worked_programs()
     ensures twice { EnteredTwice }
     ensures overlap { OverlapRefused }
     ensures stale { StaleHostCopy }
+    ensures runs { LoopRuns }
+    ensures on_present { LoopOnPresent }
 {}
 
 /// Performed batches and prints computed on corner cases: the middle of a batch, and prints before and behind a
-/// copy out.
+/// copy out, also of what a loop made.
 pub fn worked_logs()
     ensures middle { MiddleOfABatch }
     ensures seen { CopyOutIsSeen }
+    ensures looped { LoopIsSeen }
 {}
 
 /// The batches of a queue that are performed are as many as the operations performed cover.

@@ -5,7 +5,6 @@ mod accelerator;
 mod event;
 mod laws;
 mod log;
-mod memory;
 mod program;
 mod totals;
 mod work;

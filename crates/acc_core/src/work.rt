@@ -1,17 +1,18 @@
-ghost use Rattle.std.specs.Prelude.{reverse, ◌≡◌, ◌+◌, ◌<◌, ◌≤◌, [], length, IfOk, IfErr, OnOk, OnErr, true, Bool, Some};
+ghost use Rattle.std.specs.Prelude.{reverse, ℕ, ℤ, ◌≡◌, ◌+◌, ◌<◌, ◌≤◌, [], length, IfOk, IfErr, OnOk, OnErr, true, Bool, Some};
 ghost use Rattle.acc_base.specs.Queues.{same_queue};
 ghost use Rattle.acc_base.specs.declared.config.TheConstants.{MAX_HOSTS};
-ghost use Rattle.acc_place.specs.Accepting.{is_in_array};
 ghost use Rattle.acc_core.specs.Answers.{item_fault};
 ghost use Rattle.acc_core.specs.declared.log.TheConstants.{MAX_HOST_ITEMS};
 ghost use Rattle.acc_core.specs.Logs.{items_of, all_items};
 ghost use Rattle.acc_batch.specs.Tasks.{op_of, ops_in, AllReady};
+ghost use Rattle.acc_memory.specs.Memories.{Shows, IsAllowed, PerformsOn, has_array, rows_on, room_on};
+ghost use Rattle.acc_memory.specs.Values.{Cell, values_of};
 ghost use Rattle.acc_core.specs.Works.{Performs, NextMayFollow, HasShown, HasMadeRoom, sync};
 
 use crate::log::{MAX_HOST_ITEMS, Shown, WorkEntry};
-use crate::memory::Memory;
 use acc_base::{Config, DeviceId, Fault, HostId, Listed, QueueAt, QueueId, Range};
-use acc_batch::Task;
+use acc_batch::{Op, Task};
+use acc_memory::Memory;
 use std::alloc::Global;
 use std::collections::VecDeque;
 use std::marker::Model;
@@ -30,15 +31,19 @@ pub struct Work {
 }
 
 impl Model for Work {
-    ghost use Rattle.std.specs.Prelude.{reverse, vec_capacity};
+    ghost use Rattle.std.specs.Coded.{codes};
+    ghost use Rattle.std.specs.Prelude.{reverse, length, ◌<◌, vec_capacity};
+    ghost use Rattle.acc_kernel.specs.contracts.expr.Expr as expr;
     ghost use Rattle.acc_batch.specs.Tasks.{ops_in, AllReady};
     ghost use Rattle.acc_core.specs.Works.{WorkView, IsWork};
 
     ghost Value = { WorkView };
 
+    ghost coded = { Prim.hlevel (codes, expr.the_row.coded) };
+
     ghost view = { λ w. record { memory = w.memory; work = reverse w.log.items; room = vec_capacity w.log; lane = ops_in w.lane.items; lane_host = w.lane_host; lane_items = w.lane_items } };
 
-    ghost invariant = { λ w. IsWork (reverse w.log.items) w.items w.all_items × AllReady w.lane.items };
+    ghost invariant = { λ w. IsWork (reverse w.log.items) w.items w.all_items × AllReady w.lane.items × (0 < length w.memory.devices) };
 }
 
 /// The queue that synchronous directives use.
@@ -60,12 +65,13 @@ impl Work {
 
     pub fn new(alloc: Global, config: &Config) -> Result<Work, Fault>
         ensures arrays { IfOk result (λ w. w.memory.arrays ≡ config.now.arrays) }
-        ensures rows { IfOk result (λ w. w.memory.rows ≡ []) }
+        ensures rows { IfOk result (λ w. (d : ℕ) → rows_on w.memory d ≡ []) }
         ensures work { IfOk result (λ w. w.work ≡ []) }
         ensures lane { IfOk result (λ w. w.lane ≡ []) }
         ensures lane_host { IfOk result (λ w. w.lane_host < MAX_HOSTS) }
         ensures fault { IfErr result (λ f. f ≡ no_memory) }
     {
+        config.keeps_limits();
         let memory = Memory::new(alloc, config)?;
         Ok(Work {
             alloc,
@@ -83,7 +89,7 @@ impl Work {
     pub fn spare(&mut self, count: usize) -> Result<(), Fault>
         ensures kept { HasMadeRoom self.old self.new }
         ensures log { OnOk result (length self.new.work + count ≤ self.new.room) }
-        ensures blocks { OnOk result (length self.new.memory.rows + count ≤ self.new.memory.room) }
+        ensures blocks { OnOk result (length (rows_on self.new.memory 0) + count ≤ room_on self.new.memory 0) }
         ensures fault { IfErr result (λ f. f ≡ no_memory) }
     {
         self.memory.spare(count)?;
@@ -167,8 +173,7 @@ impl Work {
         match self.lane.pop_front() {
             None => false,
             Some(task) => {
-                let what = task.op();
-                self.memory.perform(task);
+                let what = perform_first(&mut self.memory, task);
                 self.log.push_reserved(WorkEntry::Op {
                     at: sync_queue(),
                     what,
@@ -181,26 +186,26 @@ impl Work {
     /// A host writes a cell.
     pub fn write(&mut self, host: HostId, array: u8, cell: u32, value: i64)
         requires host { host < MAX_HOSTS }
-        requires cell { is_in_array self.old.memory.arrays (record { array = array; lo = cell; len = 1 }) ≡ true }
+        requires cell { has_array self.old.memory (record { array = array; lo = cell; len = 1 }) ≡ true }
         requires room { length self.old.work < self.old.room }
         requires few { all_items self.old.work < 2 ^ 63 }
         ensures { HasShown self.old self.new host (Write array cell value) }
     {
-        self.memory.write(array, cell, value);
+        self.memory.host_set(array, cell, value);
         self.push_item(host, Shown::Write { array, cell, value });
     }
 
     /// A host prints a range.
     pub fn print(&mut self, host: HostId, range: Range) -> Result<(), Fault>
         requires host { host < MAX_HOSTS }
-        requires range { is_in_array self.old.memory.arrays range ≡ true }
+        requires range { has_array self.old.memory range ≡ true }
         requires room { length self.old.work < self.old.room }
         requires few { all_items self.old.work < 2 ^ 63 }
         ensures shown { OnOk result (HasPrinted self.old self.new host range) }
         ensures kept { OnErr result (self.new ≡ self.old) }
         ensures fault { IfErr result (λ f. f ≡ no_memory) }
     {
-        let values = Listed::from_vec(self.memory.print(self.alloc, range)?);
+        let values = Listed::from_vec(values_in(self.alloc, &self.memory, range)?);
         self.push_item(host, Shown::Print { range, values });
         Ok(())
     }
@@ -234,4 +239,23 @@ impl Work {
         self.all_items += 1;
         self.log.push_reserved(WorkEntry::Item { host, what });
     }
+}
+
+// Performs a task on the first device, and gives its operation back.
+fn perform_first(memory: &mut Memory, task: Task) -> Op
+    requires device { 0 < length memory.old.devices }
+    requires allowed { IsAllowed memory.old 0 task }
+    ensures op { result ≡ op_of task }
+    ensures performed { PerformsOn 0 (op_of task) memory.old memory.new }
+{
+    memory.do_op(DeviceId::new(0), task)
+}
+
+// The values of a range of a host array.
+fn values_in(alloc: Global, memory: &Memory, range: Range) -> Result<Vec<i64>, Fault>
+    requires { has_array memory.now range ≡ true }
+    ensures shows { IfOk result (λ values. (was : Cell → ℤ) → Shows memory.now was → values.items ≡ values_of was range) }
+    ensures fault { IfErr result (λ f. f ≡ Fault.Memory) }
+{
+    Ok(Vec::from_slice(alloc, memory.host_cells(range))?)
 }

@@ -44,11 +44,15 @@ pub struct World {
 }
 
 impl Model for World {
+    ghost use Rattle.std.specs.Coded.{codes};
     ghost use Rattle.std.specs.Prelude.{vec_capacity};
     ghost use Rattle.acc_core.specs.Machine.{State};
     ghost use Rattle.acc_core.specs.Worlds.{IsWorld};
+    ghost use Rattle.acc_kernel.specs.contracts.expr.Expr as expr;
 
     ghost Value = { State };
+
+    ghost coded = { Prim.hlevel (codes, expr.the_row.coded) };
 
     ghost view = { λ w. record w.accelerator { hosts = w.hosts.items } };
 

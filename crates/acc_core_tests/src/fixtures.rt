@@ -1,25 +1,18 @@
-use acc_base::{BlockId, Config, DeviceId, Fault, HostId, Listed, QueueAt, QueueId, Range};
+use crate::form::{Form, kind_of};
+use crate::operation::{Operation, operation_of};
+use acc_base::{Config, DeviceId, Fault, HostId, Listed, QueueAt, QueueId, Range};
 use acc_core::{
-    ASYNC_NOVAL, Act, Clause, Directive, Event, HostProgram, HostState, Item, Kind, Op, Reply,
-    Shown, Statement, Target, Waits, WorkEntry, World,
+    ASYNC_NOVAL, Act, Clause, Directive, Event, HostProgram, HostState, Item, Kind, Reply, Shown,
+    Statement, Target, Waits, WorkEntry, World,
 };
 use std::alloc::{AllocError, Global};
-use std::test::Fail;
 
-// The four cells of the array.
+// The four cells of the first array.
 pub const ALL: Range = Range {
     array: 0,
     lo: 0,
     len: 4,
 };
-
-pub const EXIT: Kind = Kind::ExitData { finalize: false };
-
-pub const FINALIZE: Kind = Kind::ExitData { finalize: true };
-
-pub const UPDATE: Kind = Kind::Update { if_present: false };
-
-pub const UPDATE_IF_PRESENT: Kind = Kind::Update { if_present: true };
 
 pub const FINISHED: HostState = HostState::Finished;
 
@@ -55,39 +48,14 @@ pub fn perform() -> Event {
     Event::Perform(sync())
 }
 
+// Cells of the first array.
 pub fn cells(lo: u32, len: u32) -> Range {
     Range { array: 0, lo, len }
 }
 
-pub fn make(block: u64) -> Op {
-    make_of(block, ALL)
-}
-
-pub fn make_of(block: u64, range: Range) -> Op {
-    Op::Make {
-        block: BlockId::new(block),
-        range,
-    }
-}
-
-pub fn copy_in(range: Range) -> Op {
-    Op::CopyIn {
-        block: BlockId::new(1),
-        range,
-    }
-}
-
-pub fn copy_out(range: Range) -> Op {
-    Op::CopyOut {
-        block: BlockId::new(1),
-        range,
-    }
-}
-
-pub fn release(block: u64) -> Op {
-    Op::Release {
-        block: BlockId::new(block),
-    }
+// Cells of the second array.
+pub fn second_cells(lo: u32, len: u32) -> Range {
+    Range { array: 1, lo, len }
 }
 
 pub fn item(clause: Clause, range: Range) -> Item {
@@ -95,25 +63,30 @@ pub fn item(clause: Clause, range: Range) -> Item {
 }
 
 /// A line of a program.
-#[derive(Clone, Copy)]
+#[derive(Clone, Copy, Debug)]
 pub enum Line {
+    /// A directive without data clauses.
+    Bare(Form),
     /// A directive with one range.
-    One(Kind, Clause, Range),
+    One(Form, Clause, Range),
     /// A directive with two items.
-    Two(Kind, Item, Item),
+    Two(Form, Item, Item),
     /// A directive with one item so often.
-    Many(Kind, Item, usize),
-    End,
+    Many(Form, Item, usize),
+    /// A cell of the first array gets a value.
     Write(u32, i64),
-    Print,
+    Print(Range),
 }
+
+/// A data construct is left.
+pub const END: Line = Line::Bare(Form::EndData);
 
 fn items_of(alloc: Global, line: Line) -> Result<Vec<Item>, AllocError> {
     match line {
         Line::One(_, clause, range) => Ok(vec![in alloc; item(clause, range)]?),
         Line::Two(_, first, second) => Ok(vec![in alloc; first, second]?),
         Line::Many(_, item, count) => Ok(vec![in alloc; item; count]?),
-        Line::End | Line::Write(..) | Line::Print => Ok(Vec::new(alloc)),
+        Line::Bare(_) | Line::Write(..) | Line::Print(_) => Ok(Vec::new(alloc)),
     }
 }
 
@@ -131,10 +104,9 @@ pub fn place(kind: Kind, items: Vec<Item>) -> Act {
     }
 }
 
-fn act_of(alloc: Global, line: Line) -> Result<Act, AllocError> {
-    let kind = match line {
-        Line::One(kind, ..) | Line::Two(kind, ..) | Line::Many(kind, ..) => kind,
-        Line::End => Kind::EndData,
+fn act_of(alloc: Global, line: Line) -> Result<Act, Fault> {
+    let form = match line {
+        Line::Bare(form) | Line::One(form, ..) | Line::Two(form, ..) | Line::Many(form, ..) => form,
         Line::Write(cell, value) => {
             return Ok(Act::Write {
                 array: 0,
@@ -142,9 +114,9 @@ fn act_of(alloc: Global, line: Line) -> Result<Act, AllocError> {
                 value,
             });
         }
-        Line::Print => return Ok(Act::Print { range: ALL }),
+        Line::Print(range) => return Ok(Act::Print { range }),
     };
-    Ok(place(kind, items_of(alloc, line)?))
+    Ok(place(kind_of(alloc, form)?, items_of(alloc, line)?))
 }
 
 pub fn statement(line: u32, act: Act) -> Statement {
@@ -152,7 +124,7 @@ pub fn statement(line: u32, act: Act) -> Statement {
 }
 
 // The lines have their numbers from 0 on.
-fn statements_of(alloc: Global, lines: &[Line]) -> Result<Vec<Statement>, Fail> {
+fn statements_of(alloc: Global, lines: &[Line]) -> Result<Vec<Statement>, Fault> {
     let mut statements = Vec::new(alloc);
     let mut number = 0u32;
     for line in lines {
@@ -162,14 +134,13 @@ fn statements_of(alloc: Global, lines: &[Line]) -> Result<Vec<Statement>, Fail> 
     Ok(statements)
 }
 
-// One host with these statements, and one array with these opening values, all of which fit on the device.
+// One host with these statements, over these arrays, and a device with this capacity.
 pub fn world_with(
     alloc: Global,
-    array: Vec<i64>,
+    arrays: Vec<Vec<i64>>,
+    capacity: u64,
     statements: Vec<Statement>,
 ) -> Result<World, Fault> {
-    let capacity = array.len() as u64;
-    let arrays = vec![in alloc; array]?;
     let config = Config::new(1, 1, arrays, capacity, 64)?;
     let program = HostProgram {
         host: HostId::new(0),
@@ -181,16 +152,38 @@ pub fn world_with(
     World::new(alloc, config, vec![in alloc; program]?)
 }
 
-// One host with these lines, four cells that are 1, 2, 3, 4, and a device of four.
-pub fn world_of(alloc: Global, lines: &[Line]) -> Result<World, Fail> {
-    let array = vec![in alloc; 1i64, 2, 3, 4]?;
+// One host with these lines, over these arrays, and a device with this capacity.
+pub fn world_over(
+    alloc: Global,
+    arrays: &[&[i64]],
+    capacity: u64,
+    lines: &[Line],
+) -> Result<World, Fault> {
+    let mut copies = Vec::new(alloc);
+    for cells in arrays {
+        copies.push(Vec::from_slice(alloc, cells)?)?;
+    }
     let statements = statements_of(alloc, lines)?;
-    Ok(world_with(alloc, array, statements)?)
+    world_with(alloc, copies, capacity, statements)
+}
+
+// One host with these lines, four cells that are 1, 2, 3, 4, and a device of four.
+pub fn world_of(alloc: Global, lines: &[Line]) -> Result<World, Fault> {
+    world_over(alloc, &[&[1, 2, 3, 4]], 4, lines)
 }
 
 // One event, of whose reply alone the callers make something.
 pub fn reply_to(world: &mut World, event: Event) -> Reply {
     world.step(event)
+}
+
+// So many turns, each of one event for the host, one take and one operation.
+pub fn turns(world: &mut World, count: u32) {
+    for _ in 0..count {
+        let _ = reply_to(world, host());
+        let _ = reply_to(world, take());
+        let _ = reply_to(world, perform());
+    }
 }
 
 // What a host's print showed.
@@ -207,9 +200,20 @@ pub fn printed(entry: Option<&WorkEntry>) -> Option<&[i64]> {
 }
 
 // The operation of an entry.
-pub fn performed(entry: Option<&WorkEntry>) -> Option<Op> {
+pub fn performed(entry: Option<&WorkEntry>) -> Option<Operation> {
     match entry {
-        Some(WorkEntry::Op { what, .. }) => Some(*what),
+        Some(WorkEntry::Op { what, .. }) => Some(operation_of(what)),
         _ => None,
     }
+}
+
+// The operations that were performed, in order.
+pub fn operations_of(alloc: Global, world: &World) -> Result<Vec<Operation>, AllocError> {
+    let mut operations = Vec::new(alloc);
+    for entry in world.log() {
+        if let Some(operation) = performed(Some(entry)) {
+            operations.push(operation)?;
+        }
+    }
+    Ok(operations)
 }

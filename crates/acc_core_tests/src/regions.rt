@@ -1,10 +1,10 @@
 use crate::fixtures::{
-    ALL, EXIT, FINALIZE, FINISHED, Line, UPDATE, UPDATE_IF_PRESENT, cells, copy_in, copy_out, host,
-    item, make, make_of, perform, performed, printed, refused, release, reply_to, sync, take,
-    world_of,
+    ALL, END, FINISHED, Line, cells, item, operations_of, printed, refused, sync, turns, world_of,
 };
+use crate::form::{EXIT, FINALIZE, Form, UPDATE, UPDATE_IF_PRESENT};
+use crate::operation::{Operation, copy_in, copy_out, make, make_of, release};
 use acc_base::{DeviceId, Fault, HostId, Range};
-use acc_core::{Clause, HostState, Item, Kind, Op, World};
+use acc_core::{Clause, HostState, Item};
 use std::alloc::Global;
 use std::process::Abort;
 use std::test::Fail;
@@ -16,30 +16,10 @@ struct Case<'a> {
     // the first present range, with its counters
     present: Option<(Range, u64, u64)>,
     batches: u64,
-    operations: &'a [Op],
+    operations: &'a [Operation],
     state: HostState,
     // what the last print showed
     shown: &'a [i64],
-}
-
-// So many turns, each of one event for the host, one take and one operation.
-fn turns(world: &mut World, count: u32) {
-    for _ in 0..count {
-        let _ = reply_to(world, host());
-        let _ = reply_to(world, take());
-        let _ = reply_to(world, perform());
-    }
-}
-
-// The operations that were performed, in order.
-fn operations_of(alloc: Global, world: &World) -> Result<Vec<Op>, Fail> {
-    let mut operations = Vec::new(alloc);
-    for entry in world.log() {
-        if let Some(op) = performed(Some(entry)) {
-            operations.push(op)?;
-        }
-    }
-    Ok(operations)
 }
 
 fn check(rt: &impl Abort, alloc: Global, case: &Case) -> Result<(), Fail> {
@@ -68,8 +48,8 @@ fn create(range: Range) -> Item {
 fn a_finalized_exit_ends_all_entries(rt: HostRuntime) -> Result<(), Fail> {
     let case = Case {
         lines: &[
-            Line::One(Kind::EnterData, Clause::Copyin, ALL),
-            Line::One(Kind::EnterData, Clause::Copyin, ALL),
+            Line::One(Form::EnterData, Clause::Copyin, ALL),
+            Line::One(Form::EnterData, Clause::Copyin, ALL),
             Line::One(FINALIZE, Clause::Delete, ALL),
         ],
         present: None,
@@ -85,9 +65,9 @@ fn a_finalized_exit_ends_all_entries(rt: HostRuntime) -> Result<(), Fail> {
 fn an_entry_inside_a_region_outlives_it(rt: HostRuntime) -> Result<(), Fail> {
     let case = Case {
         lines: &[
-            Line::One(Kind::Data, Clause::Copyin, ALL),
-            Line::One(Kind::EnterData, Clause::Create, ALL),
-            Line::End,
+            Line::One(Form::Data, Clause::Copyin, ALL),
+            Line::One(Form::EnterData, Clause::Create, ALL),
+            END,
         ],
         present: Some((ALL, 0, 1)),
         batches: 1,
@@ -102,10 +82,10 @@ fn an_entry_inside_a_region_outlives_it(rt: HostRuntime) -> Result<(), Fail> {
 fn an_exit_inside_a_region_takes_no_action(rt: HostRuntime) -> Result<(), Fail> {
     let case = Case {
         lines: &[
-            Line::One(Kind::Data, Clause::Create, ALL),
+            Line::One(Form::Data, Clause::Create, ALL),
             Line::One(EXIT, Clause::Delete, ALL),
-            Line::One(Kind::IsPresent, Clause::Present, ALL),
-            Line::End,
+            Line::One(Form::IsPresent, Clause::Present, ALL),
+            END,
         ],
         present: None,
         batches: 2,
@@ -120,10 +100,10 @@ fn an_exit_inside_a_region_takes_no_action(rt: HostRuntime) -> Result<(), Fail> 
 fn a_finalized_exit_inside_a_region_ends_nothing(rt: HostRuntime) -> Result<(), Fail> {
     let case = Case {
         lines: &[
-            Line::One(Kind::EnterData, Clause::Create, ALL),
-            Line::One(Kind::Data, Clause::Copy, cells(1, 2)),
+            Line::One(Form::EnterData, Clause::Create, ALL),
+            Line::One(Form::Data, Clause::Copy, cells(1, 2)),
             Line::One(FINALIZE, Clause::Copyout, ALL),
-            Line::End,
+            END,
         ],
         present: None,
         batches: 2,
@@ -138,10 +118,10 @@ fn a_finalized_exit_inside_a_region_ends_nothing(rt: HostRuntime) -> Result<(), 
 fn an_overlap_is_refused_behind_a_part(rt: HostRuntime) -> Result<(), Fail> {
     let case = Case {
         lines: &[
-            Line::One(Kind::EnterData, Clause::Create, cells(0, 3)),
-            Line::One(Kind::EnterData, Clause::Copyin, cells(1, 2)),
-            Line::One(Kind::EnterData, Clause::Copyin, cells(2, 2)),
-            Line::Print,
+            Line::One(Form::EnterData, Clause::Create, cells(0, 3)),
+            Line::One(Form::EnterData, Clause::Copyin, cells(1, 2)),
+            Line::One(Form::EnterData, Clause::Copyin, cells(2, 2)),
+            Line::Print(ALL),
         ],
         present: Some((cells(0, 3), 0, 2)),
         batches: 1,
@@ -173,7 +153,7 @@ fn an_absent_range_is_no_exit_and_no_update(rt: HostRuntime) -> Result<(), Fail>
 fn an_update_of_a_partly_present_range_is_refused(rt: HostRuntime) -> Result<(), Fail> {
     let case = Case {
         lines: &[
-            Line::One(Kind::EnterData, Clause::Create, cells(0, 2)),
+            Line::One(Form::EnterData, Clause::Create, cells(0, 2)),
             Line::One(UPDATE_IF_PRESENT, Clause::UpdateDevice, cells(1, 2)),
         ],
         present: Some((cells(0, 2), 0, 1)),
@@ -189,12 +169,12 @@ fn an_update_of_a_partly_present_range_is_refused(rt: HostRuntime) -> Result<(),
 fn the_outer_region_copies_out(rt: HostRuntime) -> Result<(), Fail> {
     let case = Case {
         lines: &[
-            Line::One(Kind::Data, Clause::Copy, ALL),
-            Line::One(Kind::Data, Clause::Copyout, cells(0, 1)),
-            Line::End,
+            Line::One(Form::Data, Clause::Copy, ALL),
+            Line::One(Form::Data, Clause::Copyout, cells(0, 1)),
+            END,
             Line::Write(0, 5),
-            Line::End,
-            Line::Print,
+            END,
+            Line::Print(ALL),
         ],
         present: None,
         batches: 2,
@@ -208,7 +188,7 @@ fn the_outer_region_copies_out(rt: HostRuntime) -> Result<(), Fail> {
 #[test]
 fn a_region_with_copy(rt: HostRuntime) -> Result<(), Fail> {
     let case = Case {
-        lines: &[Line::One(Kind::Data, Clause::Copy, ALL), Line::End],
+        lines: &[Line::One(Form::Data, Clause::Copy, ALL), END],
         present: None,
         batches: 2,
         operations: &[make(1), copy_in(ALL), copy_out(ALL), release(1)],
@@ -221,7 +201,7 @@ fn a_region_with_copy(rt: HostRuntime) -> Result<(), Fail> {
 #[test]
 fn a_region_with_copyin(rt: HostRuntime) -> Result<(), Fail> {
     let case = Case {
-        lines: &[Line::One(Kind::Data, Clause::Copyin, ALL), Line::End],
+        lines: &[Line::One(Form::Data, Clause::Copyin, ALL), END],
         present: None,
         batches: 2,
         operations: &[make(1), copy_in(ALL), release(1)],
@@ -235,9 +215,9 @@ fn a_region_with_copyin(rt: HostRuntime) -> Result<(), Fail> {
 fn a_region_with_copyout(rt: HostRuntime) -> Result<(), Fail> {
     let case = Case {
         lines: &[
-            Line::One(Kind::Data, Clause::Copyout, ALL),
-            Line::End,
-            Line::Print,
+            Line::One(Form::Data, Clause::Copyout, ALL),
+            END,
+            Line::Print(ALL),
         ],
         present: None,
         batches: 2,
@@ -252,9 +232,9 @@ fn a_region_with_copyout(rt: HostRuntime) -> Result<(), Fail> {
 fn a_region_with_create(rt: HostRuntime) -> Result<(), Fail> {
     let case = Case {
         lines: &[
-            Line::One(Kind::Data, Clause::Create, ALL),
-            Line::End,
-            Line::Print,
+            Line::One(Form::Data, Clause::Create, ALL),
+            END,
+            Line::Print(ALL),
         ],
         present: None,
         batches: 2,
@@ -269,11 +249,11 @@ fn a_region_with_create(rt: HostRuntime) -> Result<(), Fail> {
 fn a_last_exit_from_present_deletes(rt: HostRuntime) -> Result<(), Fail> {
     let case = Case {
         lines: &[
-            Line::One(Kind::EnterData, Clause::Create, ALL),
-            Line::One(Kind::Data, Clause::Present, cells(2, 2)),
+            Line::One(Form::EnterData, Clause::Create, ALL),
+            Line::One(Form::Data, Clause::Present, cells(2, 2)),
             Line::One(EXIT, Clause::Copyout, ALL),
-            Line::End,
-            Line::One(Kind::Data, Clause::Present, ALL),
+            END,
+            Line::One(Form::Data, Clause::Present, ALL),
         ],
         present: None,
         batches: 2,
@@ -288,12 +268,12 @@ fn a_last_exit_from_present_deletes(rt: HostRuntime) -> Result<(), Fail> {
 fn entries_inside_and_outside_of_regions(rt: HostRuntime) -> Result<(), Fail> {
     let case = Case {
         lines: &[
-            Line::One(Kind::EnterData, Clause::Copyin, ALL),
-            Line::One(Kind::Data, Clause::Copy, ALL),
-            Line::One(Kind::EnterData, Clause::Create, cells(1, 1)),
-            Line::One(Kind::Data, Clause::Copyout, cells(0, 2)),
-            Line::End,
-            Line::End,
+            Line::One(Form::EnterData, Clause::Copyin, ALL),
+            Line::One(Form::Data, Clause::Copy, ALL),
+            Line::One(Form::EnterData, Clause::Create, cells(1, 1)),
+            Line::One(Form::Data, Clause::Copyout, cells(0, 2)),
+            END,
+            END,
             Line::One(EXIT, Clause::Delete, cells(3, 1)),
             Line::One(EXIT, Clause::Copyout, cells(1, 2)),
         ],
@@ -310,7 +290,7 @@ fn entries_inside_and_outside_of_regions(rt: HostRuntime) -> Result<(), Fail> {
 fn an_update_from_the_device_and_then_to_it(rt: HostRuntime) -> Result<(), Fail> {
     let case = Case {
         lines: &[
-            Line::One(Kind::EnterData, Clause::Copyin, ALL),
+            Line::One(Form::EnterData, Clause::Copyin, ALL),
             Line::Write(0, 9),
             Line::Write(1, 8),
             Line::Two(
@@ -319,7 +299,7 @@ fn an_update_from_the_device_and_then_to_it(rt: HostRuntime) -> Result<(), Fail>
                 item(Clause::UpdateDevice, cells(0, 2)),
             ),
             Line::One(UPDATE, Clause::UpdateSelf, ALL),
-            Line::Print,
+            Line::Print(ALL),
         ],
         present: Some((ALL, 0, 1)),
         batches: 3,
@@ -340,7 +320,7 @@ fn an_update_from_the_device_and_then_to_it(rt: HostRuntime) -> Result<(), Fail>
 fn an_update_to_the_device_and_then_from_it(rt: HostRuntime) -> Result<(), Fail> {
     let case = Case {
         lines: &[
-            Line::One(Kind::EnterData, Clause::Copyin, ALL),
+            Line::One(Form::EnterData, Clause::Copyin, ALL),
             Line::Write(0, 9),
             Line::Write(1, 8),
             Line::Two(
@@ -349,7 +329,7 @@ fn an_update_to_the_device_and_then_from_it(rt: HostRuntime) -> Result<(), Fail>
                 item(Clause::UpdateSelf, cells(1, 2)),
             ),
             Line::One(UPDATE, Clause::UpdateSelf, ALL),
-            Line::Print,
+            Line::Print(ALL),
         ],
         present: Some((ALL, 0, 1)),
         batches: 3,
@@ -370,11 +350,11 @@ fn an_update_to_the_device_and_then_from_it(rt: HostRuntime) -> Result<(), Fail>
 fn cells_are_free_behind_a_region(rt: HostRuntime) -> Result<(), Fail> {
     let case = Case {
         lines: &[
-            Line::Two(Kind::Data, create(cells(0, 2)), create(cells(2, 2))),
-            Line::End,
-            Line::One(Kind::Data, Clause::Create, ALL),
-            Line::End,
-            Line::Two(Kind::Data, create(cells(0, 3)), create(cells(2, 2))),
+            Line::Two(Form::Data, create(cells(0, 2)), create(cells(2, 2))),
+            END,
+            Line::One(Form::Data, Clause::Create, ALL),
+            END,
+            Line::Two(Form::Data, create(cells(0, 3)), create(cells(2, 2))),
         ],
         present: None,
         batches: 4,
@@ -394,7 +374,7 @@ fn cells_are_free_behind_a_region(rt: HostRuntime) -> Result<(), Fail> {
 
 #[test]
 fn a_host_is_inside_thirty_two_regions_at_most(rt: HostRuntime) -> Result<(), Fail> {
-    let inside = [Line::One(Kind::Data, Clause::Create, ALL); 33];
+    let inside = [Line::One(Form::Data, Clause::Create, ALL); 33];
     let case = Case {
         lines: &inside,
         present: Some((ALL, 32, 0)),
@@ -408,9 +388,9 @@ fn a_host_is_inside_thirty_two_regions_at_most(rt: HostRuntime) -> Result<(), Fa
 
 #[test]
 fn thirty_two_regions_are_left(rt: HostRuntime) -> Result<(), Fail> {
-    let mut lines = [Line::One(Kind::Data, Clause::Copyout, ALL); 65];
+    let mut lines = [Line::One(Form::Data, Clause::Copyout, ALL); 65];
     for line in lines.iter_mut().skip(32) {
-        *line = Line::End;
+        *line = END;
     }
     let case = Case {
         lines: &lines,

@@ -1,14 +1,15 @@
+use crate::bodies::Body;
 use crate::fixtures::{
-    ALL, EXIT, FINISHED, Line, cells, copy_in, copy_out, host, item, make, make_of, perform,
-    performed, place, printed, queue, refused, release, reply_to, statement, sync, take, world_of,
-    world_with,
+    ALL, FINISHED, Line, cells, host, item, perform, performed, place, printed, queue, refused,
+    reply_to, statement, sync, take, world_of, world_with,
 };
+use crate::form::{EXIT, Form, kind_of, over};
+use crate::operation::{Operation, copy_in, copy_out, make, make_of, release, run, used};
 use acc_base::{Config, DeviceId, Fault, HostId, Listed, Range};
 use acc_core::{
-    Clause, Event, HostProgram, HostState, Item, Kind, Op, Outcome, Reply, Statement, Totals,
-    WorkEntry, World,
+    Clause, Event, HostProgram, HostState, Item, Outcome, Reply, Statement, Totals, WorkEntry,
+    World,
 };
-use acc_scarce::Hoard;
 use std::alloc::{AllocError, Global};
 use std::process::Abort;
 use std::test::Fail;
@@ -16,7 +17,7 @@ use std::test::Fail;
 /// An entry of the log: an operation, what a print showed, or another item.
 #[derive(Clone, Copy)]
 enum Logged<'a> {
-    Op(Op),
+    Op(Operation),
     Print(&'a [i64]),
     Item,
 }
@@ -114,8 +115,8 @@ fn check(rt: &impl Abort, alloc: Global, run: &Run) -> Result<(), Fail> {
 fn entered_twice_and_left_once(rt: HostRuntime) -> Result<(), Fail> {
     let run = Run {
         lines: &[
-            Line::One(Kind::EnterData, Clause::Copyin, ALL),
-            Line::One(Kind::EnterData, Clause::Copyin, ALL),
+            Line::One(Form::EnterData, Clause::Copyin, ALL),
+            Line::One(Form::EnterData, Clause::Copyin, ALL),
             Line::One(EXIT, Clause::Delete, ALL),
         ],
         events: &[
@@ -145,8 +146,8 @@ fn entered_twice_and_left_once(rt: HostRuntime) -> Result<(), Fail> {
 fn an_overlapping_range_is_refused(rt: HostRuntime) -> Result<(), Fail> {
     let run = Run {
         lines: &[
-            Line::One(Kind::EnterData, Clause::Copyin, cells(0, 3)),
-            Line::One(Kind::EnterData, Clause::Copyin, cells(2, 2)),
+            Line::One(Form::EnterData, Clause::Copyin, cells(0, 3)),
+            Line::One(Form::EnterData, Clause::Copyin, cells(2, 2)),
         ],
         events: &[
             (host(), Reply::Did),
@@ -175,11 +176,11 @@ fn an_overlapping_range_is_refused(rt: HostRuntime) -> Result<(), Fail> {
 fn a_copy_out_brings_back_what_the_device_holds(rt: HostRuntime) -> Result<(), Fail> {
     let run = Run {
         lines: &[
-            Line::One(Kind::EnterData, Clause::Copyin, ALL),
+            Line::One(Form::EnterData, Clause::Copyin, ALL),
             Line::Write(0, 9),
-            Line::Print,
+            Line::Print(ALL),
             Line::One(EXIT, Clause::Copyout, ALL),
-            Line::Print,
+            Line::Print(ALL),
         ],
         events: &[
             (host(), Reply::Did),
@@ -216,12 +217,51 @@ fn a_copy_out_brings_back_what_the_device_holds(rt: HostRuntime) -> Result<(), F
     check(&rt, rt.alloc(), &run)
 }
 
+/// Its five operations are performed one by one.
+#[test]
+fn a_loop_without_clauses(rt: HostRuntime) -> Result<(), Fail> {
+    let run = Run {
+        lines: &[Line::Bare(over(1, 4, Body::Doubled)), Line::Print(ALL)],
+        events: &[
+            (host(), Reply::Did),
+            (host(), Reply::Idle),
+            (take(), Reply::Did),
+            (perform(), Reply::Did),
+            (perform(), Reply::Did),
+            (perform(), Reply::Did),
+            (perform(), Reply::Did),
+            (host(), Reply::Idle),
+            (perform(), Reply::Did),
+            (perform(), Reply::Idle),
+            (take(), Reply::Idle),
+            (host(), Reply::Did),
+            (host(), Reply::Did),
+            (host(), Reply::Idle),
+        ],
+        counters: &[(ALL, None)],
+        batches: 1,
+        operations: 5,
+        places: 1,
+        log: &[
+            Logged::Op(make(1)),
+            Logged::Op(copy_in(ALL)),
+            Logged::Op(run(&[used(1, ALL)])),
+            Logged::Op(copy_out(ALL)),
+            Logged::Op(release(1)),
+            Logged::Item,
+            Logged::Print(&[1, 4, 6, 8]),
+        ],
+        state: FINISHED,
+    };
+    check(&rt, rt.alloc(), &run)
+}
+
 #[test]
 fn seventeen_ranges_are_too_many(rt: HostRuntime) -> Result<(), Fail> {
     let run = Run {
         lines: &[
-            Line::Many(Kind::Data, item(Clause::Create, ALL), 16),
-            Line::Many(Kind::EnterData, item(Clause::Copyin, ALL), 17),
+            Line::Many(Form::Data, item(Clause::Create, ALL), 16),
+            Line::Many(Form::EnterData, item(Clause::Copyin, ALL), 17),
         ],
         events: &[
             (host(), Reply::Did),
@@ -249,7 +289,7 @@ fn check_unused(rt: &impl Abort, world: &mut World, device: u8, number: u8) {
 
 #[test]
 fn nothing_happens_on_queues_and_hosts_that_are_not_used(rt: HostRuntime) -> Result<(), Fail> {
-    let lines = [Line::One(Kind::EnterData, Clause::Copyin, ALL)];
+    let lines = [Line::One(Form::EnterData, Clause::Copyin, ALL)];
     let mut world = world_of(rt.alloc(), &lines)?;
     assert_eq!(rt; reply_to(&mut world, host()), Reply::Did);
     for number in 1..8u8 {
@@ -300,13 +340,13 @@ fn sixteen_ranges(alloc: Global, clause: Clause) -> Result<Vec<Item>, AllocError
 }
 
 // They enter and leave so often.
-fn rounds_of(alloc: Global, count: u32) -> Result<Vec<Statement>, AllocError> {
+fn rounds_of(alloc: Global, count: u32) -> Result<Vec<Statement>, Fault> {
     let mut statements = Vec::new(alloc);
     for _ in 0..count {
         let entered = sixteen_ranges(alloc, Clause::Copyin)?;
-        statements.push(statement(0, place(Kind::EnterData, entered)))?;
+        statements.push(statement(0, place(kind_of(alloc, Form::EnterData)?, entered)))?;
         let left = sixteen_ranges(alloc, Clause::Copyout)?;
-        statements.push(statement(0, place(EXIT, left)))?;
+        statements.push(statement(0, place(kind_of(alloc, EXIT)?, left)))?;
     }
     Ok(statements)
 }
@@ -326,7 +366,8 @@ fn perform_round(rt: &impl Abort, world: &mut World) {
 fn three_hundred_rounds_of_sixteen_ranges(rt: HostRuntime) -> Result<(), Fail> {
     let alloc = rt.alloc();
     let statements = rounds_of(alloc, 300)?;
-    let mut world = world_with(alloc, vec![in alloc; 5i64; 16_000]?, statements)?;
+    let arrays = vec![in alloc; vec![in alloc; 5i64; 16_000]?]?;
+    let mut world = world_with(alloc, arrays, 16_000, statements)?;
     for _ in 0..600u32 {
         perform_round(&rt, &mut world);
     }
@@ -337,97 +378,5 @@ fn three_hundred_rounds_of_sixteen_ranges(rt: HostRuntime) -> Result<(), Fail> {
     assert_eq!(rt; outcome.places.len(), 600);
     assert_eq!(rt; outcome.works.len(), 600 * 33);
     assert_eq!(rt; outcome.hosts.as_slice(), [FINISHED].as_slice());
-    Ok(())
-}
-
-// A step for which there is no memory.
-fn scarce_step(alloc: Global, world: &mut World, event: Event) -> Result<Reply, AllocError> {
-    let mut hoard = Hoard::new(alloc)?;
-    hoard.fill(alloc);
-    let reply = reply_to(world, event);
-    hoard.free();
-    Ok(reply)
-}
-
-// A run of so many events that there is no memory for the list of their replies.
-fn scarce_run(alloc: Global, world: &mut World) -> Result<Option<Fault>, AllocError> {
-    let many = vec![in alloc; host(); 100_000]?;
-    let mut hoard = Hoard::new(alloc)?;
-    hoard.fill(alloc);
-    let replies = world.run(many.as_slice());
-    hoard.free();
-    Ok(replies.err())
-}
-
-fn scarce_outcome(alloc: Global, world: World) -> Result<Outcome, AllocError> {
-    let mut hoard = Hoard::new(alloc)?;
-    hoard.fill(alloc);
-    let outcome = world.outcome();
-    hoard.free();
-    Ok(outcome)
-}
-
-/// A run that can't have its list of replies changes nothing.
-#[test]
-fn memory_is_refused_to_a_run(rt: HostRuntime) -> Result<(), Fail> {
-    let lines = [Line::One(Kind::EnterData, Clause::Copyin, ALL)];
-    let mut world = world_of(rt.alloc(), &lines)?;
-    let refused = scarce_run(rt.alloc(), &mut world)?;
-    assert_eq!(rt; refused, Some(Fault::Memory));
-    assert_eq!(rt; world.devices(), 1);
-    assert_eq!(rt; world.nth(DeviceId::new(0), 0).copied(), None);
-    assert_eq!(rt; reply_to(&mut world, host()), Reply::Did);
-    Ok(())
-}
-
-/// Queues perform without memory what was placed with it; a directive that can't have its memory is refused, and its
-/// host stays so; the outcome takes none.
-#[test]
-fn memory_is_refused_to_a_step(rt: HostRuntime) -> Result<(), Fail> {
-    let alloc = rt.alloc();
-    let lines = [
-        Line::One(Kind::EnterData, Clause::Copyin, ALL),
-        Line::One(EXIT, Clause::Copyout, ALL),
-    ];
-    let events = [
-        (true, host(), Reply::Did),
-        (false, take(), Reply::Did),
-        (false, perform(), Reply::Did),
-        (false, perform(), Reply::Did),
-        (true, host(), Reply::Did),
-        (false, host(), Reply::Refused(Fault::Memory)),
-        (true, host(), Reply::Idle),
-    ];
-    let mut world = world_of(alloc, &lines)?;
-    for (has_memory, event, wanted) in events {
-        let reply = if has_memory {
-            reply_to(&mut world, event)
-        } else {
-            scarce_step(alloc, &mut world, event)?
-        };
-        assert_eq!(rt; reply, wanted, "{event:?}");
-    }
-    assert_eq!(rt; world.devices(), 1);
-    assert_eq!(rt; world.counters(DeviceId::new(0), ALL), Some((0, 1)));
-    let outcome = scarce_outcome(alloc, world)?;
-    assert_eq!(rt; outcome.places.len(), 1);
-    assert_eq!(rt;
-        outcome.hosts.as_slice(),
-        [refused(1, Fault::Memory)].as_slice()
-    );
-    Ok(())
-}
-
-#[test]
-fn memory_is_refused_to_a_new_world(rt: HostRuntime) -> Result<(), Fail> {
-    let alloc = rt.alloc();
-    let arrays = vec![in alloc; vec![in alloc; 0i64; 60_000]?]?;
-    let config = Config::new(1, 0, arrays, 4, 64)?;
-    let programs = Vec::new(alloc);
-    let mut hoard = Hoard::new(alloc)?;
-    hoard.fill(alloc);
-    let refused = World::new(alloc, config, programs);
-    hoard.free();
-    assert_eq!(rt; refused.err(), Some(Fault::Memory));
     Ok(())
 }

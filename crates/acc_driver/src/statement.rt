@@ -166,8 +166,8 @@ fn items_of<'a>(
 }
 
 // The data clause of a word, in a directive of this kind.
-fn clause_named(kind: Kind, word: &[u8]) -> Option<Clause>
-    ensures { result ≡ clause_named kind word.now }
+fn clause_named(kind: &Kind, word: &[u8]) -> Option<Clause>
+    ensures { result ≡ clause_named kind.now word.now }
 {
     match kind {
         Kind::EnterData => {
@@ -186,7 +186,8 @@ fn clause_named(kind: Kind, word: &[u8]) -> Option<Clause>
                 None
             }
         }
-        Kind::Data | Kind::EndData | Kind::Update { .. } | Kind::IsPresent => None,
+        Kind::Data | Kind::EndData | Kind::Loop { .. } | Kind::Update { .. } | Kind::IsPresent =>
+            None,
     }
 }
 
@@ -210,11 +211,11 @@ fn ranges_of<'a>(
 #[tactic(auto, unfolding(crate::specs::Statements::clause_of))]
 fn clause_of<'a>(
     arrays: &Arrays,
-    kind: Kind,
+    kind: &Kind,
     items: &mut Vec<Item>,
     t: Token<'a>,
 ) -> Result<(bool, At<'a>), ReadError>
-    ensures found { Gives (λ x. turn x.0 items.new.items (spot x.1)) result (clause_of arrays.now kind items.old.items (lexeme t.entry)) }
+    ensures found { Gives (λ x. turn x.0 items.new.items (spot x.1)) result (clause_of arrays.now kind.now items.old.items (lexeme t.entry)) }
     ensures shorter { IfOk result (λ x. length x.1.bytes.now < length t.entry.after.bytes.now) }
 {
     match clause_named(kind, t.text) {
@@ -234,11 +235,11 @@ fn ends_line(text: &[u8]) -> bool
 #[tactic(auto, unfolding(crate::specs::Statements::clause_turn))]
 fn clause_turn<'a>(
     arrays: &Arrays,
-    kind: Kind,
+    kind: &Kind,
     items: &mut Vec<Item>,
     at: At<'a>,
 ) -> Result<(bool, At<'a>), ReadError>
-    ensures found { Gives (λ x. turn x.0 items.new.items (spot x.1)) result (clause_turn arrays.now kind items.old.items (spot at.entry)) }
+    ensures found { Gives (λ x. turn x.0 items.new.items (spot x.1)) result (clause_turn arrays.now kind.now items.old.items (spot at.entry)) }
     ensures shorter { IfOk result (λ x. (if x.0 then 1 else 0) + length x.1.bytes.now ≤ length at.entry.bytes.now) }
 {
     let t = token_of(at, true)?;
@@ -258,11 +259,11 @@ fn clause_turn<'a>(
 #[tactic(auto, using(crate::proofs::Turns::goes_on, crate::proofs::Turns::ends, crate::proofs::Turns::fails_too))]
 fn clauses_of<'a>(
     arrays: &Arrays,
-    kind: Kind,
+    kind: &Kind,
     items: &mut Vec<Item>,
     at: At<'a>,
 ) -> Result<At<'a>, ReadError>
-    ensures found { Gives (λ a. turn false items.new.items (spot a)) result (all_turns (clause_turn arrays.now kind) items.old.items (spot at.entry)) }
+    ensures found { Gives (λ a. turn false items.new.items (spot a)) result (all_turns (clause_turn arrays.now kind.now) items.old.items (spot at.entry)) }
     ensures shorter { IfOk result (λ a. length a.bytes.now ≤ length at.entry.bytes.now) }
 {
     let turns = at.bytes.len() + 1;
@@ -309,7 +310,7 @@ fn directive_of<'a>(
     let kind = kind_of(t)?;
     let at = expect(t.after, true, b"data")?;
     let mut items = Vec::new(alloc);
-    let at = clauses_of(arrays, kind, &mut items, at)?;
+    let at = clauses_of(arrays, &kind, &mut items, at)?;
     let directive = Directive {
         device: DeviceId::new(0),
         default: ASYNC_NOVAL,

@@ -1,36 +1,35 @@
 -- The counters after accepted directives, and a region's end.
-use Rattle.std.proofs.Common.{◌≡◌, ℕ, ◌+◌, ◌<◌, ◌≤◌, Bool, true, false, List, [], ◌∷◌, ◌++◌, length, Option, Some, None, refl, sym, ap, ◌∙◌, arith}
-use Rattle.std.specs.Prelude.{All, not, ◌||◌, nat_lt, nat_le, drop, slice_index_or}
+use Rattle.std.proofs.Common.{◌≡◌, ℕ, ◌<◌, ◌≤◌, true, false, List, [], ◌∷◌, ◌++◌, length, Option, Some, None, refl, ap, ◌∙◌, arith}
+use Rattle.std.specs.Prelude.{All, nat_lt, nat_le, drop, slice_index_or}
 use Rattle.std.specs.Option.{option_to_list}
 use Rattle.std.proofs.lemmas.Bool.Decides.{nat_tests}
 use Rattle.std.proofs.lemmas.List.Elements.{All-cons, All-nil, All-head, All-tail}
 use Rattle.acc_base.specs.declared.fault.Fault.{Fault}
-use Rattle.acc_base.specs.declared.range.Range.{Range}
 use Rattle.acc_base.specs.Configurations.{Configuration}
 use Rattle.acc_batch.specs.declared.operation.Label.{Label}
 use Rattle.acc_present.specs.Legality.{IsEntered}
-use Rattle.acc_present.specs.Presences.{Presence, presences, holder, is_present}
+use Rattle.acc_present.specs.Presences.{Presence, holder}
 use Rattle.acc_present.specs.Tables.{Present}
-use Rattle.acc_present.specs.Marks.{Structured_down}
-use Rattle.acc_present.proofs.Searching.{is_present-some, not_partly}
+use Rattle.acc_present.specs.declared.change.Change.TheVariants.{StructuredDown}
+use Rattle.acc_present.proofs.Searching.{not_partly}
 use Rattle.acc_place.specs.declared.directive.Directive.{Directive}
 use Rattle.acc_place.specs.declared.directive.Item.{Item}
 use Rattle.acc_place.specs.declared.directive.Kind.{Kind}
-use Rattle.acc_place.specs.declared.directive.Kind.TheVariants.{Data, EndData, EnterData, ExitData, Update, IsPresent}
+use Rattle.acc_place.specs.declared.directive.Kind.TheVariants.{Data, EndData, EnterData, ExitData, Update, Loop, IsPresent}
 use Rattle.acc_place.specs.declared.directive.PlaceEntry.{PlaceEntry}
 use Rattle.acc_place.specs.declared.directive.PlaceEntry.TheVariants as entry
 use Rattle.acc_place.specs.declared.directive.Region.{Region}
 use Rattle.acc_place.specs.declared.directive.TheConstants.{MAX_ITEMS, MAX_DIRECTIVES}
-use Rattle.acc_place.specs.Accepting.{is_in_array, refusal}
+use Rattle.acc_place.specs.Accepting.{is_in_array}
 use Rattle.acc_place.specs.Counts.{AcceptedAreCounted, EnteredCanBeLeft}
 use Rattle.acc_place.specs.Histories.{AllAccepted, standing}
-use Rattle.acc_place.specs.Places.{IsTied, IsHere}
+use Rattle.acc_place.specs.Places.{IsTied}
 use Rattle.acc_place.specs.Plans.{label_in}
 use Rattle.acc_place.specs.Regions.{open_region, region_of, regions_after}
-use Rattle.acc_place.specs.Standings.{Standing, change_by, left_by, subject_by, walk_of}
-use Rattle.acc_place.specs.Walks.{Holding, holding, holding_after, holding_after_all, fault_in, fault_or, first_fault_in, limit_fault, AllEntered}
+use Rattle.acc_place.specs.Standings.{Standing, change_by, left_by, loop_of, subject_by, walk_of}
+use Rattle.acc_place.specs.Walks.{Holding, holding, holding_after, holding_behind, fault_in, fault_or, first_fault_in, limit_fault, past_fault, AllEntered}
 use Rattle.acc_place.proofs.Accepted.{items_in, is_free, refused_by_items, entered_in, tied_after}
-use Rattle.acc_place.proofs.Entered.{open_has, without_all}
+use Rattle.acc_place.proofs.Entered.{is_held, open_has, without_all}
 use Rattle.acc_place.proofs.Judging.{inside_item}
 use Rattle.acc_place.proofs.Planning.{first_place}
 
@@ -42,17 +41,17 @@ record HasTable (st : Standing) : Type 0 where
   labels : List Label
   tied : IsTied st table blocks st.regions labels
 
-tables : (config : Configuration) (history : List PlaceEntry) (counts : List ℕ) → config.devices ≡ 1 → AllAccepted config history counts → HasTable (standing history counts)
+tables : (config : Configuration) (history : List PlaceEntry) (counts : List ℕ) → config.devices ≡ 1 → AllAccepted config history counts → HasTable (standing config history counts)
 unfolding standing
 tables config [] counts one all =
     let empty : Present = record { presences = []; capacity = config.capacity; room = 0 } in
     record { table = empty; blocks = 0; labels = []; tied = (first_place config [] [] [] [] empty refl refl refl refl one refl refl).tied }
 tables config (entry.Accepted host d ∷ before) counts one all =
-    let st = standing before (drop 1 counts) in
+    let st = standing config before (drop 1 counts) in
     let h = tables config before (drop 1 counts) one all.1 in
     let items_done = slice_index_or counts 0 0 in
     let free = is_free config st host d h.table h.blocks st.regions h.labels h.tied one all.0 in
-    let next = holding_after_all (change_by d.kind) (holding h.table.presences h.blocks) (items_in st.regions host d) in
+    let next = holding_behind d.kind (holding h.table.presences h.blocks) (items_in st.lengths st.regions host d) in
     let after : Present = record { presences = next.presences; capacity = config.capacity; room = 0 } in
     let label = label_in st host items_done (walk_of st host d) in
     record {
@@ -86,45 +85,39 @@ all_inside config k h (i ∷ is) none =
     let parts = none_both (fault_in config k h.presences i) (first_fault_in config k (holding_after (change_by k) i.range h) is) none in
     All-cons (λ (i : Item). is_in_array config.arrays i.range ≡ true) i is (inside_item config k h.presences i parts.0) (all_inside config k (holding_after (change_by k) i.range h) is parts.1)
 
-sound_after : (config : Configuration) (host : ℕ) (d : Directive) (k : Kind) (rs : List Region) → length (subject_by rs host d k).items ≤ MAX_ITEMS → AllInside config (subject_by rs host d k).items
+sound_after : (config : Configuration) (lengths : List ℕ) (host : ℕ) (d : Directive) (k : Kind) (rs : List Region) → length (subject_by lengths rs host d k).items ≤ MAX_ITEMS → AllInside config (subject_by lengths rs host d k).items
     → All (IsSound config) rs → All (IsSound config) (regions_after host d k rs)
-sound_after config host d Data rs short inside all = All-cons (IsSound config) (region_of host d) rs (short, inside) all
-sound_after config host d EndData rs short inside all = without_all (IsSound config) host rs all
-sound_after config host d EnterData rs short inside all = all
-sound_after config host d (ExitData finalize) rs short inside all = all
-sound_after config host d (Update if_present) rs short inside all = all
-sound_after config host d IsPresent rs short inside all = all
+sound_after config lengths host d Data rs short inside all = All-cons (IsSound config) (region_of host d) rs (short, inside) all
+sound_after config lengths host d EndData rs short inside all = without_all (IsSound config) host rs all
+sound_after config lengths host d EnterData rs short inside all = all
+sound_after config lengths host d (ExitData finalize) rs short inside all = all
+sound_after config lengths host d (Update if_present) rs short inside all = all
+sound_after config lengths host d (Loop kernel) rs short inside all = all
+sound_after config lengths host d IsPresent rs short inside all = all
 
-all_sound : (config : Configuration) (history : List PlaceEntry) (counts : List ℕ) → config.devices ≡ 1 → AllAccepted config history counts → All (IsSound config) (standing history counts).regions
+all_sound : (config : Configuration) (history : List PlaceEntry) (counts : List ℕ) → config.devices ≡ 1 → AllAccepted config history counts → All (IsSound config) (standing config history counts).regions
 unfolding standing
 all_sound config [] counts one all = All-nil (IsSound config)
 all_sound config (entry.Accepted host d ∷ before) counts one all =
-    let st = standing before (drop 1 counts) in
+    let st = standing config before (drop 1 counts) in
     let h = tables config before (drop 1 counts) one all.1 in
     let free = is_free config st host d h.table h.blocks st.regions h.labels h.tied one all.0 in
-    let inside = all_inside config d.kind (holding h.table.presences h.blocks) (items_in st.regions host d) free.faultless in
-    sound_after config host d d.kind st.regions free.within.short inside
+    let inside = all_inside config d.kind (holding h.table.presences h.blocks) (items_in st.lengths st.regions host d) free.faultless in
+    sound_after config st.lengths host d d.kind st.regions free.within.short inside
     (all_sound config before (drop 1 counts) one all.1)
 
 -- ## A region's end
-
-is_held : (ps : List Presence) (r : Range) → IsEntered (holder ps r) → is_present ps r ≡ true
-is_held ps r entered = by_holder (holder ps r) refl entered
-  where
-    by_holder : (o : Option Presence) → holder ps r ≡ o → IsEntered o → is_present ps r ≡ true
-    by_holder None none entered = absurd entered
-    by_holder (Some p) some entered = is_present-some ps r p some
 
 no_fault : (config : Configuration) (ps : List Presence) (i : Item) → is_in_array config.arrays i.range ≡ true → IsEntered (holder ps i.range) → fault_in config EndData ps i ≡ None
 unfolding fault_in
 no_fault config ps i inside entered = rw (inside, not_partly ps i.range (is_held ps i.range entered)) refl
 
-no_faults : (config : Configuration) (h : Holding) (items : List Item) → AllInside config items → AllEntered (Some Structured_down) h items → first_fault_in config EndData h items ≡ None
+no_faults : (config : Configuration) (h : Holding) (items : List Item) → AllInside config items → AllEntered (Some StructuredDown) h items → first_fault_in config EndData h items ≡ None
 no_faults config h [] inside entered = refl
 no_faults config h (i ∷ is) inside entered =
     let P = λ (i : Item). is_in_array config.arrays i.range ≡ true in
-    ap (λ f. fault_or f (first_fault_in config EndData (holding_after (Some Structured_down) i.range h) is)) (no_fault config h.presences i (All-head P i is inside) entered.0)
-    ∙ no_faults config (holding_after (Some Structured_down) i.range h) is (All-tail P i is inside) entered.1
+    ap (λ f. fault_or f (first_fault_in config EndData (holding_after (Some StructuredDown) i.range h) is)) (no_fault config h.presences i (All-head P i is inside) entered.0)
+    ∙ no_faults config (holding_after (Some StructuredDown) i.range h) is (All-tail P i is inside) entered.1
 
 no_limit : (config : Configuration) (accepted : ℕ) (rs : List Region) (host : ℕ) (d : Directive) (count : ℕ) (r : Region) → config.devices ≡ 1 → accepted < MAX_DIRECTIVES → d.kind ≡ EndData → d.device ≡ 0
     → open_region host rs ≡ Some r → count ≤ MAX_ITEMS → limit_fault config accepted rs host d count ≡ None
@@ -134,19 +127,19 @@ no_limit config accepted rs host d count r one few end here inside short =
     let few_test : nat_le MAX_DIRECTIVES accepted ≡ false = grind (arith, nat_tests, few) in
     rw (one, here, end, inside, short_test, few_test) refl
 
-at_end : (k : Kind) (h : Holding) (items : List Item) → k ≡ EndData → AllEntered (change_by k) h items → AllEntered (Some Structured_down) h items
+at_end : (k : Kind) (h : Holding) (items : List Item) → k ≡ EndData → AllEntered (change_by k) h items → AllEntered (Some StructuredDown) h items
 at_end k h items is entered = rw is at entered
 
 pub entered_left : EnteredCanBeLeft
 entered_left config history counts host d r one all few end here inside =
-    let st = standing history counts in
+    let st = standing config history counts in
     let h = tables config history counts one all in
     let sound = open_has (IsSound config) host st.regions r inside (all_sound config history counts one all) in
-    let items : items_in st.regions host d ≡ r.items =
-    ap (λ k. (subject_by st.regions host d k).items) end ∙ ap (λ o. (left_by d o).items) inside in
-    let limit = no_limit config st.accepted st.regions host d (length (items_in st.regions host d)) r one few end here inside (rw items sound.0) in
-    let entered : AllEntered (Some Structured_down) (holding h.table.presences h.blocks) (items_in st.regions host d) =
-    at_end d.kind (holding h.table.presences h.blocks) (items_in st.regions host d) end (entered_in st host d h.table h.blocks st.regions h.labels h.tied) in
+    let items : items_in st.lengths st.regions host d ≡ r.items =
+    ap (λ k. (subject_by st.lengths st.regions host d k).items) end ∙ ap (λ o. (left_by d o).items) inside in
+    let limit = no_limit config st.accepted st.regions host d (length (items_in st.lengths st.regions host d)) r one few end here inside (rw items sound.0) in
+    let entered : AllEntered (Some StructuredDown) (holding h.table.presences h.blocks) (items_in st.lengths st.regions host d) =
+    at_end d.kind (holding h.table.presences h.blocks) (items_in st.lengths st.regions host d) end (entered_in st host d h.table h.blocks st.regions h.labels h.tied) in
     refused_by_items config st host d h.table h.blocks st.regions h.labels h.tied one limit
-    ∙ (ap (λ k. first_fault_in config k (holding h.table.presences h.blocks) (items_in st.regions host d)) end
-    ∙ no_faults config (holding h.table.presences h.blocks) (items_in st.regions host d) (rw items sound.1) entered)
+    ∙ (ap (λ k. fault_or (first_fault_in config k (holding h.table.presences h.blocks) (items_in st.lengths st.regions host d)) (past_fault (loop_of k) (items_in st.lengths st.regions host d))) end
+    ∙ ap (λ f. fault_or f None) (no_faults config (holding h.table.presences h.blocks) (items_in st.lengths st.regions host d) (rw items sound.1) entered))

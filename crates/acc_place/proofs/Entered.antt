@@ -1,5 +1,5 @@
 -- What the open regions have entered: it is present, and counted, through each walk.
-use Rattle.std.proofs.Common.{◌≡◌, ℕ, zero, suc, ◌+◌, ◌<◌, ◌≤◌, Bool, true, false, cond, List, [], ◌∷◌, ◌++◌, length, map, get_or, Option, Some, None, refl, sym, ap, ◌∙◌, arith, inl, inr}
+use Rattle.std.proofs.Common.{◌≡◌, ℕ, zero, suc, ◌+◌, ◌<◌, Bool, true, false, cond, List, [], ◌∷◌, ◌++◌, length, map, get_or, Option, Some, None, refl, sym, ap, ◌∙◌, arith, inl, inr}
 use Rattle.std.specs.Prelude.{◌||◌, ◌==◌, not, All, filter}
 use Rattle.std.proofs.lemmas.Bool.{cases_Bool, or_parts, or_left, or_right, lt-ltb}
 use Rattle.std.proofs.lemmas.Bool.Decides.{nat_tests}
@@ -10,7 +10,9 @@ use Rattle.acc_base.specs.declared.range.Range.{Range}
 use Rattle.acc_base.specs.Ranges.{range_contains, range_overlaps}
 use Rattle.acc_present.specs.Legality.{IsEntered}
 use Rattle.acc_present.specs.Lifetimes.{is_before}
-use Rattle.acc_present.specs.Marks.{Change, Structured_up, Structured_down, Dynamic_up, Dynamic_down, Dynamic_zero, Mark}
+use Rattle.acc_present.specs.declared.change.Change.{Change}
+use Rattle.acc_present.specs.declared.change.Change.TheVariants.{StructuredUp, StructuredDown, DynamicUp, DynamicDown, DynamicZero}
+use Rattle.acc_present.specs.Marks.{Mark}
 use Rattle.acc_present.specs.Presences.{Presence, holder, is_present, is_partly_present, overlaps_any}
 use Rattle.acc_present.specs.Tables.{has_count, is_table, kept_after, opening, presence_after, presence_placed_in, presences_after, structured_after}
 use Rattle.acc_present.proofs.Balancing.{range_after}
@@ -18,18 +20,18 @@ use Rattle.acc_present.proofs.Counting.{kept_none}
 use Rattle.acc_present.proofs.Entering.{no_overlap, stays}
 use Rattle.acc_present.proofs.Marking.{is_table-after}
 use Rattle.acc_present.proofs.OneMore.{range_contains_itself}
-use Rattle.acc_present.proofs.Searching.{is_present-none}
+use Rattle.acc_present.proofs.Searching.{is_present-none, is_present-some, not_partly}
 use Rattle.acc_place.specs.declared.directive.Directive.{Directive}
 use Rattle.acc_place.specs.declared.directive.Item.{Item}
 use Rattle.acc_place.specs.declared.directive.Kind.{Kind}
-use Rattle.acc_place.specs.declared.directive.Kind.TheVariants.{Data, EndData, EnterData, ExitData, Update, IsPresent}
+use Rattle.acc_place.specs.declared.directive.Kind.TheVariants.{Data, EndData, EnterData, ExitData, Update, Loop, IsPresent}
 use Rattle.acc_place.specs.declared.directive.Region.{Region}
-use Rattle.acc_place.specs.declared.directive.TheConstants.{MAX_ITEMS}
 use Rattle.acc_place.specs.Counts.{IsEnteredBy, count_inside, entered_ranges}
 use Rattle.acc_place.specs.Places.{IsHere}
+use Rattle.acc_place.specs.Implicit.{implicit_items}
 use Rattle.acc_place.specs.Regions.{open_region, region_of, regions_after, without_open}
 use Rattle.acc_place.specs.Standings.{change_by, exit_by, left_by, subject_by}
-use Rattle.acc_place.specs.Walks.{Holding, holding, holding_after, holding_after_all, mark_by, presences_by, HasEntered, AllEntered, AllFine, IsFine}
+use Rattle.acc_place.specs.Walks.{Holding, holding, holding_after, holding_after_all, holding_between, holding_behind, ends_of, mark_by, presences_by, AllHeldFor, HasEntered, AllEntered, AllFine, IsFine}
 use Rattle.acc_place.proofs.Inside.{none_without}
 
 abbrev IsHeld : List Presence → Range → Type 0
@@ -127,13 +129,13 @@ entered_kept m rs qs ps counts h held =
       counted = All-filter has_count (IsCounted qs) (map (presence_after m) ps) counted;
     }
 
-recounts_up : (r : Range) (rs : List Range) → Recounts (record { change = Structured_up; range = r }) rs (r ∷ rs)
+recounts_up : (r : Range) (rs : List Range) → Recounts (record { change = StructuredUp; range = r }) rs (r ∷ rs)
 recounts_up r rs whole = elim (cases_Bool (range_contains whole r)) [
   | inl hit ↦ rw hit (omega arith)
   | inr miss ↦ rw miss refl
 ]
 
-recounts_down : (r : Range) (rs : List Range) → Recounts (record { change = Structured_down; range = r }) (r ∷ rs) rs
+recounts_down : (r : Range) (rs : List Range) → Recounts (record { change = StructuredDown; range = r }) (r ∷ rs) rs
 recounts_down r rs whole = elim (cases_Bool (range_contains whole r)) [
   | inl hit ↦ rw hit (omega arith)
   | inr miss ↦ rw miss refl
@@ -213,9 +215,9 @@ counted_beside r rs (p ∷ ps) absent counted =
 
 -- a region that enters a range
 entered_up : (r : Range) (b : ℕ) (rs : List Range) (ps : List Presence) → is_table ps ≡ true → 0 < r.len → is_partly_present ps r ≡ false → IsEnteredBy rs ps
-    → IsEnteredBy (r ∷ rs) (presences_after (record { change = Structured_up; range = r }) b ps)
+    → IsEnteredBy (r ∷ rs) (presences_after (record { change = StructuredUp; range = r }) b ps)
 entered_up r b rs ps t cells whole h =
-    let m : Mark = record { change = Structured_up; range = r } in
+    let m : Mark = record { change = StructuredUp; range = r } in
     elim (cases_Bool (is_present ps r)) [
       | inl held ↦ rw (← stays m b ps held) (entered_kept m rs (r ∷ rs) ps (recounts_up r rs) h (All-cons (IsHeld ps) r rs (cells, held) h.present))
       | inr absent ↦
@@ -230,15 +232,15 @@ entered_up r b rs ps t cells whole h =
     ]
 
 -- one that leaves it
-entered_end : (r : Range) (b : ℕ) (rs : List Range) (ps : List Presence) → IsEnteredBy (r ∷ rs) ps → IsEnteredBy rs (presences_after (record { change = Structured_down; range = r }) b ps)
+entered_end : (r : Range) (b : ℕ) (rs : List Range) (ps : List Presence) → IsEnteredBy (r ∷ rs) ps → IsEnteredBy rs (presences_after (record { change = StructuredDown; range = r }) b ps)
 entered_end r b rs ps h =
-    entered_kept (record { change = Structured_down; range = r }) (r ∷ rs) rs ps (recounts_down r rs) h (All-tail (IsHeld ps) r rs h.present)
+    entered_kept (record { change = StructuredDown; range = r }) (r ∷ rs) rs ps (recounts_down r rs) h (All-tail (IsHeld ps) r rs h.present)
 
 -- `enter data`
 entered_enter : (r : Range) (b : ℕ) (rs : List Range) (ps : List Presence) → is_table ps ≡ true → 0 < r.len → is_partly_present ps r ≡ false → IsEnteredBy rs ps
-    → IsEnteredBy rs (presences_after (record { change = Dynamic_up; range = r }) b ps)
+    → IsEnteredBy rs (presences_after (record { change = DynamicUp; range = r }) b ps)
 entered_enter r b rs ps t cells whole h =
-    let m : Mark = record { change = Dynamic_up; range = r } in
+    let m : Mark = record { change = DynamicUp; range = r } in
     elim (cases_Bool (is_present ps r)) [
       | inl held ↦ rw (← stays m b ps held) (entered_kept m rs rs ps (recounts_none m rs (λ n. refl)) h h.present)
       | inr absent ↦
@@ -251,48 +253,44 @@ entered_enter r b rs ps t cells whole h =
 
 -- `exit data`, with `finalize` and without
 entered_exit : (finalize : Bool) (r : Range) (b : ℕ) (rs : List Range) (ps : List Presence) → IsEnteredBy rs ps → IsEnteredBy rs (presences_after (mark_by (exit_by finalize) r) b ps)
-entered_exit true r b rs ps h = (let m = mark_by Dynamic_zero r in entered_kept m rs rs ps (recounts_none m rs (λ n. refl)) h h.present)
-entered_exit false r b rs ps h = (let m = mark_by Dynamic_down r in entered_kept m rs rs ps (recounts_none m rs (λ n. refl)) h h.present)
+entered_exit true r b rs ps h = (let m = mark_by DynamicZero r in entered_kept m rs rs ps (recounts_none m rs (λ n. refl)) h h.present)
+entered_exit false r b rs ps h = (let m = mark_by DynamicDown r in entered_kept m rs rs ps (recounts_none m rs (λ n. refl)) h h.present)
 
 -- a table stays one
-table_by : (capacity : ℕ) (k : Kind) (ps : List Presence) (r : Range) (b : ℕ) → is_table ps ≡ true → IsFine capacity k ps r → is_table (presences_by (change_by k) r b ps) ≡ true
-table_by capacity Data ps r b t fine = is_table-after (mark_by Structured_up r) b ps t fine.cells (fine.whole refl)
-table_by capacity EndData ps r b t fine = is_table-after (mark_by Structured_down r) b ps t fine.cells (fine.whole refl)
-table_by capacity EnterData ps r b t fine = is_table-after (mark_by Dynamic_up r) b ps t fine.cells (fine.whole refl)
-table_by capacity (ExitData finalize) ps r b t fine = is_table-after (mark_by (exit_by finalize) r) b ps t fine.cells (fine.whole refl)
-table_by capacity (Update if_present) ps r b t fine = t
-table_by capacity IsPresent ps r b t fine = t
+table_by : (capacity : ℕ) (change : Option Change) (ps : List Presence) (r : Range) (b : ℕ) → is_table ps ≡ true → IsFine capacity change ps r → is_table (presences_by change r b ps) ≡ true
+table_by capacity None ps r b t fine = t
+table_by capacity (Some made) ps r b t fine = is_table-after (mark_by made r) b ps t fine.cells fine.whole
 
 -- ## All items
 
-entered_data : (capacity : ℕ) (h : Holding) (items : List Item) (rs : List Range) → is_table h.presences ≡ true → AllFine capacity Data h items → IsEnteredBy rs h.presences
-    → IsEnteredBy (ranges_of items ++ rs) (holding_after_all (Some Structured_up) h items).presences
+entered_data : (capacity : ℕ) (h : Holding) (items : List Item) (rs : List Range) → is_table h.presences ≡ true → AllFine capacity (Some StructuredUp) h items → IsEnteredBy rs h.presences
+    → IsEnteredBy (ranges_of items ++ rs) (holding_after_all (Some StructuredUp) h items).presences
 unfolding holding_after
 entered_data capacity h [] rs t fine in_all = in_all
 entered_data capacity h (i ∷ is) rs t fine in_all =
     let b = h.opened + 1 in
-    let next = holding_after (Some Structured_up) i.range h in
-    let one = entered_up i.range b rs h.presences t fine.0.cells (fine.0.whole refl) in_all in
-    let all = entered_data capacity next is (i.range ∷ rs) (table_by capacity Data h.presences i.range b t fine.0) fine.1 one in
-    entered_turned (ranges_of is) (i.range ∷ []) rs (holding_after_all (Some Structured_up) next is).presences all
+    let next = holding_after (Some StructuredUp) i.range h in
+    let one = entered_up i.range b rs h.presences t fine.0.cells fine.0.whole in_all in
+    let all = entered_data capacity next is (i.range ∷ rs) (table_by capacity (Some StructuredUp) h.presences i.range b t fine.0) fine.1 one in
+    entered_turned (ranges_of is) (i.range ∷ []) rs (holding_after_all (Some StructuredUp) next is).presences all
 
-entered_left : (h : Holding) (items : List Item) (rs : List Range) → IsEnteredBy (ranges_of items ++ rs) h.presences → IsEnteredBy rs (holding_after_all (Some Structured_down) h items).presences
+entered_left : (h : Holding) (items : List Item) (rs : List Range) → IsEnteredBy (ranges_of items ++ rs) h.presences → IsEnteredBy rs (holding_after_all (Some StructuredDown) h items).presences
 unfolding holding_after
 entered_left h [] rs in_all = in_all
 entered_left h (i ∷ is) rs in_all =
-    entered_left (holding_after (Some Structured_down) i.range h) is rs (entered_end i.range (h.opened + 1) (ranges_of is ++ rs) h.presences in_all)
+    entered_left (holding_after (Some StructuredDown) i.range h) is rs (entered_end i.range (h.opened + 1) (ranges_of is ++ rs) h.presences in_all)
 
--- a kind whose items each keep what the regions have entered
-abbrev Keeps : ℕ → Kind → List Range → Type 0
-Keeps capacity k rs = (ps : List Presence) (r : Range) (b : ℕ) → is_table ps ≡ true → IsFine capacity k ps r → IsEnteredBy rs ps → IsEnteredBy rs (presences_by (change_by k) r b ps)
+-- a change whose items each keep what the regions have entered
+abbrev Keeps : ℕ → Option Change → List Range → Type 0
+Keeps capacity change rs = (ps : List Presence) (r : Range) (b : ℕ) → is_table ps ≡ true → IsFine capacity change ps r → IsEnteredBy rs ps → IsEnteredBy rs (presences_by change r b ps)
 
-entered_same : (capacity : ℕ) (k : Kind) (h : Holding) (items : List Item) (rs : List Range) → Keeps capacity k rs → is_table h.presences ≡ true → AllFine capacity k h items → IsEnteredBy rs h.presences
-    → IsEnteredBy rs (holding_after_all (change_by k) h items).presences
+entered_same : (capacity : ℕ) (change : Option Change) (h : Holding) (items : List Item) (rs : List Range) → Keeps capacity change rs → is_table h.presences ≡ true → AllFine capacity change h items → IsEnteredBy rs h.presences
+    → IsEnteredBy rs (holding_after_all change h items).presences
 unfolding holding_after
-entered_same capacity k h [] rs keeps t fine in_all = in_all
-entered_same capacity k h (i ∷ is) rs keeps t fine in_all =
+entered_same capacity change h [] rs keeps t fine in_all = in_all
+entered_same capacity change h (i ∷ is) rs keeps t fine in_all =
     let b = h.opened + 1 in
-    entered_same capacity k (holding_after (change_by k) i.range h) is rs keeps (table_by capacity k h.presences i.range b t fine.0) fine.1
+    entered_same capacity change (holding_after change i.range h) is rs keeps (table_by capacity change h.presences i.range b t fine.0) fine.1
     (keeps h.presences i.range b t fine.0 in_all)
 
 -- ## At a region's end
@@ -315,17 +313,17 @@ has_entered r rs ps h = by_holder (holder ps r) refl
     by_holder None none = absurd (let absent = is_present-none ps r none in let held = (All-head (IsHeld ps) r rs h.present).1 in cc)
     by_holder (Some x) some = at_holder ps x h.counted some
 
-all_entered : (h : Holding) (items : List Item) (others : List Range) → IsEnteredBy (ranges_of items ++ others) h.presences → AllEntered (Some Structured_down) h items
+all_entered : (h : Holding) (items : List Item) (others : List Range) → IsEnteredBy (ranges_of items ++ others) h.presences → AllEntered (Some StructuredDown) h items
 unfolding holding_after
 all_entered h [] others in_all = tt
 all_entered h (i ∷ is) others in_all =
     let rs = ranges_of is ++ others in (
       has_entered i.range rs h.presences in_all,
-      all_entered (holding_after (Some Structured_down) i.range h) is others (entered_end i.range (h.opened + 1) rs h.presences in_all),
+      all_entered (holding_after (Some StructuredDown) i.range h) is others (entered_end i.range (h.opened + 1) rs h.presences in_all),
     )
 
 -- each item is inside a present range that a region has entered, in its turn
-pub entered_items : (ps : List Presence) (n : ℕ) (items : List Item) (others : List Range) → is_table ps ≡ true → IsEnteredBy (map (λ (i : Item). i.range) items ++ others) ps → AllEntered (Some Structured_down) (holding ps n) items
+pub entered_items : (ps : List Presence) (n : ℕ) (items : List Item) (others : List Range) → is_table ps ≡ true → IsEnteredBy (map (λ (i : Item). i.range) items ++ others) ps → AllEntered (Some StructuredDown) (holding ps n) items
 entered_items ps n items others t h = all_entered (holding ps n) items others h
 
 -- ## The open region, and the others
@@ -382,36 +380,91 @@ entered_open host rs x ps some h =
 -- ## What a directive's items need, and what they leave
 
 -- a region's end is about what the region has entered
-pub entered_subject : (rs : List Region) (host : ℕ) (d : Directive) (k : Kind) (ps : List Presence) (n : ℕ) → is_table ps ≡ true → IsEnteredBy (entered_ranges rs) ps
-    → AllEntered (change_by k) (holding ps n) (subject_by rs host d k).items
-entered_subject rs host d Data ps n t h = no_entry_needed (Some Structured_up) (holding ps n) d.items (λ r qs. tt)
-entered_subject rs host d EndData ps n t h = by_open (open_region host rs) refl
+pub entered_subject : (lengths : List ℕ) (rs : List Region) (host : ℕ) (d : Directive) (k : Kind) (ps : List Presence) (n : ℕ) → is_table ps ≡ true → IsEnteredBy (entered_ranges rs) ps
+    → AllEntered (change_by k) (holding ps n) (subject_by lengths rs host d k).items
+entered_subject lengths rs host d Data ps n t h = no_entry_needed (Some StructuredUp) (holding ps n) d.items (λ r qs. tt)
+entered_subject lengths rs host d EndData ps n t h = by_open (open_region host rs) refl
   where
-    by_open : (o : Option Region) → open_region host rs ≡ o → AllEntered (Some Structured_down) (holding ps n) (left_by d o).items
+    by_open : (o : Option Region) → open_region host rs ≡ o → AllEntered (Some StructuredDown) (holding ps n) (left_by d o).items
     by_open None none = tt
     by_open (Some x) some = entered_items ps n x.items (entered_ranges (without_open host rs)) t (entered_open host rs x ps some h)
-entered_subject rs host d EnterData ps n t h = no_entry_needed (Some Dynamic_up) (holding ps n) d.items (λ r qs. tt)
-entered_subject rs host d (ExitData true) ps n t h = no_entry_needed (Some Dynamic_zero) (holding ps n) d.items (λ r qs. tt)
-entered_subject rs host d (ExitData false) ps n t h = no_entry_needed (Some Dynamic_down) (holding ps n) d.items (λ r qs. tt)
-entered_subject rs host d (Update if_present) ps n t h = no_entry_needed None (holding ps n) d.items (λ r qs. tt)
-entered_subject rs host d IsPresent ps n t h = no_entry_needed None (holding ps n) d.items (λ r qs. tt)
+entered_subject lengths rs host d EnterData ps n t h = no_entry_needed (Some DynamicUp) (holding ps n) d.items (λ r qs. tt)
+entered_subject lengths rs host d (ExitData true) ps n t h = no_entry_needed (Some DynamicZero) (holding ps n) d.items (λ r qs. tt)
+entered_subject lengths rs host d (ExitData false) ps n t h = no_entry_needed (Some DynamicDown) (holding ps n) d.items (λ r qs. tt)
+entered_subject lengths rs host d (Update if_present) ps n t h = no_entry_needed None (holding ps n) d.items (λ r qs. tt)
+entered_subject lengths rs host d (Loop kernel) ps n t h =
+    no_entry_needed (Some StructuredUp) (holding ps n) (d.items ++ implicit_items lengths rs host d kernel) (λ r qs. tt)
+entered_subject lengths rs host d IsPresent ps n t h = no_entry_needed None (holding ps n) d.items (λ r qs. tt)
+
+-- a loop leaves at its end what it entered
+pub entered_ends : (capacity : ℕ) (k : Kind) (h : Holding) (items : List Item) (rs : List Range) → is_table h.presences ≡ true → AllFine capacity (change_by k) h items → IsEnteredBy rs h.presences
+    → AllEntered (Some StructuredDown) (holding_between k h items) (ends_of k items)
+entered_ends capacity (Loop kernel) h items rs t fine in_all =
+    all_entered (holding_after_all (Some StructuredUp) h items) items rs (entered_data capacity h items rs t fine in_all)
+entered_ends capacity Data h items rs t fine in_all = tt
+entered_ends capacity EndData h items rs t fine in_all = tt
+entered_ends capacity EnterData h items rs t fine in_all = tt
+entered_ends capacity (ExitData finalize) h items rs t fine in_all = tt
+entered_ends capacity (Update if_present) h items rs t fine in_all = tt
+entered_ends capacity IsPresent h items rs t fine in_all = tt
+
+-- and meanwhile it is present
+pub held_between : (capacity : ℕ) (k : Kind) (h : Holding) (items : List Item) (rs : List Range) → is_table h.presences ≡ true → AllFine capacity (change_by k) h items → IsEnteredBy rs h.presences
+    → AllHeldFor k (holding_between k h items).presences items
+held_between capacity (Loop kernel) h items rs t fine in_all =
+    let ps = (holding_after_all (Some StructuredUp) h items).presences in
+    all_held ps items (All-first (IsHeld ps) (ranges_of items) rs (entered_data capacity h items rs t fine in_all).present)
+  where
+    all_held : (ps : List Presence) (items : List Item) → All (IsHeld ps) (ranges_of items) → All (λ (i : Item). is_present ps i.range ≡ true) items
+    all_held ps [] held = All-nil _
+    all_held ps (i ∷ is) held =
+        All-cons (λ (i : Item). is_present ps i.range ≡ true) i is (All-head (IsHeld ps) i.range (ranges_of is) held).1 (all_held ps is (All-tail (IsHeld ps) i.range (ranges_of is) held))
+held_between capacity Data h items rs t fine in_all = tt
+held_between capacity EndData h items rs t fine in_all = tt
+held_between capacity EnterData h items rs t fine in_all = tt
+held_between capacity (ExitData finalize) h items rs t fine in_all = tt
+held_between capacity (Update if_present) h items rs t fine in_all = tt
+held_between capacity IsPresent h items rs t fine in_all = tt
+
+-- what was entered is present
+pub is_held : (ps : List Presence) (r : Range) → IsEntered (holder ps r) → is_present ps r ≡ true
+is_held ps r entered = by_holder (holder ps r) refl entered
+  where
+    by_holder : (o : Option Presence) → holder ps r ≡ o → IsEntered o → is_present ps r ≡ true
+    by_holder None none entered = absurd entered
+    by_holder (Some p) some entered = is_present-some ps r p some
+
+-- so what leaves is fine
+pub fine_left : (capacity : ℕ) (h : Holding) (items : List Item) → All (λ (i : Item). 0 < i.range.len) items → AllEntered (Some StructuredDown) h items → AllFine capacity (Some StructuredDown) h items
+fine_left capacity h [] cells entered = tt
+fine_left capacity h (i ∷ is) cells entered = (
+  record {
+    cells = All-head (λ (i : Item). 0 < i.range.len) i is cells;
+    whole = not_partly h.presences i.range (is_held h.presences i.range entered.0);
+    fits = λ opens. absurd cc;
+  },
+  fine_left capacity (holding_after (Some StructuredDown) i.range h) is (All-tail (λ (i : Item). 0 < i.range.len) i is cells) entered.1,
+)
 
 -- the open regions after a directive have entered what is present then
-pub entered_after : (capacity : ℕ) (rs : List Region) (host : ℕ) (d : Directive) (k : Kind) (ps : List Presence) (n : ℕ) → is_table ps ≡ true → AllFine capacity k (holding ps n) (subject_by rs host d k).items
-    → IsEnteredBy (entered_ranges rs) ps → IsEnteredBy (entered_ranges (regions_after host d k rs)) (holding_after_all (change_by k) (holding ps n) (subject_by rs host d k).items).presences
-entered_after capacity rs host d Data ps n t fine h = entered_data capacity (holding ps n) d.items (entered_ranges rs) t fine h
-entered_after capacity rs host d EndData ps n t fine h = by_open (open_region host rs) refl
+pub entered_after : (capacity : ℕ) (lengths : List ℕ) (rs : List Region) (host : ℕ) (d : Directive) (k : Kind) (ps : List Presence) (n : ℕ) → is_table ps ≡ true → AllFine capacity (change_by k) (holding ps n) (subject_by lengths rs host d k).items
+    → IsEnteredBy (entered_ranges rs) ps → IsEnteredBy (entered_ranges (regions_after host d k rs)) (holding_behind k (holding ps n) (subject_by lengths rs host d k).items).presences
+entered_after capacity lengths rs host d Data ps n t fine h = entered_data capacity (holding ps n) d.items (entered_ranges rs) t fine h
+entered_after capacity lengths rs host d EndData ps n t fine h = by_open (open_region host rs) refl
   where
-    by_open : (o : Option Region) → open_region host rs ≡ o → IsEnteredBy (entered_ranges (without_open host rs)) (holding_after_all (Some Structured_down) (holding ps n) (left_by d o).items).presences
+    by_open : (o : Option Region) → open_region host rs ≡ o → IsEnteredBy (entered_ranges (without_open host rs)) (holding_after_all (Some StructuredDown) (holding ps n) (left_by d o).items).presences
     by_open None none = rw (none_without host rs none) h
     by_open (Some x) some = entered_left (holding ps n) x.items (entered_ranges (without_open host rs)) (entered_open host rs x ps some h)
-entered_after capacity rs host d EnterData ps n t fine h =
-    entered_same capacity EnterData (holding ps n) d.items (entered_ranges rs) (λ qs r b u f g. entered_enter r b (entered_ranges rs) qs u f.cells (f.whole refl) g) t fine h
-entered_after capacity rs host d (ExitData finalize) ps n t fine h =
-    entered_same capacity (ExitData finalize) (holding ps n) d.items (entered_ranges rs) (λ qs r b u f g. entered_exit finalize r b (entered_ranges rs) qs g) t fine h
-entered_after capacity rs host d (Update if_present) ps n t fine h =
-    entered_same capacity (Update if_present) (holding ps n) d.items (entered_ranges rs) (λ qs r b u f g. g) t fine h
-entered_after capacity rs host d IsPresent ps n t fine h = entered_same capacity IsPresent (holding ps n) d.items (entered_ranges rs) (λ qs r b u f g. g) t fine h
+entered_after capacity lengths rs host d EnterData ps n t fine h =
+    entered_same capacity (Some DynamicUp) (holding ps n) d.items (entered_ranges rs) (λ qs r b u f g. entered_enter r b (entered_ranges rs) qs u f.cells f.whole g) t fine h
+entered_after capacity lengths rs host d (ExitData finalize) ps n t fine h =
+    entered_same capacity (Some (exit_by finalize)) (holding ps n) d.items (entered_ranges rs) (λ qs r b u f g. entered_exit finalize r b (entered_ranges rs) qs g) t fine h
+entered_after capacity lengths rs host d (Update if_present) ps n t fine h =
+    entered_same capacity None (holding ps n) d.items (entered_ranges rs) (λ qs r b u f g. g) t fine h
+entered_after capacity lengths rs host d (Loop kernel) ps n t fine h =
+    let items = d.items ++ implicit_items lengths rs host d kernel in
+    entered_left (holding_after_all (Some StructuredUp) (holding ps n) items) items (entered_ranges rs) (entered_data capacity (holding ps n) items (entered_ranges rs) t fine h)
+entered_after capacity lengths rs host d IsPresent ps n t fine h = entered_same capacity None (holding ps n) d.items (entered_ranges rs) (λ qs r b u f g. g) t fine h
 
 -- ## The open region is one of them, and the others stay
 
@@ -436,17 +489,18 @@ without_all P host (r ∷ rs) all =
     ]
 
 -- a directive acts on the one device
-pub subject_device : (rs : List Region) (host : ℕ) (d : Directive) (k : Kind) → d.device ≡ 0 → All IsHere rs → (subject_by rs host d k).device ≡ 0
-subject_device rs host d Data here all = here
-subject_device rs host d EndData here all = by_open (open_region host rs) refl
+pub subject_device : (lengths : List ℕ) (rs : List Region) (host : ℕ) (d : Directive) (k : Kind) → d.device ≡ 0 → All IsHere rs → (subject_by lengths rs host d k).device ≡ 0
+subject_device lengths rs host d Data here all = here
+subject_device lengths rs host d EndData here all = by_open (open_region host rs) refl
   where
     by_open : (o : Option Region) → open_region host rs ≡ o → (left_by d o).device ≡ 0
     by_open None none = here
     by_open (Some x) some = open_has IsHere host rs x some all
-subject_device rs host d EnterData here all = here
-subject_device rs host d (ExitData finalize) here all = here
-subject_device rs host d (Update if_present) here all = here
-subject_device rs host d IsPresent here all = here
+subject_device lengths rs host d EnterData here all = here
+subject_device lengths rs host d (ExitData finalize) here all = here
+subject_device lengths rs host d (Update if_present) here all = here
+subject_device lengths rs host d (Loop kernel) here all = here
+subject_device lengths rs host d IsPresent here all = here
 
 pub regions_kept : (rs : List Region) (host : ℕ) (d : Directive) (k : Kind) → d.device ≡ 0 → All IsHere rs → All IsHere (regions_after host d k rs)
 regions_kept rs host d Data here all = All-cons IsHere (region_of host d) rs here all
@@ -454,4 +508,5 @@ regions_kept rs host d EndData here all = without_all IsHere host rs all
 regions_kept rs host d EnterData here all = all
 regions_kept rs host d (ExitData finalize) here all = all
 regions_kept rs host d (Update if_present) here all = all
+regions_kept rs host d (Loop kernel) here all = all
 regions_kept rs host d IsPresent here all = all

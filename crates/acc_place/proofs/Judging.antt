@@ -1,6 +1,6 @@
 -- The fault of one item, and what there is where it has none.
 use Rattle.std.proofs.Common.{◌≡◌, ℕ, ◌+◌, ◌-◌, ◌<◌, ◌≤◌, Bool, true, false, List, [], ◌∷◌, Option, Some, None, refl, sym, ◌∙◌, arith, inl, inr}
-use Rattle.std.specs.Prelude.{◌&&◌, not, nat_lt, slice_get}
+use Rattle.std.specs.Prelude.{◌&&◌, not, nat_lt, slice_get, IfSome}
 use Rattle.std.proofs.lemmas.Bool.{cases_Bool, and_parts, ltb-true, ltb-false, lt-ltb, le-ltb}
 use Rattle.acc_base.specs.declared.range.Range.{Range}
 use Rattle.acc_base.specs.declared.fault.Fault.{Fault}
@@ -10,7 +10,7 @@ use Rattle.acc_present.specs.Drafts.{Drafted, drafted, IsDraft}
 use Rattle.acc_present.specs.declared.table.Look.{Look}
 use Rattle.acc_present.specs.declared.table.Look.TheVariants as look
 use Rattle.acc_present.specs.Lifetimes.{can_open}
-use Rattle.acc_present.specs.Marks.{Change}
+use Rattle.acc_present.specs.declared.change.Change.{Change}
 use Rattle.acc_present.specs.Presences.{Presence, holder, overlaps_any, is_present, is_partly_present, used_cells}
 use Rattle.acc_present.specs.Tables.{Present, IsLook, entry_presence}
 use Rattle.acc_present.proofs.Parts.{none_from_absent}
@@ -55,6 +55,7 @@ fault-partly config kind.EndData ps i inside partly = rw (inside, partly) refl
 fault-partly config kind.EnterData ps i inside partly = rw (inside, partly) refl
 fault-partly config (kind.ExitData finalize) ps i inside partly = rw (inside, partly) refl
 fault-partly config (kind.Update if_present) ps i inside partly = rw (inside, partly) refl
+fault-partly config (kind.Loop kernel) ps i inside partly = rw (inside, partly) refl
 fault-partly config kind.IsPresent ps i inside partly = rw inside refl
 
 fault-present : (config : Configuration) (k : Kind) (ps : List Presence) (i : Item) → is_in_array config.arrays i.range ≡ true → is_partly_present ps i.range ≡ false
@@ -136,8 +137,18 @@ inside_item config k ps i none =
     let full = nat_lt config.capacity (used_cells ps + i.range.len) in
     (none_of_four (is_in_array config.arrays i.range) (wants_whole k && is_partly_present ps i.range) (wants_presence k i.clause && not (is_present ps i.range)) (opens_one (change_by k) ps i.range && full) none).0
 
+-- a kind that changes something isn't about what is partly present
+whole_by : (k : Kind) (partly : Bool) → (wants_whole k && partly) ≡ false → IfSome (change_by k) (λ made. partly ≡ false)
+whole_by kind.Data partly h = h
+whole_by kind.EndData partly h = h
+whole_by kind.EnterData partly h = h
+whole_by (kind.ExitData finalize) partly h = h
+whole_by (kind.Update if_present) partly h = tt
+whole_by (kind.Loop kernel) partly h = h
+whole_by kind.IsPresent partly h = tt
+
 -- such an item is fine
-pub fine_item : (config : Configuration) (k : Kind) (ps : List Presence) (i : Item) → fault_in config k ps i ≡ None → IsFine config.capacity k ps i.range
+pub fine_item : (config : Configuration) (k : Kind) (ps : List Presence) (i : Item) → fault_in config k ps i ≡ None → IsFine config.capacity (change_by k) ps i.range
 unfolding fault_in
 fine_item config k ps i none =
     let full = nat_lt config.capacity (used_cells ps + i.range.len) in
@@ -146,6 +157,6 @@ fine_item config k ps i none =
     none_of_four (is_in_array config.arrays i.range) (wants_whole k && is_partly_present ps i.range) (wants_presence k i.clause && not (is_present ps i.range)) (opens && full) none in
     record {
       cells = cells_inside config i.range parts.0;
-      whole = λ whole. not_both (wants_whole k) (is_partly_present ps i.range) parts.1 whole;
+      whole = whole_by k (is_partly_present ps i.range) parts.1;
       fits = λ is_opened. ltb-false config.capacity (used_cells ps + i.range.len) (not_both opens full parts.2 is_opened);
     }

@@ -1,8 +1,11 @@
 mod Accepted
 mod Counted
 mod Entered
+mod Filling
 mod Inside
 mod Judging
+mod Looping
 mod Planning
+mod Simple
 mod Visits
 mod Walking

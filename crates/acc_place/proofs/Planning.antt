@@ -1,11 +1,11 @@
 -- What a place knows of its standing, as a plan and an accepted directive need it.
-use Rattle.std.proofs.Common.{◌≡◌, ℕ, zero, suc, ◌+◌, ◌-◌, ◌<◌, Bool, true, false, cond, List, [], ◌∷◌, ◌++◌, length, Option, Some, None, refl, sym, ap, ◌∙◌, arith}
-use Rattle.std.specs.Prelude.{reverse, replicate, is_some, slice_get, ◌||◌}
+use Rattle.std.proofs.Common.{◌≡◌, ℕ, zero, suc, ◌+◌, ◌-◌, ◌<◌, ◌≤◌, Bool, true, false, cond, List, [], ◌∷◌, ◌++◌, length, Option, Some, None, refl, sym, ap, ◌∙◌, arith}
+use Rattle.std.specs.Prelude.{reverse, replicate, drop, take, is_some, slice_get, nat_le, ◌||◌}
 use Rattle.std.specs.Option.{option_map, option_to_list}
-use Rattle.std.proofs.lemmas.List.{length-reverse, length-append, reverse-append}
+use Rattle.std.proofs.lemmas.List.{length-reverse, length-append, reverse-append, take_all}
 use Rattle.std.proofs.lemmas.List.Elements.{All-nil}
 use Rattle.acc_base.specs.declared.fault.Fault.{Fault}
-use Rattle.acc_base.specs.declared.fault.Fault.TheVariants.{Memory}
+use Rattle.acc_base.specs.declared.fault.Fault.TheVariants.{BadDevice, Memory, NoRegion, TooMany}
 use Rattle.acc_base.specs.declared.ids.QueueAt.{QueueAt}
 use Rattle.acc_base.specs.declared.range.Range.{Range}
 use Rattle.acc_base.specs.Configurations.{Configuration}
@@ -16,24 +16,31 @@ use Rattle.acc_batch.specs.declared.operation.Label.{Label}
 use Rattle.acc_batch.specs.declared.operation.Op.{Op}
 use Rattle.acc_batch.specs.Labels.{on_queue}
 use Rattle.acc_batch.proofs.OneQueue.{on_queue_all, on_queue_none}
+use Rattle.acc_present.specs.declared.change.Change.TheVariants.{StructuredDown}
 use Rattle.acc_present.specs.Lifetimes.{opened, live}
 use Rattle.acc_present.specs.Presences.{Presence, presences, holder, is_present}
 use Rattle.acc_present.specs.Tables.{Present}
 use Rattle.acc_place.specs.declared.directive.Directive.{Directive}
+use Rattle.acc_place.specs.declared.directive.Item.{Item}
 use Rattle.acc_place.specs.declared.directive.Kind.{Kind}
-use Rattle.acc_place.specs.declared.directive.Kind.TheVariants.{Data, EndData, EnterData, ExitData, Update, IsPresent}
+use Rattle.acc_place.specs.declared.directive.Kind.TheVariants.{Data, EndData, EnterData, ExitData, Update, Loop, IsPresent}
 use Rattle.acc_place.specs.declared.directive.PlaceEntry.{PlaceEntry}
 use Rattle.acc_place.specs.declared.directive.PlaceEntry.TheVariants.{Accepted}
 use Rattle.acc_place.specs.declared.directive.Region.{Region}
-use Rattle.acc_place.specs.Accepting.{refusal}
+use Rattle.acc_place.specs.declared.directive.TheConstants.{MAX_DIRECTIVES, MAX_ITEMS}
+use Rattle.acc_place.specs.declared.judge.Marked.{Marked}
+use Rattle.acc_place.specs.Accepting.{first_fault, fault_where, is_deep, is_outside, refusal}
 use Rattle.acc_place.specs.Batches.{answer_of, batch_of, is_answered, next_number, placed_batch, walk_at}
 use Rattle.acc_place.specs.Histories.{standing, after_directive}
 use Rattle.acc_place.specs.Places.{IsPlace, IsHere, nth_batch, sync}
 use Rattle.acc_place.specs.Plans.{KeptByAccepting, KeptByPlanning, KeptByTaking, PlaceView, PlanView, standing_in, IsRefusal, IsPlanOf, Fits, label_for, label_in, opened_region, place_after}
-use Rattle.acc_place.specs.Regions.{regions_after}
-use Rattle.acc_place.specs.Standings.{Standing, Walk, change_by, subject_by, walk_of}
-use Rattle.acc_place.specs.Walks.{holding, holding_after_all, limit_fault, first_fault_in, marked_ops, all_marked}
-use Rattle.acc_place.proofs.Accepted.{IsFree, items_in, refused_by_limit, refused_by_items, is_free, tied_after, batch_is, next_is, at_sync}
+use Rattle.acc_place.specs.Loops.{lengths_of}
+use Rattle.acc_place.specs.Regions.{open_region, regions_after}
+use Rattle.acc_place.specs.Standings.{Standing, Walk, change_by, loop_of, subject_by, walk_of}
+use Rattle.acc_place.specs.Walks.{Holding, holding, holding_between, holding_behind, ends_of, all_marked, limit_fault, fault_or, first_fault_in, past_fault, run_in, marked_ops, all_steps}
+use Rattle.acc_place.proofs.Accepted.{IsFree, is_within, items_in, refused_by_limit, refused_by_items, is_free, tied_after, batch_is, next_is, at_sync}
+use Rattle.acc_place.proofs.Filling.{long_taken}
+use Rattle.acc_place.proofs.Walking.{left_alike}
 
 reverse-push : {X : Type 0} (xs : List X) (x : X) → reverse (xs ++ x ∷ []) ≡ x ∷ reverse xs
 reverse-push xs x = reverse-append xs (x ∷ [])
@@ -46,17 +53,75 @@ limit_at : (p : PlaceView) (host : ℕ) (d : Directive) (t : Present) (blocks n 
     → limit_fault p.config (standing_in p).accepted regions host d count ≡ limit_fault p.config n regions host d count
 limit_at p host d t blocks n count regions labels h is = ap (λ k. limit_fault p.config k regions host d count) (sym (is ∙ h.accepted))
 
+-- how many cells the host arrays have doesn't change
+lengths_kept : (config : Configuration) (history : List PlaceEntry) (counts : List ℕ) → (standing config history counts).lengths ≡ lengths_of config
+unfolding standing
+lengths_kept config [] counts = refl
+lengths_kept config (Accepted host d ∷ before) counts = lengths_kept config before (drop 1 counts)
+
+-- whether there are too many items is seen in one more than there may be
+limit_taken : (config : Configuration) (n : ℕ) (regions : List Region) (host : ℕ) (d : Directive) (items : List Item)
+    → limit_fault config n regions host d (length (take 17 items)) ≡ limit_fault config n regions host d (length items)
+unfolding limit_fault
+limit_taken config n regions host d items =
+    ap (λ many. first_fault (
+    fault_where (nat_le config.devices d.device) BadDevice
+    ∷ fault_where (many || (is_deep d.kind host regions || nat_le MAX_DIRECTIVES n)) TooMany
+    ∷ fault_where (is_outside d.kind (open_region host regions)) NoRegion
+    ∷ []
+    ))
+    (long_taken 16 items)
+
+-- the items that were put in, and those of the directive
+abbrev pub ArePut : PlaceView → ℕ → Directive → List Region → List Item → Type 0
+ArePut p host d regions xs = xs ≡ take 17 (items_in (standing_in p).lengths regions host d)
+
+pub are_put : (p : PlaceView) (host : ℕ) (d : Directive) (regions rs : List Region) (xs : List Item) → rs ≡ regions → xs ≡ take 17 (items_in (lengths_of p.config) rs host d) → ArePut p host d regions xs
+are_put p host d regions rs xs here put =
+    put ∙ (ap (λ qs. take 17 (items_in (lengths_of p.config) qs host d)) here ∙ ap (λ ls. take 17 (items_in ls regions host d)) (sym (lengths_kept p.config p.history p.counts)))
+
+pub put_limit : (p : PlaceView) (host : ℕ) (d : Directive) (n : ℕ) (regions : List Region) (xs : List Item) → ArePut p host d regions xs
+    → limit_fault p.config n regions host d (length xs) ≡ limit_fault p.config n regions host d (length (items_in (standing_in p).lengths regions host d))
+put_limit p host d n regions xs put =
+    ap (λ ys. limit_fault p.config n regions host d (length ys)) put ∙ limit_taken p.config n regions host d (items_in (standing_in p).lengths regions host d)
+
+all_taken : (items : List Item) → length items ≤ MAX_ITEMS → take 17 items ≡ items
+all_taken items short = take_all 17 items (omega arith)
+
+-- they are all of them, where they aren't too many
+pub put_all : (p : PlaceView) (host : ℕ) (d : Directive) (n : ℕ) (regions : List Region) (xs : List Item) → ArePut p host d regions xs
+    → None ≡ limit_fault p.config n regions host d (length xs) → xs ≡ items_in (standing_in p).lengths regions host d
+put_all p host d n regions xs put none =
+    let items = items_in (standing_in p).lengths regions host d in
+    put ∙ all_taken items (is_within p.config n regions host d (length items) (sym (none ∙ put_limit p host d n regions xs put))).short
+
 pub limit_refuses : (p : PlaceView) (host : ℕ) (d : Directive) (t : Present) (blocks n : ℕ) (regions : List Region) (labels : List Label) (f : Fault) → IsPlace p t blocks regions labels → n ≡ length p.history
-    → Some f ≡ limit_fault p.config n regions host d (length (items_in regions host d)) → IsRefusal (refusal p.config (standing_in p) host d) f
+    → Some f ≡ limit_fault p.config n regions host d (length (items_in (standing_in p).lengths regions host d)) → IsRefusal (refusal p.config (standing_in p) host d) f
 limit_refuses p host d t blocks n regions labels f h is some =
-    rw (refused_by_limit p.config (standing_in p) host d t blocks regions labels f h.tied (limit_at p host d t blocks n (length (items_in regions host d)) regions labels h is ∙ sym some)) refl
+    rw (refused_by_limit p.config (standing_in p) host d t blocks regions labels f h.tied (limit_at p host d t blocks n (length (items_in (standing_in p).lengths regions host d)) regions labels h is ∙ sym some)) refl
 
 -- where no limit is passed
 pub judged : (p : PlaceView) (host : ℕ) (d : Directive) (t : Present) (blocks n : ℕ) (regions : List Region) (labels : List Label) → IsPlace p t blocks regions labels → n ≡ length p.history
-    → None ≡ limit_fault p.config n regions host d (length (items_in regions host d))
-    → refusal p.config (standing_in p) host d ≡ first_fault_in p.config d.kind (holding t.presences blocks) (items_in regions host d)
+    → None ≡ limit_fault p.config n regions host d (length (items_in (standing_in p).lengths regions host d))
+    → refusal p.config (standing_in p) host d ≡ fault_or (first_fault_in p.config d.kind (holding t.presences blocks) (items_in (standing_in p).lengths regions host d)) (past_fault (loop_of d.kind) (items_in (standing_in p).lengths regions host d))
 judged p host d t blocks n regions labels h is none =
-    refused_by_items p.config (standing_in p) host d t blocks regions labels h.tied h.one (limit_at p host d t blocks n (length (items_in regions host d)) regions labels h is ∙ sym none)
+    refused_by_items p.config (standing_in p) host d t blocks regions labels h.tied h.one (limit_at p host d t blocks n (length (items_in (standing_in p).lengths regions host d)) regions labels h is ∙ sym none)
+
+-- the fault that was found of the items that were put in is the directive's
+pub judged_put : (p : PlaceView) (host : ℕ) (d : Directive) (t : Present) (blocks n : ℕ) (regions : List Region) (labels : List Label) (xs : List Item) → IsPlace p t blocks regions labels → n ≡ length p.history
+    → ArePut p host d regions xs → None ≡ limit_fault p.config n regions host d (length xs)
+    → refusal p.config (standing_in p) host d ≡ fault_or (first_fault_in p.config d.kind (holding t.presences blocks) xs) (past_fault (loop_of d.kind) xs)
+judged_put p host d t blocks n regions labels xs h is put none =
+    judged p host d t blocks n regions labels h is (none ∙ put_limit p host d n regions xs put)
+    ∙ ap (λ ys. fault_or (first_fault_in p.config d.kind (holding t.presences blocks) ys) (past_fault (loop_of d.kind) ys)) (sym (put_all p host d n regions xs put none))
+
+-- where there is none
+pub free_now : (p : PlaceView) (host : ℕ) (d : Directive) (t : Present) (blocks n : ℕ) (regions : List Region) (labels : List Label) (xs : List Item) → IsPlace p t blocks regions labels → n ≡ length p.history
+    → ArePut p host d regions xs → None ≡ limit_fault p.config n regions host d (length xs)
+    → None ≡ fault_or (first_fault_in p.config d.kind (holding t.presences blocks) xs) (past_fault (loop_of d.kind) xs)
+    → IsFree p.config (standing_in p) host d t blocks regions
+free_now p host d t blocks n regions labels xs h is put none found =
+    is_free p.config (standing_in p) host d t blocks regions labels h.tied h.one (judged_put p host d t blocks n regions labels xs h is put none ∙ sym found)
 
 pub refused_as : (given : Option Fault) (f : Fault) → given ≡ Some f → IsRefusal given f
 refused_as given f is = rw is refl
@@ -70,12 +135,18 @@ pub free_in : (p : PlaceView) (q : PlanView) (t : Present) (blocks : ℕ) (regio
     → IsFree p.config (standing_in p) q.host q.directive t blocks regions
 free_in p q t blocks regions labels h fits = is_free p.config (standing_in p) q.host q.directive t blocks regions labels h.tied h.one fits.accepted
 
+-- the items that are put in then are the directive's
+pub put_then : (p : PlaceView) (q : PlanView) (t : Present) (blocks : ℕ) (regions : List Region) (labels : List Label) (xs : List Item) → IsPlace p t blocks regions labels → Fits p q
+    → ArePut p q.host q.directive regions xs → xs ≡ items_in (standing_in p).lengths regions q.host q.directive
+put_then p q t blocks regions labels xs h fits put =
+    put ∙ all_taken (items_in (standing_in p).lengths regions q.host q.directive) (free_in p q t blocks regions labels h fits).within.short
+
 standing_after : (p : PlaceView) (q : PlanView) → standing_in (place_after p q) ≡ after_directive (standing_in p) q.host q.items_done q.directive
 unfolding standing
 standing_after p q = refl
 
 accepted_place : (p : PlaceView) (q : PlanView) (t after : Present) (blocks next : ℕ) (regions : List Region) (labels : List Label) → IsPlace p t blocks regions labels → Fits p q
-    → holding after.presences next ≡ holding_after_all (change_by q.directive.kind) (holding t.presences blocks) (items_in regions q.host q.directive) → after.capacity ≡ t.capacity
+    → holding after.presences next ≡ holding_behind q.directive.kind (holding t.presences blocks) (items_in (standing_in p).lengths regions q.host q.directive) → after.capacity ≡ t.capacity
     → IsPlace (place_after p q) after next (regions_after q.host q.directive q.directive.kind regions) (labels ++ option_to_list q.label)
 accepted_place p q t after blocks next regions labels h fits is same =
     let st = standing_after p q in
@@ -104,7 +175,7 @@ pushed_view config history history2 counts counts2 is_ready q more_history more_
 pub place_pushed : (config : Configuration) (history history2 : List PlaceEntry) (counts counts2 : List ℕ) (is_ready : Bool) (q : PlanView) (t after : Present) (blocks next : ℕ) (regions regions2 : List Region) (labels labels2 : List Label)
     → history2 ≡ history ++ Accepted q.host q.directive ∷ [] → counts2 ≡ counts ++ q.items_done ∷ [] → regions2 ≡ regions_after q.host q.directive q.directive.kind regions → labels2 ≡ labels ++ option_to_list q.label
     → IsPlace (viewed config history counts is_ready) t blocks regions labels → Fits (viewed config history counts is_ready) q
-    → holding after.presences next ≡ holding_after_all (change_by q.directive.kind) (holding t.presences blocks) (items_in regions q.host q.directive) → after.capacity ≡ t.capacity
+    → holding after.presences next ≡ holding_behind q.directive.kind (holding t.presences blocks) (items_in (standing_in (viewed config history counts is_ready)).lengths regions q.host q.directive) → after.capacity ≡ t.capacity
     → IsPlace (viewed config history2 counts2 false) after next regions2 labels2
 place_pushed config history history2 counts counts2 is_ready q t after blocks next regions regions2 labels labels2 more_history more_counts more_regions more_labels h fits is same =
     let e : reverse history2 ≡ Accepted q.host q.directive ∷ reverse history = ap reverse more_history ∙ reverse-push history (Accepted q.host q.directive) in
@@ -122,16 +193,17 @@ answered st host items_done walk label is = ap (option_map (λ (l : Label). (l.a
     by_ops (op ∷ ops) = refl
 
 -- only the question is answered, and it has its own items
-asked_of : (rs : List Region) (host : ℕ) (d : Directive) (k : Kind) (ps : List Presence) → is_answered k ps (subject_by rs host d k).items ≡ is_answered k ps d.items
-asked_of rs host d Data ps = refl
-asked_of rs host d EndData ps = refl
-asked_of rs host d EnterData ps = refl
-asked_of rs host d (ExitData finalize) ps = refl
-asked_of rs host d (Update if_present) ps = refl
-asked_of rs host d IsPresent ps = refl
+asked_of : (lengths : List ℕ) (rs : List Region) (host : ℕ) (d : Directive) (k : Kind) (ps : List Presence) → is_answered k ps (subject_by lengths rs host d k).items ≡ is_answered k ps d.items
+asked_of lengths rs host d Data ps = refl
+asked_of lengths rs host d EndData ps = refl
+asked_of lengths rs host d EnterData ps = refl
+asked_of lengths rs host d (ExitData finalize) ps = refl
+asked_of lengths rs host d (Update if_present) ps = refl
+asked_of lengths rs host d (Loop kernel) ps = refl
+asked_of lengths rs host d IsPresent ps = refl
 
 pub answer_is : (p : PlaceView) (q : PlanView) (t : Present) (blocks : ℕ) (regions : List Region) (labels : List Label) (batch : Option (QueueAt × ℕ)) (present : Bool) → IsPlace p t blocks regions labels → Fits p q
-    → batch ≡ option_map (λ (l : Label). (l.at, l.number)) q.label → present ≡ is_answered q.directive.kind t.presences (items_in regions q.host q.directive)
+    → batch ≡ option_map (λ (l : Label). (l.at, l.number)) q.label → present ≡ is_answered q.directive.kind t.presences (items_in (standing_in p).lengths regions q.host q.directive)
     → record { batch = batch; counts = replicate 8 0; present = present } ≡ answer_of (standing_in p) q.directive (walk_of (standing_in p) q.host q.directive)
 unfolding answer_of
 answer_is p q t blocks regions labels batch present h fits is found =
@@ -141,7 +213,7 @@ answer_is p q t blocks regions labels batch present h fits is found =
     let free = free_in p q t blocks regions labels h fits in
     let device : walk.device ≡ 0 = ap (λ (at_queue : QueueAt). at_queue.device) (at_sync p.config st q.host d t blocks regions labels h.tied free) in
     let same : t.presences ≡ presences (st.marks walk.device) = h.tied.presences ∙ ap (λ k. presences (st.marks k)) (sym device) in
-    let told : present ≡ is_answered d.kind (presences (st.marks walk.device)) d.items = found ∙ (asked_of regions q.host d d.kind t.presences ∙ ap (λ ps. is_answered d.kind ps d.items) same) in
+    let told : present ≡ is_answered d.kind (presences (st.marks walk.device)) d.items = found ∙ (asked_of (standing_in p).lengths regions q.host d d.kind t.presences ∙ ap (λ ps. is_answered d.kind ps d.items) same) in
     ap (λ b. record { batch = b; counts = replicate 8 0; present = present }) (is ∙ answered st q.host q.items_done walk q.label fits.labelled)
     ∙ ap (λ v. record { batch = placed_batch (walk_at walk) st.labels (batch_of st walk); counts = replicate 8 0; present = v }) told
 
@@ -181,9 +253,34 @@ pub ready_place : (config : Configuration) (history : List PlaceEntry) (counts :
     → IsPlace (viewed config history counts true) t blocks regions labels
 ready_place config history counts is_ready t blocks regions labels h = record { one = h.one; capacity = h.capacity; accepted = h.accepted; counted = h.counted; lawful = h.lawful; tied = h.tied }
 
+-- the steps of its two walks
+pub steps_made : (k : Kind) (h : Holding) (ps : List Presence) (xs items ends : List Item) (first all : List Marked) → first ≡ all_marked (change_by k) h xs → ps ≡ (holding_between k h xs).presences
+    → ends ≡ ends_of k xs → xs ≡ items
+    → all ≡ first ++ all_marked (Some StructuredDown) (holding ps 0) ends → all ≡ all_steps k h items
+steps_made k h ps xs items ends first all done drafted left own is =
+    let down = Some StructuredDown in
+    is
+    ∙ (ap (λ ts. ts ++ all_marked down (holding ps 0) ends) done
+    ∙ (ap (λ qs. all_marked (change_by k) h xs ++ all_marked down (holding qs 0) ends) drafted
+    ∙ (ap (λ es. all_marked (change_by k) h xs ++ all_marked down (holding (holding_between k h xs).presences 0) es) left
+    ∙ (ap (λ ts. all_marked (change_by k) h xs ++ ts) (left_alike (holding_between k h xs) 0 (ends_of k xs))
+    ∙ ap (all_steps k h) own))))
+
+-- and the loop that runs between them
+pub run_made : (k : Kind) (h : Holding) (ps : List Presence) (xs items : List Item) (run : List Op) → ps ≡ (holding_between k h xs).presences → xs ≡ items
+    → run ≡ run_in (loop_of k) xs ps → run ≡ run_in (loop_of k) items (holding_between k h items).presences
+run_made k h ps xs items run drafted own is =
+    is ∙ (ap (run_in (loop_of k) xs) drafted ∙ ap (λ ys. run_in (loop_of k) ys (holding_between k h ys).presences) own)
+
+-- the operations of a directive's two walks
+abbrev pub ops_in : PlaceView → ℕ → Directive → Present → ℕ → List Region → List Op
+ops_in p host d t blocks regions =
+    marked_ops (run_in (loop_of d.kind) (items_in (standing_in p).lengths regions host d) (holding_between d.kind (holding t.presences blocks) (items_in (standing_in p).lengths regions host d)).presences)
+    (all_steps d.kind (holding t.presences blocks) (items_in (standing_in p).lengths regions host d))
+
 pub fits_plan : (p : PlaceView) (host : ℕ) (d : Directive) (t : Present) (blocks : ℕ) (regions : List Region) (labels : List Label) (q : PlanView) → IsPlace p t blocks regions labels → refusal p.config (standing_in p) host d ≡ None
     → q.host ≡ host → q.directive ≡ d → q.region ≡ opened_region host d d.kind
-    → q.label ≡ label_for sync (length labels + 1) host q.items_done (marked_ops (all_marked (change_by d.kind) (holding t.presences blocks) (items_in regions host d))) → p.is_ready ≡ true → Fits p q
+    → q.label ≡ label_for sync (length labels + 1) host q.items_done (ops_in p host d t blocks regions) → p.is_ready ≡ true → Fits p q
 fits_plan p host d t blocks regions labels q h none by is inside named ready =
     let st = standing_in p in
     let free = is_free p.config st host d t blocks regions labels h.tied h.one none in
@@ -230,7 +327,7 @@ still_fits p q h same =
     let none_counted : h.counts_since ≡ [] = no_items h.counts_since (h.counted ∙ ap length none) in
     let is_history : p.history ≡ h.history_then = h.history ∙ ap (λ xs. xs ++ h.history_then) none in
     let is_counts : p.counts ≡ h.counts_then = h.counts ∙ ap (λ xs. xs ++ h.counts_then) none_counted in
-    let st : standing_in p ≡ standing h.history_then h.counts_then = ap (λ xs. standing xs p.counts) is_history ∙ ap (standing h.history_then) is_counts in
+    let st : standing_in p ≡ standing p.config h.history_then h.counts_then = ap (λ xs. standing p.config xs p.counts) is_history ∙ ap (standing p.config h.history_then) is_counts in
     record {
       accepted = ap (λ s. refusal p.config s q.host q.directive) st ∙ h.fitted.accepted;
       region = h.fitted.region;

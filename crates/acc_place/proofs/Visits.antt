@@ -4,6 +4,7 @@ use Rattle.std.specs.Prelude.{⊤, ◌&&◌, not, nat_lt}
 use Rattle.std.specs.List.{flat_map}
 use Rattle.std.specs.Option.{option_and_then, option_to_list}
 use Rattle.std.proofs.lemmas.Bool.{cases_Bool, and_parts, lt-ltb, le-ltb, eqb-true}
+use Rattle.std.proofs.lemmas.Grind.{flat_map-append}
 use Rattle.acc_base.specs.declared.range.Range.{Range}
 use Rattle.acc_base.specs.declared.fault.Fault.{Fault}
 use Rattle.acc_base.specs.declared.fault.Fault.TheVariants.{BadRange, PartlyPresent, NotPresent, DeviceFull}
@@ -13,7 +14,9 @@ use Rattle.acc_batch.specs.declared.operation.Op.TheVariants as op
 use Rattle.acc_present.specs.declared.table.Counter.TheVariants.{Structured, Dynamic}
 use Rattle.acc_present.specs.Legality.{AllLegal}
 use Rattle.acc_present.specs.Lifetimes.{opened, can_open}
-use Rattle.acc_present.specs.Marks.{Change, Structured_up, Structured_down, Dynamic_up, Dynamic_down, Dynamic_zero, Mark}
+use Rattle.acc_present.specs.declared.change.Change.{Change}
+use Rattle.acc_present.specs.declared.change.Change.TheVariants.{StructuredUp, StructuredDown, DynamicUp, DynamicDown, DynamicZero}
+use Rattle.acc_present.specs.Marks.{Mark}
 use Rattle.acc_present.specs.Presences.{Presence, presences, holder, is_present, is_partly_present, used_cells}
 use Rattle.acc_present.specs.Tables.{changed_counter, counter_of, stepped, has_count}
 use Rattle.acc_present.proofs.Balancing.{can_count-balanced, legal}
@@ -27,11 +30,10 @@ use Rattle.acc_place.specs.declared.directive.Clause.{Clause}
 use Rattle.acc_place.specs.declared.directive.Clause.TheVariants.{Copy, Copyin, Copyout, Create, Present, Delete, UpdateSelf, UpdateDevice}
 use Rattle.acc_place.specs.declared.directive.Item.{Item}
 use Rattle.acc_place.specs.declared.directive.Kind.{Kind}
-use Rattle.acc_place.specs.declared.directive.Kind.TheVariants as kind
 use Rattle.acc_place.specs.declared.plan.Group.TheVariants.{Makes, CopyIns, Updates, CopyOuts, Releases}
 use Rattle.acc_place.specs.declared.judge.Marked.{Marked}
 use Rattle.acc_place.specs.Accepting.{fault_at, first_fault, fault_where, is_in_array, has_opened, wants_whole, wants_presence}
-use Rattle.acc_place.specs.Batches.{opened_block, opened_blocks, ended_blocks, found_block, held_blocks, makes, copy_ins, updates_by, updates, copy_outs, releases, grouped, copies_in, copies_out}
+use Rattle.acc_place.specs.Batches.{opened_block, opened_blocks, ended_blocks, found_block, holding_blocks, makes, copy_ins, updates_by, updates, copy_outs, releases, grouped, copies_in, copies_out}
 use Rattle.acc_place.specs.Standings.{Visit, visits, change_by, marked, one_mark, marks_after, all_asked}
 use Rattle.acc_place.specs.Walks.{Holding, holding, mark_by, opens_one, opened_after, holding_after, holding_after_all, fault_in, fault_or, first_fault_in, block_held, block_opened, ended_by, marked_in, all_marked, update_for, group_ops, marked_ops, HasEntered, AllEntered, IsFine, AllFine}
 use Rattle.acc_place.proofs.Judging.{fine_item}
@@ -80,23 +82,22 @@ after_exit change ms r cannot h = elim (cases_Bool (is_present (presences ms) r)
 pub after_is : (change : Option Change) (ms : List Mark) (r : Range) → AllLegal ms → holding_of (marked ms r change) ≡ holding_after change r (holding_of ms)
 unfolding holding_after
 after_is None ms r h = refl
-after_is (Some Structured_up) ms r h = after_made Structured_up ms r h
-after_is (Some Structured_down) ms r h = after_made Structured_down ms r h
-after_is (Some Dynamic_up) ms r h = after_made Dynamic_up ms r h
-after_is (Some Dynamic_down) ms r h = after_exit Dynamic_down ms r refl h
-after_is (Some Dynamic_zero) ms r h = after_exit Dynamic_zero ms r refl h
+after_is (Some StructuredUp) ms r h = after_made StructuredUp ms r h
+after_is (Some StructuredDown) ms r h = after_made StructuredDown ms r h
+after_is (Some DynamicUp) ms r h = after_made DynamicUp ms r h
+after_is (Some DynamicDown) ms r h = after_exit DynamicDown ms r refl h
+after_is (Some DynamicZero) ms r h = after_exit DynamicZero ms r refl h
 
-pub legal_after : (k : Kind) (ms : List Mark) (r : Range) (capacity : ℕ) → AllLegal ms → IsFine capacity k (presences ms) r
-    → HasEntered (change_by k) r (presences ms) → AllLegal (marked ms r (change_by k))
-legal_after kind.Data ms r capacity h fine entered = ((fine.cells, fine.whole refl), h)
-legal_after kind.EndData ms r capacity h fine entered = ((fine.cells, entered), h)
-legal_after kind.EnterData ms r capacity h fine entered = ((fine.cells, fine.whole refl), h)
-legal_after (kind.ExitData true) ms r capacity h fine entered =
-    elim (is_present (presences ms) r) as (λ b. AllLegal (one_mark b Dynamic_zero r ms)) [ true ↦ ((fine.cells, tt), h) | false ↦ h ]
-legal_after (kind.ExitData false) ms r capacity h fine entered =
-    elim (is_present (presences ms) r) as (λ b. AllLegal (one_mark b Dynamic_down r ms)) [ true ↦ ((fine.cells, tt), h) | false ↦ h ]
-legal_after (kind.Update if_present) ms r capacity h fine entered = h
-legal_after kind.IsPresent ms r capacity h fine entered = h
+pub legal_after : (change : Option Change) (ms : List Mark) (r : Range) (capacity : ℕ) → AllLegal ms → IsFine capacity change (presences ms) r
+    → HasEntered change r (presences ms) → AllLegal (marked ms r change)
+legal_after None ms r capacity h fine entered = h
+legal_after (Some StructuredUp) ms r capacity h fine entered = ((fine.cells, fine.whole), h)
+legal_after (Some StructuredDown) ms r capacity h fine entered = ((fine.cells, entered), h)
+legal_after (Some DynamicUp) ms r capacity h fine entered = ((fine.cells, fine.whole), h)
+legal_after (Some DynamicDown) ms r capacity h fine entered =
+    elim (is_present (presences ms) r) as (λ b. AllLegal (one_mark b DynamicDown r ms)) [ true ↦ ((fine.cells, tt), h) | false ↦ h ]
+legal_after (Some DynamicZero) ms r capacity h fine entered =
+    elim (is_present (presences ms) r) as (λ b. AllLegal (one_mark b DynamicZero r ms)) [ true ↦ ((fine.cells, tt), h) | false ↦ h ]
 
 opened_is : (change : Option Change) (ms : List Mark) (r : Range) → AllLegal ms
     → length (opened (marked ms r change)) ≡ opened_after (opens_one change (presences ms) r) (length (opened ms))
@@ -120,19 +121,19 @@ opened_blocks_are change ms i h =
 
 -- an entry ends nothing
 entered_counts : (change : Change) (x : Presence) → can_open change ≡ true → has_count (stepped change x) ≡ true
-entered_counts Structured_up x can = has_count-entered Structured x
-entered_counts Structured_down x can = absurd cc
-entered_counts Dynamic_up x can = has_count-entered Dynamic x
-entered_counts Dynamic_down x can = absurd cc
-entered_counts Dynamic_zero x can = absurd cc
+entered_counts StructuredUp x can = has_count-entered Structured x
+entered_counts StructuredDown x can = absurd cc
+entered_counts DynamicUp x can = has_count-entered Dynamic x
+entered_counts DynamicDown x can = absurd cc
+entered_counts DynamicZero x can = absurd cc
 
 -- an exit where the counter is zero changes nothing
 zero_stays : (change : Change) (x : Presence) → can_open change ≡ false → counter_of (changed_counter change) x ≡ 0 → stepped change x ≡ x
-zero_stays Structured_up x cannot none = absurd cc
-zero_stays Structured_down x cannot none = stepped-zero Structured x none
-zero_stays Dynamic_up x cannot none = absurd cc
-zero_stays Dynamic_down x cannot none = stepped-zero Dynamic x none
-zero_stays Dynamic_zero x cannot none = finalized-zero x none
+zero_stays StructuredUp x cannot none = absurd cc
+zero_stays StructuredDown x cannot none = stepped-zero Structured x none
+zero_stays DynamicUp x cannot none = absurd cc
+zero_stays DynamicDown x cannot none = stepped-zero Dynamic x none
+zero_stays DynamicZero x cannot none = finalized-zero x none
 
 exit_ends : (change : Change) (x : Presence) (ps : List Presence) (r : Range) → can_open change ≡ false → has_count x ≡ true → holder ps r ≡ Some x
     → cond (has_count (stepped change x)) [] (x.block ∷ []) ≡ option_to_list (ended_by (Some change) ps r)
@@ -173,11 +174,11 @@ exit_made_ends change ms r h cells = elim (cases_Bool (is_present (presences ms)
 ended_blocks_are : (change : Option Change) (ms : List Mark) (i : Item) → AllLegal ms → 0 < i.range.len
     → ended_blocks (visit_of change ms i) ≡ option_to_list (ended_by change (presences ms) i.range)
 ended_blocks_are None ms i h cells = ended-same ms
-ended_blocks_are (Some Structured_up) ms i h cells = made_ends Structured_up ms i.range h cells
-ended_blocks_are (Some Structured_down) ms i h cells = made_ends Structured_down ms i.range h cells
-ended_blocks_are (Some Dynamic_up) ms i h cells = made_ends Dynamic_up ms i.range h cells
-ended_blocks_are (Some Dynamic_down) ms i h cells = exit_made_ends Dynamic_down ms i.range h cells
-ended_blocks_are (Some Dynamic_zero) ms i h cells = exit_made_ends Dynamic_zero ms i.range h cells
+ended_blocks_are (Some StructuredUp) ms i h cells = made_ends StructuredUp ms i.range h cells
+ended_blocks_are (Some StructuredDown) ms i h cells = made_ends StructuredDown ms i.range h cells
+ended_blocks_are (Some DynamicUp) ms i h cells = made_ends DynamicUp ms i.range h cells
+ended_blocks_are (Some DynamicDown) ms i h cells = exit_made_ends DynamicDown ms i.range h cells
+ended_blocks_are (Some DynamicZero) ms i h cells = exit_made_ends DynamicZero ms i.range h cells
 
 found_is_held : (o : Option Presence) → found_block o ≡ option_to_list (block_held o)
 found_is_held None = refl
@@ -244,7 +245,7 @@ faults_are config k ms (i ∷ is) h entered =
     let ih = λ (none : fault_in config k (presences ms) i ≡ None).
     (let fine = fine_item config k (presences ms) i none in
     let next : AllEntered change (holding_of after) is = rw e entered.1 in
-    faults_are config k after is (legal_after k ms i.range config.capacity h fine entered.0) next ∙ ap (λ g. first_fault_in config k g is) e) in
+    faults_are config k after is (legal_after change ms i.range config.capacity h fine entered.0) next ∙ ap (λ g. first_fault_in config k g is) e) in
     first_fault-cons (fault_at config k (visit_of change ms i)) (map (fault_at config k) (visits after (all_asked change is)))
     ∙ or_others (fault_at config k (visit_of change ms i)) (fault_in config k (presences ms) i) (faults_of config k after is)
     (first_fault_in config k (holding_after change i.range (holding_of ms)) is) (fault_is config k ms i h) ih
@@ -255,40 +256,40 @@ none_of_both : (f g : Option Fault) → fault_or f g ≡ None → (f ≡ None) �
 none_of_both None g h = (refl, h)
 none_of_both (Some f) g h = absurd (cc)
 
-pub all_fine : (config : Configuration) (k : Kind) (h : Holding) (items : List Item) → first_fault_in config k h items ≡ None → AllFine config.capacity k h items
+pub all_fine : (config : Configuration) (k : Kind) (h : Holding) (items : List Item) → first_fault_in config k h items ≡ None → AllFine config.capacity (change_by k) h items
 all_fine config k h [] none = tt
 all_fine config k h (i ∷ is) none =
     let parts = none_of_both (fault_in config k h.presences i) (first_fault_in config k (holding_after (change_by k) i.range h) is) none in
     (fine_item config k h.presences i parts.0, all_fine config k (holding_after (change_by k) i.range h) is parts.1)
 
 -- what is asked of the items, once the first is marked
-record NextIs (capacity : ℕ) (k : Kind) (ms : List Mark) (i : Item) (is : List Item) : Type 0 where
-  same : holding_of (marked ms i.range (change_by k)) ≡ holding_after (change_by k) i.range (holding_of ms)
-  allowed : AllLegal (marked ms i.range (change_by k))
-  entered : AllEntered (change_by k) (holding_of (marked ms i.range (change_by k))) is
-  fine : AllFine capacity k (holding_of (marked ms i.range (change_by k))) is
+record NextIs (capacity : ℕ) (change : Option Change) (ms : List Mark) (i : Item) (is : List Item) : Type 0 where
+  same : holding_of (marked ms i.range change) ≡ holding_after change i.range (holding_of ms)
+  allowed : AllLegal (marked ms i.range change)
+  entered : AllEntered change (holding_of (marked ms i.range change)) is
+  fine : AllFine capacity change (holding_of (marked ms i.range change)) is
 
-next_is : (capacity : ℕ) (k : Kind) (ms : List Mark) (i : Item) (is : List Item) → AllLegal ms → AllEntered (change_by k) (holding_of ms) (i ∷ is)
-    → AllFine capacity k (holding_of ms) (i ∷ is) → NextIs capacity k ms i is
-next_is capacity k ms i is h entered fine =
-    let e = after_is (change_by k) ms i.range h in
-    record { same = e; allowed = legal_after k ms i.range capacity h fine.0 entered.0; entered = rw e entered.1; fine = rw e fine.1 }
+next_is : (capacity : ℕ) (change : Option Change) (ms : List Mark) (i : Item) (is : List Item) → AllLegal ms → AllEntered change (holding_of ms) (i ∷ is)
+    → AllFine capacity change (holding_of ms) (i ∷ is) → NextIs capacity change ms i is
+next_is capacity change ms i is h entered fine =
+    let e = after_is change ms i.range h in
+    record { same = e; allowed = legal_after change ms i.range capacity h fine.0 entered.0; entered = rw e entered.1; fine = rw e fine.1 }
 
-pub marks_are : (capacity : ℕ) (k : Kind) (ms : List Mark) (items : List Item) → AllLegal ms → AllEntered (change_by k) (holding_of ms) items
-    → AllFine capacity k (holding_of ms) items
-    → holding_of (marks_after ms (all_asked (change_by k) items)) ≡ holding_after_all (change_by k) (holding_of ms) items
-marks_are capacity k ms [] h entered fine = refl
-marks_are capacity k ms (i ∷ is) h entered fine =
-    let next = next_is capacity k ms i is h entered fine in
-    marks_are capacity k (marked ms i.range (change_by k)) is next.allowed next.entered next.fine ∙ ap (λ g. holding_after_all (change_by k) g is) next.same
+pub marks_are : (capacity : ℕ) (change : Option Change) (ms : List Mark) (items : List Item) → AllLegal ms → AllEntered change (holding_of ms) items
+    → AllFine capacity change (holding_of ms) items
+    → holding_of (marks_after ms (all_asked change items)) ≡ holding_after_all change (holding_of ms) items
+marks_are capacity change ms [] h entered fine = refl
+marks_are capacity change ms (i ∷ is) h entered fine =
+    let next = next_is capacity change ms i is h entered fine in
+    marks_are capacity change (marked ms i.range change) is next.allowed next.entered next.fine ∙ ap (λ g. holding_after_all change g is) next.same
 
-pub legal_all : (capacity : ℕ) (k : Kind) (ms : List Mark) (items : List Item) → AllLegal ms → AllEntered (change_by k) (holding_of ms) items
-    → AllFine capacity k (holding_of ms) items
-    → AllLegal (marks_after ms (all_asked (change_by k) items))
-legal_all capacity k ms [] h entered fine = h
-legal_all capacity k ms (i ∷ is) h entered fine =
-    let next = next_is capacity k ms i is h entered fine in
-    legal_all capacity k (marked ms i.range (change_by k)) is next.allowed next.entered next.fine
+pub legal_all : (capacity : ℕ) (change : Option Change) (ms : List Mark) (items : List Item) → AllLegal ms → AllEntered change (holding_of ms) items
+    → AllFine capacity change (holding_of ms) items
+    → AllLegal (marks_after ms (all_asked change items))
+legal_all capacity change ms [] h entered fine = h
+legal_all capacity change ms (i ∷ is) h entered fine =
+    let next = next_is capacity change ms i is h entered fine in
+    legal_all capacity change (marked ms i.range change) is next.allowed next.entered next.fine
 
 -- ## Operations
 
@@ -346,28 +347,56 @@ ops_first change ms i vs ts h cells rest =
     record {
       made = both (makes v) _ (flat_map makes vs) (flat_map (group_ops Makes) ts) (op_each (λ b. op.Make b r) (opened_blocks v) one opens) rest.made;
       filled = both (copy_ins v) _ (flat_map copy_ins vs) (flat_map (group_ops CopyIns) ts) (op_where (copies_in i.clause) (λ b. op.CopyIn b r) (opened_blocks v) one opens) rest.filled;
-      updated = both (updates v) _ (flat_map updates vs) (flat_map (group_ops Updates) ts) (updates_are i.clause r (held_blocks v) (block_held had) (found_is_held had)) rest.updated;
+      updated = both (updates v) _ (flat_map updates vs) (flat_map (group_ops Updates) ts) (updates_are i.clause r (holding_blocks ms r) (block_held had) (found_is_held had)) rest.updated;
       copied = both (copy_outs v) _ (flat_map copy_outs vs) (flat_map (group_ops CopyOuts) ts) (op_where (copies_out i.clause) (λ b. op.CopyOut b r) (ended_blocks v) over ends) rest.copied;
       released = both (releases v) _ (flat_map releases vs) (flat_map (group_ops Releases) ts) (op_each op.Release (ended_blocks v) over ends) rest.released;
     }
 
-ops_alike : (capacity : ℕ) (k : Kind) (ms : List Mark) (items : List Item) → AllLegal ms → AllEntered (change_by k) (holding_of ms) items
-    → AllFine capacity k (holding_of ms) items
-    → OpsAlike (visits ms (all_asked (change_by k) items)) (all_marked (change_by k) (holding_of ms) items)
-ops_alike capacity k ms [] h entered fine = record { made = refl; filled = refl; updated = refl; copied = refl; released = refl }
-ops_alike capacity k ms (i ∷ is) h entered fine =
-    let next = next_is capacity k ms i is h entered fine in
+ops_alike : (capacity : ℕ) (change : Option Change) (ms : List Mark) (items : List Item) → AllLegal ms → AllEntered change (holding_of ms) items
+    → AllFine capacity change (holding_of ms) items
+    → OpsAlike (visits ms (all_asked change items)) (all_marked change (holding_of ms) items)
+ops_alike capacity change ms [] h entered fine = record { made = refl; filled = refl; updated = refl; copied = refl; released = refl }
+ops_alike capacity change ms (i ∷ is) h entered fine =
+    let next = next_is capacity change ms i is h entered fine in
     let e = next.same in
-    let after = marked ms i.range (change_by k) in
-    let rest = ops_alike capacity k after is next.allowed next.entered next.fine in
-    ops_first (change_by k) ms i (visits after (all_asked (change_by k) is)) (all_marked (change_by k) (holding_after (change_by k) i.range (holding_of ms)) is) h fine.0.cells (rw e at rest)
+    let after = marked ms i.range change in
+    let rest = ops_alike capacity change after is next.allowed next.entered next.fine in
+    ops_first change ms i (visits after (all_asked change is)) (all_marked change (holding_after change i.range (holding_of ms)) is) h fine.0.cells (rw e at rest)
 
-pub ops_are : (capacity : ℕ) (k : Kind) (ms : List Mark) (items : List Item) → AllLegal ms → AllEntered (change_by k) (holding_of ms) items
-    → AllFine capacity k (holding_of ms) items
-    → grouped (visits ms (all_asked (change_by k) items)) ≡ marked_ops (all_marked (change_by k) (holding_of ms) items)
+-- one walk behind another
+ops_behind : (vs ws : List Visit) (ts us : List Marked) → OpsAlike vs ts → OpsAlike ws us → OpsAlike (vs ++ ws) (ts ++ us)
+ops_behind vs ws ts us first later =
+    record {
+      made = flat_map-append makes vs ws ∙ (both _ _ _ _ first.made later.made ∙ sym (flat_map-append (group_ops Makes) ts us));
+      filled = flat_map-append copy_ins vs ws ∙ (both _ _ _ _ first.filled later.filled ∙ sym (flat_map-append (group_ops CopyIns) ts us));
+      updated = flat_map-append updates vs ws ∙ (both _ _ _ _ first.updated later.updated ∙ sym (flat_map-append (group_ops Updates) ts us));
+      copied = flat_map-append copy_outs vs ws ∙ (both _ _ _ _ first.copied later.copied ∙ sym (flat_map-append (group_ops CopyOuts) ts us));
+      released = flat_map-append releases vs ws ∙ (both _ _ _ _ first.released later.released ∙ sym (flat_map-append (group_ops Releases) ts us));
+    }
+
+ops_grouped : (run : List Op) (vs : List Visit) (ts : List Marked) → OpsAlike vs ts → grouped run vs ≡ marked_ops run ts
 unfolding marked_ops
-ops_are capacity k ms items h entered fine =
-    let vs = visits ms (all_asked (change_by k) items) in
-    let a = ops_alike capacity k ms items h entered fine in
+ops_grouped run vs ts a =
     both (flat_map makes vs) _ _ _ a.made
-    (both (flat_map copy_ins vs) _ _ _ a.filled (both (flat_map updates vs) _ _ _ a.updated (both (flat_map copy_outs vs) _ _ _ a.copied a.released)))
+    (both (flat_map copy_ins vs) _ _ _ a.filled
+    (both run run _ _ refl (both (flat_map updates vs) _ _ _ a.updated (both (flat_map copy_outs vs) _ _ _ a.copied a.released))))
+
+-- What is known of a walk: its marks are legal, it leaves only what was entered, and its items are fine.
+pub record IsWalk (capacity : ℕ) (change : Option Change) (ms : List Mark) (items : List Item) : Type 0 where
+  pub allowed : AllLegal ms
+  pub entered : AllEntered change (holding_of ms) items
+  pub fine : AllFine capacity change (holding_of ms) items
+
+-- the operations of a walk, and of one behind it
+pub ops_are : (capacity : ℕ) (change other : Option Change) (ms : List Mark) (items ends : List Item) (run : List Op) → IsWalk capacity change ms items
+    → IsWalk capacity other (marks_after ms (all_asked change items)) ends
+    → grouped run (visits ms (all_asked change items) ++ visits (marks_after ms (all_asked change items)) (all_asked other ends))
+    ≡ marked_ops run (all_marked change (holding_of ms) items ++ all_marked other (holding_after_all change (holding_of ms) items) ends)
+ops_are capacity change other ms items ends run w v =
+    let between = marks_after ms (all_asked change items) in
+    let held = marks_are capacity change ms items w.allowed w.entered w.fine in
+    ops_grouped run (visits ms (all_asked change items) ++ visits between (all_asked other ends)) (all_marked change (holding_of ms) items ++ all_marked other (holding_of between) ends)
+    (ops_behind (visits ms (all_asked change items)) (visits between (all_asked other ends)) (all_marked change (holding_of ms) items) (all_marked other (holding_of between) ends)
+    (ops_alike capacity change ms items w.allowed w.entered w.fine)
+    (ops_alike capacity other between ends v.allowed v.entered v.fine))
+    ∙ ap (λ h. marked_ops run (all_marked change (holding_of ms) items ++ all_marked other h ends)) held

@@ -1,14 +1,17 @@
 -- One item of a walk: it can be marked, and the counters stay low for the others.
 use Rattle.std.proofs.Common.{◌≡◌, ℕ, suc, ◌+◌, ◌-◌, ◌<◌, ◌≤◌, Bool, true, false, cond, List, [], ◌∷◌, ◌++◌, length, map, get_or, drop, take, Option, Some, None, refl, ap, ◌∙◌, arith}
-use Rattle.std.specs.Prelude.{◌&&◌, not, filter, IfSome, is_some}
+use Rattle.std.specs.Prelude.{All, ◌&&◌, not, filter, IfSome, is_some}
 use Rattle.std.proofs.Math.Seq.{take-length}
+use Rattle.std.proofs.lemmas.List.Elements.{All-tail}
 use Rattle.acc_base.specs.declared.range.Range.{Range}
 use Rattle.acc_base.specs.Ranges.{range_contains}
 use Rattle.acc_base.specs.Configurations.{Configuration}
 use Rattle.acc_present.specs.declared.table.Counter.{Counter}
 use Rattle.acc_present.specs.declared.table.Counter.TheVariants.{Structured, Dynamic}
 use Rattle.acc_present.specs.declared.table.TheConstants.{COUNTER_LIMIT}
-use Rattle.acc_present.specs.Marks.{Change, Structured_up, Structured_down, Dynamic_up, Dynamic_down, Dynamic_zero, Mark}
+use Rattle.acc_present.specs.declared.change.Change.{Change}
+use Rattle.acc_present.specs.declared.change.Change.TheVariants.{StructuredUp, StructuredDown, DynamicUp, DynamicDown, DynamicZero}
+use Rattle.acc_present.specs.Marks.{Mark}
 use Rattle.acc_present.specs.Lifetimes.{can_open, is_before}
 use Rattle.acc_present.specs.Presences.{Presence, holder, is_present, is_partly_present, used_cells}
 use Rattle.acc_present.specs.Tables.{Present, counter_of, entry_change, presence_after, stepped, opening, has_count, kept_after, presences_after, presence_placed_in}
@@ -16,7 +19,6 @@ use Rattle.acc_present.proofs.Marking.{length-after}
 use Rattle.acc_present.proofs.Searching.{is_present-none}
 use Rattle.acc_place.specs.declared.directive.Item.{Item}
 use Rattle.acc_place.specs.declared.directive.Kind.{Kind}
-use Rattle.acc_place.specs.declared.directive.Kind.TheVariants as kind
 use Rattle.acc_place.specs.declared.judge.Marked.{Marked}
 use Rattle.acc_place.specs.Standings.{change_by}
 use Rattle.acc_place.specs.Walks.{Holding, holding, mark_by, opens_one, opened_after, presences_by, holding_after, holding_after_all, fault_in, fault_or, first_fault_in, block_opened, marked_in, all_marked, AllLow, HasRoomFor, CanEnter, CanMark, HasEntered, AllEntered, IsFine, AllFine}
@@ -39,15 +41,15 @@ pub holding-next : (change : Option Change) (h : Holding) (items : List Item) (d
 holding-next change h [] d some = absurd (omega arith)
 holding-next change h (i ∷ is) d some = refl
 
-pub fine-first : (capacity : ℕ) (k : Kind) (h : Holding) (items : List Item) (d : Item) → 1 ≤ length items → AllFine capacity k h items
-    → IsFine capacity k h.presences (get_or items 0 d).range
-fine-first capacity k h [] d some fine = absurd (omega arith)
-fine-first capacity k h (i ∷ is) d some fine = fine.0
+pub fine-first : (capacity : ℕ) (change : Option Change) (h : Holding) (items : List Item) (d : Item) → 1 ≤ length items → AllFine capacity change h items
+    → IsFine capacity change h.presences (get_or items 0 d).range
+fine-first capacity change h [] d some fine = absurd (omega arith)
+fine-first capacity change h (i ∷ is) d some fine = fine.0
 
-pub fine-next : (capacity : ℕ) (k : Kind) (h : Holding) (items : List Item) (d : Item) → 1 ≤ length items → AllFine capacity k h items
-    → AllFine capacity k (holding_after (change_by k) (get_or items 0 d).range h) (drop 1 items)
-fine-next capacity k h [] d some fine = absurd (omega arith)
-fine-next capacity k h (i ∷ is) d some fine = fine.1
+pub fine-next : (capacity : ℕ) (change : Option Change) (h : Holding) (items : List Item) (d : Item) → 1 ≤ length items → AllFine capacity change h items
+    → AllFine capacity change (holding_after change (get_or items 0 d).range h) (drop 1 items)
+fine-next capacity change h [] d some fine = absurd (omega arith)
+fine-next capacity change h (i ∷ is) d some fine = fine.1
 
 pub entered-first : (change : Option Change) (h : Holding) (items : List Item) (d : Item) → 1 ≤ length items → AllEntered change h items
     → HasEntered change (get_or items 0 d).range h.presences
@@ -86,11 +88,11 @@ AllLow-append limit n [] qs h k = k
 AllLow-append limit n (p ∷ ps) qs h k = (h.0, AllLow-append limit n ps qs h.1 k)
 
 stepped_low : (limit n : ℕ) (change : Change) (p : Presence) → p.s + p.d + suc n ≤ limit → (stepped change p).s + (stepped change p).d + n ≤ limit
-stepped_low limit n Structured_up p h = omega arith
-stepped_low limit n Structured_down p h = omega arith
-stepped_low limit n Dynamic_up p h = omega arith
-stepped_low limit n Dynamic_down p h = omega arith
-stepped_low limit n Dynamic_zero p h = omega arith
+stepped_low limit n StructuredUp p h = omega arith
+stepped_low limit n StructuredDown p h = omega arith
+stepped_low limit n DynamicUp p h = omega arith
+stepped_low limit n DynamicDown p h = omega arith
+stepped_low limit n DynamicZero p h = omega arith
 
 AllLow-stepped : (limit n : ℕ) (m : Mark) (ps : List Presence) → AllLow limit (suc n) ps → AllLow limit n (map (presence_after m) ps)
 AllLow-stepped limit n m [] h = tt
@@ -155,15 +157,14 @@ can_enter counter ps r capacity n cells whole fits low some =
       fits = λ none. fits (opens_where_none counter ps r none);
     }
 
-pub can_mark : (k : Kind) (ps : List Presence) (r : Range) (capacity n : ℕ) → IsFine capacity k ps r → HasEntered (change_by k) r ps → AllLow COUNTER_LIMIT n ps
-    → 1 ≤ n → CanMark (change_by k) r ps capacity
-can_mark kind.Data ps r capacity n fine entered low some = can_enter Structured ps r capacity n fine.cells (fine.whole refl) fine.fits low some
-can_mark kind.EndData ps r capacity n fine entered low some = (fine.cells, entered)
-can_mark kind.EnterData ps r capacity n fine entered low some = can_enter Dynamic ps r capacity n fine.cells (fine.whole refl) fine.fits low some
-can_mark (kind.ExitData true) ps r capacity n fine entered low some = fine.cells
-can_mark (kind.ExitData false) ps r capacity n fine entered low some = fine.cells
-can_mark (kind.Update if_present) ps r capacity n fine entered low some = fine.cells
-can_mark kind.IsPresent ps r capacity n fine entered low some = fine.cells
+pub can_mark : (change : Option Change) (ps : List Presence) (r : Range) (capacity n : ℕ) → IsFine capacity change ps r → HasEntered change r ps → AllLow COUNTER_LIMIT n ps
+    → 1 ≤ n → CanMark change r ps capacity
+can_mark None ps r capacity n fine entered low some = fine.cells
+can_mark (Some StructuredUp) ps r capacity n fine entered low some = can_enter Structured ps r capacity n fine.cells fine.whole fine.fits low some
+can_mark (Some StructuredDown) ps r capacity n fine entered low some = (fine.cells, entered)
+can_mark (Some DynamicUp) ps r capacity n fine entered low some = can_enter Dynamic ps r capacity n fine.cells fine.whole fine.fits low some
+can_mark (Some DynamicDown) ps r capacity n fine entered low some = fine.cells
+can_mark (Some DynamicZero) ps r capacity n fine entered low some = fine.cells
 
 pub opened-most : (b : Bool) (n : ℕ) → opened_after b n ≤ n + 1
 opened-most true n = omega arith
@@ -196,6 +197,69 @@ pub room_rest : (change : Option Change) (t after : Present) (r : Range) (items 
 room_rest change t after r [] opened next room some is same = absurd (omega arith)
 room_rest change t after r (i ∷ is) opened next room some at_t same = room_after change t after r (length is) opened next room at_t same
 
+pub room_fewer : (t : Present) (n m opened : ℕ) → m ≤ n → HasRoomFor n t opened → HasRoomFor m t opened
+room_fewer t n m opened fewer room =
+    record { room = omega (arith, room.room); low = AllLow-fewer COUNTER_LIMIT COUNTER_LIMIT n m t.presences (omega arith) room.low; few = omega (arith, room.few) }
+
+-- and once all are marked, for as many more
+pub room_all : (change : Option Change) (t after : Present) (items : List Item) (n opened next : ℕ) → HasRoomFor (length items + n) t opened
+    → holding after.presences next ≡ holding_after_all change (holding t.presences opened) items → after.room ≡ t.room → HasRoomFor n after next
+unfolding holding_after
+room_all change t after [] n opened next room is same =
+    let ps : after.presences ≡ t.presences = ap (λ (h : Holding). h.presences) is in
+    let count : next ≡ opened = ap (λ (h : Holding). h.opened) is in
+    let rest = room_fewer t (length {A = Item} [] + n) n opened (omega arith) room in
+    record { room = omega (arith, ap length ps, same, rest.room); low = rw ps rest.low; few = omega (arith, count, rest.few) }
+room_all change t after (i ∷ is) n opened next room at_all same =
+    let h = holding_after change i.range (holding t.presences opened) in
+    let between : Present = record { presences = h.presences; capacity = t.capacity; room = t.room } in
+    room_all change between after is n h.opened next (room_after change t between i.range (length is + n) opened h.opened (room_fewer t (length (i ∷ is) + n) (suc (length is + n)) opened (omega arith) room) refl refl) at_all same
+
+-- ## Items that leave
+
+-- a mark of one counts nothing up
+stepped_down : (limit n : ℕ) (p : Presence) → p.s + p.d + n ≤ limit → (stepped StructuredDown p).s + (stepped StructuredDown p).d + n ≤ limit
+stepped_down limit n p h = omega arith
+
+low_down : (limit n : ℕ) (r : Range) (ps : List Presence) → AllLow limit n ps → AllLow limit n (map (presence_after (mark_by StructuredDown r)) ps)
+low_down limit n r [] h = tt
+low_down limit n r (p ∷ ps) h = (
+  elim (range_contains p.range r) as (λ v. (cond v (stepped StructuredDown p) p).s + (cond v (stepped StructuredDown p) p).d + n ≤ limit) [ true ↦ stepped_down limit n p h.0 | false ↦ h.0 ],
+  low_down limit n r ps h.1,
+)
+
+pub low_left : (limit n : ℕ) (h : Holding) (items : List Item) → AllLow limit n h.presences → AllLow limit n (holding_after_all (Some StructuredDown) h items).presences
+unfolding holding_after
+low_left limit n h [] low = low
+low_left limit n h (i ∷ is) low =
+    low_left limit n (holding_after (Some StructuredDown) i.range h) is
+    (AllLow-filter limit n has_count (map (presence_after (mark_by StructuredDown i.range)) h.presences) (low_down limit n i.range h.presences low))
+
+-- and opens nothing
+pub opened_left : (h : Holding) (items : List Item) → (holding_after_all (Some StructuredDown) h items).opened ≡ h.opened
+unfolding holding_after
+opened_left h [] = refl
+opened_left h (i ∷ is) = opened_left (holding_after (Some StructuredDown) i.range h) is
+
+pub left_is : (ps after : List Presence) (n : ℕ) (r : Range) → after ≡ presences_by (Some StructuredDown) r (n + 1) ps → holding after n ≡ holding_after (Some StructuredDown) r (holding ps n)
+unfolding holding_after
+left_is ps after n r is = ap (λ qs. holding qs n) is
+
+-- so how many lifetimes were opened doesn't matter
+pub left_alike : (h : Holding) (m : ℕ) (items : List Item) → all_marked (Some StructuredDown) (holding h.presences m) items ≡ all_marked (Some StructuredDown) h items
+unfolding holding_after marked_in
+left_alike h m [] = refl
+left_alike h m (i ∷ is) = ap (λ ts. marked_in (Some StructuredDown) h i ∷ ts) (left_alike (holding_after (Some StructuredDown) i.range h) m is)
+
+pub entered_alike : (h : Holding) (m : ℕ) (items : List Item) → AllEntered (Some StructuredDown) h items → AllEntered (Some StructuredDown) (holding h.presences m) items
+unfolding holding_after
+entered_alike h m [] entered = tt
+entered_alike h m (i ∷ is) entered = (entered.0, entered_alike (holding_after (Some StructuredDown) i.range h) m is entered.1)
+
+pub length-marked : (change : Option Change) (h : Holding) (items : List Item) → length (all_marked change h items) ≡ length items
+length-marked change h [] = refl
+length-marked change h (i ∷ is) = ap suc (length-marked change (holding_after change i.range h) is)
+
 -- ## The items behind the first, as a slice pattern gives them
 
 abbrev pub rest_of : List Item → List Item
@@ -208,3 +272,7 @@ rest_is (i ∷ is) = let e : suc (length is) - 1 ≡ length is = omega arith in 
 pub length-rest : (items : List Item) → 1 ≤ length items → length (rest_of items) + 1 ≡ length items
 length-rest [] some = absurd (omega arith)
 length-rest (i ∷ is) some = omega (arith, ap length (rest_is (i ∷ is)))
+
+pub all_rest : (P : Item → Type 0) (items : List Item) → All P items → All P (rest_of items)
+all_rest P [] all = all
+all_rest P (i ∷ is) all = rw (rest_is (i ∷ is)) (All-tail P i is all)

@@ -1,19 +1,24 @@
 -- When a directive is accepted, and its first fault where it is not (OpenACC API 3.0, 2.6.5, Data Construct, 2.6.6, Enter
 -- Data and Exit Data Directives, 2.7, Data Clauses, and 2.14.4, Update Directive).
-use Rattle.std.specs.Prelude.{ℕ, ◌+◌, Bool, true, false, ◌&&◌, ◌||◌, not, nat_lt, nat_le, List, [], ◌∷◌, length, map, slice_get, Option, Some, None, ℤ}
+use Rattle.std.specs.Prelude.{ℕ, ◌+◌, Bool, true, false, ◌&&◌, ◌||◌, not, nat_lt, nat_le, List, [], ◌∷◌, ◌++◌, length, map, slice_get, Option, Some, None, ℤ, pos, int_lt, int_le}
+use Rattle.std.specs.List.{list_any}
 use Rattle.acc_base.specs.declared.range.Range.{Range}
 use Rattle.acc_base.specs.declared.fault.Fault.{Fault}
-use Rattle.acc_base.specs.declared.fault.Fault.TheVariants.{BadDevice, BadRange, TooMany, PartlyPresent, NotPresent, DeviceFull, NoRegion}
+use Rattle.acc_base.specs.declared.fault.Fault.TheVariants.{BadDevice, BadRange, TooMany, PartlyPresent, NotPresent, DeviceFull, OutsideRange, NoRegion}
 use Rattle.acc_base.specs.Configurations.{Configuration}
+use Rattle.acc_kernel.specs.declared.reach.Reach.{Reach}
+use Rattle.acc_kernel.specs.Kernels.{Loop, arrays_of, reach_of}
 use Rattle.acc_present.specs.Lifetimes.{opened}
 use Rattle.acc_present.specs.Presences.{presences, is_present, is_partly_present, used_cells}
 use Rattle.acc_place.specs.declared.directive.Clause.{Clause}
 use Rattle.acc_place.specs.declared.directive.Clause.TheVariants as clause
 use Rattle.acc_place.specs.declared.directive.Directive.{Directive}
+use Rattle.acc_place.specs.declared.directive.Item.{Item}
 use Rattle.acc_place.specs.declared.directive.Kind.{Kind}
 use Rattle.acc_place.specs.declared.directive.Kind.TheVariants as kind
 use Rattle.acc_place.specs.declared.directive.Region.{Region}
 use Rattle.acc_place.specs.declared.directive.TheConstants.{MAX_ITEMS, MAX_REGIONS, MAX_DIRECTIVES}
+use Rattle.acc_place.specs.Implicit.{item_of}
 use Rattle.acc_place.specs.Regions.{open_region, regions_of}
 use Rattle.acc_place.specs.Standings.{Standing, Walk, Visit, visits, walk_of}
 
@@ -46,6 +51,7 @@ wants_whole k = true
 -- `present`, and an update without `if_present`, are about what is present
 abbrev pub wants_presence : Kind → Clause → Bool
 wants_presence kind.Data clause.Present = true
+wants_presence (kind.Loop k) clause.Present = true
 wants_presence (kind.Update if_present) c = not if_present
 wants_presence k c = false
 
@@ -75,13 +81,26 @@ abbrev pub is_outside : Kind → Option Region → Bool
 is_outside kind.EndData None = true
 is_outside k r = false
 
+-- a loop reaches a cell of an array outside the range that it uses
+abbrev pub reaches_past : Option Reach → Option Item → Bool
+reaches_past None item = false
+reaches_past (Some reach) None = true
+reaches_past (Some reach) (Some i) =
+    int_lt reach.first (pos i.range.lo) || int_le (pos (i.range.lo + i.range.len)) reach.last
+
+abbrev pub is_past : Option Loop → List Item → Bool
+is_past None items = false
+is_past (Some k) items = list_any (λ array. reaches_past (reach_of k array) (item_of array items)) (arrays_of k)
+
+-- The items are judged in turn, and a loop's reach after all of them.
 abbrev pub refusal_on : Configuration → Standing → ℕ → Directive → Walk → Option Fault
 refusal_on config st host d walk =
     first_fault (
     fault_where (nat_le config.devices d.device) BadDevice
     ∷ fault_where (has_too_many st host d.kind walk) TooMany
     ∷ fault_where (is_outside d.kind (open_region host st.regions)) NoRegion
-    ∷ map (fault_at config d.kind) (visits (st.marks walk.device) walk.items)
+    ∷ (map (fault_at config d.kind) (visits (st.marks walk.device) walk.items)
+    ++ fault_where (is_past walk.runs (map (λ a. a.item) walk.items)) OutsideRange ∷ [])
     )
 
 -- The first fault of a host's directive after a history, or none.

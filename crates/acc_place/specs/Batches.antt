@@ -4,6 +4,9 @@ use Rattle.std.specs.Prelude.{ℕ, ◌+◌, Bool, true, false, not, nat_lt, List
 use Rattle.std.specs.List.{flat_map, list_all}
 use Rattle.acc_base.specs.declared.ids.QueueAt.{QueueAt}
 use Rattle.acc_base.specs.declared.range.Range.{Range}
+use Rattle.acc_kernel.specs.Jobs.{Use}
+use Rattle.acc_kernel.specs.Kernels.{Loop, arrays_of}
+use Rattle.acc_present.specs.Marks.{Mark}
 use Rattle.acc_present.specs.Lifetimes.{Lifetime, opened, live, lives}
 use Rattle.acc_present.specs.Presences.{Presence, presences, holder, is_present}
 use Rattle.acc_place.specs.declared.directive.Clause.{Clause}
@@ -14,10 +17,11 @@ use Rattle.acc_place.specs.declared.directive.Kind.{Kind}
 use Rattle.acc_place.specs.declared.directive.Kind.TheVariants as kind
 use Rattle.acc_place.specs.declared.directive.Placed.{Placed}
 use Rattle.acc_batch.specs.declared.operation.Op.{Op}
-use Rattle.acc_batch.specs.declared.operation.Op.TheVariants.{Make, CopyIn, CopyOut, Release}
+use Rattle.acc_batch.specs.declared.operation.Op.TheVariants.{Make, CopyIn, CopyOut, Release, Run}
 use Rattle.acc_batch.specs.declared.operation.Label.{Label}
 use Rattle.acc_batch.specs.Labels.{on_queue}
-use Rattle.acc_place.specs.Standings.{Standing, Walk, Visit, visits}
+use Rattle.acc_place.specs.Implicit.{item_of}
+use Rattle.acc_place.specs.Standings.{Standing, Walk, Visit, all_visits, marks_between}
 
 -- an opening copies in
 abbrev pub copies_in : Clause → Bool
@@ -62,9 +66,9 @@ abbrev pub found_block : Option Presence → List ℕ
 found_block None = []
 found_block (Some p) = p.block ∷ []
 
--- the block that holds a visit's range before it
-abbrev pub held_blocks : Visit → List ℕ
-held_blocks v = found_block (holder (presences v.before) v.item.range)
+-- the block that holds a range after these marks
+abbrev pub holding_blocks : List Mark → Range → List ℕ
+holding_blocks marks r = found_block (holder (presences marks) r)
 
 -- `self` copies from the device to the host, `device` from the host to the device; an absent range is left alone
 abbrev pub updates_by : Clause → Range → List ℕ → List Op
@@ -73,19 +77,36 @@ updates_by UpdateDevice r blocks = map (λ b. CopyIn b r) blocks
 updates_by c r blocks = []
 
 abbrev pub updates : Visit → List Op
-updates v = updates_by v.item.clause v.item.range (held_blocks v)
+updates v = updates_by v.item.clause v.item.range (holding_blocks v.before v.item.range)
+
+-- A loop uses of each array the range of the first item that names it, and the block that holds this.
+abbrev pub use_by : List Mark → Option Item → List Use
+use_by marks None = []
+use_by marks (Some i) = map (λ b. (b, i.range)) (holding_blocks marks i.range)
+
+abbrev pub uses_of : Loop → List Item → List Mark → List Use
+uses_of k items marks = flat_map (λ array. use_by marks (item_of array items)) (arrays_of k)
+
+-- the loop runs once the items are there
+abbrev pub runs_by : Option Loop → List Item → List Mark → List Op
+runs_by None items marks = []
+runs_by (Some k) items marks = Run k (uses_of k items marks) ∷ []
+
+abbrev pub runs : Walk → List Mark → List Op
+runs walk before = runs_by walk.runs (map (λ a. a.item) walk.items) (marks_between before walk)
 
 -- The operations of a batch, group by group, each in written order.
-abbrev pub grouped : List Visit → List Op
-grouped vs =
+abbrev pub grouped : List Op → List Visit → List Op
+grouped run vs =
     flat_map makes vs
     ++ (flat_map copy_ins vs
+    ++ (run
     ++ (flat_map updates vs
     ++ (flat_map copy_outs vs
-    ++ flat_map releases vs)))
+    ++ flat_map releases vs))))
 
 unfoldable pub batch_of : Standing → Walk → List Op
-batch_of st walk = grouped (visits (st.marks walk.device) walk.items)
+batch_of st walk = grouped (runs walk (st.marks walk.device)) (all_visits (st.marks walk.device) walk)
 
 abbrev pub walk_at : Walk → QueueAt
 walk_at walk = record { device = walk.device; queue = walk.queue }

@@ -1,6 +1,6 @@
 -- The counters and the data constructs that hosts are inside (OpenACC API 3.0, 2.6.7, Reference Counters): what holds of
 -- them after directives that were each accepted after those before it.
-use Rattle.std.specs.Prelude.{◌≡◌, ℕ, ◌<◌, true, List, length, map, filter, All, Option, Some, None}
+use Rattle.std.specs.Prelude.{◌≡◌, ℕ, ◌<◌, true, List, length, map, filter, All, Some, None}
 use Rattle.std.specs.List.{flat_map}
 use Rattle.acc_base.specs.declared.range.Range.{Range}
 use Rattle.acc_base.specs.Ranges.{range_contains}
@@ -40,12 +40,12 @@ pub record IsCounted (st : Standing) : Type 0 where
 abbrev pub AcceptedAreCounted : Type 0
 AcceptedAreCounted =
     (config : Configuration) (history : List PlaceEntry) (counts : List ℕ)
-    → config.devices ≡ 1 → AllAccepted config history counts → IsCounted (standing history counts)
+    → config.devices ≡ 1 → AllAccepted config history counts → IsCounted (standing config history counts)
 
 -- and a data construct that a host is inside can be left, until the last directive of a run.
 abbrev pub EnteredCanBeLeft : Type 0
 EnteredCanBeLeft =
     (config : Configuration) (history : List PlaceEntry) (counts : List ℕ) (host : ℕ) (d : Directive) (r : Region)
-    → config.devices ≡ 1 → AllAccepted config history counts → (standing history counts).accepted < MAX_DIRECTIVES
-    → d.kind ≡ EndData → d.device ≡ 0 → open_region host (standing history counts).regions ≡ Some r
-    → refusal config (standing history counts) host d ≡ None
+    → config.devices ≡ 1 → AllAccepted config history counts → (standing config history counts).accepted < MAX_DIRECTIVES
+    → d.kind ≡ EndData → d.device ≡ 0 → open_region host (standing config history counts).regions ≡ Some r
+    → refusal config (standing config history counts) host d ≡ None

@@ -78,7 +78,7 @@ question r = one kind.IsPresent clause.Present r
 
 -- what accepted directives leave, the latest first
 abbrev pub left_by : List PlaceEntry → Standing
-left_by history = standing history (map (λ e. 0) history)
+left_by history = standing small history (map (λ e. 0) history)
 
 -- where all are host 0's
 abbrev pub after : List Directive → Standing

@@ -4,6 +4,9 @@ pub mod Batches
 pub mod Counts
 pub mod Examples
 pub mod Histories
+pub mod Implicit
+pub mod LoopExamples
+pub mod Loops
 pub mod Places
 pub mod Plans
 pub mod RefusalExamples

@@ -27,7 +27,7 @@ pub record PlaceView : Type 0 where
   pub is_ready : Bool
 
 abbrev pub standing_in : PlaceView → Standing
-standing_in p = standing p.history p.counts
+standing_in p = standing p.config p.history p.counts
 
 -- the definition's fault, or want of memory where it has none
 abbrev pub IsRefusal : Option Fault → Fault → Type 0

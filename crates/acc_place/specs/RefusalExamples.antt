@@ -1,5 +1,5 @@
 -- The first fault of a directive, computed: which item it is of, what comes before the items, and where the limits are.
-use Rattle.std.specs.Prelude.{◌≡◌, ℕ, ◌-◌, List, [], ◌∷◌, replicate, Some, None}
+use Rattle.std.specs.Prelude.{◌≡◌, ℕ, ◌-◌, [], ◌∷◌, replicate, Some, None}
 use Rattle.acc_base.specs.declared.fault.Fault.TheVariants.{BadDevice, BadRange, TooMany, PartlyPresent, DeviceFull}
 use Rattle.acc_place.specs.declared.directive.TheConstants.{MAX_DIRECTIVES}
 use Rattle.acc_place.specs.Accepting.{refusal}
@@ -26,11 +26,11 @@ abbrev pub LimitsFirst : Type 0
 LimitsFirst =
     (fault_after [] (copyin (replicate 16 (cells 0 1))) ≡ None)
     × (fault_after [] (copyin (replicate 17 (cells 8 1))) ≡ Some TooMany)
-    × (refusal small at_first 0 (record (copyin (replicate 17 (cells 8 1))) { device = 1 }) ≡ Some BadDevice)
+    × (refusal small (at_first small) 0 (record (copyin (replicate 17 (cells 8 1))) { device = 1 }) ≡ Some BadDevice)
 
 -- so many directives were accepted, and nothing is present
 abbrev pub accepted_before : ℕ → Standing
-accepted_before n = record at_first { accepted = n }
+accepted_before n = record (at_first small) { accepted = n }
 
 abbrev pub LastDirective : Type 0
 LastDirective =

@@ -1,5 +1,5 @@
 -- What data constructs, entries, exits, updates and questions mean, computed on short histories.
-use Rattle.std.specs.Prelude.{◌≡◌, true, false, List, [], ◌∷◌, map, replicate, Some, None}
+use Rattle.std.specs.Prelude.{◌≡◌, true, false, [], ◌∷◌, map, replicate, Some, None}
 use Rattle.acc_base.specs.declared.fault.Fault.TheVariants.{BadRange, TooMany, PartlyPresent, NotPresent, DeviceFull, NoRegion}
 use Rattle.acc_batch.specs.declared.operation.Op.TheVariants.{Make, CopyIn, CopyOut, Release}
 use Rattle.acc_place.specs.declared.directive.Clause.TheVariants as clause

@@ -1,6 +1,6 @@
 -- What a history leaves, and what a directive marks after it, item by item (OpenACC API 3.0, 2.6.5, Data Construct,
 -- 2.6.6, Enter Data and Exit Data Directives, and 2.7, Data Clauses).
-use Rattle.std.specs.Prelude.{ℕ, Bool, true, false, List, [], ◌∷◌, map, Option, Some, None, ◌==◌, if◌then◌else◌}
+use Rattle.std.specs.Prelude.{ℕ, Bool, true, false, List, [], ◌∷◌, ◌++◌, map, Option, Some, None, ◌==◌, if◌then◌else◌}
 use Rattle.acc_base.specs.declared.range.Range.{Range}
 use Rattle.acc_batch.specs.declared.operation.Label.{Label}
 use Rattle.acc_place.specs.declared.directive.Directive.{Directive}
@@ -8,13 +8,19 @@ use Rattle.acc_place.specs.declared.directive.Item.{Item}
 use Rattle.acc_place.specs.declared.directive.Kind.{Kind}
 use Rattle.acc_place.specs.declared.directive.Kind.TheVariants as kind
 use Rattle.acc_place.specs.declared.directive.Region.{Region}
-use Rattle.acc_present.specs.Marks.{Mark, Change, Structured_up, Structured_down, Dynamic_up, Dynamic_down, Dynamic_zero}
+use Rattle.acc_present.specs.declared.change.Change.{Change}
+use Rattle.acc_present.specs.declared.change.Change.TheVariants.{StructuredUp, StructuredDown, DynamicUp, DynamicDown, DynamicZero}
+use Rattle.acc_present.specs.Marks.{Mark}
 use Rattle.acc_present.specs.Presences.{presences, is_present}
+use Rattle.acc_kernel.specs.Kernels.{Loop}
+use Rattle.acc_place.specs.Implicit.{implicit_items}
 use Rattle.acc_place.specs.Regions.{open_region}
 
--- What a history leaves: the marks on each device, the latest first; the data constructs that the hosts are inside, the
--- latest first; the batches, in the order of placing; and how many directives were accepted.
+-- What a directive finds: how many cells each host array has; and what a history leaves, which is the marks on each
+-- device, the latest first, the data constructs that the hosts are inside, the latest first, the batches, in the order of
+-- placing, and how many directives were accepted.
 pub record Standing : Type 0 where
+  pub lengths : List ℕ
   pub marks : ℕ → List Mark
   pub regions : List Region
   pub labels : List Label
@@ -25,23 +31,27 @@ pub record Asked : Type 0 where
   pub item : Item
   pub change : Option Change
 
--- Where a directive acts, and on what.
+-- Where a directive acts, and on what: its items; the loop that it runs then, if it is one; and its items once more, as
+-- they leave at the loop's end.
 pub record Walk : Type 0 where
   pub device : ℕ
   pub queue : ℕ
   pub items : List Asked
+  pub runs : Option Loop
+  pub ends : List Asked
 
 -- what a directive asks of each of its items
 abbrev pub exit_by : Bool → Change
-exit_by true = Dynamic_zero
-exit_by false = Dynamic_down
+exit_by true = DynamicZero
+exit_by false = DynamicDown
 
 abbrev pub change_by : Kind → Option Change
-change_by kind.Data = Some Structured_up
-change_by kind.EndData = Some Structured_down
-change_by kind.EnterData = Some Dynamic_up
+change_by kind.Data = Some StructuredUp
+change_by kind.EndData = Some StructuredDown
+change_by kind.EnterData = Some DynamicUp
 change_by (kind.ExitData finalize) = Some (exit_by finalize)
 change_by (kind.Update if_present) = None
+change_by (kind.Loop k) = Some StructuredUp
 change_by kind.IsPresent = None
 
 abbrev pub all_asked : Option Change → List Item → List Asked
@@ -56,25 +66,37 @@ abbrev pub left_by : Directive → Option Region → Subject
 left_by d None = record { device = d.device; items = [] }
 left_by d (Some r) = record { device = r.device; items = r.items }
 
--- The end of a data construct acts on the device and the items of its entry, each other directive on its own.
-abbrev pub subject_by : List Region → ℕ → Directive → Kind → Subject
-subject_by rs host d kind.EndData = left_by d (open_region host rs)
-subject_by rs host d k = record { device = d.device; items = d.items }
+-- The end of a data construct acts on the device and the items of its entry, each other directive on its own; a loop has
+-- implicit items behind them.
+abbrev pub subject_by : List ℕ → List Region → ℕ → Directive → Kind → Subject
+subject_by lengths rs host d kind.EndData = left_by d (open_region host rs)
+subject_by lengths rs host d (kind.Loop k) = record { device = d.device; items = d.items ++ implicit_items lengths rs host d k }
+subject_by lengths rs host d k = record { device = d.device; items = d.items }
+
+abbrev pub loop_of : Kind → Option Loop
+loop_of (kind.Loop k) = Some k
+loop_of k = None
+
+-- all items of a loop leave at its end
+abbrev pub ends_by : Kind → List Item → List Asked
+ends_by (kind.Loop k) items = all_asked (Some StructuredDown) items
+ends_by k items = []
 
 -- a synchronous directive acts on queue sync
-abbrev pub walk_on : Subject → Option Change → Walk
-walk_on s change = record { device = s.device; queue = 0; items = all_asked change s.items }
+abbrev pub walk_on : Subject → Kind → Walk
+walk_on s k =
+    record { device = s.device; queue = 0; items = all_asked (change_by k) s.items; runs = loop_of k; ends = ends_by k s.items }
 
 unfoldable pub walk_of : Standing → ℕ → Directive → Walk
-walk_of st host d = walk_on (subject_by st.regions host d d.kind) (change_by d.kind)
+walk_of st host d = walk_on (subject_by st.lengths st.regions host d d.kind) d.kind
 
 -- a dynamic exit of a range that is absent takes no action
 abbrev pub made_by : Change → Range → List Mark → Bool
-made_by Structured_up r before = true
-made_by Structured_down r before = true
-made_by Dynamic_up r before = true
-made_by Dynamic_down r before = is_present (presences before) r
-made_by Dynamic_zero r before = is_present (presences before) r
+made_by StructuredUp r before = true
+made_by StructuredDown r before = true
+made_by DynamicUp r before = true
+made_by DynamicDown r before = is_present (presences before) r
+made_by DynamicZero r before = is_present (presences before) r
 
 abbrev pub one_mark : Bool → Change → Range → List Mark → List Mark
 one_mark true change r before = record { change = change; range = r } ∷ before
@@ -100,6 +122,17 @@ visits before (a ∷ rest) =
 abbrev pub marks_after : List Mark → List Asked → List Mark
 marks_after before [] = before
 marks_after before (a ∷ rest) = marks_after (marked before a.item.range a.change) rest
+
+-- the marks between a walk's items and their ends, and behind both
+abbrev pub marks_between : List Mark → Walk → List Mark
+marks_between before walk = marks_after before walk.items
+
+abbrev pub marks_behind : List Mark → Walk → List Mark
+marks_behind before walk = marks_after (marks_between before walk) walk.ends
+
+-- the visits of a walk: of its items, and of their ends
+abbrev pub all_visits : List Mark → Walk → List Visit
+all_visits before walk = visits before walk.items ++ visits (marks_between before walk) walk.ends
 
 abbrev pub with_marks : ℕ → List Mark → (ℕ → List Mark) → ℕ → List Mark
 with_marks device marks others k = if k == device then marks else others k

@@ -1,12 +1,13 @@
 -- What the items of a directive make of a device's table, item by item, in the table's own words. Only private contracts
 -- and proofs cite it: what a public call promises is said by the definitions, which proofs tie to these.
-use Rattle.std.specs.Prelude.{◌≡◌, ℕ, ◌+◌, ◌<◌, ◌≤◌, ⊤, Bool, true, false, ◌&&◌, ◌||◌, not, nat_lt, nat_le, List, [], ◌∷◌, ◌++◌, length, Option, Some, None, IfSome, if◌then◌else◌}
+use Rattle.std.specs.Prelude.{All, ◌≡◌, ℕ, ◌+◌, ◌<◌, ◌≤◌, ⊤, Bool, true, false, ◌&&◌, ◌||◌, not, nat_lt, nat_le, List, [], ◌∷◌, ◌++◌, length, Option, Some, None, IfSome, if◌then◌else◌}
 use Rattle.std.specs.List.{flat_map}
 use Rattle.std.specs.Option.{option_and_then, option_to_list}
 use Rattle.acc_base.specs.declared.range.Range.{Range}
 use Rattle.acc_base.specs.declared.fault.Fault.{Fault}
-use Rattle.acc_base.specs.declared.fault.Fault.TheVariants.{BadDevice, BadRange, TooMany, PartlyPresent, NotPresent, DeviceFull, NoRegion}
+use Rattle.acc_base.specs.declared.fault.Fault.TheVariants.{BadDevice, BadRange, TooMany, PartlyPresent, NotPresent, DeviceFull, OutsideRange, NoRegion}
 use Rattle.acc_base.specs.Configurations.{Configuration}
+use Rattle.acc_kernel.specs.Kernels.{Loop}
 use Rattle.acc_present.specs.declared.table.Counter.{Counter}
 use Rattle.acc_present.specs.declared.table.Counter.TheVariants.{Structured, Dynamic}
 use Rattle.acc_present.specs.declared.table.TheConstants.{COUNTER_LIMIT}
@@ -15,7 +16,9 @@ use Rattle.acc_present.specs.declared.table.Look.TheVariants as look
 use Rattle.acc_present.specs.declared.table.Left.{Left}
 use Rattle.acc_present.specs.declared.table.Left.TheVariants as left
 use Rattle.acc_present.specs.Legality.{IsEntered}
-use Rattle.acc_present.specs.Marks.{Change, Structured_up, Structured_down, Dynamic_up, Dynamic_down, Dynamic_zero, Mark}
+use Rattle.acc_present.specs.declared.change.Change.{Change}
+use Rattle.acc_present.specs.declared.change.Change.TheVariants.{StructuredUp, StructuredDown, DynamicUp, DynamicDown, DynamicZero}
+use Rattle.acc_present.specs.Marks.{Mark}
 use Rattle.acc_present.specs.Lifetimes.{can_open}
 use Rattle.acc_present.specs.Presences.{Presence, holder, is_present, is_partly_present, used_cells}
 use Rattle.acc_present.specs.Tables.{Present, counter_of, presences_after, left_of}
@@ -24,6 +27,7 @@ use Rattle.acc_place.specs.declared.directive.Clause.TheVariants.{UpdateSelf, Up
 use Rattle.acc_place.specs.declared.directive.Directive.{Directive}
 use Rattle.acc_place.specs.declared.directive.Item.{Item}
 use Rattle.acc_place.specs.declared.directive.Kind.{Kind}
+use Rattle.acc_place.specs.declared.directive.Kind.TheVariants as kind
 use Rattle.acc_place.specs.declared.directive.Region.{Region}
 use Rattle.acc_place.specs.declared.directive.TheConstants.{MAX_ITEMS, MAX_DIRECTIVES}
 use Rattle.acc_batch.specs.declared.operation.Op.{Op}
@@ -31,10 +35,11 @@ use Rattle.acc_batch.specs.declared.operation.Op.TheVariants as op
 use Rattle.acc_place.specs.declared.plan.Group.{Group}
 use Rattle.acc_place.specs.declared.plan.Group.TheVariants.{Makes, CopyIns, Updates, CopyOuts, Releases}
 use Rattle.acc_place.specs.declared.judge.Marked.{Marked}
-use Rattle.acc_place.specs.Accepting.{is_in_array, fault_where, first_fault, wants_whole, wants_presence, is_deep, is_outside}
+use Rattle.acc_place.specs.Accepting.{is_in_array, fault_where, first_fault, wants_whole, wants_presence, is_deep, is_outside, is_past}
 use Rattle.acc_place.specs.Batches.{copies_in, copies_out}
+use Rattle.acc_place.specs.Loops.{StaysInside, uses_in}
 use Rattle.acc_place.specs.Regions.{open_region}
-use Rattle.acc_place.specs.Standings.{change_by}
+use Rattle.acc_place.specs.Standings.{change_by, left_by}
 
 -- What a device has: what is present there, and how many lifetimes were opened.
 pub record Holding : Type 0 where
@@ -70,6 +75,25 @@ holding_after change r h =
 abbrev pub holding_after_all : Option Change → Holding → List Item → Holding
 holding_after_all change h [] = h
 holding_after_all change h (i ∷ is) = holding_after_all change (holding_after change i.range h) is
+
+-- ## Items
+
+-- the items that are written: a directive's own, or those of the data construct that it ends
+abbrev pub written_by : List Region → ℕ → Directive → Kind → List Item
+written_by rs host d kind.EndData = (left_by d (open_region host rs)).items
+written_by rs host d k = d.items
+
+-- the items that leave once more at a directive's end: all of a loop's
+abbrev pub ends_of : Kind → List Item → List Item
+ends_of (kind.Loop k) items = items
+ends_of k items = []
+
+-- what a device has once a directive's items have left their marks, and once its ends have
+abbrev pub holding_between : Kind → Holding → List Item → Holding
+holding_between k h items = holding_after_all (change_by k) h items
+
+abbrev pub holding_behind : Kind → Holding → List Item → Holding
+holding_behind k h items = holding_after_all (Some StructuredDown) (holding_between k h items) (ends_of k items)
 
 -- ## Faults
 
@@ -118,6 +142,20 @@ first_fault_in config k h [] = None
 first_fault_in config k h (i ∷ is) =
     fault_or (fault_in config k h.presences i) (first_fault_in config k (holding_after (change_by k) i.range h) is)
 
+-- a loop that reaches past the ranges of its items
+abbrev pub past_fault : Option Loop → List Item → Option Fault
+past_fault k items = fault_where (is_past k items) OutsideRange
+
+-- it stays in them
+abbrev pub StaysBy : Kind → List Item → Type 0
+StaysBy (kind.Loop k) items = StaysInside k items
+StaysBy k items = ⊤
+
+-- and they are present
+abbrev pub AllHeldFor : Kind → List Presence → List Item → Type 0
+AllHeldFor (kind.Loop k) ps items = All (λ i. is_present ps i.range ≡ true) items
+AllHeldFor k ps items = ⊤
+
 -- ## What became of an item
 
 abbrev pub block_held : Option Presence → Option ℕ
@@ -155,7 +193,17 @@ abbrev pub all_marked : Option Change → Holding → List Item → List Marked
 all_marked change h [] = []
 all_marked change h (i ∷ is) = marked_in change h i ∷ all_marked change (holding_after change i.range h) is
 
+-- and of those that leave at the directive's end, behind them
+abbrev pub all_steps : Kind → Holding → List Item → List Marked
+all_steps k h items =
+    all_marked (change_by k) h items ++ all_marked (Some StructuredDown) (holding_between k h items) (ends_of k items)
+
 -- ## The operations
+
+-- a loop runs on what is present
+abbrev pub run_in : Option Loop → List Item → List Presence → List Op
+run_in None items ps = []
+run_in (Some k) items ps = op.Run k (uses_in k items ps) ∷ []
 
 -- the block that an operation of a group is for
 abbrev pub block_of : Group → Marked → Option ℕ
@@ -184,13 +232,14 @@ op_of g t = option_and_then (λ b. op_for g t.item.clause b t.item.range) (block
 abbrev pub group_ops : Group → Marked → List Op
 group_ops g t = option_to_list (op_of g t)
 
-unfoldable pub marked_ops : List Marked → List Op
-marked_ops ts =
+unfoldable pub marked_ops : List Op → List Marked → List Op
+marked_ops run ts =
     flat_map (group_ops Makes) ts
     ++ (flat_map (group_ops CopyIns) ts
+    ++ (run
     ++ (flat_map (group_ops Updates) ts
     ++ (flat_map (group_ops CopyOuts) ts
-    ++ flat_map (group_ops Releases) ts)))
+    ++ flat_map (group_ops Releases) ts))))
 
 -- ## Room and conditions
 
@@ -215,33 +264,35 @@ pub record CanEnter (counter : Counter) (r : Range) (ps : List Presence) (capaci
 -- An item of this range can leave its mark.
 abbrev pub CanMark : Option Change → Range → List Presence → ℕ → Type 0
 CanMark None r ps capacity = 0 < r.len
-CanMark (Some Structured_up) r ps capacity = CanEnter Structured r ps capacity
-CanMark (Some Structured_down) r ps capacity = (0 < r.len) × IsEntered (holder ps r)
-CanMark (Some Dynamic_up) r ps capacity = CanEnter Dynamic r ps capacity
-CanMark (Some Dynamic_down) r ps capacity = 0 < r.len
-CanMark (Some Dynamic_zero) r ps capacity = 0 < r.len
+CanMark (Some StructuredUp) r ps capacity = CanEnter Structured r ps capacity
+CanMark (Some StructuredDown) r ps capacity = (0 < r.len) × IsEntered (holder ps r)
+CanMark (Some DynamicUp) r ps capacity = CanEnter Dynamic r ps capacity
+CanMark (Some DynamicDown) r ps capacity = 0 < r.len
+CanMark (Some DynamicZero) r ps capacity = 0 < r.len
 
 -- a region leaves only what it has entered
 abbrev pub HasEntered : Option Change → Range → List Presence → Type 0
 HasEntered None r ps = ⊤
-HasEntered (Some Structured_up) r ps = ⊤
-HasEntered (Some Structured_down) r ps = IsEntered (holder ps r)
-HasEntered (Some Dynamic_up) r ps = ⊤
-HasEntered (Some Dynamic_down) r ps = ⊤
-HasEntered (Some Dynamic_zero) r ps = ⊤
+HasEntered (Some StructuredUp) r ps = ⊤
+HasEntered (Some StructuredDown) r ps = IsEntered (holder ps r)
+HasEntered (Some DynamicUp) r ps = ⊤
+HasEntered (Some DynamicDown) r ps = ⊤
+HasEntered (Some DynamicZero) r ps = ⊤
 
 -- so does each item in its turn
 abbrev pub AllEntered : Option Change → Holding → List Item → Type 0
 AllEntered change h [] = ⊤
 AllEntered change h (i ∷ is) = HasEntered change i.range h.presences × AllEntered change (holding_after change i.range h) is
 
--- The item has no fault, on a device of this capacity.
-pub record IsFine (capacity : ℕ) (k : Kind) (ps : List Presence) (r : Range) : Type 0 where
+-- The range has cells; where a change is asked for, it isn't partly present; and it fits, where that opens a lifetime, on a
+-- device of this capacity.
+pub record IsFine (capacity : ℕ) (change : Option Change) (ps : List Presence) (r : Range) : Type 0 where
   pub cells : 0 < r.len
-  pub whole : wants_whole k ≡ true → is_partly_present ps r ≡ false
-  pub fits : opens_one (change_by k) ps r ≡ true → used_cells ps + r.len ≤ capacity
+  pub whole : IfSome change (λ made. is_partly_present ps r ≡ false)
+  pub fits : opens_one change ps r ≡ true → used_cells ps + r.len ≤ capacity
 
-abbrev pub AllFine : ℕ → Kind → Holding → List Item → Type 0
-AllFine capacity k h [] = ⊤
-AllFine capacity k h (i ∷ is) =
-    IsFine capacity k h.presences i.range × AllFine capacity k (holding_after (change_by k) i.range h) is
+-- so is each item in its turn
+abbrev pub AllFine : ℕ → Option Change → Holding → List Item → Type 0
+AllFine capacity change h [] = ⊤
+AllFine capacity change h (i ∷ is) =
+    IsFine capacity change h.presences i.range × AllFine capacity change (holding_after change i.range h) is

@@ -1,6 +1,8 @@
 ghost use Rattle.std.specs.Prelude.{◌≡◌, IfOk, IfErr};
 
 use acc_base::{DeviceId, Fault, HostId, Listed, QueueAt, Range};
+use acc_kernel::Kernel;
+use acc_present::Change;
 use std::alloc::Global;
 
 /// The most items of a directive.
@@ -39,7 +41,7 @@ pub struct Item {
 }
 
 /// Which directive it is.
-#[derive(Clone, Copy, Debug, PartialEq, Eq)]
+#[derive(Drop)]
 pub enum Kind {
     /// A data construct is entered (OpenACC API 3.0, 2.6.5, Data Construct).
     Data,
@@ -52,6 +54,9 @@ pub enum Kind {
     ExitData { finalize: bool },
     /// `update` (2.14.4, Update Directive); also `acc_update_device` and `acc_update_self`.
     Update { if_present: bool },
+    /// `parallel loop` (2.11, Combined Constructs). It has its own items and an implicit one for each other array that
+    /// the loop refers to.
+    Loop { kernel: Kernel },
     /// The question `acc_is_present`.
     IsPresent,
 }
@@ -85,6 +90,52 @@ pub struct Directive {
     pub items: Listed<Item>,
     pub target: Target,
     pub waits: Waits,
+}
+
+impl Kind {
+    ghost use Rattle.acc_base.specs.declared.fault.Fault.TheVariants as fault;
+    ghost use Rattle.acc_place.specs.Standings.{change_by};
+
+    // The change that it asks for at each of its items, if any; a loop's items leave again at its end.
+    pub(crate) fn change(&self) -> Option<Change>
+        ensures { result ≡ change_by self.now }
+    {
+        match self {
+            Kind::Data | Kind::Loop { .. } => Some(Change::StructuredUp),
+            Kind::EndData => Some(Change::StructuredDown),
+            Kind::EnterData => Some(Change::DynamicUp),
+            Kind::ExitData { finalize: false } => Some(Change::DynamicDown),
+            Kind::ExitData { finalize: true } => Some(Change::DynamicZero),
+            Kind::Update { .. } | Kind::IsPresent => None,
+        }
+    }
+
+    /// An equal kind.
+    ///
+    /// # Errors
+    ///
+    /// `Memory` where memory is refused.
+    pub fn try_clone(&self, alloc: Global) -> Result<Self, Fault>
+        ensures equal { IfOk result (λ k. k ≡ self.now) }
+        ensures fault { IfErr result (λ f. f ≡ fault.Memory) }
+    {
+        match self {
+            Kind::Data => Ok(Kind::Data),
+            Kind::EndData => Ok(Kind::EndData),
+            Kind::EnterData => Ok(Kind::EnterData),
+            Kind::ExitData { finalize } => Ok(Kind::ExitData {
+                finalize: *finalize,
+            }),
+            Kind::Update { if_present } => Ok(Kind::Update {
+                if_present: *if_present,
+            }),
+            Kind::Loop { kernel } => {
+                let kernel = kernel.try_clone(alloc)?;
+                Ok(Kind::Loop { kernel })
+            }
+            Kind::IsPresent => Ok(Kind::IsPresent),
+        }
+    }
 }
 
 impl Waits {
@@ -134,12 +185,13 @@ impl Directive {
         ensures equal { IfOk result (λ d. d ≡ self.now) }
         ensures fault { IfErr result (λ f. f ≡ fault.Memory) }
     {
+        let kind = self.kind.try_clone(alloc)?;
         let items = self.items.try_clone(alloc)?;
         let waits = self.waits.try_clone(alloc)?;
         Ok(Directive {
             device: self.device,
             default: self.default,
-            kind: self.kind,
+            kind,
             items,
             target: self.target,
             waits,

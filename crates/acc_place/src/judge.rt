@@ -1,19 +1,21 @@
-ghost use Rattle.std.specs.Prelude.{◌≡◌, ◌+◌, ◌<◌, ◌≤◌, ◌++◌, not, true, length, Some, None, IfNone, IfOk, IfErr, OnOk, vec_len, vec_capacity, is_some};
+ghost use Rattle.std.specs.Prelude.{All, ◌≡◌, ◌+◌, ◌<◌, ◌≤◌, ◌++◌, not, true, length, Some, None, IfNone, IfOk, IfErr, OnOk, vec_len, vec_capacity, is_some};
 ghost use Rattle.acc_present.specs.Drafts.{drafted, IsDraft};
 ghost use Rattle.acc_present.specs.Presences.{holder, is_present};
+ghost use Rattle.acc_present.specs.declared.change.Change.TheVariants.{StructuredDown};
 ghost use Rattle.acc_present.specs.declared.table.TheConstants.{COUNTER_LIMIT};
 ghost use Rattle.acc_present.specs.Tables.{entry_mark, presences_after};
 ghost use Rattle.acc_place.specs.Accepting.{is_in_array, is_deep, is_outside, wants_presence};
 ghost use Rattle.acc_place.specs.Regions.{open_region};
-ghost use Rattle.acc_place.specs.Standings.{change_by};
-ghost use Rattle.acc_place.specs.Walks.{holding, presences_by, can_open_by, fault_in, found_fault, limit_fault, first_fault_in, block_found, block_held, block_opened, block_ended, marked_in, all_marked, opened_after, AllLow, HasEntered, AllEntered, CanEnter, CanMark};
+ghost use Rattle.acc_place.specs.Standings.{change_by, loop_of};
+ghost use Rattle.acc_place.specs.Walks.{holding, holding_after_all, presences_by, can_open_by, fault_in, fault_or, found_fault, limit_fault, first_fault_in, past_fault, block_found, block_held, block_opened, block_ended, marked_in, all_marked, opened_after, AllLow, HasEntered, AllEntered, CanEnter, CanMark, StaysBy};
 
 use crate::directive::{
     Clause, Directive, Item, Kind, MAX_DIRECTIVES, MAX_ITEMS, MAX_REGIONS, Region,
 };
 use crate::regions::{depth, open_place};
+use crate::subject::past_fault;
 use acc_base::{BlockId, Config, Fault, HostId, Range};
-use acc_present::{Counter, Draft, Entered, Left, Look, Table};
+use acc_present::{Change, Counter, Draft, Entered, Left, Look, Table};
 
 /// What became of an item: the number of the block that held its range before, of the block of the lifetime that it
 /// opened, and of the one that it ended.
@@ -40,39 +42,40 @@ pub fn limit_of(
     if !config.has_device(directive.device) {
         return Some(Fault::BadDevice);
     }
-    if count > MAX_ITEMS || is_deep(regions, host, directive.kind) {
+    if count > MAX_ITEMS || is_deep(regions, host, &directive.kind) {
         return Some(Fault::TooMany);
     }
     if accepted as u64 >= MAX_DIRECTIVES {
         return Some(Fault::TooMany);
     }
-    if is_outside(regions, host, directive.kind) {
+    if is_outside(regions, host, &directive.kind) {
         return Some(Fault::NoRegion);
     }
     None
 }
 
 // Whether a host that enters a data construct is inside as many as it can be.
-fn is_deep(regions: &[Region], host: HostId, kind: Kind) -> bool
-    ensures { result ≡ is_deep kind host regions.now }
+fn is_deep(regions: &[Region], host: HostId, kind: &Kind) -> bool
+    ensures { result ≡ is_deep kind.now host regions.now }
 {
-    kind == Kind::Data && depth(regions, host) >= MAX_REGIONS
+    matches!(kind, Kind::Data) && depth(regions, host) >= MAX_REGIONS
 }
 
 // Whether a host leaves a data construct, and is inside none.
-fn is_outside(regions: &[Region], host: HostId, kind: Kind) -> bool
-    ensures { result ≡ is_outside kind (open_region host regions.now) }
+fn is_outside(regions: &[Region], host: HostId, kind: &Kind) -> bool
+    ensures { result ≡ is_outside kind.now (open_region host regions.now) }
 {
-    kind == Kind::EndData && open_place(regions, host).is_none()
+    matches!(kind, Kind::EndData) && open_place(regions, host).is_none()
 }
 
-/// The first fault of the items, each judged with the marks of those before it; where there is none, the steps are
-/// what would become of them. The table isn't changed: the marks stand in the draft.
+/// The first fault of the items, each judged with the marks of those before it, and then of a loop that reaches past
+/// them; where there is none, the steps are what would become of them. The table isn't changed: the marks stand in the
+/// draft.
 pub fn judge(
     table: &Table,
     draft: &mut Draft,
     config: &Config,
-    kind: Kind,
+    kind: &Kind,
     items: &[Item],
     opened: u64,
     steps: &mut Vec<Marked>,
@@ -81,16 +84,24 @@ pub fn judge(
     requires draft_room { length items.now ≤ draft.old.room }
     requires low { AllLow COUNTER_LIMIT (length items.now) table.now.presences }
     requires few { opened + length items.now ≤ COUNTER_LIMIT }
-    requires entered { AllEntered (change_by kind) (holding table.now.presences opened) items.now }
+    requires entered { AllEntered (change_by kind.now) (holding table.now.presences opened) items.now }
     requires step_room { length items.now ≤ vec_capacity steps.old }
     ensures draft_room { draft.new.room ≡ draft.old.room }
-    ensures fault { result ≡ first_fault_in config.now kind (holding table.now.presences opened) items.now }
-    ensures steps { IfNone result (steps.new.items ≡ all_marked (change_by kind) (holding table.now.presences opened) items.now) }
+    ensures fault { result ≡ fault_or (first_fault_in config.now kind.now (holding table.now.presences opened) items.now) (past_fault (loop_of kind.now) items.now) }
+    ensures stays { IfNone result (StaysBy kind.now items.now) }
+    ensures draft { IfNone result (IsDraft table.now draft.new) }
+    ensures drafted { IfNone result (drafted table.now draft.new ≡ (holding_after_all (change_by kind.now) (holding table.now.presences opened) items.now).presences) }
+    ensures changed { IfNone result (length draft.new.changed ≤ length items.now) }
+    ensures steps { IfNone result (steps.new.items ≡ all_marked (change_by kind.now) (holding table.now.presences opened) items.now) }
     ensures step_room { vec_capacity steps.new ≡ vec_capacity steps.old }
 {
     draft.begin(table);
     steps.clear();
-    walk(table, draft, config, kind, items, opened, steps)
+    let found = walk(table, draft, config, kind, items, opened, steps);
+    if found.is_some() {
+        return found;
+    }
+    past_fault(kind, items)
 }
 
 // Takes the items in turn.
@@ -98,7 +109,7 @@ fn walk(
     table: &Table,
     draft: &mut Draft,
     config: &Config,
-    kind: Kind,
+    kind: &Kind,
     items: &[Item],
     opened: u64,
     steps: &mut Vec<Marked>,
@@ -108,11 +119,14 @@ fn walk(
     requires draft_room { length draft.old.changed + length items.now ≤ draft.old.room }
     requires low { AllLow COUNTER_LIMIT (length items.now) (drafted table.now draft.old) }
     requires few { opened + length items.now ≤ COUNTER_LIMIT }
-    requires entered { AllEntered (change_by kind) (holding (drafted table.now draft.old) opened) items.now }
+    requires entered { AllEntered (change_by kind.now) (holding (drafted table.now draft.old) opened) items.now }
     requires step_room { vec_len steps.old + length items.now ≤ vec_capacity steps.old }
     ensures draft_room { draft.new.room ≡ draft.old.room }
-    ensures fault { result ≡ first_fault_in config.now kind (holding (drafted table.now draft.old) opened) items.now }
-    ensures steps { IfNone result (steps.new.items ≡ steps.old.items ++ all_marked (change_by kind) (holding (drafted table.now draft.old) opened) items.now) }
+    ensures fault { result ≡ first_fault_in config.now kind.now (holding (drafted table.now draft.old) opened) items.now }
+    ensures draft { IfNone result (IsDraft table.now draft.new) }
+    ensures drafted { IfNone result (drafted table.now draft.new ≡ (holding_after_all (change_by kind.now) (holding (drafted table.now draft.old) opened) items.now).presences) }
+    ensures changed { IfNone result (length draft.new.changed ≤ length draft.old.changed + length items.now) }
+    ensures steps { IfNone result (steps.new.items ≡ steps.old.items ++ all_marked (change_by kind.now) (holding (drafted table.now draft.old) opened) items.now) }
     ensures step_room { vec_capacity steps.new ≡ vec_capacity steps.old }
 {
     match items {
@@ -133,7 +147,7 @@ fn visit(
     table: &Table,
     draft: &mut Draft,
     config: &Config,
-    kind: Kind,
+    kind: &Kind,
     item: &Item,
     opened: u64,
 ) -> Result<Marked, Fault>
@@ -142,12 +156,12 @@ fn visit(
     requires draft_room { length draft.old.changed < draft.old.room }
     requires low { AllLow COUNTER_LIMIT 1 (drafted table.now draft.old) }
     requires few { opened < COUNTER_LIMIT }
-    requires entered { HasEntered (change_by kind) item.now.range (drafted table.now draft.old) }
-    ensures refused { IfErr result (λ fault. fault_in config.now kind (drafted table.now draft.old) item.now ≡ Some fault) }
-    ensures fine { OnOk result (fault_in config.now kind (drafted table.now draft.old) item.now ≡ None) }
-    ensures marked { IfOk result (λ m. m ≡ marked_in (change_by kind) (holding (drafted table.now draft.old) opened) item.now) }
+    requires entered { HasEntered (change_by kind.now) item.now.range (drafted table.now draft.old) }
+    ensures refused { IfErr result (λ fault. fault_in config.now kind.now (drafted table.now draft.old) item.now ≡ Some fault) }
+    ensures fine { OnOk result (fault_in config.now kind.now (drafted table.now draft.old) item.now ≡ None) }
+    ensures marked { IfOk result (λ m. m ≡ marked_in (change_by kind.now) (holding (drafted table.now draft.old) opened) item.now) }
     ensures draft { OnOk result (IsDraft table.now draft.new) }
-    ensures drafted { OnOk result (drafted table.now draft.new ≡ presences_by (change_by kind) item.now.range (opened + 1) (drafted table.now draft.old)) }
+    ensures drafted { OnOk result (drafted table.now draft.new ≡ presences_by (change_by kind.now) item.now.range (opened + 1) (drafted table.now draft.old)) }
     ensures changed { OnOk result (length draft.new.changed ≤ length draft.old.changed + 1) }
     ensures draft_room { draft.new.room ≡ draft.old.room }
 {
@@ -158,7 +172,30 @@ fn visit(
     let free = config.capacity() - draft.used_cells();
     match fault_of(kind, item, &found, free) {
         Some(fault) => Err(fault),
-        None => Ok(mark(table, draft, kind, item, held_by(&found), opened)),
+        None => Ok(mark(table, draft, kind.change(), item, held_by(&found), opened)),
+    }
+}
+
+/// Leaves the marks of items that leave in the draft, and puts their steps behind those that are there. They aren't
+/// judged, and open no lifetime.
+pub fn leave_all(table: &Table, draft: &mut Draft, items: &[Item], steps: &mut Vec<Marked>)
+    requires draft { IsDraft table.now draft.old }
+    requires draft_room { length draft.old.changed + length items.now ≤ draft.old.room }
+    requires cells { All (λ i. 0 < i.range.len) items.now }
+    requires entered { AllEntered (Some StructuredDown) (holding (drafted table.now draft.old) 0) items.now }
+    requires step_room { vec_len steps.old + length items.now ≤ vec_capacity steps.old }
+    ensures draft_room { draft.new.room ≡ draft.old.room }
+    ensures steps { steps.new.items ≡ steps.old.items ++ all_marked (Some StructuredDown) (holding (drafted table.now draft.old) 0) items.now }
+    ensures step_room { vec_capacity steps.new ≡ vec_capacity steps.old }
+{
+    match items {
+        [] => {}
+        [first, rest @ ..] => {
+            let held = held_by(&draft.look(table, first.range));
+            let change = Some(Change::StructuredDown);
+            steps.push_reserved(mark(table, draft, change, first, held, 0));
+            leave_all(table, draft, rest, steps);
+        }
     }
 }
 
@@ -173,13 +210,13 @@ pub fn is_in_array(config: &Config, range: Range) -> bool
 }
 
 // The fault of an item that was found so, where so many cells are free.
-fn fault_of(kind: Kind, item: &Item, found: &Look, free: u64) -> Option<Fault>
-    ensures { result ≡ found_fault kind item.now found.now free }
+fn fault_of(kind: &Kind, item: &Item, found: &Look, free: u64) -> Option<Fault>
+    ensures { result ≡ found_fault kind.now item.now found.now free }
 {
     match found {
         Look::Present(_) => None,
         Look::Partly => {
-            if kind == Kind::IsPresent {
+            if matches!(kind, Kind::IsPresent) {
                 None
             } else {
                 Some(Fault::PartlyPresent)
@@ -188,7 +225,7 @@ fn fault_of(kind: Kind, item: &Item, found: &Look, free: u64) -> Option<Fault>
         Look::Absent => {
             if wants_presence(kind, item.clause) {
                 Some(Fault::NotPresent)
-            } else if opens(kind) && free < u64::from(item.range.len) {
+            } else if opens(kind.change()) && free < u64::from(item.range.len) {
                 Some(Fault::DeviceFull)
             } else {
                 None
@@ -198,23 +235,23 @@ fn fault_of(kind: Kind, item: &Item, found: &Look, free: u64) -> Option<Fault>
 }
 
 // Whether an item is only about what is present.
-fn wants_presence(kind: Kind, clause: Clause) -> bool
-    ensures { result ≡ wants_presence kind clause }
+fn wants_presence(kind: &Kind, clause: Clause) -> bool
+    ensures { result ≡ wants_presence kind.now clause }
 {
     match kind {
-        Kind::Data => clause == Clause::Present,
-        Kind::Update { if_present } => !if_present,
+        Kind::Data | Kind::Loop { .. } => clause == Clause::Present,
+        Kind::Update { if_present } => !*if_present,
         Kind::EndData | Kind::EnterData | Kind::ExitData { .. } | Kind::IsPresent => false,
     }
 }
 
 // Whether an item that is absent enters.
-fn opens(kind: Kind) -> bool
-    ensures { result ≡ can_open_by (change_by kind) }
+fn opens(change: Option<Change>) -> bool
+    ensures { result ≡ can_open_by change }
 {
-    match kind {
-        Kind::Data | Kind::EnterData => true,
-        Kind::EndData | Kind::ExitData { .. } | Kind::Update { .. } | Kind::IsPresent => false,
+    match change {
+        Some(Change::StructuredUp | Change::DynamicUp) => true,
+        Some(Change::StructuredDown | Change::DynamicDown | Change::DynamicZero) | None => false,
     }
 }
 
@@ -233,38 +270,38 @@ fn held_by(found: &Look) -> Option<u64>
 fn mark(
     table: &Table,
     draft: &mut Draft,
-    kind: Kind,
+    change: Option<Change>,
     item: &Item,
     held: Option<u64>,
     opened: u64,
 ) -> Marked
     requires draft { IsDraft table.now draft.old }
     requires draft_room { length draft.old.changed < draft.old.room }
-    requires can { CanMark (change_by kind) item.now.range (drafted table.now draft.old) table.now.capacity }
+    requires can { CanMark change item.now.range (drafted table.now draft.old) table.now.capacity }
     requires few { opened < COUNTER_LIMIT }
     requires held { held ≡ block_held (holder (drafted table.now draft.old) item.now.range) }
     ensures draft { IsDraft table.now draft.new }
-    ensures drafted { drafted table.now draft.new ≡ presences_by (change_by kind) item.now.range (opened + 1) (drafted table.now draft.old) }
+    ensures drafted { drafted table.now draft.new ≡ presences_by change item.now.range (opened + 1) (drafted table.now draft.old) }
     ensures changed { length draft.new.changed ≤ length draft.old.changed + 1 }
     ensures draft_room { draft.new.room ≡ draft.old.room }
-    ensures result { result ≡ marked_in (change_by kind) (holding (drafted table.now draft.old) opened) item.now }
+    ensures result { result ≡ marked_in change (holding (drafted table.now draft.old) opened) item.now }
 {
     let range = item.range;
-    let (entered, ended) = match kind {
-        Kind::Data => (
+    let (entered, ended) = match change {
+        Some(Change::StructuredUp) => (
             enter(table, draft, range, Counter::Structured, opened),
             None,
         ),
-        Kind::EndData => (
+        Some(Change::StructuredDown) => (
             None,
             ended_by(draft.leave(table, range, Counter::Structured)),
         ),
-        Kind::EnterData => (enter(table, draft, range, Counter::Dynamic, opened), None),
-        Kind::ExitData { finalize: false } => {
+        Some(Change::DynamicUp) => (enter(table, draft, range, Counter::Dynamic, opened), None),
+        Some(Change::DynamicDown) => {
             (None, ended_by(draft.leave(table, range, Counter::Dynamic)))
         }
-        Kind::ExitData { finalize: true } => (None, ended_by(draft.finalize(table, range))),
-        Kind::Update { .. } | Kind::IsPresent => (None, None),
+        Some(Change::DynamicZero) => (None, ended_by(draft.finalize(table, range))),
+        None => (None, None),
     };
     Marked {
         item: *item,

@@ -1,4 +1,5 @@
 ghost use Rattle.acc_place.specs.BatchExamples.{GroupByGroup, PartIsCopiedOut, LeavesOnce, EntersAgain, EmptyBatch};
+ghost use Rattle.acc_place.specs.LoopExamples.{RunsOnPresent, CopiesImplicitly, TakesClauses, UsesConstructs, UsesOwnConstructs, StaysInRange, TakesNoTurn, LimitsItems, JudgesItems};
 ghost use Rattle.acc_place.specs.RefusalExamples.{EarlierItemFirst, ItemBeforeCounts, LimitsFirst, LastDirective, RangesOutside, CapacityReached};
 ghost use Rattle.acc_place.specs.RegionExamples.{AbsentAtEntry, PresentAtEntry, LastExit, NotTheLastExit, Nested, OwnRegion, Depth, Entries, ExitsInside, Updates, Questions, ItemsInTurn};
 ghost use Rattle.acc_place.specs.Counts.{AcceptedAreCounted, EnteredCanBeLeft};
@@ -64,4 +65,18 @@ pub fn worked_batches()
     ensures leaves { LeavesOnce }
     ensures enters { EntersAgain }
     ensures empty { EmptyBatch }
+{}
+
+/// What parallel loops mean, computed likewise: the items that they have, the ranges that they use, their batches, and
+/// their first fault.
+pub fn worked_loops()
+    ensures present { RunsOnPresent }
+    ensures implicit { CopiesImplicitly }
+    ensures clauses { TakesClauses }
+    ensures constructs { UsesConstructs }
+    ensures own { UsesOwnConstructs }
+    ensures range { StaysInRange }
+    ensures turns { TakesNoTurn }
+    ensures limit { LimitsItems }
+    ensures items { JudgesItems }
 {}

@@ -4,9 +4,11 @@
 mod directive;
 mod judge;
 mod laws;
+mod loops;
 mod place;
 mod plan;
 mod regions;
+mod subject;
 
 pub use directive::{
     ASYNC_NOVAL, Clause, Directive, Item, Kind, MAX_DIRECTIVES, MAX_ITEMS, MAX_REGIONS, PlaceEntry,
@@ -15,7 +17,7 @@ pub use directive::{
 pub use judge::is_in_array;
 pub use laws::{
     accepted_directives_are_counted, plans_are_kept, plans_outlast_their_batches, worked_batches,
-    worked_directives, worked_refusals, worked_regions,
+    worked_directives, worked_loops, worked_refusals, worked_regions,
 };
 pub use place::Place;
 pub use plan::Plan;

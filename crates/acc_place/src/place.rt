@@ -10,16 +10,17 @@ ghost use Rattle.acc_place.specs.Batches.{answer_of, is_answered};
 ghost use Rattle.acc_place.specs.Histories.{AllAccepted};
 ghost use Rattle.acc_place.specs.Places.{IsRoomy, is_synchronous, nth_batch, sync};
 ghost use Rattle.acc_place.specs.Plans.{standing_in, IsRefusal, IsPlanOf, Fits, place_after};
-ghost use Rattle.acc_place.specs.Standings.{change_by, walk_of};
+ghost use Rattle.acc_place.specs.Standings.{walk_of};
 ghost use Rattle.acc_place.specs.Walks.{holding, holding_after, holding_after_all, opened_after, CanEnter, CanMark, HasRoomFor, AllEntered, AllFine};
 
 use crate::directive::{Directive, Item, Kind, MAX_ITEMS, PlaceEntry, Placed, Region};
-use crate::judge::{Marked, judge, limit_of};
+use crate::judge::{Marked, judge, leave_all, limit_of};
 use crate::plan::{Plan, plan_of};
-use crate::regions::{items_of, settle};
+use crate::regions::settle;
+use crate::subject::{ends_of, put_items, run_of};
 use acc_base::{BlockId, Config, DeviceId, Fault, HostId, QueueAt, QueueId, Range};
 use acc_batch::Label;
-use acc_present::{Counter, Draft, Entered, Entry, Table};
+use acc_present::{Change, Counter, Draft, Entered, Entry, Table};
 use std::alloc::Global;
 use std::marker::Model;
 
@@ -37,25 +38,30 @@ pub struct Place {
     labels: Vec<Label>,
     // how many lifetimes have been opened
     opened: u64,
-    // where a directive is judged: its marks, and what became of its items
+    // where a directive is judged: its marks, what became of its items, and these
     draft: Draft,
     steps: Vec<Marked>,
+    items: Vec<Item>,
     // whether there is memory for one more directive
     is_ready: bool,
 }
 
 impl Model for Place {
     ghost use Rattle.std.specs.Prelude.{All, not, reverse, vec_len, vec_capacity};
+    ghost use Rattle.std.specs.Coded.{codes};
+    ghost use Rattle.acc_kernel.specs.contracts.expr.Expr as expr;
     ghost use Rattle.acc_place.specs.Plans.{PlaceView};
     ghost use Rattle.acc_place.specs.Places.{IsPlace, HasRooms};
 
     ghost Value = { PlaceView };
 
+    ghost coded = { Prim.hlevel (codes, expr.the_row.coded) };
+
     ghost view = { λ w. record { config = w.config; history = reverse w.history.items; counts = reverse w.counts.items; is_ready = w.is_ready } };
 
     ghost invariant = { λ w.
         IsPlace (record { config = w.config; history = reverse w.history.items; counts = reverse w.counts.items; is_ready = w.is_ready }) w.table w.opened w.regions.items w.labels.items
-        × HasRooms w.is_ready w.table (vec_len w.history) (vec_capacity w.history) (vec_len w.counts) (vec_capacity w.counts) (vec_len w.regions) (vec_capacity w.regions) (vec_len w.labels) (vec_capacity w.labels) w.draft.room (vec_capacity w.steps) };
+        × HasRooms w.is_ready w.table (vec_len w.history) (vec_capacity w.history) (vec_len w.counts) (vec_capacity w.counts) (vec_len w.regions) (vec_capacity w.regions) (vec_len w.labels) (vec_capacity w.labels) w.draft.room (vec_capacity w.steps) (vec_capacity w.items) };
 }
 
 impl Place {
@@ -72,8 +78,9 @@ impl Place {
         ensures fault { IfErr result (λ fault. fault ≡ Memory) }
     {
         let table = Table::new(alloc, config.capacity());
-        let draft = Draft::with_room(alloc, MAX_ITEMS)?;
-        let steps = Vec::with_capacity(alloc, MAX_ITEMS)?;
+        let draft = Draft::with_room(alloc, 2 * MAX_ITEMS)?;
+        let steps = Vec::with_capacity(alloc, 2 * MAX_ITEMS)?;
+        let items = Vec::with_capacity(alloc, MAX_ITEMS + 1)?;
         Ok(Place {
             alloc,
             config,
@@ -85,6 +92,7 @@ impl Place {
             opened: 0,
             draft,
             steps,
+            items,
             is_ready: false,
         })
     }
@@ -112,7 +120,14 @@ impl Place {
         ensures fits { IfOk result (λ q. Fits self.new q × IsPlanOf self.new q) }
         ensures batch { IfOk result (λ q. q.batch ≡ q.label) }
     {
-        let items = items_of(self.regions.as_slice(), host, directive);
+        put_items(
+            &self.config,
+            self.regions.as_slice(),
+            host,
+            directive,
+            &mut self.items,
+        );
+        let items = self.items.as_slice();
         let limit = limit_of(
             &self.config,
             self.history.len(),
@@ -129,7 +144,7 @@ impl Place {
             &self.table,
             &mut self.draft,
             &self.config,
-            directive.kind,
+            &directive.kind,
             items,
             opened,
             &mut self.steps,
@@ -137,12 +152,16 @@ impl Place {
         if let Some(fault) = found {
             return Err(fault);
         }
+        let run = run_of(self.alloc, &self.table, &self.draft, &directive.kind, items)?;
+        let ends = ends_of(&directive.kind, items);
+        leave_all(&self.table, &mut self.draft, ends, &mut self.steps);
         let plan = plan_of(
             self.alloc,
             host,
             items_done,
             directive,
             self.steps.as_slice(),
+            run,
             sync_queue(),
             self.labels.len() as u64 + 1,
             self.history.len(),
@@ -172,10 +191,20 @@ impl Place {
             label,
             ..
         } = plan;
-        let items = items_of(self.regions.as_slice(), host, &directive);
-        let present = is_answered(&self.table, directive.kind, items);
+        put_items(
+            &self.config,
+            self.regions.as_slice(),
+            host,
+            &directive,
+            &mut self.items,
+        );
+        let items = self.items.as_slice();
+        let present = is_answered(&self.table, &directive.kind, items);
         let opened = self.opened;
-        self.opened = mark_all(&mut self.table, directive.kind, items, opened);
+        let between = mark_all(&mut self.table, directive.kind.change(), items, opened);
+        let ends = ends_of(&directive.kind, items);
+        let down = Some(Change::StructuredDown);
+        self.opened = mark_all(&mut self.table, down, ends, between);
         settle(&mut self.regions, host, &directive, region);
         self.history
             .push_reserved(PlaceEntry::Accepted { host, directive });
@@ -290,60 +319,60 @@ fn sync_queue() -> QueueAt
 }
 
 // The answer of `acc_is_present`, and of no other directive.
-fn is_answered(table: &Table, kind: Kind, items: &[Item]) -> bool
+fn is_answered(table: &Table, kind: &Kind, items: &[Item]) -> bool
     requires cells { All (λ i. 0 < i.range.len) items.now }
-    ensures { result ≡ is_answered kind table.now.presences items.now }
+    ensures { result ≡ is_answered kind.now table.now.presences items.now }
 {
-    kind == Kind::IsPresent
+    matches!(kind, Kind::IsPresent)
         && items
             .iter()
             .all(|item| table.counters(item.range).is_some())
 }
 
 // Leaves the items' marks in the table, and says how many lifetimes have been opened then.
-fn mark_all(table: &mut Table, kind: Kind, items: &[Item], opened: u64) -> u64
-    requires fine { AllFine table.old.capacity kind (holding table.old.presences opened) items.now }
-    requires entered { AllEntered (change_by kind) (holding table.old.presences opened) items.now }
+fn mark_all(table: &mut Table, change: Option<Change>, items: &[Item], opened: u64) -> u64
+    requires fine { AllFine table.old.capacity change (holding table.old.presences opened) items.now }
+    requires entered { AllEntered change (holding table.old.presences opened) items.now }
     requires room { HasRoomFor (length items.now) table.old opened }
-    ensures holding { holding table.new.presences result ≡ holding_after_all (change_by kind) (holding table.old.presences opened) items.now }
+    ensures holding { holding table.new.presences result ≡ holding_after_all change (holding table.old.presences opened) items.now }
     ensures capacity { table.new.capacity ≡ table.old.capacity }
     ensures room { table.new.room ≡ table.old.room }
 {
     match items {
         [] => opened,
         [first, rest @ ..] => {
-            let next = mark(table, kind, first.range, opened);
-            mark_all(table, kind, rest, next)
+            let next = mark(table, change, first.range, opened);
+            mark_all(table, change, rest, next)
         }
     }
 }
 
 // Leaves one mark in the table, and says how many lifetimes have been opened then.
 #[tactic(auto, unfolding(crate::specs::Walks::holding_after))]
-fn mark(table: &mut Table, kind: Kind, range: Range, opened: u64) -> u64
-    requires can { CanMark (change_by kind) range table.old.presences table.old.capacity }
+fn mark(table: &mut Table, change: Option<Change>, range: Range, opened: u64) -> u64
+    requires can { CanMark change range table.old.presences table.old.capacity }
     requires room { length table.old.presences < table.old.room }
     requires few { opened < COUNTER_LIMIT }
-    ensures holding { holding table.new.presences result ≡ holding_after (change_by kind) range (holding table.old.presences opened) }
+    ensures holding { holding table.new.presences result ≡ holding_after change range (holding table.old.presences opened) }
     ensures capacity { table.new.capacity ≡ table.old.capacity }
     ensures room { table.new.room ≡ table.old.room }
 {
-    match kind {
-        Kind::Data => enter(table, range, Counter::Structured, opened),
-        Kind::EnterData => enter(table, range, Counter::Dynamic, opened),
-        Kind::EndData => {
+    match change {
+        Some(Change::StructuredUp) => enter(table, range, Counter::Structured, opened),
+        Some(Change::StructuredDown) => {
             let _ = table.leave(range, Counter::Structured);
             opened
         }
-        Kind::ExitData { finalize: false } => {
+        Some(Change::DynamicUp) => enter(table, range, Counter::Dynamic, opened),
+        Some(Change::DynamicDown) => {
             let _ = table.leave(range, Counter::Dynamic);
             opened
         }
-        Kind::ExitData { finalize: true } => {
+        Some(Change::DynamicZero) => {
             let _ = table.finalize(range);
             opened
         }
-        Kind::Update { .. } | Kind::IsPresent => opened,
+        None => opened,
     }
 }
 
@@ -406,6 +435,6 @@ fn make_room(
     counts.reserve(1)?;
     regions.reserve(1)?;
     labels.reserve(1)?;
-    table.spare(MAX_ITEMS)?;
+    table.spare(2 * MAX_ITEMS)?;
     Ok(())
 }

@@ -1,6 +1,8 @@
-ghost use Rattle.std.specs.Prelude.{◌≡◌, ◌++◌, ◌==◌, if◌then◌else◌, length, IfOk, IfErr, OnOk, IsTrue, Some, None};
+ghost use Rattle.std.specs.Prelude.{◌≡◌, ◌++◌, ◌==◌, if◌then◌else◌, length, IfOk, IfErr, IfSome, OnOk, IsTrue, Some, None};
 ghost use Rattle.std.specs.List.{flat_map};
+ghost use Rattle.std.specs.Option.{option_to_list};
 ghost use Rattle.acc_batch.specs.declared.operation.Op.TheVariants as op;
+ghost use Rattle.acc_batch.specs.Tasks.{HasItsCells};
 ghost use Rattle.acc_place.specs.Batches.{copies_in, copies_out};
 ghost use Rattle.acc_place.specs.Plans.{Fits, IsPlanOf, label_for, opened_region};
 ghost use Rattle.acc_place.specs.Walks.{block_of, op_of, op_for, update_for, group_ops, marked_ops};
@@ -41,9 +43,13 @@ pub struct Plan {
 }
 
 impl Model for Plan {
+    ghost use Rattle.std.specs.Coded.{codes};
+    ghost use Rattle.acc_kernel.specs.contracts.expr.Expr as expr;
     ghost use Rattle.acc_place.specs.Plans.{PlanView};
 
     ghost Value = { PlanView };
+
+    ghost coded = { Prim.hlevel (codes, expr.the_row.coded) };
 
     ghost view = { λ q. record { host = q.host; items_done = q.items_done; directive = q.directive; region = q.region; label = q.label; batch = q.batch; stamp = q.stamp } };
 }
@@ -68,27 +74,30 @@ impl Plan {
     }
 }
 
-/// A plan for a directive with these steps, whose batch goes to this queue and has this number there.
+/// A plan for a directive with these steps that runs this loop, if any, whose batch goes to this queue and has this
+/// number there.
 pub fn plan_of(
     alloc: Global,
     host: HostId,
     items_done: u64,
     directive: &Directive,
     steps: &[Marked],
+    run: Option<Op>,
     at: QueueAt,
     number: u64,
     stamp: usize,
 ) -> Result<Plan, Fault>
+    requires { IfSome run HasItsCells }
     ensures host { IfOk result (λ q. (q.host ≡ host) × (q.items_done ≡ items_done) × (q.stamp ≡ stamp)) }
     ensures directive { IfOk result (λ q. q.directive ≡ directive.now) }
     ensures region { IfOk result (λ q. q.region ≡ opened_region host directive.now directive.now.kind) }
-    ensures label { IfOk result (λ q. q.label ≡ label_for at number host items_done (marked_ops steps.now)) }
+    ensures label { IfOk result (λ q. q.label ≡ label_for at number host items_done (marked_ops (option_to_list run) steps.now)) }
     ensures batch { IfOk result (λ q. q.batch ≡ q.label) }
     ensures fault { IfErr result (λ fault. fault ≡ Fault.Memory) }
 {
     let region = opened_by(alloc, host, directive)?;
     let directive = directive.try_clone(alloc)?;
-    let ops = ops_of(alloc, steps)?;
+    let ops = ops_of(alloc, steps, run)?;
     if ops.is_empty() {
         return Ok(Plan {
             host,
@@ -120,19 +129,34 @@ pub fn plan_of(
     })
 }
 
-// The operations of a batch.
+// The operations of a batch; a loop runs behind the copies in.
 #[tactic(auto, unfolding(crate::specs::Walks::marked_ops))]
-fn ops_of(alloc: Global, steps: &[Marked]) -> Result<Vec<Op>, Fault>
-    ensures ops { IfOk result (λ ops. ops.items ≡ marked_ops steps.now) }
+fn ops_of(alloc: Global, steps: &[Marked], run: Option<Op>) -> Result<Vec<Op>, Fault>
+    ensures ops { IfOk result (λ ops. ops.items ≡ marked_ops (option_to_list run) steps.now) }
     ensures fault { IfErr result (λ fault. fault ≡ Fault.Memory) }
 {
     let mut ops = Vec::new(alloc);
     add_group(Group::Makes, steps, &mut ops)?;
     add_group(Group::CopyIns, steps, &mut ops)?;
+    add_run(run, &mut ops)?;
     add_group(Group::Updates, steps, &mut ops)?;
     add_group(Group::CopyOuts, steps, &mut ops)?;
     add_group(Group::Releases, steps, &mut ops)?;
     Ok(ops)
+}
+
+// Adds the operation that runs the loop, if there is one.
+fn add_run(run: Option<Op>, ops: &mut Vec<Op>) -> Result<(), Fault>
+    ensures ops { OnOk result (ops.new.items ≡ ops.old.items ++ option_to_list run) }
+    ensures fault { IfErr result (λ fault. fault ≡ Fault.Memory) }
+{
+    match run {
+        None => Ok(()),
+        Some(op) => {
+            ops.push(op)?;
+            Ok(())
+        }
+    }
 }
 
 // Adds the operations of one group, step by step.

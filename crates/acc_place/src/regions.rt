@@ -2,7 +2,7 @@ ghost use Rattle.std.specs.Prelude.{◌≡◌, ◌<◌, [], length, remove, slic
 ghost use Rattle.std.specs.Option.{option_and_then};
 ghost use Rattle.acc_place.specs.Plans.{opened_region};
 ghost use Rattle.acc_place.specs.Regions.{regions_of, open_region, without_open, regions_after};
-ghost use Rattle.acc_place.specs.Standings.{subject_by};
+ghost use Rattle.acc_place.specs.Walks.{written_by};
 
 use crate::directive::{Directive, Item, Kind, Region};
 use acc_base::{Fault, HostId};
@@ -24,11 +24,11 @@ pub fn open_place(regions: &[Region], host: HostId) -> Option<usize>
     regions.iter().position(|region| region.host == host)
 }
 
-/// The items that a host's directive acts on: its own, or those of the data construct that it ends.
+/// The items that are written: the directive's own, or those of the data construct that it ends.
 pub fn items_of<'a>(regions: &'a [Region], host: HostId, directive: &'a Directive) -> &'a [Item]
-    ensures { result.now ≡ (subject_by regions.now host directive.now directive.now.kind).items }
+    ensures { result.now ≡ written_by regions.now host directive.now directive.now.kind }
 {
-    if directive.kind != Kind::EndData {
+    if !matches!(&directive.kind, Kind::EndData) {
         return directive.items.as_slice();
     }
     match open_place(regions, host) {
@@ -46,7 +46,7 @@ pub fn opened_by(
     ensures region { IfOk result (λ region. region ≡ opened_region host directive.now directive.now.kind) }
     ensures fault { IfErr result (λ fault. fault ≡ Fault.Memory) }
 {
-    if directive.kind != Kind::Data {
+    if !matches!(&directive.kind, Kind::Data) {
         return Ok(None);
     }
     let items = directive.items.try_clone(alloc)?;
@@ -73,7 +73,7 @@ pub fn settle(
         let _ = regions.insert(0, region);
         return;
     }
-    if directive.kind == Kind::EndData {
+    if matches!(&directive.kind, Kind::EndData) {
         if let Some(i) = open_place(regions.as_slice(), host) {
             let _ = regions.remove(i);
         }

@@ -1,12 +1,13 @@
 use crate::fixtures::{
-    EXIT, FINALIZE, Step, UPDATE, UPDATE_IF_PRESENT, a, accept_each, accepted, answer, b,
-    check_batch, check_directive, check_label, check_present, copy_in, copy_out, copyin, copyout,
-    counters_of, create, delete, entry, given, item, make, place_of, queue, release, sync,
-    synchronous,
+    Step, a, accept_each, accepted, answer, b, check_batch, check_directive, check_label,
+    check_present, copyin, copyout, counters_of, create, delete, entry, given, item, place_of,
+    queue, sync, synchronous,
 };
+use crate::form::{EXIT, FINALIZE, Form, UPDATE, UPDATE_IF_PRESENT};
+use crate::operation::{copy_in, copy_out, make, release};
 use acc_base::{Fault, HostId, QueueAt, Range};
-use acc_place::{Clause, Kind, Place, PlaceEntry};
-use std::alloc::{AllocError, Global};
+use acc_place::{Clause, Place, PlaceEntry};
+use std::alloc::Global;
 use std::process::Abort;
 use std::test::Fail;
 
@@ -28,7 +29,7 @@ fn accept(
     before: u64,
 ) -> Result<(), Fault> {
     let number = place.placed_count(sync()).wrapping_add(1);
-    let directive = synchronous(alloc, 0, step.kind, step.items)?;
+    let directive = synchronous(alloc, 0, step.form, step.items)?;
     assert!(rt; directive.is_synchronous());
     let mut plan = place.plan(HostId::new(step.host), before.wrapping_add(3), &directive)?;
     let batch = plan.take_batch();
@@ -77,8 +78,8 @@ fn check_entry(
     alloc: Global,
     entry: &PlaceEntry,
     step: &Step,
-) -> Result<(), AllocError> {
-    let wanted = synchronous(alloc, 0, step.kind, step.items)?;
+) -> Result<(), Fault> {
+    let wanted = synchronous(alloc, 0, step.form, step.items)?;
     match entry {
         PlaceEntry::Accepted { host, directive } => {
             assert_eq!(rt; *host, HostId::new(step.host));
@@ -93,7 +94,7 @@ fn check_entries(
     alloc: Global,
     history: &[PlaceEntry],
     steps: &[Step],
-) -> Result<(), AllocError> {
+) -> Result<(), Fault> {
     assert_eq!(rt; history.len(), steps.len());
     for (entry, step) in history.iter().zip(steps) {
         check_entry(rt, alloc, entry, step)?;
@@ -115,7 +116,7 @@ fn check_histories(
     alloc: Global,
     place: Place,
     steps: &[Step],
-) -> Result<(), AllocError> {
+) -> Result<(), Fault> {
     check_entries(rt, alloc, place.history(), steps)?;
     let (config, history, counts) = place.into_histories();
     assert_eq!(rt; config.hosts(), 2);
@@ -140,7 +141,12 @@ fn accept_all(
 }
 
 // Accepts the steps in turn, on a new place, and looks at all that it answers.
-fn check(rt: &impl Abort, alloc: Global, capacity: u64, steps: &[Step]) -> Result<(), Fail> {
+pub fn check_accepted(
+    rt: &impl Abort,
+    alloc: Global,
+    capacity: u64,
+    steps: &[Step],
+) -> Result<(), Fail> {
     let mut place = place_of(alloc, capacity)?;
     accept_all(rt, alloc, &mut place, steps)?;
     check_all_placed(rt, &place, steps);
@@ -156,7 +162,7 @@ fn entries_and_exits(rt: HostRuntime) -> Result<(), Fail> {
     let steps = [
         Step {
             host: 0,
-            kind: Kind::EnterData,
+            form: Form::EnterData,
             items: &[copyin(a(0, 4)), copyin(b(1, 2))],
             ops: &[
                 make(1, a(0, 4)),
@@ -168,29 +174,29 @@ fn entries_and_exits(rt: HostRuntime) -> Result<(), Fail> {
         },
         Step {
             host: 1,
-            kind: Kind::EnterData,
+            form: Form::EnterData,
             items: &[copyin(a(1, 2)), copyin(a(0, 4))],
             ops: &[],
             present: &[entry(a(0, 4), 1, 0, 3), entry(b(1, 2), 2, 0, 1)],
         },
         Step {
             host: 0,
-            kind: EXIT,
+            form: EXIT,
             items: &[copyout(a(0, 1)), delete(b(3, 1)), copyout(a(3, 1))],
             ops: &[],
             present: &[entry(a(0, 4), 1, 0, 1), entry(b(1, 2), 2, 0, 1)],
         },
         Step {
             host: 1,
-            kind: EXIT,
+            form: EXIT,
             items: &[delete(b(2, 1)), copyout(a(2, 2))],
             ops: &[copy_out(1, a(2, 2)), release(2), release(1)],
             present: &[],
         },
-        given(0, Kind::EnterData, &[]),
+        given(0, Form::EnterData, &[]),
         Step {
             host: 1,
-            kind: Kind::EnterData,
+            form: Form::EnterData,
             items: &[copyin(b(0, 4)), copyin(a(0, 8))],
             ops: &[
                 make(3, b(0, 4)),
@@ -202,13 +208,13 @@ fn entries_and_exits(rt: HostRuntime) -> Result<(), Fail> {
         },
         Step {
             host: 0,
-            kind: EXIT,
+            form: EXIT,
             items: &[copyout(b(0, 4)), copyout(b(0, 4))],
             ops: &[copy_out(3, b(0, 4)), release(3)],
             present: &[entry(a(0, 8), 4, 0, 1)],
         },
     ];
-    check(&rt, rt.alloc(), 12, &steps)
+    check_accepted(&rt, rt.alloc(), 12, &steps)
 }
 
 /// Sixteen items; the last free cell; and a range whose parts the items before it have let go.
@@ -217,14 +223,14 @@ fn entries_and_exits_at_the_limits(rt: HostRuntime) -> Result<(), Fail> {
     let steps = [
         Step {
             host: 0,
-            kind: Kind::EnterData,
+            form: Form::EnterData,
             items: &[copyin(a(2, 3)); 16],
             ops: &[make(1, a(2, 3)), copy_in(1, a(2, 3))],
             present: &[entry(a(2, 3), 1, 0, 16)],
         },
         Step {
             host: 1,
-            kind: Kind::EnterData,
+            form: Form::EnterData,
             items: &[copyin(a(0, 2)), copyin(b(3, 1))],
             ops: &[
                 make(2, a(0, 2)),
@@ -240,7 +246,7 @@ fn entries_and_exits_at_the_limits(rt: HostRuntime) -> Result<(), Fail> {
         },
         Step {
             host: 0,
-            kind: EXIT,
+            form: EXIT,
             items: &[delete(a(2, 3)); 15],
             ops: &[],
             present: &[
@@ -251,7 +257,7 @@ fn entries_and_exits_at_the_limits(rt: HostRuntime) -> Result<(), Fail> {
         },
         Step {
             host: 1,
-            kind: EXIT,
+            form: EXIT,
             items: &[
                 copyout(a(0, 1)),
                 copyout(a(2, 1)),
@@ -268,7 +274,7 @@ fn entries_and_exits_at_the_limits(rt: HostRuntime) -> Result<(), Fail> {
             present: &[],
         },
     ];
-    check(&rt, rt.alloc(), 6, &steps)
+    check_accepted(&rt, rt.alloc(), 6, &steps)
 }
 
 /// Each host leaves its own regions, the innermost first.
@@ -277,48 +283,48 @@ fn regions_of_two_hosts(rt: HostRuntime) -> Result<(), Fail> {
     let steps = [
         Step {
             host: 0,
-            kind: Kind::Data,
+            form: Form::Data,
             items: &[item(Clause::Copy, a(0, 4))],
             ops: &[make(1, a(0, 4)), copy_in(1, a(0, 4))],
             present: &[entry(a(0, 4), 1, 1, 0)],
         },
         Step {
             host: 1,
-            kind: Kind::Data,
+            form: Form::Data,
             items: &[create(b(0, 2))],
             ops: &[make(2, b(0, 2))],
             present: &[entry(a(0, 4), 1, 1, 0), entry(b(0, 2), 2, 1, 0)],
         },
         Step {
             host: 1,
-            kind: Kind::Data,
+            form: Form::Data,
             items: &[copyout(a(1, 2))],
             ops: &[],
             present: &[entry(a(0, 4), 1, 2, 0), entry(b(0, 2), 2, 1, 0)],
         },
         Step {
             host: 0,
-            kind: Kind::EndData,
+            form: Form::EndData,
             items: &[],
             ops: &[],
             present: &[entry(a(0, 4), 1, 1, 0), entry(b(0, 2), 2, 1, 0)],
         },
         Step {
             host: 1,
-            kind: Kind::EndData,
+            form: Form::EndData,
             items: &[],
             ops: &[copy_out(1, a(1, 2)), release(1)],
             present: &[entry(b(0, 2), 2, 1, 0)],
         },
         Step {
             host: 1,
-            kind: Kind::EndData,
+            form: Form::EndData,
             items: &[],
             ops: &[release(2)],
             present: &[],
         },
     ];
-    check(&rt, rt.alloc(), 12, &steps)
+    check_accepted(&rt, rt.alloc(), 12, &steps)
 }
 
 /// The exit that ends the lifetime decides whether it is copied out: that of the last clause.
@@ -327,34 +333,34 @@ fn an_array_in_two_clauses_of_a_region(rt: HostRuntime) -> Result<(), Fail> {
     let steps = [
         Step {
             host: 0,
-            kind: Kind::Data,
+            form: Form::Data,
             items: &[copyin(a(0, 4)), item(Clause::Copy, a(0, 4))],
             ops: &[make(1, a(0, 4)), copy_in(1, a(0, 4))],
             present: &[entry(a(0, 4), 1, 2, 0)],
         },
         Step {
             host: 0,
-            kind: Kind::EndData,
+            form: Form::EndData,
             items: &[],
             ops: &[copy_out(1, a(0, 4)), release(1)],
             present: &[],
         },
         Step {
             host: 0,
-            kind: Kind::Data,
+            form: Form::Data,
             items: &[item(Clause::Copy, a(0, 4)), copyin(a(0, 4))],
             ops: &[make(2, a(0, 4)), copy_in(2, a(0, 4))],
             present: &[entry(a(0, 4), 2, 2, 0)],
         },
         Step {
             host: 0,
-            kind: Kind::EndData,
+            form: Form::EndData,
             items: &[],
             ops: &[release(2)],
             present: &[],
         },
     ];
-    check(&rt, rt.alloc(), 12, &steps)
+    check_accepted(&rt, rt.alloc(), 12, &steps)
 }
 
 /// Both blocks are copied out before the first is released, at a region's end and by exits.
@@ -363,14 +369,14 @@ fn two_blocks_leave_at_once(rt: HostRuntime) -> Result<(), Fail> {
     let steps = [
         Step {
             host: 0,
-            kind: Kind::Data,
+            form: Form::Data,
             items: &[item(Clause::Copy, a(4, 4)), copyout(b(0, 2))],
             ops: &[make(1, a(4, 4)), make(2, b(0, 2)), copy_in(1, a(4, 4))],
             present: &[entry(a(4, 4), 1, 1, 0), entry(b(0, 2), 2, 1, 0)],
         },
         Step {
             host: 0,
-            kind: Kind::EndData,
+            form: Form::EndData,
             items: &[],
             ops: &[
                 copy_out(1, a(4, 4)),
@@ -382,14 +388,14 @@ fn two_blocks_leave_at_once(rt: HostRuntime) -> Result<(), Fail> {
         },
         Step {
             host: 0,
-            kind: Kind::EnterData,
+            form: Form::EnterData,
             items: &[create(a(0, 4)), create(b(0, 2)), copyin(a(1, 1))],
             ops: &[make(3, a(0, 4)), make(4, b(0, 2))],
             present: &[entry(a(0, 4), 3, 0, 2), entry(b(0, 2), 4, 0, 1)],
         },
         Step {
             host: 0,
-            kind: FINALIZE,
+            form: FINALIZE,
             items: &[copyout(b(1, 1)), copyout(a(0, 3))],
             ops: &[
                 copy_out(4, b(1, 1)),
@@ -400,7 +406,7 @@ fn two_blocks_leave_at_once(rt: HostRuntime) -> Result<(), Fail> {
             present: &[],
         },
     ];
-    check(&rt, rt.alloc(), 12, &steps)
+    check_accepted(&rt, rt.alloc(), 12, &steps)
 }
 
 /// Sixteen items of a region; of an update; and of one whose ranges are absent.
@@ -410,34 +416,34 @@ fn regions_and_updates_of_sixteen_items(rt: HostRuntime) -> Result<(), Fail> {
     let steps = [
         Step {
             host: 0,
-            kind: Kind::Data,
+            form: Form::Data,
             items: &[create(a(2, 3)); 16],
             ops: &[make(1, a(2, 3))],
             present: &[entry(a(2, 3), 1, 16, 0)],
         },
         Step {
             host: 1,
-            kind: UPDATE,
+            form: UPDATE,
             items: &[to_self; 16],
             ops: &[copy_out(1, a(2, 1)); 16],
             present: &[entry(a(2, 3), 1, 16, 0)],
         },
         Step {
             host: 0,
-            kind: Kind::EndData,
+            form: Form::EndData,
             items: &[],
             ops: &[release(1)],
             present: &[],
         },
         Step {
             host: 1,
-            kind: UPDATE_IF_PRESENT,
+            form: UPDATE_IF_PRESENT,
             items: &[to_self; 16],
             ops: &[],
             present: &[],
         },
     ];
-    check(&rt, rt.alloc(), 12, &steps)
+    check_accepted(&rt, rt.alloc(), 12, &steps)
 }
 
 /// The cells of a range that has left are free, though its release is still queued.
@@ -446,27 +452,27 @@ fn cells_are_free_while_their_release_is_queued(rt: HostRuntime) -> Result<(), F
     let steps = [
         Step {
             host: 0,
-            kind: Kind::EnterData,
+            form: Form::EnterData,
             items: &[create(a(0, 4))],
             ops: &[make(1, a(0, 4))],
             present: &[entry(a(0, 4), 1, 0, 1)],
         },
         Step {
             host: 0,
-            kind: EXIT,
+            form: EXIT,
             items: &[delete(a(0, 4))],
             ops: &[release(1)],
             present: &[],
         },
         Step {
             host: 0,
-            kind: Kind::EnterData,
+            form: Form::EnterData,
             items: &[create(a(4, 4))],
             ops: &[make(2, a(4, 4))],
             present: &[entry(a(4, 4), 2, 0, 1)],
         },
     ];
-    check(&rt, rt.alloc(), 4, &steps)
+    check_accepted(&rt, rt.alloc(), 4, &steps)
 }
 
 // A range has these counters, and a question says whether it is present.
@@ -478,7 +484,7 @@ fn check_range(
     counters: Option<(u64, u64)>,
 ) -> Result<(), Fault> {
     assert_eq!(rt; counters_of(rt, place, range), counters, "{range:?}");
-    let question = synchronous(alloc, 0, Kind::IsPresent, &[item(Clause::Present, range)])?;
+    let question = synchronous(alloc, 0, Form::IsPresent, &[item(Clause::Present, range)])?;
     let placed = accepted(place, 1, &question)?;
     assert_eq!(rt; placed, answer(None, counters.is_some()), "{range:?}");
     Ok(())
@@ -506,7 +512,7 @@ fn check_counters(
 fn parts_of_a_present_range(rt: HostRuntime) -> Result<(), Fail> {
     let items = [copyin(a(2, 3)), copyin(a(6, 2)), copyin(a(3, 1))];
     let update = [item(Clause::UpdateDevice, a(3, 2))];
-    let steps = [given(0, Kind::EnterData, &items), given(0, UPDATE, &update)];
+    let steps = [given(0, Form::EnterData, &items), given(0, UPDATE, &update)];
     let wanted = [
         (a(2, 3), Some((0, 2))),
         (a(2, 1), Some((0, 2))),
@@ -528,7 +534,7 @@ fn parts_of_a_present_range(rt: HostRuntime) -> Result<(), Fail> {
 fn parts_of_a_range_that_a_region_holds(rt: HostRuntime) -> Result<(), Fail> {
     let items = [create(a(0, 4))];
     let exit = [delete(a(0, 4))];
-    let steps = [given(0, Kind::Data, &items), given(0, EXIT, &exit)];
+    let steps = [given(0, Form::Data, &items), given(0, EXIT, &exit)];
     let wanted = [
         (a(0, 4), Some((1, 0))),
         (a(3, 1), Some((1, 0))),

@@ -1,48 +1,90 @@
-use crate::fixtures::{a, check_tasks, make, queue};
-use acc_base::{BlockId, DeviceId, HostId, Listed, QueueId};
+use crate::bodies::{Body, Loop, kernel_of};
+use crate::fixtures::{a, b, check_ops, check_tasks, queue};
+use crate::operation::{Operation, make, run, used};
+use acc_base::{BlockId, DeviceId, Fault, HostId, Listed, QueueId};
 use acc_batch::{Batch, Label, Op, Task};
 use acc_raw::Cells;
 use acc_scarce::at_each_amount;
-use std::alloc::{AllocError, Global};
+use std::alloc::Global;
 use std::collections::VecDeque;
 use std::process::Abort;
 use std::test::Fail;
 
-// An operation of each kind, and a second block, with no cell.
-fn each_kind() -> [Op; 5] {
+// An operation of each kind, and a second block, with no cell. The loop uses more cells of a than it reaches, and the very
+// cells of b that it reaches.
+fn each_kind() -> [Operation; 6] {
     let block = BlockId::new(4_294_967_297);
     let range = a(3, 7);
     [
-        Op::Make { block, range },
+        Operation::Make { block, range },
         make(2, a(9, 0)),
-        Op::CopyIn { block, range },
-        Op::CopyOut {
+        Operation::CopyIn { block, range },
+        run(&[(block, range), used(2, b(4, 3))]),
+        Operation::CopyOut {
             block,
             range: a(5, 1),
         },
-        Op::Release { block },
+        Operation::Release { block },
     ]
 }
 
+// The operation, of which a loop is always the same, from 3 to 5.
+fn op_of(alloc: Global, operation: Operation) -> Result<Op, Fault> {
+    match operation {
+        Operation::Make { block, range } => Ok(Op::Make { block, range }),
+        Operation::CopyIn { block, range } => Ok(Op::CopyIn { block, range }),
+        Operation::CopyOut { block, range } => Ok(Op::CopyOut { block, range }),
+        Operation::Release { block } => Ok(Op::Release { block }),
+        Operation::Run { first, second, .. } => {
+            let table = Loop {
+                lo: 3,
+                hi: 6,
+                body: Body::NextBack,
+            };
+            let kernel = kernel_of(alloc, table)?;
+            let mut uses = Vec::new(alloc);
+            for part in [first, second] {
+                if let Some(part) = part {
+                    uses.push(part)?;
+                }
+            }
+            let uses = Listed::from_vec(uses);
+            Ok(Op::Run { kernel, uses })
+        }
+    }
+}
+
 // A label with these operations, and else with numbers that differ.
-fn label_of(alloc: Global, ops: &[Op]) -> Result<Label, AllocError> {
+fn label_of(alloc: Global, operations: &[Operation]) -> Result<Label, Fault> {
+    let mut ops = Vec::new(alloc);
+    for operation in operations {
+        ops.push(op_of(alloc, *operation)?)?;
+    }
     Ok(Label {
         at: queue(3, 6),
         number: 9,
         host: HostId::new(5),
         items_done: 1_099_511_627_775,
-        ops: Listed::from_vec(Vec::from_slice(alloc, ops)?),
+        ops: Listed::from_vec(ops),
     })
 }
 
+// The batch of a label, or a bad range where it can have none.
+fn batch_of(alloc: Global, label: Label) -> Result<Batch, Fault> {
+    if label.ops.as_slice().is_empty() || !label.has_its_cells() {
+        return Err(Fault::BadRange);
+    }
+    Batch::new(alloc, label)
+}
+
 // It is what label_of makes of these operations.
-fn check_label(rt: &impl Abort, label: &Label, ops: &[Op]) {
+fn check_label(rt: &impl Abort, label: &Label, operations: &[Operation]) {
     assert_eq!(rt; label.at.device, DeviceId::new(3));
     assert_eq!(rt; label.at.queue, QueueId::new(6));
     assert_eq!(rt; label.number, 9);
     assert_eq!(rt; label.host, HostId::new(5));
     assert_eq!(rt; label.items_done, 1_099_511_627_775);
-    assert_eq!(rt; label.ops.as_slice(), ops);
+    check_ops(rt, label.ops.as_slice(), operations);
 }
 
 // A block that is made has the cells of its range, all zero.
@@ -61,27 +103,27 @@ fn check_zeros(rt: &impl Abort, cells: &Cells) {
     }
 }
 
-fn check_batch(rt: &impl Abort, batch: Batch, ops: &[Op]) {
-    check_label(rt, batch.label(), ops);
-    check_tasks(rt, batch.ops(), ops);
+fn check_batch(rt: &impl Abort, batch: Batch, operations: &[Operation]) {
+    check_label(rt, batch.label(), operations);
+    check_tasks(rt, batch.ops(), operations);
     let (label, tasks) = batch.into_parts();
-    check_label(rt, &label, ops);
-    check_tasks(rt, &tasks, ops);
+    check_label(rt, &label, operations);
+    check_tasks(rt, &tasks, operations);
     check_blocks(rt, &tasks);
 }
 
-/// No operation, each kind of them, and a block of the most cells of an array.
+/// Each kind of operation, and a block of the most cells of an array.
 #[test]
 fn a_batch_is_its_label_with_memory(rt: HostRuntime) -> Result<(), Fail> {
     let alloc = rt.alloc();
     let kinds = each_kind();
     let most = [make(1, a(0, 65_536))];
-    let cases: [&[Op]; 3] = [&[], &kinds, &most];
-    for ops in cases {
-        let label = label_of(alloc, ops)?;
-        check_label(&rt, &label.try_clone(alloc)?, ops);
-        check_label(&rt, &label, ops);
-        check_batch(&rt, Batch::new(alloc, label)?, ops);
+    let cases: [&[Operation]; 2] = [&kinds, &most];
+    for operations in cases {
+        let label = label_of(alloc, operations)?;
+        check_label(&rt, &label.try_clone(alloc)?, operations);
+        check_label(&rt, &label, operations);
+        check_batch(&rt, batch_of(alloc, label)?, operations);
     }
     Ok(())
 }
@@ -89,12 +131,12 @@ fn a_batch_is_its_label_with_memory(rt: HostRuntime) -> Result<(), Fail> {
 #[test]
 fn a_label_is_refused_until_there_is_memory(rt: HostRuntime) -> Result<(), Fail> {
     let alloc = rt.alloc();
-    let ops = each_kind();
-    let label = label_of(alloc, &ops)?;
+    let operations = each_kind();
+    let label = label_of(alloc, &operations)?;
     let (refusals, copy) = at_each_amount(alloc, || label.try_clone(alloc))?;
     assert!(rt; 1 < refusals);
-    check_label(&rt, &copy, &ops);
-    check_label(&rt, &label, &ops);
+    check_label(&rt, &copy, &operations);
+    check_label(&rt, &label, &operations);
     Ok(())
 }
 
@@ -102,16 +144,16 @@ fn a_label_is_refused_until_there_is_memory(rt: HostRuntime) -> Result<(), Fail>
 #[test]
 fn a_batch_is_refused_until_there_is_memory(rt: HostRuntime) -> Result<(), Fail> {
     let alloc = rt.alloc();
-    let ops = each_kind();
-    let label = label_of(alloc, &ops)?;
+    let operations = each_kind();
+    let label = label_of(alloc, &operations)?;
     let mut copies = 0u32;
     let (refusals, batch) = at_each_amount(alloc, || {
         let copy = label.try_clone(alloc)?;
         copies = copies.wrapping_add(1);
-        Batch::new(alloc, copy)
+        batch_of(alloc, copy)
     })?;
     assert!(rt; 2 < copies && copies < refusals, "{copies} labels");
-    check_batch(&rt, batch, &ops);
-    check_label(&rt, &label, &ops);
+    check_batch(&rt, batch, &operations);
+    check_label(&rt, &label, &operations);
     Ok(())
 }

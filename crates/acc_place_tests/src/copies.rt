@@ -1,23 +1,23 @@
-use crate::fixtures::{
-    EXIT, FINALIZE, UPDATE, a, b, check_directive, check_waits, copyin, copyout, delete,
-};
-use acc_base::{DeviceId, Listed};
-use acc_place::{ASYNC_NOVAL, Directive, Item, Kind, Target, Waits};
+use crate::bodies::Body;
+use crate::fixtures::{a, b, check_directive, check_waits, copyin, copyout, delete};
+use crate::form::{EXIT, FINALIZE, Form, UPDATE, kind_of, over};
+use acc_base::{DeviceId, Fault, Listed};
+use acc_place::{ASYNC_NOVAL, Directive, Item, Target, Waits};
 use acc_scarce::at_each_amount;
 use std::alloc::{AllocError, Global};
 use std::test::Fail;
 
 fn directive_of(
     alloc: Global,
-    kind: Kind,
+    form: Form,
     items: &[Item],
     target: Target,
     waits: Waits,
-) -> Result<Directive, AllocError> {
+) -> Result<Directive, Fault> {
     Ok(Directive {
         device: DeviceId::new(3),
         default: 7,
-        kind,
+        kind: kind_of(alloc, form)?,
         items: Listed::from_vec(Vec::from_slice(alloc, items)?),
         target,
         waits,
@@ -37,16 +37,17 @@ fn directives_are_copied(rt: HostRuntime) -> Result<(), Fail> {
     let some = listed(alloc, &[5, ASYNC_NOVAL, i64::MIN])?;
     let all_waits = [Waits::Nothing, Waits::All, listed(alloc, &[])?, some];
     let targets = [
-        (Target::Plain, Kind::EnterData),
+        (Target::Plain, Form::EnterData),
         (Target::Unvalued, EXIT),
         (Target::Value { value: i64::MAX }, UPDATE),
+        (Target::Value { value: 5 }, over(-3, 65_536, Body::Next)),
     ];
     let items = [copyin(a(1, 2)), copyout(b(3, 4)), delete(a(5, 0))];
     for waits in &all_waits {
-        for (target, kind) in targets {
+        for (target, form) in targets {
             let copy = waits.try_clone(alloc)?;
             check_waits(&rt, &copy, waits);
-            let directive = directive_of(alloc, kind, &items, target, copy)?;
+            let directive = directive_of(alloc, form, &items, target, copy)?;
             let copy = directive.try_clone(alloc)?;
             check_directive(&rt, &copy, &directive);
             check_waits(&rt, &copy.waits, waits);
@@ -67,43 +68,44 @@ fn a_directive_without_clauses_is_synchronous(rt: HostRuntime) -> Result<(), Fai
         Target::Value { value: 0 },
         Target::Value { value: -2 },
     ];
-    let kinds = [
-        Kind::Data,
-        Kind::EndData,
-        Kind::EnterData,
+    let forms = [
+        Form::Data,
+        Form::EndData,
+        Form::EnterData,
         EXIT,
         FINALIZE,
         UPDATE,
-        Kind::IsPresent,
+        over(0, 1, Body::Counted),
+        Form::IsPresent,
     ];
     for waits in &all_waits {
         for target in targets {
-            for kind in kinds {
+            for form in forms {
                 let waits = waits.try_clone(alloc)?;
                 let is_plain = target == Target::Plain && matches!(&waits, Waits::Nothing);
-                let directive = directive_of(alloc, kind, &[copyin(a(0, 1))], target, waits)?;
-                assert_eq!(rt; directive.is_synchronous(), is_plain, "{kind:?} {target:?}");
+                let directive = directive_of(alloc, form, &[copyin(a(0, 1))], target, waits)?;
+                assert_eq!(rt; directive.is_synchronous(), is_plain, "{form:?} {target:?}");
             }
         }
     }
     Ok(())
 }
 
-/// The copy of a list takes memory, and others don't.
+/// The copies of a list and of a loop take memory, and others don't.
 #[test]
 fn copies_are_refused_until_there_is_memory(rt: HostRuntime) -> Result<(), Fail> {
     let alloc = rt.alloc();
     let cases = [
-        (Waits::Nothing, false),
-        (Waits::All, false),
-        (listed(alloc, &[7; 30])?, true),
+        (Waits::Nothing, Form::EnterData, false),
+        (Waits::All, over(0, 1, Body::Counted), false),
+        (listed(alloc, &[7; 30])?, Form::EnterData, true),
     ];
     let items = [copyin(a(1, 2)); 16];
-    for (waits, is_refused) in &cases {
+    for (waits, form, is_refused) in &cases {
         let (refusals, copy) = at_each_amount(alloc, || waits.try_clone(alloc))?;
         check_waits(&rt, &copy, waits);
         assert_eq!(rt; 0 < refusals, *is_refused);
-        let directive = directive_of(alloc, Kind::EnterData, &items, Target::Unvalued, copy)?;
+        let directive = directive_of(alloc, *form, &items, Target::Unvalued, copy)?;
         let (refusals, copy) = at_each_amount(alloc, || directive.try_clone(alloc))?;
         check_directive(&rt, &copy, &directive);
         check_waits(&rt, &directive.waits, waits);

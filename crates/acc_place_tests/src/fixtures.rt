@@ -1,20 +1,14 @@
 ghost use Rattle.std.specs.Prelude.{◌≡◌};
 
+use crate::form::{Form, check_kind, kind_of};
+use crate::operation::{Operation, operation_of, performed_by};
 use acc_base::{BlockId, Config, DeviceId, Fault, HostId, Listed, QueueAt, QueueId, Range};
 use acc_batch::{Batch, Label, Op, Task};
-use acc_place::{ASYNC_NOVAL, Clause, Directive, Item, Kind, Place, Placed, Plan, Target, Waits};
+use acc_place::{ASYNC_NOVAL, Clause, Directive, Item, Place, Placed, Plan, Target, Waits};
 use acc_present::Entry;
-use std::alloc::{AllocError, Global};
+use std::alloc::Global;
 use std::collections::VecDeque;
 use std::process::Abort;
-
-pub const EXIT: Kind = Kind::ExitData { finalize: false };
-
-pub const FINALIZE: Kind = Kind::ExitData { finalize: true };
-
-pub const UPDATE: Kind = Kind::Update { if_present: false };
-
-pub const UPDATE_IF_PRESENT: Kind = Kind::Update { if_present: true };
 
 fn device() -> DeviceId
     ensures { result ≡ 0 }
@@ -63,33 +57,6 @@ pub fn delete(range: Range) -> Item {
     item(Clause::Delete, range)
 }
 
-pub fn make(block: u64, range: Range) -> Op {
-    Op::Make {
-        block: BlockId::new(block),
-        range,
-    }
-}
-
-pub fn copy_in(block: u64, range: Range) -> Op {
-    Op::CopyIn {
-        block: BlockId::new(block),
-        range,
-    }
-}
-
-pub fn copy_out(block: u64, range: Range) -> Op {
-    Op::CopyOut {
-        block: BlockId::new(block),
-        range,
-    }
-}
-
-pub fn release(block: u64) -> Op {
-    Op::Release {
-        block: BlockId::new(block),
-    }
-}
-
 // A range that is present, with its counters.
 pub fn entry(range: Range, block: u64, s: u64, d: u64) -> Entry {
     Entry {
@@ -104,17 +71,17 @@ pub fn entry(range: Range, block: u64, s: u64, d: u64) -> Entry {
 #[derive(Clone, Copy)]
 pub struct Step<'a> {
     pub host: u8,
-    pub kind: Kind,
+    pub form: Form,
     pub items: &'a [Item],
-    pub ops: &'a [Op],
+    pub ops: &'a [Operation],
     pub present: &'a [Entry],
 }
 
 // A step of which only the directive matters.
-pub fn given<'a>(host: u8, kind: Kind, items: &'a [Item]) -> Step<'a> {
+pub fn given<'a>(host: u8, form: Form, items: &'a [Item]) -> Step<'a> {
     Step {
         host,
-        kind,
+        form,
         items,
         ops: &[],
         present: &[],
@@ -125,13 +92,13 @@ pub fn given<'a>(host: u8, kind: Kind, items: &'a [Item]) -> Step<'a> {
 pub fn synchronous(
     alloc: Global,
     device: u8,
-    kind: Kind,
+    form: Form,
     items: &[Item],
-) -> Result<Directive, AllocError> {
+) -> Result<Directive, Fault> {
     Ok(Directive {
         device: DeviceId::new(device),
         default: ASYNC_NOVAL,
-        kind,
+        kind: kind_of(alloc, form)?,
         items: Listed::from_vec(Vec::from_slice(alloc, items)?),
         target: Target::Plain,
         waits: Waits::Nothing,
@@ -167,7 +134,7 @@ pub fn accepted(place: &mut Place, host: u8, directive: &Directive) -> Result<Pl
 
 // Accepts a step.
 fn accept_one(alloc: Global, place: &mut Place, step: &Step) -> Result<(), Fault> {
-    let directive = synchronous(alloc, 0, step.kind, step.items)?;
+    let directive = synchronous(alloc, 0, step.form, step.items)?;
     match accepted(place, step.host, &directive) {
         Ok(_) => Ok(()),
         Err(fault) => Err(fault),
@@ -204,7 +171,7 @@ pub fn check_waits(rt: &impl Abort, waits: &Waits, wanted: &Waits) {
 pub fn check_directive(rt: &impl Abort, directive: &Directive, wanted: &Directive) {
     assert_eq!(rt; directive.device, wanted.device);
     assert_eq!(rt; directive.default, wanted.default);
-    assert_eq!(rt; directive.kind, wanted.kind);
+    check_kind(rt, &directive.kind, &wanted.kind);
     assert_eq!(rt; directive.items.as_slice(), wanted.items.as_slice());
     assert_eq!(rt; directive.target, wanted.target);
     check_waits(rt, &directive.waits, &wanted.waits);
@@ -216,14 +183,21 @@ pub fn check_label(rt: &impl Abort, label: &Label, step: &Step, number: u64, bef
     assert_eq!(rt; label.number, number);
     assert_eq!(rt; label.host, HostId::new(step.host));
     assert_eq!(rt; label.items_done, before.wrapping_add(3));
-    assert_eq!(rt; label.ops.as_slice(), step.ops);
+    check_ops(rt, label.ops.as_slice(), step.ops);
+}
+
+pub fn check_ops(rt: &impl Abort, ops: &[Op], wanted: &[Operation]) {
+    assert_eq!(rt; ops.len(), wanted.len());
+    for (op, wanted) in ops.iter().zip(wanted) {
+        assert_eq!(rt; operation_of(op), *wanted);
+    }
 }
 
 // The tasks perform these operations.
-pub fn check_tasks(rt: &impl Abort, tasks: &VecDeque<Task>, ops: &[Op]) {
-    assert_eq!(rt; tasks.len(), ops.len());
-    for (task, op) in tasks.iter().zip(ops) {
-        assert_eq!(rt; task.op(), *op);
+pub fn check_tasks(rt: &impl Abort, tasks: &VecDeque<Task>, wanted: &[Operation]) {
+    assert_eq!(rt; tasks.len(), wanted.len());
+    for (task, wanted) in tasks.iter().zip(wanted) {
+        assert_eq!(rt; performed_by(task), *wanted);
     }
 }
 

@@ -6,11 +6,19 @@ mod accepted;
 #[cfg(test)]
 mod batch;
 #[cfg(test)]
+mod bodies;
+#[cfg(test)]
 mod copies;
 #[cfg(test)]
 mod fixtures;
 #[cfg(test)]
+mod form;
+#[cfg(test)]
+mod loops;
+#[cfg(test)]
 mod memory;
+#[cfg(test)]
+mod operation;
 #[cfg(test)]
 mod plans;
 #[cfg(test)]

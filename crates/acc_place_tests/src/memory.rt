@@ -1,10 +1,12 @@
+use crate::bodies::Body;
 use crate::fixtures::{
-    EXIT, Shown, Step, a, accept_each, accepted, answer, b, check_batch, check_present, copy_in,
-    copy_out, copyin, copyout, create, delete, entry, item, make, place_of, planned, release,
-    shown_by, sync, synchronous,
+    Shown, Step, a, accept_each, accepted, answer, b, check_batch, check_present, copyin, copyout,
+    create, delete, entry, item, place_of, planned, shown_by, sync, synchronous,
 };
+use crate::form::{EXIT, Form, over};
+use crate::operation::{copy_in, copy_out, make, release, run, used};
 use acc_base::{Config, Fault, HostId};
-use acc_place::{Clause, Directive, Kind, Place, Placed, Plan};
+use acc_place::{Clause, Directive, Place, Placed, Plan};
 use acc_scarce::{Hoard, at_each_amount};
 use std::alloc::Global;
 use std::process::Abort;
@@ -46,7 +48,7 @@ fn accepted_scarcely(
 fn accepting_takes_no_memory(rt: HostRuntime) -> Result<(), Fail> {
     let alloc = rt.alloc();
     let items = [copyin(a(4, 4)), copyin(a(0, 4)), copyin(b(0, 4))];
-    let directive = synchronous(alloc, 0, Kind::EnterData, &items)?;
+    let directive = synchronous(alloc, 0, Form::EnterData, &items)?;
     let mut place = place_of(alloc, 12)?;
     let placed = accepted_scarcely(alloc, &mut place, &directive)?;
     assert_eq!(rt; placed, answer(Some((sync(), 1)), false));
@@ -91,7 +93,7 @@ fn plan_at_each_amount(
     place: &mut Place,
     step: &Step,
 ) -> Result<Plan, Fault> {
-    let directive = synchronous(alloc, 0, step.kind, step.items)?;
+    let directive = synchronous(alloc, 0, step.form, step.items)?;
     let shown = shown_by(rt, place);
     let mut tries = Tried {
         times: 0,
@@ -114,7 +116,7 @@ fn check_accepted(
     step: &Step,
     number: u64,
 ) -> Result<(), Fault> {
-    let directive = synchronous(alloc, 0, step.kind, step.items)?;
+    let directive = synchronous(alloc, 0, step.form, step.items)?;
     let placed = accepted(place, step.host, &directive)?;
     assert_eq!(rt; placed, answer(Some((sync(), number)), false));
     check_present(rt, place, step.present);
@@ -143,7 +145,7 @@ fn check(
 fn plans_are_refused_until_there_is_memory(rt: HostRuntime) -> Result<(), Fail> {
     let enter = Step {
         host: 0,
-        kind: Kind::EnterData,
+        form: Form::EnterData,
         items: &[copyin(a(0, 3)), copyin(a(1, 1)), copyin(b(2, 2))],
         ops: &[
             make(1, a(0, 3)),
@@ -155,7 +157,7 @@ fn plans_are_refused_until_there_is_memory(rt: HostRuntime) -> Result<(), Fail> 
     };
     let exit = Step {
         host: 1,
-        kind: EXIT,
+        form: EXIT,
         items: &[copyout(b(2, 2)), delete(a(0, 1)), copyout(a(1, 1))],
         ops: &[
             copy_out(2, b(2, 2)),
@@ -175,14 +177,14 @@ fn plans_are_refused_until_there_is_memory(rt: HostRuntime) -> Result<(), Fail> 
 fn plans_of_regions_are_refused_until_there_is_memory(rt: HostRuntime) -> Result<(), Fail> {
     let outer = Step {
         host: 0,
-        kind: Kind::Data,
+        form: Form::Data,
         items: &[item(Clause::Copy, a(0, 3)), create(b(2, 2))],
         ops: &[make(1, a(0, 3)), make(2, b(2, 2)), copy_in(1, a(0, 3))],
         present: &[entry(a(0, 3), 1, 1, 0), entry(b(2, 2), 2, 1, 0)],
     };
     let inner = Step {
         host: 0,
-        kind: Kind::Data,
+        form: Form::Data,
         items: &[copyout(a(1, 1)), copyin(b(0, 2))],
         ops: &[make(3, b(0, 2)), copy_in(3, b(0, 2))],
         present: &[
@@ -193,7 +195,7 @@ fn plans_of_regions_are_refused_until_there_is_memory(rt: HostRuntime) -> Result
     };
     let end = Step {
         host: 0,
-        kind: Kind::EndData,
+        form: Form::EndData,
         items: &[],
         ops: &[copy_out(1, a(0, 3)), release(1), release(2)],
         present: &[],
@@ -201,5 +203,43 @@ fn plans_of_regions_are_refused_until_there_is_memory(rt: HostRuntime) -> Result
     check(&rt, rt.alloc(), &[], 0, &outer)?;
     check(&rt, rt.alloc(), &[outer], 1, &inner)?;
     check(&rt, rt.alloc(), &[outer], 1, &end)?;
+    Ok(())
+}
+
+/// The same of loops: with clauses and an implicit item, and in a data construct.
+#[test]
+fn plans_of_loops_are_refused_until_there_is_memory(rt: HostRuntime) -> Result<(), Fail> {
+    let outer = Step {
+        host: 0,
+        form: Form::Data,
+        items: &[item(Clause::Copy, a(0, 3)), create(b(2, 2))],
+        ops: &[make(1, a(0, 3)), make(2, b(2, 2)), copy_in(1, a(0, 3))],
+        present: &[entry(a(0, 3), 1, 1, 0), entry(b(2, 2), 2, 1, 0)],
+    };
+    let alone = Step {
+        host: 0,
+        form: over(0, 3, Body::Next),
+        items: &[copyin(a(1, 3))],
+        ops: &[
+            make(1, a(1, 3)),
+            make(2, b(0, 4)),
+            copy_in(1, a(1, 3)),
+            copy_in(2, b(0, 4)),
+            run(&[used(2, b(0, 4)), used(1, a(1, 3))]),
+            copy_out(2, b(0, 4)),
+            release(1),
+            release(2),
+        ],
+        present: &[],
+    };
+    let inside = Step {
+        host: 0,
+        form: over(0, 3, Body::Counted),
+        items: &[],
+        ops: &[run(&[used(1, a(0, 3))])],
+        present: outer.present,
+    };
+    check(&rt, rt.alloc(), &[], 0, &alone)?;
+    check(&rt, rt.alloc(), &[outer], 1, &inside)?;
     Ok(())
 }

@@ -3,11 +3,12 @@ ghost use Rattle.acc_place.specs.Places.{is_synchronous};
 ghost use Rattle.acc_place.specs.Plans.{IsPlanOf};
 
 use crate::fixtures::{
-    Step, a, answer, check_batch, check_present, copy_in, copyin, entry, make, place_of, sync,
-    synchronous,
+    Step, a, answer, check_batch, check_present, copyin, entry, place_of, sync, synchronous,
 };
+use crate::form::Form;
+use crate::operation::{copy_in, make};
 use acc_base::{Fault, HostId};
-use acc_place::{Directive, Kind, Place, Plan, plans_are_kept};
+use acc_place::{Directive, Place, Plan, plans_are_kept};
 use std::process::Abort;
 use std::test::Fail;
 
@@ -56,15 +57,15 @@ fn check_anew(
 #[test]
 fn a_plan_fits_until_another_directive_is_accepted(rt: HostRuntime) -> Result<(), Fail> {
     let alloc = rt.alloc();
-    let one = synchronous(alloc, 0, Kind::EnterData, &[copyin(a(0, 4))])?;
-    let other = synchronous(alloc, 0, Kind::EnterData, &[copyin(a(4, 4))])?;
+    let one = synchronous(alloc, 0, Form::EnterData, &[copyin(a(0, 4))])?;
+    let other = synchronous(alloc, 0, Form::EnterData, &[copyin(a(4, 4))])?;
     assert!(rt; one.is_synchronous());
     assert!(rt; other.is_synchronous());
     let mut place = place_of(alloc, 12)?;
     let before = left_behind(&rt, &mut place, &one, &other)?;
     let step = Step {
         host: 0,
-        kind: Kind::EnterData,
+        form: Form::EnterData,
         items: &[copyin(a(0, 4))],
         ops: &[make(2, a(0, 4)), copy_in(2, a(0, 4))],
         present: &[entry(a(0, 4), 2, 0, 1), entry(a(4, 4), 1, 0, 1)],

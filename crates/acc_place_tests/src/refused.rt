@@ -1,15 +1,16 @@
 use crate::fixtures::{
-    EXIT, FINALIZE, Shown, Step, UPDATE, UPDATE_IF_PRESENT, a, accept_each, b, copyin, copyout,
-    create, delete, given, item, place_of, planned, shown_by, synchronous,
+    Shown, Step, a, accept_each, b, copyin, copyout, create, delete, given, item, place_of,
+    planned, shown_by, synchronous,
 };
+use crate::form::{EXIT, FINALIZE, Form, UPDATE, UPDATE_IF_PRESENT};
 use acc_base::{Fault, Range};
-use acc_place::{Clause, Item, Kind, Place, is_in_array};
-use std::alloc::{AllocError, Global};
+use acc_place::{Clause, Item, Place, is_in_array};
+use std::alloc::Global;
 use std::process::Abort;
 use std::test::Fail;
 
 /// A directive of host 0 for a device, and its fault.
-type Refused<'a> = (u8, Kind, &'a [Item], Fault);
+pub type Refused<'a> = (u8, Form, &'a [Item], Fault);
 
 // The directive is refused with its fault, and the place shows what it showed.
 fn check_one(
@@ -18,17 +19,22 @@ fn check_one(
     place: &mut Place,
     case: &Refused,
     shown: &Shown,
-) -> Result<(), AllocError> {
-    let (device, kind, items, fault) = *case;
-    let directive = synchronous(alloc, device, kind, items)?;
+) -> Result<(), Fault> {
+    let (device, form, items, fault) = *case;
+    let directive = synchronous(alloc, device, form, items)?;
     let refused = planned(place, 0, &directive).err();
-    assert_eq!(rt; refused, Some(fault), "{kind:?} {items:?}");
+    assert_eq!(rt; refused, Some(fault), "{form:?} {items:?}");
     assert_eq!(rt; shown_by(rt, place), *shown);
     Ok(())
 }
 
 // Behind the steps, on a device of six cells, each of the directives is refused.
-fn check(rt: &impl Abort, alloc: Global, steps: &[Step], cases: &[Refused]) -> Result<(), Fail> {
+pub fn check_refused(
+    rt: &impl Abort,
+    alloc: Global,
+    steps: &[Step],
+    cases: &[Refused],
+) -> Result<(), Fail> {
     let mut place = place_of(alloc, 6)?;
     accept_each(alloc, &mut place, steps)?;
     let shown = shown_by(rt, &place);
@@ -54,13 +60,13 @@ const HELD: Range = Range {
 // Behind two entries of these cells.
 fn check_holding(rt: &impl Abort, alloc: Global, cases: &[Refused]) -> Result<(), Fail> {
     let items = [copyin(HELD); 2];
-    check(rt, alloc, &[given(0, Kind::EnterData, &items)], cases)
+    check_refused(rt, alloc, &[given(0, Form::EnterData, &items)], cases)
 }
 
 /// By each fault, also of the last item, judged behind the others.
 #[test]
 fn entries_and_exits(rt: HostRuntime) -> Result<(), Fail> {
-    let enter = Kind::EnterData;
+    let enter = Form::EnterData;
     let cases: [Refused; 24] = [
         (1, enter, &[copyin(HELD)], Fault::BadDevice),
         (255, EXIT, &[], Fault::BadDevice),
@@ -113,7 +119,7 @@ fn entries_and_exits(rt: HostRuntime) -> Result<(), Fail> {
 
 #[test]
 fn regions(rt: HostRuntime) -> Result<(), Fail> {
-    let data = Kind::Data;
+    let data = Form::Data;
     let present = |range| item(Clause::Present, range);
     let cases: [Refused; 11] = [
         (1, data, &[create(HELD)], Fault::BadDevice),
@@ -136,7 +142,7 @@ fn regions(rt: HostRuntime) -> Result<(), Fail> {
             &[create(a(0, 2)), create(HELD), create(b(0, 2))],
             Fault::DeviceFull,
         ),
-        (0, Kind::EndData, &[], Fault::NoRegion),
+        (0, Form::EndData, &[], Fault::NoRegion),
     ];
     check_holding(&rt, rt.alloc(), &cases)
 }
@@ -164,9 +170,9 @@ fn updates_and_questions(rt: HostRuntime) -> Result<(), Fail> {
             Fault::PartlyPresent,
         ),
         (0, UPDATE_IF_PRESENT, &[to_self(b(4, 1))], Fault::BadRange),
-        (1, Kind::IsPresent, &[is_present(HELD)], Fault::BadDevice),
-        (0, Kind::IsPresent, &[is_present(b(0, 0))], Fault::BadRange),
-        (0, Kind::IsPresent, &[is_present(a(7, 2))], Fault::BadRange),
+        (1, Form::IsPresent, &[is_present(HELD)], Fault::BadDevice),
+        (0, Form::IsPresent, &[is_present(b(0, 0))], Fault::BadRange),
+        (0, Form::IsPresent, &[is_present(a(7, 2))], Fault::BadRange),
     ];
     check_holding(&rt, rt.alloc(), &cases)
 }
@@ -175,11 +181,11 @@ fn updates_and_questions(rt: HostRuntime) -> Result<(), Fail> {
 /// later one.
 #[test]
 fn the_first_fault_of_several(rt: HostRuntime) -> Result<(), Fail> {
-    let enter = Kind::EnterData;
+    let enter = Form::EnterData;
     let cases: [Refused; 8] = [
         (1, EXIT, &[delete(a(2, 0)); 17], Fault::BadDevice),
-        (1, Kind::EndData, &[], Fault::BadDevice),
-        (1, Kind::Data, &[create(a(2, 0))], Fault::BadDevice),
+        (1, Form::EndData, &[], Fault::BadDevice),
+        (1, Form::Data, &[create(a(2, 0))], Fault::BadDevice),
         (0, EXIT, &[delete(a(2, 0)); 17], Fault::TooMany),
         (
             0,
@@ -201,7 +207,7 @@ fn the_first_fault_of_several(rt: HostRuntime) -> Result<(), Fail> {
         ),
         (
             0,
-            Kind::Data,
+            Form::Data,
             &[create(b(0, 4)), create(b(4, 1))],
             Fault::DeviceFull,
         ),
@@ -213,14 +219,14 @@ fn the_first_fault_of_several(rt: HostRuntime) -> Result<(), Fail> {
 #[test]
 fn a_thirty_third_region(rt: HostRuntime) -> Result<(), Fail> {
     let cases: [Refused; 5] = [
-        (0, Kind::Data, &[create(HELD)], Fault::TooMany),
-        (0, Kind::Data, &[], Fault::TooMany),
-        (0, Kind::Data, &[create(a(2, 0))], Fault::TooMany),
-        (0, Kind::Data, &[create(a(1, 2))], Fault::TooMany),
-        (1, Kind::Data, &[create(a(2, 0))], Fault::BadDevice),
+        (0, Form::Data, &[create(HELD)], Fault::TooMany),
+        (0, Form::Data, &[], Fault::TooMany),
+        (0, Form::Data, &[create(a(2, 0))], Fault::TooMany),
+        (0, Form::Data, &[create(a(1, 2))], Fault::TooMany),
+        (1, Form::Data, &[create(a(2, 0))], Fault::BadDevice),
     ];
     let items = [create(HELD)];
-    check(&rt, rt.alloc(), &[given(0, Kind::Data, &items); 32], &cases)
+    check_refused(&rt, rt.alloc(), &[given(0, Form::Data, &items); 32], &cases)
 }
 
 /// A host that has left its region is inside none, though another host is inside one.
@@ -228,15 +234,15 @@ fn a_thirty_third_region(rt: HostRuntime) -> Result<(), Fail> {
 fn an_end_without_a_region(rt: HostRuntime) -> Result<(), Fail> {
     let items = [create(HELD)];
     let steps = [
-        given(0, Kind::Data, &items),
-        given(1, Kind::Data, &items),
-        given(0, Kind::EndData, &[]),
+        given(0, Form::Data, &items),
+        given(1, Form::Data, &items),
+        given(0, Form::EndData, &[]),
     ];
     let cases: [Refused; 2] = [
-        (0, Kind::EndData, &[], Fault::NoRegion),
-        (1, Kind::EndData, &[], Fault::BadDevice),
+        (0, Form::EndData, &[], Fault::NoRegion),
+        (1, Form::EndData, &[], Fault::BadDevice),
     ];
-    check(&rt, rt.alloc(), &steps, &cases)
+    check_refused(&rt, rt.alloc(), &steps, &cases)
 }
 
 #[test]

@@ -8,7 +8,9 @@ use Rattle.acc_base.specs.Ranges.{range_contains}
 use Rattle.acc_present.specs.declared.table.Counter.TheVariants.{Dynamic}
 use Rattle.acc_present.specs.Legality.{IsEntered, MeetsCondition, IsLegal, AllLegal, StructuredIsTheDifference}
 use Rattle.acc_present.specs.Lifetimes.{Lifetime, opened, live, lives, opens, can_open, is_counted, marks_since, stays_counted, structured_of, entries_of, exits_of}
-use Rattle.acc_present.specs.Marks.{Change, Structured_up, Structured_down, Dynamic_up, Dynamic_down, Dynamic_zero, Mark, inside, region_entries, region_exits}
+use Rattle.acc_present.specs.declared.change.Change.{Change}
+use Rattle.acc_present.specs.declared.change.Change.TheVariants.{StructuredUp, StructuredDown, DynamicUp, DynamicDown, DynamicZero}
+use Rattle.acc_present.specs.Marks.{Mark, inside, region_entries, region_exits}
 use Rattle.acc_present.specs.Presences.{Presence, presence_of, presences, holder, is_partly_present}
 use Rattle.acc_present.specs.Tables.{changed_counter, presence_after, has_count, kept_after, presences_after, is_table, ends_before, ends_before_all}
 use Rattle.acc_present.proofs.Counting.{apart_first}
@@ -48,11 +50,11 @@ is_table-kept m (p ∷ ps) t =
     ]
 
 whole_where_it_opens : (change : Change) (r : Range) (ps : List Presence) → MeetsCondition change r ps → can_open change ≡ true → is_partly_present ps r ≡ false
-whole_where_it_opens Structured_up r ps h can = h
-whole_where_it_opens Structured_down r ps h can = absurd cc
-whole_where_it_opens Dynamic_up r ps h can = h
-whole_where_it_opens Dynamic_down r ps h can = absurd cc
-whole_where_it_opens Dynamic_zero r ps h can = absurd cc
+whole_where_it_opens StructuredUp r ps h can = h
+whole_where_it_opens StructuredDown r ps h can = absurd cc
+whole_where_it_opens DynamicUp r ps h can = h
+whole_where_it_opens DynamicDown r ps h can = absurd cc
+whole_where_it_opens DynamicZero r ps h can = absurd cc
 
 pub is_table-legal : (m : Mark) (b : ℕ) (ps : List Presence) → is_table ps ≡ true → IsLegal m ps → is_table (presences_after m b ps) ≡ true
 is_table-legal m b ps t legal = elim (cases_Bool (can_open m.change)) [
@@ -93,34 +95,34 @@ each_of_live E L P (x ∷ xs) h = elim (cases_Bool (L x)) [
 
 -- what a change asks of a lifetime that it is inside
 abbrev LeavesIn : Change → Range → List Mark → Lifetime → Type 0
-LeavesIn Structured_up r ms l = Unit {0}
-LeavesIn Structured_down r ms l = lives ms l ≡ true → range_contains l.range r ≡ true → 0 < structured_of ms l
-LeavesIn Dynamic_up r ms l = Unit {0}
-LeavesIn Dynamic_down r ms l = Unit {0}
-LeavesIn Dynamic_zero r ms l = Unit {0}
+LeavesIn StructuredUp r ms l = Unit {0}
+LeavesIn StructuredDown r ms l = lives ms l ≡ true → range_contains l.range r ≡ true → 0 < structured_of ms l
+LeavesIn DynamicUp r ms l = Unit {0}
+LeavesIn DynamicDown r ms l = Unit {0}
+LeavesIn DynamicZero r ms l = Unit {0}
 
 each_leaves : (change : Change) (r : Range) (ms : List Mark) → is_table (presences ms) ≡ true → 0 < r.len → MeetsCondition change r (presences ms) → Each (LeavesIn change r ms) (opened ms)
 unfolding presences live
-each_leaves Structured_up r ms t cells h = Each-trivial (opened ms)
-each_leaves Structured_down r ms t cells h = by_holder (holder (presences ms) r) refl h
+each_leaves StructuredUp r ms t cells h = Each-trivial (opened ms)
+each_leaves StructuredDown r ms t cells h = by_holder (holder (presences ms) r) refl h
   where
-    by_holder : (o : Option Presence) → holder (presences ms) r ≡ o → IsEntered o → Each (LeavesIn Structured_down r ms) (opened ms)
+    by_holder : (o : Option Presence) → holder (presences ms) r ≡ o → IsEntered o → Each (LeavesIn StructuredDown r ms) (opened ms)
     by_holder None none entered = absurd entered
     by_holder (Some x) some entered = each_of_live (presence_of ms) (lives ms) (IsEnteredIn r) (opened ms) (each_entered r (presences ms) x t cells some entered)
-each_leaves Dynamic_up r ms t cells h = Each-trivial (opened ms)
-each_leaves Dynamic_down r ms t cells h = Each-trivial (opened ms)
-each_leaves Dynamic_zero r ms t cells h = Each-trivial (opened ms)
+each_leaves DynamicUp r ms t cells h = Each-trivial (opened ms)
+each_leaves DynamicDown r ms t cells h = Each-trivial (opened ms)
+each_leaves DynamicZero r ms t cells h = Each-trivial (opened ms)
 
 -- ## Exits stay below entries
 
 region_exits-le : (change : Change) (inner : Range) (ms : List Mark) (l : Lifetime) → lives ms l ≡ true → exits_of ms l ≤ entries_of ms l → LeavesIn change inner ms l
     → region_exits l.range (record { change = change; range = inner } ∷ marks_since ms l) ≤ region_entries l.range (record { change = change; range = inner } ∷ marks_since ms l)
-region_exits-le Structured_up inner ms l alive fewer leaves = elim (cases_Bool (range_contains l.range inner)) [ inl has ↦ rw has (omega (arith, fewer)) | inr misses ↦ rw misses fewer ]
-region_exits-le Structured_down inner ms l alive fewer leaves =
+region_exits-le StructuredUp inner ms l alive fewer leaves = elim (cases_Bool (range_contains l.range inner)) [ inl has ↦ rw has (omega (arith, fewer)) | inr misses ↦ rw misses fewer ]
+region_exits-le StructuredDown inner ms l alive fewer leaves =
     elim (cases_Bool (range_contains l.range inner)) [ inl has ↦ (let some = leaves alive has in rw has (omega (arith, fewer, some))) | inr misses ↦ rw misses fewer ]
-region_exits-le Dynamic_up inner ms l alive fewer leaves = elim (cases_Bool (range_contains l.range inner)) [ inl has ↦ rw has fewer | inr misses ↦ rw misses fewer ]
-region_exits-le Dynamic_down inner ms l alive fewer leaves = elim (cases_Bool (range_contains l.range inner)) [ inl has ↦ rw has fewer | inr misses ↦ rw misses fewer ]
-region_exits-le Dynamic_zero inner ms l alive fewer leaves = elim (cases_Bool (range_contains l.range inner)) [ inl has ↦ rw has fewer | inr misses ↦ rw misses fewer ]
+region_exits-le DynamicUp inner ms l alive fewer leaves = elim (cases_Bool (range_contains l.range inner)) [ inl has ↦ rw has fewer | inr misses ↦ rw misses fewer ]
+region_exits-le DynamicDown inner ms l alive fewer leaves = elim (cases_Bool (range_contains l.range inner)) [ inl has ↦ rw has fewer | inr misses ↦ rw misses fewer ]
+region_exits-le DynamicZero inner ms l alive fewer leaves = elim (cases_Bool (range_contains l.range inner)) [ inl has ↦ rw has fewer | inr misses ↦ rw misses fewer ]
 
 balanced-more : (m : Mark) (ms : List Mark) (l : Lifetime) → IsSince (length ms) l → IsBalanced ms l → LeavesIn m.change m.range ms l → IsBalanced (m ∷ ms) l
 balanced-more m ms l since balanced leaves =
@@ -134,11 +136,11 @@ balanced_all m ms [] since balanced leaves = tt
 balanced_all m ms (l ∷ ls) since balanced leaves = (balanced-more m ms l since.0 balanced.0 leaves.0, balanced_all m ms ls since.1 balanced.1 leaves.1)
 
 no_exit_opens : (change : Change) (r : Range) → can_open change ≡ true → region_exits r (record { change = change; range = r } ∷ []) ≡ 0
-no_exit_opens Structured_up r can = rw (range_contains_itself r) refl
-no_exit_opens Structured_down r can = absurd cc
-no_exit_opens Dynamic_up r can = rw (range_contains_itself r) refl
-no_exit_opens Dynamic_down r can = absurd cc
-no_exit_opens Dynamic_zero r can = absurd cc
+no_exit_opens StructuredUp r can = rw (range_contains_itself r) refl
+no_exit_opens StructuredDown r can = absurd cc
+no_exit_opens DynamicUp r can = rw (range_contains_itself r) refl
+no_exit_opens DynamicDown r can = absurd cc
+no_exit_opens DynamicZero r can = absurd cc
 
 balanced-new : (m : Mark) (ms : List Mark) → can_open m.change ≡ true → IsBalanced (m ∷ ms) (new_lifetime m ms)
 balanced-new m ms can =
@@ -148,18 +150,18 @@ balanced-new m ms can =
 -- ## All that legal marks opened
 
 pub can_count-balanced : (change : Change) (ms : List Mark) → Each (IsBalanced ms) (opened ms) → CanCount change ms
-can_count-balanced Structured_up ms h = h
-can_count-balanced Structured_down ms h = tt
-can_count-balanced Dynamic_up ms h = tt
-can_count-balanced Dynamic_down ms h = tt
-can_count-balanced Dynamic_zero ms h = tt
+can_count-balanced StructuredUp ms h = h
+can_count-balanced StructuredDown ms h = tt
+can_count-balanced DynamicUp ms h = tt
+can_count-balanced DynamicDown ms h = tt
+can_count-balanced DynamicZero ms h = tt
 
 pub can_count-dynamic : (change : Change) (ms : List Mark) → changed_counter change ≡ Dynamic → CanCount change ms
-can_count-dynamic Structured_up ms h = absurd cc
-can_count-dynamic Structured_down ms h = tt
-can_count-dynamic Dynamic_up ms h = tt
-can_count-dynamic Dynamic_down ms h = tt
-can_count-dynamic Dynamic_zero ms h = tt
+can_count-dynamic StructuredUp ms h = absurd cc
+can_count-dynamic StructuredDown ms h = tt
+can_count-dynamic DynamicUp ms h = tt
+can_count-dynamic DynamicDown ms h = tt
+can_count-dynamic DynamicZero ms h = tt
 
 pub record Legal (ms : List Mark) : Type 0 where
   pub table : is_table (presences ms) ≡ true

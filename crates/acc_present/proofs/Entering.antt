@@ -12,7 +12,9 @@ use Rattle.acc_present.specs.declared.table.Counter.TheVariants.{Structured, Dyn
 use Rattle.acc_present.specs.declared.table.Entry.{Entry}
 use Rattle.acc_present.specs.declared.table.Left.{Left}
 use Rattle.acc_present.specs.declared.table.Left.TheVariants as left
-use Rattle.acc_present.specs.Marks.{Change, Dynamic_zero, Mark}
+use Rattle.acc_present.specs.declared.change.Change.{Change}
+use Rattle.acc_present.specs.declared.change.Change.TheVariants.{DynamicZero}
+use Rattle.acc_present.specs.Marks.{Mark}
 use Rattle.acc_present.specs.Lifetimes.{can_open}
 use Rattle.acc_present.specs.Presences.{Presence, holder, is_present, is_partly_present, overlaps_any, used_cells}
 use Rattle.acc_present.specs.Tables.{entry_change, exit_change, entry_mark, counter_of, changed_counter, stepped, opening, has_count, kept_after, presences_after, presence_placed_in, entry_presence, left_of}
@@ -144,7 +146,7 @@ entered_new es r counter block e used capacity t cells none whole fits is =
 
 -- ## Leaving
 
-pub finalized-zero : (p : Presence) → p.d ≡ 0 → stepped Dynamic_zero p ≡ p
+pub finalized-zero : (p : Presence) → p.d ≡ 0 → stepped DynamicZero p ≡ p
 finalized-zero p none = ap (λ n. record p { d = n }) (sym none)
 
 -- a mark that leaves the presence that it is inside as it was

@@ -7,7 +7,9 @@ use Rattle.std.proofs.lemmas.List.Elements.{filter-append}
 use Rattle.std.proofs.lemmas.Bool.{cases_Bool, and_parts, eq-eqb, le-leb}
 use Rattle.acc_base.specs.declared.range.Range.{Range}
 use Rattle.acc_base.specs.Ranges.{range_contains}
-use Rattle.acc_present.specs.Marks.{Change, Structured_up, Structured_down, Dynamic_up, Dynamic_down, Dynamic_zero, Mark, inside, dynamic_after, structured_count}
+use Rattle.acc_present.specs.declared.change.Change.{Change}
+use Rattle.acc_present.specs.declared.change.Change.TheVariants.{StructuredUp, StructuredDown, DynamicUp, DynamicDown, DynamicZero}
+use Rattle.acc_present.specs.Marks.{Mark, inside, dynamic_after, structured_count}
 use Rattle.acc_present.specs.Lifetimes.{Lifetime, opens, placed_in, is_before, can_open, opened, live, lives, is_counted, marks_since, structured_of, entries_of, exits_of}
 use Rattle.acc_present.specs.Presences.{presence_of, presences, is_present}
 use Rattle.acc_present.specs.Tables.{structured_after, presence_after, has_count, kept_after, presences_after, opening}
@@ -35,37 +37,37 @@ IsBalanced ms l = lives ms l ≡ true → exits_of ms l ≤ entries_of ms l
 -- what the counter of a lifetime asks of the marks before a change, so that it changes with it: an entry is not to make
 -- up for an exit that had none
 abbrev pub CanCountIn : Change → List Mark → Lifetime → Type 0
-CanCountIn Structured_up ms l = IsBalanced ms l
-CanCountIn Structured_down ms l = Unit {0}
-CanCountIn Dynamic_up ms l = Unit {0}
-CanCountIn Dynamic_down ms l = Unit {0}
-CanCountIn Dynamic_zero ms l = Unit {0}
+CanCountIn StructuredUp ms l = IsBalanced ms l
+CanCountIn StructuredDown ms l = Unit {0}
+CanCountIn DynamicUp ms l = Unit {0}
+CanCountIn DynamicDown ms l = Unit {0}
+CanCountIn DynamicZero ms l = Unit {0}
 
 abbrev pub CanCount : Change → List Mark → Type 0
-CanCount Structured_up ms = Each (IsBalanced ms) (opened ms)
-CanCount Structured_down ms = Unit {0}
-CanCount Dynamic_up ms = Unit {0}
-CanCount Dynamic_down ms = Unit {0}
-CanCount Dynamic_zero ms = Unit {0}
+CanCount StructuredUp ms = Each (IsBalanced ms) (opened ms)
+CanCount StructuredDown ms = Unit {0}
+CanCount DynamicUp ms = Unit {0}
+CanCount DynamicDown ms = Unit {0}
+CanCount DynamicZero ms = Unit {0}
 
 pub Each-trivial : {X : Type 0} (xs : List X) → Each (λ x. Unit {0}) xs
 Each-trivial [] = tt
 Each-trivial (x ∷ xs) = (tt, Each-trivial xs)
 
 pub each_can_count : (change : Change) (ms : List Mark) → CanCount change ms → Each (CanCountIn change ms) (opened ms)
-each_can_count Structured_up ms h = h
-each_can_count Structured_down ms h = Each-trivial (opened ms)
-each_can_count Dynamic_up ms h = Each-trivial (opened ms)
-each_can_count Dynamic_down ms h = Each-trivial (opened ms)
-each_can_count Dynamic_zero ms h = Each-trivial (opened ms)
+each_can_count StructuredUp ms h = h
+each_can_count StructuredDown ms h = Each-trivial (opened ms)
+each_can_count DynamicUp ms h = Each-trivial (opened ms)
+each_can_count DynamicDown ms h = Each-trivial (opened ms)
+each_can_count DynamicZero ms h = Each-trivial (opened ms)
 
 structured_count-inside : (change : Change) (inner : Range) (ms : List Mark) (l : Lifetime) → lives ms l ≡ true → CanCountIn change ms l → range_contains l.range inner ≡ true
     → structured_count l.range (record { change = change; range = inner } ∷ marks_since ms l) ≡ structured_after change (structured_of ms l)
-structured_count-inside Structured_up inner ms l alive h has = rw has (omega (arith, h alive))
-structured_count-inside Structured_down inner ms l alive h has = rw has (omega arith)
-structured_count-inside Dynamic_up inner ms l alive h has = rw has refl
-structured_count-inside Dynamic_down inner ms l alive h has = rw has refl
-structured_count-inside Dynamic_zero inner ms l alive h has = rw has refl
+structured_count-inside StructuredUp inner ms l alive h has = rw has (omega (arith, h alive))
+structured_count-inside StructuredDown inner ms l alive h has = rw has (omega arith)
+structured_count-inside DynamicUp inner ms l alive h has = rw has refl
+structured_count-inside DynamicDown inner ms l alive h has = rw has refl
+structured_count-inside DynamicZero inner ms l alive h has = rw has refl
 
 structured_count-more : (m : Mark) (ms : List Mark) (l : Lifetime) → lives ms l ≡ true → CanCountIn m.change ms l
     → structured_count l.range (m ∷ marks_since ms l) ≡ cond (inside l.range m) (structured_after m.change (structured_of ms l)) (structured_of ms l)
@@ -185,22 +187,22 @@ unfolding presences live
 is_present-presences ms r = any-map-filter (presence_of ms) (lives ms) (λ l. l.range) (λ p. p.range) (λ q. range_contains q r) (opened ms) (λ l. refl)
 
 pub opens_with_one : (change : Change) → can_open change ≡ true → structured_after change 0 + dynamic_after change 0 ≡ 1
-opens_with_one Structured_up can = refl
-opens_with_one Structured_down can = cc
-opens_with_one Dynamic_up can = refl
-opens_with_one Dynamic_down can = cc
-opens_with_one Dynamic_zero can = cc
+opens_with_one StructuredUp can = refl
+opens_with_one StructuredDown can = cc
+opens_with_one DynamicUp can = refl
+opens_with_one DynamicDown can = cc
+opens_with_one DynamicZero can = cc
 
 pub no_marks_yet : (m : Mark) (ms : List Mark) → marks_since ms (new_lifetime m ms) ≡ []
 no_marks_yet m ms = let e : length ms - length ms ≡ 0 = omega arith in ap (λ k. take k ms) e
 
 -- a lifetime that opens has no marks before it
 new_can_count : (change : Change) (m : Mark) (ms : List Mark) → CanCountIn change ms (new_lifetime m ms)
-new_can_count Structured_up m ms = λ alive. rw (no_marks_yet m ms) (omega arith)
-new_can_count Structured_down m ms = tt
-new_can_count Dynamic_up m ms = tt
-new_can_count Dynamic_down m ms = tt
-new_can_count Dynamic_zero m ms = tt
+new_can_count StructuredUp m ms = λ alive. rw (no_marks_yet m ms) (omega arith)
+new_can_count StructuredDown m ms = tt
+new_can_count DynamicUp m ms = tt
+new_can_count DynamicDown m ms = tt
+new_can_count DynamicZero m ms = tt
 
 new_lives : (m : Mark) (ms : List Mark) → lives ms (new_lifetime m ms) ≡ true
 new_lives m ms = rw (no_marks_yet m ms) refl

@@ -2,7 +2,8 @@
 use Rattle.std.specs.Prelude.{◌≡◌, ℕ, [], ◌∷◌, List}
 use Rattle.acc_base.specs.declared.range.Range.{Range}
 use Rattle.acc_present.specs.Legality.{AllLegal}
-use Rattle.acc_present.specs.Marks.{Mark, Structured_up, Structured_down, Dynamic_up, Dynamic_down, Dynamic_zero}
+use Rattle.acc_present.specs.declared.change.Change.TheVariants.{StructuredUp, StructuredDown, DynamicUp, DynamicDown, DynamicZero}
+use Rattle.acc_present.specs.Marks.{Mark}
 use Rattle.acc_present.specs.Presences.{Presence, presences}
 
 -- cells of the first array
@@ -11,20 +12,20 @@ cells lo len = record { array = 0; lo = lo; len = len }
 
 -- a region is entered, and left
 abbrev pub region : Range → Mark
-region r = record { change = Structured_up; range = r }
+region r = record { change = StructuredUp; range = r }
 
 abbrev pub end : Range → Mark
-end r = record { change = Structured_down; range = r }
+end r = record { change = StructuredDown; range = r }
 
 -- `enter data`, `exit data`, and `exit data` with `finalize`
 abbrev pub up : Range → Mark
-up r = record { change = Dynamic_up; range = r }
+up r = record { change = DynamicUp; range = r }
 
 abbrev pub down : Range → Mark
-down r = record { change = Dynamic_down; range = r }
+down r = record { change = DynamicDown; range = r }
 
 abbrev pub finalize : Range → Mark
-finalize r = record { change = Dynamic_zero; range = r }
+finalize r = record { change = DynamicZero; range = r }
 
 -- a presence with its block, its structured and its dynamic counter
 abbrev pub held : Range → ℕ → ℕ → ℕ → Presence

@@ -1,7 +1,9 @@
 -- Legal marks: each met its condition when it was made.
 use Rattle.std.specs.Prelude.{◌≡◌, ◌+◌, ◌<◌, ⊤, false, List, [], ◌∷◌, All, Option, IsSomeAnd}
 use Rattle.acc_base.specs.declared.range.Range.{Range}
-use Rattle.acc_present.specs.Marks.{Change, Structured_up, Structured_down, Dynamic_up, Dynamic_down, Dynamic_zero, Mark}
+use Rattle.acc_present.specs.declared.change.Change.{Change}
+use Rattle.acc_present.specs.declared.change.Change.TheVariants.{StructuredUp, StructuredDown, DynamicUp, DynamicDown, DynamicZero}
+use Rattle.acc_present.specs.Marks.{Mark}
 use Rattle.acc_present.specs.Lifetimes.{live, entries_of, exits_of, structured_of}
 use Rattle.acc_present.specs.Presences.{Presence, presences, holder, is_partly_present}
 
@@ -12,11 +14,11 @@ IsEntered o = IsSomeAnd o (λ p. 0 < p.s)
 -- The condition of a change of a range's counter: no entry to a range that is partly present, and no exit of a region
 -- from a range that none has entered. A dynamic exit takes no action where it finds nothing.
 abbrev pub MeetsCondition : Change → Range → List Presence → Type 0
-MeetsCondition Structured_up r ps = is_partly_present ps r ≡ false
-MeetsCondition Structured_down r ps = IsEntered (holder ps r)
-MeetsCondition Dynamic_up r ps = is_partly_present ps r ≡ false
-MeetsCondition Dynamic_down r ps = ⊤
-MeetsCondition Dynamic_zero r ps = ⊤
+MeetsCondition StructuredUp r ps = is_partly_present ps r ≡ false
+MeetsCondition StructuredDown r ps = IsEntered (holder ps r)
+MeetsCondition DynamicUp r ps = is_partly_present ps r ≡ false
+MeetsCondition DynamicDown r ps = ⊤
+MeetsCondition DynamicZero r ps = ⊤
 
 abbrev pub IsLegal : Mark → List Presence → Type 0
 IsLegal m ps = (0 < m.range.len) × MeetsCondition m.change m.range ps

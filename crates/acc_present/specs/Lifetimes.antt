@@ -4,7 +4,9 @@ use Rattle.std.specs.Prelude.{ℕ, ◌+◌, ◌-◌, Bool, true, false, ◌&&◌
 use Rattle.std.specs.List.{list_any}
 use Rattle.acc_base.specs.declared.range.Range.{Range}
 use Rattle.acc_base.specs.Ranges.{range_contains}
-use Rattle.acc_present.specs.Marks.{Change, Structured_up, Structured_down, Dynamic_up, Dynamic_down, Dynamic_zero, Mark, region_entries, region_exits, structured_count, dynamic_count}
+use Rattle.acc_present.specs.declared.change.Change.{Change}
+use Rattle.acc_present.specs.declared.change.Change.TheVariants.{StructuredUp, StructuredDown, DynamicUp, DynamicDown, DynamicZero}
+use Rattle.acc_present.specs.Marks.{Mark, region_entries, region_exits, structured_count, dynamic_count}
 
 -- A lifetime has its range, its block (the n-th lifetime opened has block n, from 1), and how many marks came
 -- before the one that opened it.
@@ -45,11 +47,11 @@ lives marks l = stays_counted l.range (marks_since marks l)
 
 -- an increment opens a lifetime where the range is absent
 abbrev pub can_open : Change → Bool
-can_open Structured_up = true
-can_open Structured_down = false
-can_open Dynamic_up = true
-can_open Dynamic_down = false
-can_open Dynamic_zero = false
+can_open StructuredUp = true
+can_open StructuredDown = false
+can_open DynamicUp = true
+can_open DynamicDown = false
+can_open DynamicZero = false
 
 -- ranges are listed by array, then by lower bound
 unfoldable pub is_before : Range → Range → Bool

@@ -3,17 +3,10 @@
 use Rattle.std.specs.Prelude.{Bool, true, false, ℕ, ◌+◌, ◌-◌, ◌&&◌, List, [], ◌∷◌, length, filter}
 use Rattle.acc_base.specs.declared.range.Range.{Range}
 use Rattle.acc_base.specs.Ranges.{range_contains}
+use Rattle.acc_present.specs.declared.change.Change.{Change}
+use Rattle.acc_present.specs.declared.change.Change.TheVariants.{StructuredUp, StructuredDown, DynamicUp, DynamicDown, DynamicZero}
 
--- What becomes of a counter. The structured one is incremented where a region is entered, and decremented where it is
--- left. The dynamic one is incremented by `enter data`, decremented by `exit data`, and set to zero by `exit data` with
--- `finalize` (2.6.6, Enter Data and Exit Data Directives, and 2.7, Data Clauses).
-pub data Change : Type 0 where
-  Structured_up : Change
-  Structured_down : Change
-  Dynamic_up : Change
-  Dynamic_down : Change
-  Dynamic_zero : Change
-
+-- What a directive does to a counter of a range.
 pub record Mark : Type 0 where
   pub change : Change
   pub range : Range
@@ -23,18 +16,18 @@ abbrev pub inside : Range → Mark → Bool
 inside r m = range_contains r m.range
 
 abbrev pub is_structured_up : Change → Bool
-is_structured_up Structured_up = true
-is_structured_up Structured_down = false
-is_structured_up Dynamic_up = false
-is_structured_up Dynamic_down = false
-is_structured_up Dynamic_zero = false
+is_structured_up StructuredUp = true
+is_structured_up StructuredDown = false
+is_structured_up DynamicUp = false
+is_structured_up DynamicDown = false
+is_structured_up DynamicZero = false
 
 abbrev pub is_structured_down : Change → Bool
-is_structured_down Structured_up = false
-is_structured_down Structured_down = true
-is_structured_down Dynamic_up = false
-is_structured_down Dynamic_down = false
-is_structured_down Dynamic_zero = false
+is_structured_down StructuredUp = false
+is_structured_down StructuredDown = true
+is_structured_down DynamicUp = false
+is_structured_down DynamicDown = false
+is_structured_down DynamicZero = false
 
 -- how often regions entered the range, and left it
 abbrev pub region_entries : Range → List Mark → ℕ
@@ -49,11 +42,11 @@ structured_count r marks = region_entries r marks - region_exits r marks
 
 -- what one mark inside the range makes of its dynamic counter; a decrement of zero takes no action
 abbrev pub dynamic_after : Change → ℕ → ℕ
-dynamic_after Structured_up n = n
-dynamic_after Structured_down n = n
-dynamic_after Dynamic_up n = n + 1
-dynamic_after Dynamic_down n = n - 1
-dynamic_after Dynamic_zero n = 0
+dynamic_after StructuredUp n = n
+dynamic_after StructuredDown n = n
+dynamic_after DynamicUp n = n + 1
+dynamic_after DynamicDown n = n - 1
+dynamic_after DynamicZero n = 0
 
 abbrev pub dynamic_step : Bool → Change → ℕ → ℕ
 dynamic_step true change n = dynamic_after change n

@@ -9,19 +9,21 @@ use Rattle.acc_present.specs.declared.table.Look.{Look}
 use Rattle.acc_present.specs.declared.table.Look.TheVariants as look
 use Rattle.acc_present.specs.declared.table.Left.{Left}
 use Rattle.acc_present.specs.declared.table.Left.TheVariants as left
-use Rattle.acc_present.specs.Marks.{Change, Structured_up, Structured_down, Dynamic_up, Dynamic_down, Dynamic_zero, Mark, dynamic_after, inside}
+use Rattle.acc_present.specs.declared.change.Change.{Change}
+use Rattle.acc_present.specs.declared.change.Change.TheVariants.{StructuredUp, StructuredDown, DynamicUp, DynamicDown, DynamicZero}
+use Rattle.acc_present.specs.Marks.{Mark, dynamic_after, inside}
 use Rattle.acc_present.specs.Legality.{AllLegal}
 use Rattle.acc_present.specs.Lifetimes.{is_before, can_open, opened}
 use Rattle.acc_present.specs.Presences.{Presence, presences, holder, is_present, is_partly_present}
 
 -- what an entry to a range changes, and what an exit from it does
 abbrev pub entry_change : Counter → Change
-entry_change Structured = Structured_up
-entry_change Dynamic = Dynamic_up
+entry_change Structured = StructuredUp
+entry_change Dynamic = DynamicUp
 
 abbrev pub exit_change : Counter → Change
-exit_change Structured = Structured_down
-exit_change Dynamic = Dynamic_down
+exit_change Structured = StructuredDown
+exit_change Dynamic = DynamicDown
 
 abbrev pub entry_mark : Counter → Range → Mark
 entry_mark counter r = record { change = entry_change counter; range = r }
@@ -30,7 +32,7 @@ abbrev pub exit_mark : Counter → Range → Mark
 exit_mark counter r = record { change = exit_change counter; range = r }
 
 abbrev pub finalize_mark : Range → Mark
-finalize_mark r = record { change = Dynamic_zero; range = r }
+finalize_mark r = record { change = DynamicZero; range = r }
 
 abbrev pub counter_of : Counter → Presence → ℕ
 counter_of Structured p = p.s
@@ -38,19 +40,19 @@ counter_of Dynamic p = p.d
 
 -- the counter that a change is of
 abbrev pub changed_counter : Change → Counter
-changed_counter Structured_up = Structured
-changed_counter Structured_down = Structured
-changed_counter Dynamic_up = Dynamic
-changed_counter Dynamic_down = Dynamic
-changed_counter Dynamic_zero = Dynamic
+changed_counter StructuredUp = Structured
+changed_counter StructuredDown = Structured
+changed_counter DynamicUp = Dynamic
+changed_counter DynamicDown = Dynamic
+changed_counter DynamicZero = Dynamic
 
 -- what one mark makes of the structured counter
 abbrev pub structured_after : Change → ℕ → ℕ
-structured_after Structured_up n = n + 1
-structured_after Structured_down n = n - 1
-structured_after Dynamic_up n = n
-structured_after Dynamic_down n = n
-structured_after Dynamic_zero n = n
+structured_after StructuredUp n = n + 1
+structured_after StructuredDown n = n - 1
+structured_after DynamicUp n = n
+structured_after DynamicDown n = n
+structured_after DynamicZero n = n
 
 abbrev pub stepped : Change → Presence → Presence
 stepped change p = record p { s = structured_after change p.s; d = dynamic_after change p.d }

@@ -2,7 +2,7 @@ ghost use Rattle.std.specs.Prelude.{◌≡◌, ℕ, ◌+◌, ◌<◌, ◌≤◌,
 ghost use Rattle.std.specs.Option.{option_map, option_and_then};
 ghost use Rattle.acc_base.specs.declared.fault.Fault.TheVariants.{Memory};
 ghost use Rattle.acc_present.specs.Legality.{MeetsCondition};
-ghost use Rattle.acc_present.specs.Marks.{Dynamic_zero};
+ghost use Rattle.acc_present.specs.declared.change.Change.TheVariants.{DynamicZero};
 ghost use Rattle.acc_present.specs.Presences.{holder, is_present, is_partly_present, overlaps_any, used_cells};
 ghost use Rattle.acc_present.specs.Tables.{entry_mark, exit_mark, finalize_mark, exit_change, counter_of, presences_after, kept_after, has_count, entry_presence, is_table, IsLook, left_of};
 ghost use Rattle.acc_present.specs.Drafts.{beside, with_changed, drafted, IsDraft};
@@ -151,7 +151,7 @@ impl Draft {
         ensures drafted { drafted table.now self.new ≡ kept_after (finalize_mark range) (drafted table.now self.old) }
         ensures changed { length self.new.changed ≤ length self.old.changed + 1 }
         ensures room { self.new.room ≡ self.old.room }
-        ensures result { result ≡ left_of (holder (drafted table.now self.old) range) Dynamic_zero }
+        ensures result { result ≡ left_of (holder (drafted table.now self.old) range) DynamicZero }
     {
         match place_for(&mut self.changed, table, range) {
             None => Left::Nothing,

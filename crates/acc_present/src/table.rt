@@ -3,7 +3,7 @@ ghost use Rattle.std.specs.Option.{option_map, option_map_or, option_and_then};
 ghost use Rattle.std.specs.List.{position_or_len};
 ghost use Rattle.acc_base.specs.Ranges.{range_overlaps};
 ghost use Rattle.acc_present.specs.Lifetimes.{is_before};
-ghost use Rattle.acc_present.specs.Marks.{Dynamic_zero};
+ghost use Rattle.acc_present.specs.declared.change.Change.TheVariants.{DynamicZero};
 ghost use Rattle.acc_present.specs.Presences.{holder, is_present, is_partly_present, overlaps_any, used_cells};
 ghost use Rattle.acc_present.specs.Drafts.{beside};
 ghost use Rattle.acc_present.specs.Legality.{MeetsCondition};
@@ -186,7 +186,7 @@ impl Table {
         ensures presences { self.new.presences ≡ kept_after (finalize_mark range) self.old.presences }
         ensures capacity { self.new.capacity ≡ self.old.capacity }
         ensures room { self.new.room ≡ self.old.room }
-        ensures result { result ≡ left_of (holder self.old.presences range) Dynamic_zero }
+        ensures result { result ≡ left_of (holder self.old.presences range) DynamicZero }
     {
         match place_of(self.entries.as_slice(), range) {
             None => Left::Nothing,

@@ -1,4 +1,5 @@
 use Rattle.std.proofs.Common.{refl}
+use Rattle.std.specs.Int.{int_wrap}
 use Rattle.acc_base.specs.Ranges.{range_contains, range_overlaps}
 use Rattle.acc_present.specs.Lifetimes.{is_before, opened, live}
 use Rattle.acc_present.specs.Presences.{presences}
@@ -19,3 +20,11 @@ returns-clause-overlap c = refl
 pub returns-clause-stale : goal.returns-clause-stale
 unfolding standing walk_of batch_of answer_of refusal presences live opened is_before range_contains range_overlaps
 returns-clause-stale c = refl
+
+pub returns-clause-runs : goal.returns-clause-runs
+unfolding standing walk_of batch_of answer_of refusal presences live opened is_before range_contains range_overlaps
+returns-clause-runs c = refl
+
+pub returns-clause-on_present : goal.returns-clause-on_present
+unfolding int_wrap standing walk_of batch_of answer_of refusal presences live opened is_before range_contains range_overlaps
+returns-clause-on_present c = refl

@@ -6,8 +6,9 @@ use Rattle.acc_place.specs.declared.directive.Clause.TheVariants.{Copy}
 use Rattle.acc_place.specs.declared.directive.Item.{Item}
 use Rattle.acc_place.specs.declared.judge.Marked.{Marked}
 use Rattle.acc_place.specs.Standings.{change_by}
-use Rattle.acc_place.specs.Walks.{holding, holding_after, first_fault_in, marked_in, all_marked, AllEntered, AllLow}
-use Rattle.acc_place.proofs.Walking.{rest_of, rest_is, length-rest, holding_is, first_fault-next, all_marked-next, entered-next, AllLow-fewer, low_rest, opened-most}
+use Rattle.acc_present.specs.Presences.{Presence}
+use Rattle.acc_place.specs.Walks.{Holding, holding, holding_after, holding_after_all, first_fault_in, marked_in, all_marked, AllEntered, AllLow}
+use Rattle.acc_place.proofs.Walking.{rest_of, rest_is, length-rest, holding_is, holding-next, first_fault-next, all_marked-next, entered-next, AllLow-fewer, low_rest, opened-most}
 use Rattle.acc_place.proofs.judge.+walk.Goals as goal
 
 abbrev no_item : Item
@@ -20,7 +21,7 @@ visit-requires-clause-low t c =
 
 pub walk-requires : goal.walk-requires
 walk-requires t c =
-    let change = change_by c.args.kind in
+    let change = change_by c.args.kind.now in
     let items = c.args.items.now in
     let item = get_or items 0 no_item in
     let ps = drafted c.args.table.now c.args.draft.now in
@@ -53,9 +54,28 @@ walk-requires t c =
       ),
     )
 
+drafted_on : {X : Type 0} (fault : Option X) (ps : List Presence) (h g : Holding) → h ≡ g → IfNone fault (ps ≡ h.presences) → IfNone fault (ps ≡ g.presences)
+drafted_on None ps h g same is = is ∙ ap (λ (x : Holding). x.presences) same
+drafted_on (Some x) ps h g same is = tt
+
+pub returns-in-Ok-clause-drafted : goal.returns-in-Ok-clause-drafted
+returns-in-Ok-clause-drafted t c =
+    let change = change_by c.args.kind.now in
+    let items = c.args.items.now in
+    let item = get_or items 0 no_item in
+    let ps = drafted c.args.table.now c.args.draft.now in
+    let qs = drafted c.args.table.now c.visit.new.draft in
+    let h = holding ps c.args.opened in
+    let next = c.count_opened-next.result in
+    let after = holding_is change ps qs c.args.opened next item c.in-Ok.marked c.in-Ok.ensures.drafted c.in-Ok.ensures.marked c.count_opened-next.ensures in
+    let same : holding_after_all change (holding qs next) (rest_of items) ≡ holding_after_all change h items =
+    ap (λ g. holding_after_all change g (rest_of items)) after
+    ∙ (ap (holding_after_all change (holding_after change item.range h)) (rest_is items) ∙ sym (holding-next change h items no_item c.in-len1-up.len_at_least)) in
+    drafted_on c.walk.result (drafted c.args.table.now c.walk.new.draft) (holding_after_all change (holding qs next) (rest_of items)) (holding_after_all change h items) same c.walk.ensures.drafted
+
 pub returns-in-Ok-clause-fault : goal.returns-in-Ok-clause-fault
 returns-in-Ok-clause-fault t c =
-    let k = c.args.kind in
+    let k = c.args.kind.now in
     let change = change_by k in
     let config = c.args.config.now in
     let items = c.args.items.now in
@@ -76,7 +96,7 @@ steps_on (Some x) had pushed made rest all first push is split = tt
 
 pub returns-in-Ok-clause-steps : goal.returns-in-Ok-clause-steps
 returns-in-Ok-clause-steps t c =
-    let change = change_by c.args.kind in
+    let change = change_by c.args.kind.now in
     let items = c.args.items.now in
     let item = get_or items 0 no_item in
     let ps = drafted c.args.table.now c.args.draft.now in

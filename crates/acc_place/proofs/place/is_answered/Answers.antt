@@ -18,10 +18,10 @@ all_held ps [] = refl
 all_held ps (i ∷ is) =
     ap (λ v. v && list_all (has_counters ps) is) (held_is_present {X = ℕ × ℕ} (λ (p : Presence). (p.s, p.d)) ps i.range) ∙ ap (λ v. is_present ps i.range && v) (all_held ps is)
 
-pub returns-then-eq : goal.returns-then-eq
-returns-then-eq c =
+pub returns-then-matches : goal.returns-then-matches
+returns-then-matches c =
     let ps = c.args.table.now.presences in
     let items = c.args.items.now in
-    let is : c.args.kind ≡ kind.IsPresent = search rules in
+    let is : c.args.kind.now ≡ kind.IsPresent = search rules in
     rw is
     (all_from_yields_List (has_counters ps) _ _ _ c.all.ensures.ran (YieldsList-from_slice items cc) (λ x b q k. search (rules, tests)) ∙ all_held ps items)

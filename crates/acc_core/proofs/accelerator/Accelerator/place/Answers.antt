@@ -87,5 +87,5 @@ returns-in_ok-spare-in-Some c =
     let low : length i.queue.items < i.place.config.room = omega (arith, i.queue.ok.0, c.len.ensures, c.if-len-room.false, room) in
     let fits = λ (full : length i.queue.items ≡ i.place.config.room). absurd (omega (arith, low, full)) in
     rw (← c.self.view_is) (places_batch (the_view i) _ i.work i.queue.items i.taken i.waiting c.args.host d c.accept-placed.result c.self.invariant.parts c.self.invariant.one_device c.self.invariant.legal facts.accepted placed.some fits
-    (rw (c.in-Some.ensures.plan, e.history, e.counts, e.plan.0, e.plan.2) at c.accept-placed.ensures.answer)
+    (rw (c.in-Some.ensures.plan, e.config, e.history, e.counts, e.plan.0, e.plan.2) at c.accept-placed.ensures.answer)
     (rw (c.accept-placed.ensures.place, c.in-Some.ensures.plan, e.config, e.history, e.counts, e.plan.0, e.plan.1, e.plan.2, c.items_of-items_done.ensures, s.kept.work) refl))

@@ -1,14 +1,15 @@
 use Rattle.std.proofs.Common.{sym, ap, ◌∙◌}
-use Rattle.acc_core.specs.Memories.{lengths_of}
+use Rattle.acc_memory.specs.Memories.{lengths_of}
 use Rattle.acc_core.specs.Ties.{state_of_parts}
-use Rattle.acc_core.proofs.Showing.{roomier, same_array, printed}
+use Rattle.acc_core.proofs.Remembering.{has_same}
+use Rattle.acc_core.proofs.Showing.{roomier, printed}
 use Rattle.acc_core.proofs.accelerator.Accelerator.print.Goals as goal
 
 pub print-requires-clause-range : goal.print-requires-clause-range
 print-requires-clause-range c =
-    same_array c.spare_item.new.self.memory.arrays c.self.inside.place.config.arrays c.args.range
+    has_same c.spare_item.new.self.memory c.self.inside.place.config.arrays c.args.range
     (ap lengths_of c.in_ok-spare_item.ensures.kept.arrays ∙ c.self.invariant.memory.lengths)
-    ∙ (rw (← c.config.ensures) (sym c.is_in_array.ensures ∙ c.if-not-is_in_array.false))
+    (rw (← c.config.ensures) (sym c.is_in_array.ensures ∙ c.if-not-is_in_array.false))
 
 pub invariant_of-self-2 : goal.invariant_of-self-2
 invariant_of-self-2 c =

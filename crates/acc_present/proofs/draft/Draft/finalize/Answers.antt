@@ -1,6 +1,6 @@
 use Rattle.std.proofs.Common.{◌≡◌, map, sym, ◌∙◌, None, arith, refl}
 use Rattle.acc_present.specs.declared.table.Entry.{Entry}
-use Rattle.acc_present.specs.Marks.{Dynamic_zero}
+use Rattle.acc_present.specs.declared.change.Change.TheVariants.{DynamicZero}
 use Rattle.acc_present.specs.Presences.{holder}
 use Rattle.acc_present.specs.Tables.{finalize_mark, entry_presence}
 use Rattle.acc_present.specs.Drafts.{with_changed}
@@ -34,7 +34,7 @@ returns-then-entry-eq0-clause-result c =
     let x = c.index-entry.result.now in
     let k = rw (← c.self.view_is) at c.requires.draft in
     let f = placed_for k c.args.range es c.in-Some.i x c.in-Some.ensures.same c.in-Some.ensures.held (omega (arith, c.in-Some.ensures.within)) c.index-entry.ensures in
-    rw (← c.self.view_is) (rw f.seen (says_nothing (entry_presence x) Dynamic_zero c.if-entry-eq0.true))
+    rw (← c.self.view_is) (rw f.seen (says_nothing (entry_presence x) DynamicZero c.if-entry-eq0.true))
 
 pub settle-requires-clause-cells : goal.settle-requires-clause-cells
 settle-requires-clause-cells c =
@@ -67,4 +67,4 @@ returns-else-entry-eq0-clause-result c =
     let x = c.index-entry.result.now in
     let k = rw (← c.self.view_is) at c.requires.draft in
     let f = placed_for k c.args.range es c.in-Some.i x c.in-Some.ensures.same c.in-Some.ensures.held (omega (arith, c.in-Some.ensures.within)) c.index-entry.ensures in
-    rw (← c.self.view_is) (rw f.seen (says_settled (entry_presence x) (entry_presence (finalized x)) Dynamic_zero c.settle.result c.if-entry-eq0.false refl c.settle.ensures.result))
+    rw (← c.self.view_is) (rw f.seen (says_settled (entry_presence x) (entry_presence (finalized x)) DynamicZero c.settle.result c.if-entry-eq0.false refl c.settle.ensures.result))

@@ -1,6 +1,6 @@
 use Rattle.std.proofs.Common.{◌≡◌, sym, refl, None}
 use Rattle.acc_present.specs.declared.table.Entry.{Entry}
-use Rattle.acc_present.specs.Marks.{Dynamic_zero}
+use Rattle.acc_present.specs.declared.change.Change.TheVariants.{DynamicZero}
 use Rattle.acc_present.specs.Presences.{holder}
 use Rattle.acc_present.specs.Tables.{finalize_mark, entry_presence}
 use Rattle.acc_present.proofs.Counting.{kept_none}
@@ -34,7 +34,7 @@ returns-then-entry-eq0-clause-result c =
     let held = rw c.as_slice.ensures.value at c.in-Some.ensures.held in
     let low = rw c.as_slice.ensures.value at c.in-Some.ensures.within in
     let f = found_at es c.args.range c.in-Some.i x held low c.index-entry.ensures in
-    rw (← c.self.view_is) (rw f.seen (says_nothing (entry_presence x) Dynamic_zero c.if-entry-eq0.true))
+    rw (← c.self.view_is) (rw f.seen (says_nothing (entry_presence x) DynamicZero c.if-entry-eq0.true))
 
 pub settle-requires : goal.settle-requires
 settle-requires c =
@@ -63,4 +63,4 @@ returns-else-entry-eq0-clause-result c =
     let held = rw c.as_slice.ensures.value at c.in-Some.ensures.held in
     let low = rw c.as_slice.ensures.value at c.in-Some.ensures.within in
     let f = found_at es c.args.range c.in-Some.i x held low c.index-entry.ensures in
-    rw (← c.self.view_is) (rw f.seen (says_settled (entry_presence x) (entry_presence (finalized x)) Dynamic_zero c.settle.result c.if-entry-eq0.false refl c.settle.ensures.result))
+    rw (← c.self.view_is) (rw f.seen (says_settled (entry_presence x) (entry_presence (finalized x)) DynamicZero c.settle.result c.if-entry-eq0.false refl c.settle.ensures.result))

@@ -1,5 +1,0 @@
-use Rattle.std.proofs.Common.{◌≡◌, take, map}
-use Rattle.acc_core.proofs.memory.Memory.new.Given as goal
-
-abbrev pub invariant-loop-n : goal.invariant-loop-n
-invariant-loop-n l = map (λ v. v.items) l.arrays.items ≡ take l.n l.config.arrays

@@ -1,0 +1,195 @@
+use crate::bodies::{Body, Loop};
+use crate::fixtures::{
+    ALL, FINISHED, Line, host, perform, printed, refused, reply_to, take, turns, world_of,
+};
+use crate::form::{EXIT, Form};
+use acc_base::{Config, DeviceId, Fault, HostId};
+use acc_core::{Clause, Event, Outcome, Reply, World};
+use acc_scarce::{Hoard, at_each_amount};
+use std::alloc::{AllocError, Global};
+use std::process::Abort;
+use std::test::Fail;
+
+/// The array is entered.
+const ENTER: Line = Line::One(Form::EnterData, Clause::Copyin, ALL);
+
+/// The array's cells are doubled.
+const DOUBLE: Line = Line::Bare(Form::Loop(Loop {
+    lo: 0,
+    hi: 4,
+    body: Body::Doubled,
+}));
+
+/// Whether there is memory for an event, the event, and its reply.
+type Tried = (bool, Event, Reply);
+
+// A step for which there is no memory.
+fn scarce_step(alloc: Global, world: &mut World, event: Event) -> Result<Reply, AllocError> {
+    let mut hoard = Hoard::new(alloc)?;
+    hoard.fill(alloc);
+    let reply = reply_to(world, event);
+    hoard.free();
+    Ok(reply)
+}
+
+fn check_replies(
+    rt: &impl Abort,
+    alloc: Global,
+    world: &mut World,
+    events: &[Tried],
+) -> Result<(), AllocError> {
+    for (has_memory, event, wanted) in events {
+        let reply = if *has_memory {
+            reply_to(world, *event)
+        } else {
+            scarce_step(alloc, world, *event)?
+        };
+        assert_eq!(rt; reply, *wanted, "{event:?}");
+    }
+    Ok(())
+}
+
+// A run of so many events that there is no memory for the list of their replies.
+fn scarce_run(alloc: Global, world: &mut World) -> Result<Option<Fault>, AllocError> {
+    let many = vec![in alloc; host(); 100_000]?;
+    let mut hoard = Hoard::new(alloc)?;
+    hoard.fill(alloc);
+    let replies = world.run(many.as_slice());
+    hoard.free();
+    Ok(replies.err())
+}
+
+fn scarce_outcome(alloc: Global, world: World) -> Result<Outcome, AllocError> {
+    let mut hoard = Hoard::new(alloc)?;
+    hoard.fill(alloc);
+    let outcome = world.outcome();
+    hoard.free();
+    Ok(outcome)
+}
+
+fn check_scarce_run(rt: &impl Abort, alloc: Global, line: Line) -> Result<(), Fail> {
+    let mut world = world_of(alloc, &[line])?;
+    let refused = scarce_run(alloc, &mut world)?;
+    assert_eq!(rt; refused, Some(Fault::Memory));
+    assert_eq!(rt; world.devices(), 1);
+    assert_eq!(rt; world.nth(DeviceId::new(0), 0).copied(), None);
+    assert_eq!(rt; reply_to(&mut world, host()), Reply::Did);
+    Ok(())
+}
+
+/// A run that can't have its list of replies changes nothing.
+#[test]
+fn memory_is_refused_to_a_run(rt: HostRuntime) -> Result<(), Fail> {
+    for line in [ENTER, DOUBLE] {
+        check_scarce_run(&rt, rt.alloc(), line)?;
+    }
+    Ok(())
+}
+
+// One directive was accepted, and the host was refused memory at its statement of this number.
+fn check_outcome(
+    rt: &impl Abort,
+    alloc: Global,
+    world: World,
+    ended: u32,
+) -> Result<(), AllocError> {
+    let outcome = scarce_outcome(alloc, world)?;
+    assert_eq!(rt; outcome.places.len(), 1);
+    assert_eq!(rt;
+        outcome.hosts.as_slice(),
+        [refused(ended, Fault::Memory)].as_slice()
+    );
+    Ok(())
+}
+
+/// Queues perform without memory what was placed with it; a directive that can't have its memory is refused, and its
+/// host stays so; the outcome takes none.
+#[test]
+fn memory_is_refused_to_a_step(rt: HostRuntime) -> Result<(), Fail> {
+    let alloc = rt.alloc();
+    let events = [
+        (true, host(), Reply::Did),
+        (false, take(), Reply::Did),
+        (false, perform(), Reply::Did),
+        (false, perform(), Reply::Did),
+        (true, host(), Reply::Did),
+        (false, host(), Reply::Refused(Fault::Memory)),
+        (true, host(), Reply::Idle),
+    ];
+    let exit = Line::One(EXIT, Clause::Copyout, ALL);
+    let mut world = world_of(alloc, &[ENTER, exit])?;
+    check_replies(&rt, alloc, &mut world, &events)?;
+    assert_eq!(rt; world.devices(), 1);
+    assert_eq!(rt; world.counters(DeviceId::new(0), ALL), Some((0, 1)));
+    check_outcome(&rt, alloc, world, 1)?;
+    Ok(())
+}
+
+/// The same of loops.
+#[test]
+fn memory_is_refused_to_a_loop(rt: HostRuntime) -> Result<(), Fail> {
+    let alloc = rt.alloc();
+    let events = [
+        (true, host(), Reply::Did),
+        (false, take(), Reply::Did),
+        (false, perform(), Reply::Did),
+        (false, perform(), Reply::Did),
+        (false, perform(), Reply::Did),
+        (false, perform(), Reply::Did),
+        (false, perform(), Reply::Did),
+        (false, perform(), Reply::Idle),
+        (true, host(), Reply::Did),
+        (true, host(), Reply::Did),
+        (false, host(), Reply::Refused(Fault::Memory)),
+        (true, host(), Reply::Idle),
+    ];
+    let mut world = world_of(alloc, &[DOUBLE, Line::Print(ALL), DOUBLE])?;
+    check_replies(&rt, alloc, &mut world, &events)?;
+    assert_eq!(rt; printed(world.log().last()), Some([2, 4, 6, 8].as_slice()));
+    assert_eq!(rt; world.devices(), 1);
+    assert_eq!(rt; world.counters(DeviceId::new(0), ALL), None);
+    check_outcome(&rt, alloc, world, 2)?;
+    Ok(())
+}
+
+#[test]
+fn memory_is_refused_to_a_new_world(rt: HostRuntime) -> Result<(), Fail> {
+    let alloc = rt.alloc();
+    let arrays = vec![in alloc; vec![in alloc; 0i64; 60_000]?]?;
+    let config = Config::new(1, 0, arrays, 4, 64)?;
+    let programs = Vec::new(alloc);
+    let mut hoard = Hoard::new(alloc)?;
+    hoard.fill(alloc);
+    let refused = World::new(alloc, config, programs);
+    hoard.free();
+    assert_eq!(rt; refused.err(), Some(Fault::Memory));
+    Ok(())
+}
+
+// A world of these lines whose host has placed the first one; the worlds that were made are counted.
+fn placed_world(alloc: Global, lines: &[Line], worlds: &mut u32) -> Result<World, Fault> {
+    let mut world = world_of(alloc, lines)?;
+    *worlds = worlds.wrapping_add(1);
+    match reply_to(&mut world, host()) {
+        Reply::Did => Ok(world),
+        Reply::Refused(fault) => Err(fault),
+        Reply::Idle => Err(Fault::Unfinished),
+    }
+}
+
+/// A world is refused until there is memory for it, and then its loop until there is memory for its batch.
+#[test]
+fn a_world_and_its_loop_are_refused_until_there_is_memory(rt: HostRuntime) -> Result<(), Fail> {
+    let alloc = rt.alloc();
+    let lines = [DOUBLE, Line::Print(ALL)];
+    let mut worlds = 0u32;
+    let (refusals, mut world) = at_each_amount(alloc, || placed_world(alloc, &lines, &mut worlds))?;
+    assert!(rt;
+        1 < worlds && worlds < refusals,
+        "{worlds} worlds, {refusals} refusals"
+    );
+    turns(&mut world, 20);
+    assert_eq!(rt; world.state(HostId::new(0)), Some(FINISHED));
+    assert_eq!(rt; printed(world.log().last()), Some([2, 4, 6, 8].as_slice()));
+    Ok(())
+}

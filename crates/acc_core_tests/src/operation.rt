@@ -1,0 +1,100 @@
+use crate::fixtures::ALL;
+use acc_base::{BlockId, Range};
+use acc_core::Op;
+
+/// What a table says of an operation: of a loop, how many ranges it uses, and the first two with their blocks.
+#[derive(Clone, Copy, Debug, PartialEq, Eq)]
+pub enum Operation {
+    Make {
+        block: BlockId,
+        range: Range,
+    },
+    CopyIn {
+        block: BlockId,
+        range: Range,
+    },
+    CopyOut {
+        block: BlockId,
+        range: Range,
+    },
+    Release {
+        block: BlockId,
+    },
+    Run {
+        count: usize,
+        first: Option<(BlockId, Range)>,
+        second: Option<(BlockId, Range)>,
+    },
+}
+
+pub fn make(block: u64) -> Operation {
+    make_of(block, ALL)
+}
+
+pub fn make_of(block: u64, range: Range) -> Operation {
+    Operation::Make {
+        block: BlockId::new(block),
+        range,
+    }
+}
+
+pub fn copy_in(range: Range) -> Operation {
+    copy_in_of(1, range)
+}
+
+pub fn copy_in_of(block: u64, range: Range) -> Operation {
+    Operation::CopyIn {
+        block: BlockId::new(block),
+        range,
+    }
+}
+
+pub fn copy_out(range: Range) -> Operation {
+    copy_out_of(1, range)
+}
+
+pub fn copy_out_of(block: u64, range: Range) -> Operation {
+    Operation::CopyOut {
+        block: BlockId::new(block),
+        range,
+    }
+}
+
+pub fn release(block: u64) -> Operation {
+    Operation::Release {
+        block: BlockId::new(block),
+    }
+}
+
+// A loop that uses these ranges.
+pub fn run(uses: &[(BlockId, Range)]) -> Operation {
+    Operation::Run {
+        count: uses.len(),
+        first: uses.first().copied(),
+        second: uses.get(1).copied(),
+    }
+}
+
+// A range that a loop uses, and its block.
+pub fn used(block: u64, range: Range) -> (BlockId, Range) {
+    (BlockId::new(block), range)
+}
+
+pub fn operation_of(op: &Op) -> Operation {
+    match op {
+        Op::Make { block, range } => Operation::Make {
+            block: *block,
+            range: *range,
+        },
+        Op::CopyIn { block, range } => Operation::CopyIn {
+            block: *block,
+            range: *range,
+        },
+        Op::CopyOut { block, range } => Operation::CopyOut {
+            block: *block,
+            range: *range,
+        },
+        Op::Release { block } => Operation::Release { block: *block },
+        Op::Run { uses, .. } => run(uses.as_slice()),
+    }
+}

@@ -1,0 +1,11 @@
+mod Arrays
+mod Calls
+mod Copying
+mod Devices
+mod Effects
+mod Fitting
+mod Looping
+mod Places
+mod Rows
+mod Runs
+mod Seeing

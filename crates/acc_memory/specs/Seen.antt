@@ -1,0 +1,43 @@
+-- The blocks of a device as a loop sees them: of each array one block, whose place stands in a table.
+use Rattle.std.specs.Prelude.{◌≡◌, ℕ, ℤ, ◌+◌, ◌<◌, ◌-ℤ◌, pos, ◌==◌, ◌&&◌, int_le, int_lt, Bool, false, List, length, map, slice_get, slice_index_or, Option, Some, None, if◌then◌else◌}
+use Rattle.acc_batch.specs.declared.task.Block.{Block}
+use Rattle.acc_kernel.specs.Jobs.{Use, no_use, value_in}
+use Rattle.acc_memory.specs.Blocks.{row_of}
+use Rattle.acc_memory.specs.Memories.{Row, made_of, is_whole, place_of}
+
+abbrev pub of_array : ℕ → Option Block → Option Block
+of_array array None = None
+of_array array (Some b) = if b.range.array == array then Some b else None
+
+abbrev pub block_there : List Block → Option ℕ → Option Block
+block_there blocks None = None
+block_there blocks (Some place) = slice_get blocks place
+
+-- the block at the array's place, if its range is of the array
+abbrev pub block_for : List Block → List ℕ → ℕ → Option Block
+block_for blocks places array = of_array array (block_there blocks (slice_get places array))
+
+abbrev pub has_at : Option Block → ℤ → Bool
+has_at None cell = false
+has_at (Some b) cell = is_whole (row_of b) && (int_le (pos b.range.lo) cell && int_lt cell (pos (b.range.lo + b.range.len)))
+
+abbrev pub cell_at : Option Block → ℤ → ℤ
+cell_at None cell = pos 0
+cell_at (Some b) cell = value_in b.cells (cell -ℤ pos b.range.lo)
+
+abbrev pub is_seen : List Block → List ℕ → ℕ → ℤ → Bool
+is_seen blocks places array = has_at (block_for blocks places array)
+
+abbrev pub seen_in : List Block → List ℕ → ℕ → ℤ → ℤ
+seen_in blocks places array = cell_at (block_for blocks places array)
+
+-- The blocks keep their numbers, their ranges and how many cells they have; those that no array's place shows stay.
+pub record KeepsBlocks (places : List ℕ) (old new : List Block) : Type 0 where
+  pub made : map (λ b. made_of (row_of b)) new ≡ map (λ b. made_of (row_of b)) old
+  pub lengths : map (λ b. length b.cells) new ≡ map (λ b. length b.cells) old
+  pub unseen : (i : ℕ) (b : Block) → slice_get old i ≡ Some b → (slice_get places b.range.array ≡ Some i → ⊥) → slice_get new i ≡ Some b
+
+-- each array that a loop uses has the place of its block
+abbrev pub ArePlaces : List Row → List Use → List ℕ → Type 0
+ArePlaces rows uses places =
+    (j : ℕ) → j < length uses → slice_get places (slice_index_or uses j no_use).1.array ≡ Some (place_of rows (slice_index_or uses j no_use).0)

@@ -1,0 +1,202 @@
+ghost use Rattle.std.specs.Prelude.{◌≡◌, ◌+◌, ◌-◌, ◌<◌, ◌≤◌, ℕ, ℤ, pos, [], length, map, replicate, slice_get, is_some, true, None, IfErr, OnOk, OnErr};
+ghost use Rattle.std.specs.Option.{option_map};
+ghost use Rattle.acc_kernel.specs.Jobs.{AreDistinct, HoldReached};
+ghost use Rattle.acc_memory.specs.Blocks.{row_of};
+ghost use Rattle.acc_memory.specs.Memories.{ShowsRows, ShowsArray, HasRange, HasRanges, IsCopy, made_of, blocks_after, find_row, find_block, place_of, is_ascending, is_whole};
+ghost use Rattle.acc_memory.specs.Seen.{ArePlaces};
+ghost use Rattle.acc_memory.specs.Values.{Cell, after_op};
+
+use crate::seen::run_over;
+use acc_base::{BlockId, Fault, Range};
+use acc_batch::Block;
+use acc_kernel::Kernel;
+use acc_raw::Cells;
+use std::alloc::Global;
+use std::marker::Model;
+
+/// The blocks of a device, by number.
+#[derive(Drop)]
+pub struct Blocks {
+    blocks: Vec<Block>,
+}
+
+impl Model for Blocks {
+    ghost use Rattle.std.specs.Prelude.{map, vec_capacity};
+    ghost use Rattle.acc_memory.specs.Blocks.{row_of};
+    ghost use Rattle.acc_memory.specs.Memories.{DeviceRows, IsMemory};
+
+    ghost Value = { DeviceRows };
+
+    ghost view = { λ b. record { rows = map row_of b.blocks.items; room = vec_capacity b.blocks } };
+
+    ghost invariant = { λ b. IsMemory (map row_of b.blocks.items) };
+}
+
+impl Blocks {
+    ghost use Rattle.acc_base.specs.declared.fault.Fault.TheVariants as fault;
+    ghost use Rattle.acc_batch.specs.declared.operation.Op.TheVariants as op;
+
+    /// No block.
+    pub fn new(alloc: Global) -> Self
+        ensures { result.rows ≡ [] }
+    {
+        Blocks {
+            blocks: Vec::new(alloc),
+        }
+    }
+
+    /// Makes room for this many more blocks.
+    ///
+    /// # Errors
+    ///
+    /// `Memory` where the room was missing and memory is refused; then nothing changes.
+    pub fn spare(&mut self, count: usize) -> Result<(), Fault>
+        ensures rows { self.new.rows ≡ self.old.rows }
+        ensures room { self.old.room ≤ self.new.room }
+        ensures ok { OnOk result (length self.new.rows + count ≤ self.new.room) }
+        ensures fault { IfErr result (λ f. f ≡ fault.Memory) }
+        ensures missing { OnErr result (self.old.room < length self.old.rows + count) }
+    {
+        self.blocks.reserve(count)?;
+        Ok(())
+    }
+
+    /// The block of this number, if it is there.
+    pub fn get(&self, block: BlockId) -> Option<&Block>
+        ensures { option_map (λ b. row_of b.now) result ≡ find_row self.now.rows block }
+    {
+        let place = place_of(self.blocks.as_slice(), block);
+        match self.nth(place) {
+            None => None,
+            Some(held) => {
+                if held.block == block {
+                    Some(held)
+                } else {
+                    None
+                }
+            }
+        }
+    }
+
+    // The block at this place.
+    fn nth(&self, place: usize) -> Option<&Block>
+        ensures { option_map (λ b. row_of b.now) result ≡ slice_get self.now.rows place }
+    {
+        self.blocks.get(place)
+    }
+
+    /// Takes a block whose cells are all zero. Takes no memory.
+    pub fn make(&mut self, block: Block)
+        requires fresh { find_block (map made_of self.old.rows) block.block ≡ None }
+        requires zeros { block.cells ≡ replicate block.range.len (pos 0) }
+        requires room { length self.old.rows < self.old.room }
+        ensures shows { (device : ℕ) (was : Cell → ℤ) → ShowsRows device self.old.rows was → ShowsRows device self.new.rows (after_op device (op.Make block.block block.range) was) }
+        ensures blocks { map made_of self.new.rows ≡ blocks_after (op.Make block.block block.range) (map made_of self.old.rows) }
+        ensures room { self.new.room ≡ self.old.room }
+    {
+        let place = place_of(self.blocks.as_slice(), block.block);
+        let _ = self.blocks.insert(place, block);
+    }
+
+    /// Copies the range's cells, of which there is one, from the host array into the block.
+    pub fn copy_in(&mut self, block: BlockId, range: Range, cells: &[i64])
+        requires held { HasRange (map made_of self.old.rows) block range }
+        requires some { 0 < range.len }
+        requires array { range.lo + range.len ≤ length cells.now }
+        ensures shows { (device : ℕ) (was : Cell → ℤ) → ShowsArray range.array cells.now was → ShowsRows device self.old.rows was → ShowsRows device self.new.rows (after_op device (op.CopyIn block range) was) }
+        ensures blocks { map made_of self.new.rows ≡ map made_of self.old.rows }
+        ensures room { self.new.room ≡ self.old.room }
+    {
+        let place = place_of(self.blocks.as_slice(), block);
+        fill(&mut self.blocks[place], range, cells);
+    }
+
+    /// Copies the range's cells, of which there is one, from the block into the host array.
+    pub fn copy_out(&self, block: BlockId, range: Range, cells: &mut [i64])
+        requires held { HasRange (map made_of self.now.rows) block range }
+        requires some { 0 < range.len }
+        requires array { range.lo + range.len ≤ length cells.old }
+        ensures shows { (device : ℕ) (was : Cell → ℤ) → ShowsArray range.array cells.old was → ShowsRows device self.now.rows was → ShowsArray range.array cells.new (after_op device (op.CopyOut block range) was) }
+        ensures len { length cells.new ≡ length cells.old }
+    {
+        let place = place_of(self.blocks.as_slice(), block);
+        let held = &self.blocks[place];
+        copy_cells(
+            &held.cells,
+            (range.lo - held.range.lo) as usize,
+            cells,
+            range.lo as usize,
+            range.len as usize,
+        );
+    }
+
+    /// Lets the block go.
+    pub fn release(&mut self, block: BlockId)
+        requires held { is_some (find_block (map made_of self.old.rows) block) ≡ true }
+        ensures shows { (device : ℕ) (was : Cell → ℤ) → ShowsRows device self.old.rows was → ShowsRows device self.new.rows (after_op device (op.Release block) was) }
+        ensures blocks { map made_of self.new.rows ≡ blocks_after (op.Release block) (map made_of self.old.rows) }
+        ensures room { self.new.room ≡ self.old.room }
+    {
+        let place = place_of(self.blocks.as_slice(), block);
+        self.blocks.remove(place);
+    }
+
+    /// Runs the loop over the blocks that it uses. Takes no memory.
+    pub fn run(&mut self, kernel: &Kernel, uses: &[(BlockId, Range)])
+        requires held { HasRanges (map made_of self.old.rows) uses.now }
+        requires distinct { AreDistinct uses.now }
+        requires reached { HoldReached kernel.now uses.now }
+        ensures shows { (device : ℕ) (was : Cell → ℤ) → ShowsRows device self.old.rows was → ShowsRows device self.new.rows (after_op device (op.Run kernel.now uses.now) was) }
+        ensures blocks { map made_of self.new.rows ≡ map made_of self.old.rows }
+        ensures room { self.new.room ≡ self.old.room }
+    {
+        let places = places_of(self.blocks.as_slice(), uses);
+        run_over(self.blocks.as_mut_slice(), places, kernel);
+    }
+}
+
+// Of each array that a loop uses, the place of its block.
+fn places_of(blocks: &[Block], uses: &[(BlockId, Range)]) -> [usize; 256]
+    requires ascending { is_ascending (map row_of blocks.now) ≡ true }
+    requires distinct { AreDistinct uses.now }
+    ensures { ArePlaces (map row_of blocks.now) uses.now result }
+{
+    let mut places = [blocks.len(); 256];
+    for (block, range) in uses {
+        places[usize::from(range.array)] = place_of(blocks, *block);
+    }
+    places
+}
+
+// The place of a block, or where it would stand.
+fn place_of(blocks: &[Block], block: BlockId) -> usize
+    requires { is_ascending (map row_of blocks.now) ≡ true }
+    ensures place { result ≡ place_of (map row_of blocks.now) block }
+    ensures within { result ≤ length blocks.now }
+{
+    blocks.partition_point(|b| b.block.number() < block.number())
+}
+
+// Copies the range's cells from a host array into a block.
+fn fill(block: &mut Block, range: Range, cells: &[i64])
+    requires whole { is_whole (row_of block.old) ≡ true }
+    requires low { block.old.range.lo ≤ range.lo }
+    requires high { range.lo + range.len ≤ block.old.range.lo + block.old.range.len }
+    requires array { range.lo + range.len ≤ length cells.now }
+    ensures row { row_of block.new ≡ record { block = block.old.block; range = block.old.range; cells = block.new.cells } }
+    ensures copied { IsCopy cells.now block.old.cells block.new.cells range.lo (range.lo - block.old.range.lo) range.len }
+{
+    let first = range.lo as usize;
+    let source = &cells[first..first + range.len as usize];
+    let at = (range.lo - block.range.lo) as usize;
+    block.cells.copy_from(at, source);
+}
+
+// Copies so many cells of a block, from one place on, to a place of a host array.
+fn copy_cells(source: &Cells, from: usize, target: &mut [i64], at: usize, count: usize)
+    requires source { from + count ≤ length source.now }
+    requires target { at + count ≤ length target.old }
+    ensures { IsCopy source.now target.old target.new from at count }
+{
+    source.copy_to(from, &mut target[at..at + count]);
+}

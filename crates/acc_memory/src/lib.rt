@@ -1,0 +1,10 @@
+//! The memory: the host arrays, and the blocks of each device.
+#![tactic(auto)]
+
+mod blocks;
+mod laws;
+mod memory;
+mod seen;
+
+pub use laws::worked_runs;
+pub use memory::Memory;

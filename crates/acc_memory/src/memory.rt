@@ -1,0 +1,250 @@
+ghost use Rattle.std.specs.Prelude.{◌≡◌, ◌+◌, ◌<◌, ◌≤◌, ℕ, ℤ, pos, [], length, map, replicate, slice_get, true, Some, IfOk, IfErr, OnOk, OnErr};
+ghost use Rattle.std.specs.Option.{option_map};
+ghost use Rattle.acc_batch.specs.Tasks.{op_of};
+ghost use Rattle.acc_memory.specs.Blocks.{row_with};
+ghost use Rattle.acc_memory.specs.Memories.{Shows, MayPerform, IsAllowed, PerformsOn, rows_in, room_in, rows_on, room_on, cell_of, find_row, lengths_of, has_array};
+ghost use Rattle.acc_memory.specs.Values.{Cell, Host_cell, after_write, values_of};
+
+use crate::blocks::Blocks;
+use acc_base::{BlockId, Config, DeviceId, Fault, Range};
+use acc_batch::{Block, Op, Task};
+use acc_kernel::Job;
+use acc_raw::Cells;
+use std::alloc::Global;
+use std::marker::Model;
+
+/// The host arrays, and the blocks of each device. Contracts see the cells and the blocks that are there.
+#[derive(Drop)]
+pub struct Memory {
+    arrays: Vec<Vec<i64>>,
+    devices: Vec<Blocks>,
+}
+
+impl Model for Memory {
+    ghost use Rattle.std.specs.Prelude.{map};
+    ghost use Rattle.acc_memory.specs.Memories.{Cells, AllFit};
+
+    ghost Value = { Cells };
+
+    ghost view = { λ m. record { arrays = map (λ v. v.items) m.arrays.items; devices = m.devices.items } };
+
+    ghost invariant = { λ m. AllFit (record { arrays = map (λ v. v.items) m.arrays.items; devices = m.devices.items }) };
+}
+
+impl Memory {
+    ghost use Rattle.acc_base.specs.declared.fault.Fault.TheVariants as fault;
+    ghost use Rattle.acc_batch.specs.declared.operation.Op.TheVariants as op;
+
+    /// The host arrays with their opening values, and no block.
+    ///
+    /// # Errors
+    ///
+    /// `Memory` where memory is refused.
+    pub fn new(alloc: Global, config: &Config) -> Result<Self, Fault>
+        ensures arrays { IfOk result (λ m. m.arrays ≡ config.now.arrays) }
+        ensures devices { IfOk result (λ m. length m.devices ≡ config.now.devices) }
+        ensures rows { IfOk result (λ m. (d : ℕ) → rows_on m d ≡ []) }
+        ensures fault { IfErr result (λ f. f ≡ fault.Memory) }
+    {
+        let arrays = arrays_of(alloc, config)?;
+        let devices = devices_of(alloc, config.devices())?;
+        Ok(Memory { arrays, devices })
+    }
+
+    /// Makes room for this many more blocks on each device.
+    ///
+    /// # Errors
+    ///
+    /// `Memory` where room was missing and memory is refused; then no block or cell changes.
+    pub fn spare(&mut self, count: usize) -> Result<(), Fault>
+        ensures arrays { self.new.arrays ≡ self.old.arrays }
+        ensures devices { length self.new.devices ≡ length self.old.devices }
+        ensures rows { (d : ℕ) → rows_on self.new d ≡ rows_on self.old d }
+        ensures room { (d : ℕ) → room_on self.old d ≤ room_on self.new d }
+        ensures ok { OnOk result ((d : ℕ) → d < length self.old.devices → length (rows_on self.new d) + count ≤ room_on self.new d) }
+        ensures fault { IfErr result (λ f. f ≡ fault.Memory) }
+        ensures missing { OnErr result ((d : ℕ) × (room_on self.old d < length (rows_on self.old d) + count)) }
+    {
+        spare_all(&mut self.devices, count)
+    }
+
+    /// Performs a task on a device, one that `Config::has_device` knows, and gives its operation back. Takes no memory.
+    ///
+    /// A block that is made isn't there, its range ends in its array, and there is room for it, as `spare` makes. A
+    /// block that is copied, released or used by a loop is there, as `block` tells, and its range contains the one that
+    /// is copied or used.
+    pub fn do_op(&mut self, device: DeviceId, task: Task) -> Op
+        requires device { device < length self.old.devices }
+        requires allowed { IsAllowed self.old device task }
+        ensures op { result ≡ op_of task }
+        ensures performed { PerformsOn device (op_of task) self.old self.new }
+    {
+        match task {
+            Task::Make { block } => {
+                let (id, range) = (block.block, block.range);
+                self.make(device, block);
+                Op::Make { block: id, range }
+            }
+            Task::CopyIn { block, range } => {
+                self.copy_in(device, block, range);
+                Op::CopyIn { block, range }
+            }
+            Task::CopyOut { block, range } => {
+                self.copy_out(device, block, range);
+                Op::CopyOut { block, range }
+            }
+            Task::Release { block } => {
+                self.release(device, block);
+                Op::Release { block }
+            }
+            Task::Run { job } => {
+                self.run(device, &job);
+                Task::Run { job }.into_op()
+            }
+        }
+    }
+
+    /// The value of a cell of a host array.
+    pub fn host_get(&self, array: u8, cell: u32) -> i64
+        requires there { has_array self.now (record { array = array; lo = cell; len = 1 }) ≡ true }
+        ensures { result ≡ cell_of self.now (Host_cell array cell) }
+    {
+        let cells = self.arrays[usize::from(array)].as_slice();
+        cell_at(cells, cell)
+    }
+
+    /// Writes a cell of a host array.
+    pub fn host_set(&mut self, array: u8, cell: u32, value: i64)
+        requires there { has_array self.old (record { array = array; lo = cell; len = 1 }) ≡ true }
+        ensures shows { (was : Cell → ℤ) → Shows self.old was → Shows self.new (after_write array cell value was) }
+        ensures lengths { lengths_of self.new.arrays ≡ lengths_of self.old.arrays }
+        ensures devices { self.new.devices ≡ self.old.devices }
+    {
+        let cells = &mut self.arrays[usize::from(array)];
+        cells[cell as usize] = value;
+    }
+
+    /// The cells of a range of a host array.
+    pub fn host_cells(&self, range: Range) -> &[i64]
+        requires there { has_array self.now range ≡ true }
+        ensures { result.now ≡ values_of (cell_of self.now) range }
+    {
+        let cells = self.arrays[usize::from(range.array)].as_slice();
+        let from = range.lo as usize;
+        &cells[from..from + range.len as usize]
+    }
+
+    /// The range and the cells of a block that is there.
+    pub fn block(&self, device: DeviceId, id: BlockId) -> Option<(Range, &Cells)>
+        requires { device < length self.now.devices }
+        ensures { option_map (λ b. row_with id b.0 b.1.now) result ≡ find_row (rows_on self.now device) id }
+    {
+        let blocks = &self.devices[usize::from(device.number())];
+        match blocks.get(id) {
+            Some(held) => Some((held.range, &held.cells)),
+            None => None,
+        }
+    }
+
+    fn make(&mut self, device: DeviceId, block: Block)
+        requires device { device < length self.old.devices }
+        requires allowed { MayPerform self.old device (op.Make block.block block.range) }
+        requires zeros { block.cells ≡ replicate block.range.len (pos 0) }
+        ensures { PerformsOn device (op.Make block.block block.range) self.old self.new }
+    {
+        let blocks = &mut self.devices[usize::from(device.number())];
+        blocks.make(block);
+    }
+
+    fn copy_in(&mut self, device: DeviceId, block: BlockId, range: Range)
+        requires device { device < length self.old.devices }
+        requires allowed { MayPerform self.old device (op.CopyIn block range) }
+        ensures { PerformsOn device (op.CopyIn block range) self.old self.new }
+    {
+        if range.len > 0 {
+            let cells = self.arrays[usize::from(range.array)].as_slice();
+            let blocks = &mut self.devices[usize::from(device.number())];
+            blocks.copy_in(block, range, cells);
+        }
+    }
+
+    fn copy_out(&mut self, device: DeviceId, block: BlockId, range: Range)
+        requires device { device < length self.old.devices }
+        requires allowed { MayPerform self.old device (op.CopyOut block range) }
+        ensures { PerformsOn device (op.CopyOut block range) self.old self.new }
+    {
+        if range.len > 0 {
+            let blocks = &self.devices[usize::from(device.number())];
+            let cells = self.arrays[usize::from(range.array)].as_mut_slice();
+            blocks.copy_out(block, range, cells);
+        }
+    }
+
+    fn release(&mut self, device: DeviceId, block: BlockId)
+        requires device { device < length self.old.devices }
+        requires allowed { MayPerform self.old device (op.Release block) }
+        ensures { PerformsOn device (op.Release block) self.old self.new }
+    {
+        let blocks = &mut self.devices[usize::from(device.number())];
+        blocks.release(block);
+    }
+
+    fn run(&mut self, device: DeviceId, job: &Job)
+        requires device { device < length self.old.devices }
+        requires allowed { MayPerform self.old device (op.Run job.now.kernel job.now.uses) }
+        ensures { PerformsOn device (op.Run job.now.kernel job.now.uses) self.old self.new }
+    {
+        job.keeps();
+        let blocks = &mut self.devices[usize::from(device.number())];
+        blocks.run(job.kernel(), job.uses());
+    }
+}
+
+// The value of a cell of a host array.
+fn cell_at(cells: &[i64], cell: u32) -> i64
+    requires { cell < length cells.now }
+    ensures { slice_get cells.now cell ≡ Some result }
+{
+    cells[cell as usize]
+}
+
+// The host arrays with their opening values.
+fn arrays_of(alloc: Global, config: &Config) -> Result<Vec<Vec<i64>>, Fault>
+    ensures arrays { IfOk result (λ arrays. map (λ v. v.items) arrays.items ≡ config.now.arrays) }
+    ensures fault { IfErr result (λ f. f ≡ Fault.Memory) }
+{
+    config.keeps_limits();
+    let mut arrays = Vec::new(alloc);
+    for n in 0..config.arrays() {
+        arrays.push(Vec::from_slice(alloc, config.array(n as u8))?)?;
+    }
+    Ok(arrays)
+}
+
+// So many devices without a block.
+fn devices_of(alloc: Global, count: u8) -> Result<Vec<Blocks>, Fault>
+    ensures count { IfOk result (λ devices. length devices.items ≡ count) }
+    ensures rows { IfOk result (λ devices. (d : ℕ) → rows_in (slice_get devices.items d) ≡ []) }
+    ensures fault { IfErr result (λ f. f ≡ Fault.Memory) }
+{
+    let mut devices = Vec::new(alloc);
+    for _ in 0..count {
+        devices.push(Blocks::new(alloc))?;
+    }
+    Ok(devices)
+}
+
+// Makes room for so many more blocks on each device.
+fn spare_all(devices: &mut Vec<Blocks>, count: usize) -> Result<(), Fault>
+    ensures devices { length devices.new.items ≡ length devices.old.items }
+    ensures rows { (d : ℕ) → rows_in (slice_get devices.new.items d) ≡ rows_in (slice_get devices.old.items d) }
+    ensures room { (d : ℕ) → room_in (slice_get devices.old.items d) ≤ room_in (slice_get devices.new.items d) }
+    ensures ok { OnOk result ((d : ℕ) → d < length devices.old.items → length (rows_in (slice_get devices.new.items d)) + count ≤ room_in (slice_get devices.new.items d)) }
+    ensures fault { IfErr result (λ f. f ≡ Fault.Memory) }
+    ensures missing { OnErr result ((d : ℕ) × (room_in (slice_get devices.old.items d) < length (rows_in (slice_get devices.old.items d)) + count)) }
+{
+    for n in 0..devices.len() {
+        devices[n].spare(count)?;
+    }
+    Ok(())
+}

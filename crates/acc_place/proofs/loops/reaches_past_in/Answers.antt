@@ -1,0 +1,12 @@
+use Rattle.std.proofs.Common.{◌∙◌, sym}
+use Rattle.acc_place.proofs.Looping.{stays_nowhere, stays_within}
+use Rattle.acc_place.proofs.loops.reaches_past_in.Goals as goal
+
+pub returns-in-None-clause-held : goal.returns-in-None-clause-held
+returns-in-None-clause-held c = λ inside. stays_nowhere c.args.kernel.now c.args.items.now c.args.array c.in-None.ensures.nothing
+
+pub returns-in-Some-first_of-clause-held : goal.returns-in-Some-first_of-clause-held
+returns-in-Some-first_of-clause-held c =
+    λ inside.
+    stays_within c.args.kernel.now c.args.items.now c.args.array c.in-Some.reach c.in-Some-first_of.item.now c.in-Some.ensures.reached c.in-Some-first_of.ensures
+    (sym c.passes.ensures ∙ inside)

@@ -1,0 +1,18 @@
+use Rattle.std.proofs.Common.{◌≡◌, true, ◌∙◌}
+use Rattle.std.specs.Prelude.{All}
+use Rattle.acc_present.specs.Drafts.{drafted}
+use Rattle.acc_present.specs.Presences.{is_present}
+use Rattle.acc_place.specs.declared.directive.Item.{Item}
+use Rattle.acc_place.specs.Loops.{StaysInside, uses_in}
+use Rattle.acc_place.proofs.Looping.{run_has_its_cells}
+use Rattle.acc_place.proofs.subject.run_of.Goals as goal
+
+pub returns-in_ok-kernel-in-Loop-clause-cells : goal.returns-in_ok-kernel-in-Loop-clause-cells
+returns-in_ok-kernel-in-Loop-clause-cells c =
+    let k = c.in-Loop.kernel in
+    let items = c.args.items.now in
+    let ps = drafted c.args.table.now c.args.draft.now in
+    let stays : StaysInside k items = rw c.in-Loop.is at c.requires.stays in
+    let held : All (λ (i : Item). is_present ps i.range ≡ true) items = rw c.in-Loop.is at c.requires.held in
+    let uses : c.from_vec.result ≡ uses_in k items ps = c.from_vec.ensures ∙ c.in_ok-uses-in-Loop.ensures.uses in
+    rw (c.in_ok-kernel-in-Loop.ensures.equal, uses) (run_has_its_cells items ps k stays held)

@@ -1,0 +1,102 @@
+ghost use Rattle.std.specs.Prelude.{All, ◌≡◌, ◌+◌, ◌<◌, ◌≤◌, true, take, vec_capacity, IfOk, IfErr, IfNone, IfSome};
+ghost use Rattle.std.specs.Option.{option_to_list};
+ghost use Rattle.acc_base.specs.declared.fault.Fault.TheVariants.{Memory};
+ghost use Rattle.acc_batch.specs.Tasks.{HasItsCells};
+ghost use Rattle.acc_present.specs.Drafts.{drafted, IsDraft};
+ghost use Rattle.acc_present.specs.Presences.{is_present};
+ghost use Rattle.acc_place.specs.declared.directive.TheConstants.{MAX_ITEMS};
+ghost use Rattle.acc_place.specs.Loops.{lengths_of};
+ghost use Rattle.acc_place.specs.Standings.{loop_of, subject_by};
+ghost use Rattle.acc_place.specs.Walks.{ends_of, past_fault, run_in, AllHeldFor, StaysBy};
+
+use crate::directive::{Directive, Item, Kind, Region};
+use crate::loops::{add_items, fill_items, reaches_past, uses_of};
+use crate::regions::items_of;
+use acc_base::{Config, Fault, HostId, Listed};
+use acc_batch::Op;
+use acc_present::{Draft, Table};
+use std::alloc::Global;
+
+/// Puts in the items that a host's directive acts on: the written ones, and a loop's implicit ones behind them. It stops
+/// behind one more than a directive may have, and takes no memory.
+pub fn put_items(
+    config: &Config,
+    regions: &[Region],
+    host: HostId,
+    directive: &Directive,
+    into: &mut Vec<Item>,
+)
+    requires { MAX_ITEMS + 1 ≤ vec_capacity into.old }
+    ensures items { into.new.items ≡ take (MAX_ITEMS + 1) (subject_by (lengths_of config.now) regions.now host directive.now directive.now.kind).items }
+    ensures room { vec_capacity into.new ≡ vec_capacity into.old }
+{
+    if let Kind::Loop { kernel } = &directive.kind {
+        fill_items(config, regions, host, directive, kernel, into);
+        return;
+    }
+    into.clear();
+    add_items(items_of(regions, host, directive), into);
+}
+
+/// The items that leave once more at the directive's end: all of a loop's.
+pub fn ends_of<'a>(kind: &Kind, items: &'a [Item]) -> &'a [Item]
+    ensures { result.now ≡ ends_of kind.now items.now }
+{
+    if matches!(kind, Kind::Loop { .. }) {
+        items
+    } else {
+        &[]
+    }
+}
+
+/// The fault of a loop that reaches a cell outside the ranges of its items.
+pub fn past_fault(kind: &Kind, items: &[Item]) -> Option<Fault>
+    ensures fault { result ≡ past_fault (loop_of kind.now) items.now }
+    ensures stays { IfNone result (StaysBy kind.now items.now) }
+{
+    match kind {
+        Kind::Loop { kernel } => {
+            if reaches_past(kernel, items) {
+                Some(Fault::OutsideRange)
+            } else {
+                None
+            }
+        }
+        Kind::Data | Kind::EndData | Kind::EnterData => None,
+        Kind::ExitData { .. } | Kind::Update { .. } | Kind::IsPresent => None,
+    }
+}
+
+/// The operation that runs a directive's loop, if it is one, where its items are there.
+///
+/// # Errors
+///
+/// `Memory` where memory is refused.
+pub fn run_of(
+    alloc: Global,
+    table: &Table,
+    draft: &Draft,
+    kind: &Kind,
+    items: &[Item],
+) -> Result<Option<Op>, Fault>
+    requires draft { IsDraft table.now draft.now }
+    requires cells { All (λ i. 0 < i.range.len) items.now }
+    requires stays { StaysBy kind.now items.now }
+    requires held { AllHeldFor kind.now (drafted table.now draft.now) items.now }
+    ensures run { IfOk result (λ run. option_to_list run ≡ run_in (loop_of kind.now) items.now (drafted table.now draft.now)) }
+    ensures cells { IfOk result (λ run. IfSome run HasItsCells) }
+    ensures fault { IfErr result (λ f. f ≡ Memory) }
+{
+    match kind {
+        Kind::Loop { kernel } => {
+            let uses = uses_of(alloc, table, draft, kernel, items)?;
+            let kernel = kernel.try_clone(alloc)?;
+            Ok(Some(Op::Run {
+                kernel,
+                uses: Listed::from_vec(uses),
+            }))
+        }
+        Kind::Data | Kind::EndData | Kind::EnterData => Ok(None),
+        Kind::ExitData { .. } | Kind::Update { .. } | Kind::IsPresent => Ok(None),
+    }
+}
