@@ -1,10 +1,9 @@
-ghost use Rattle.std.specs.Prelude.{◌≡◌, ◌==◌, ℕ, ℤ, ◌+◌, ◌<◌, ◌≤ℤ◌, ◌<ℤ◌, ◌-ℤ◌, pos, [], map, length, replicate, slice_index_or, slice_set, slice_get, Some, IfOk, IfErr, IsTrue};
+ghost use Rattle.std.specs.Prelude.{◌≡◌, ◌==◌, ℕ, ℤ, ◌+◌, ◌<◌, ◌≤ℤ◌, ◌<ℤ◌, ◌-ℤ◌, pos, [], map, length, replicate, slice_index_or, slice_set, slice_get, Some, IfOk, IfErr, IsTrue, ◌^◌};
 ghost use Rattle.acc_base.specs.declared.fault.Fault.TheVariants as fault;
 ghost use Rattle.acc_kernel.specs.Cells.{with_cell};
 ghost use Rattle.acc_kernel.specs.Jobs.{AreRows, zero_rows, has_cell, cell_in, place_of, no_use};
 ghost use Rattle.acc_kernel.specs.RowTables.{Stored, IsTable};
 
-use crate::uses::place_of;
 use crate::window::Window;
 use acc_base::{BlockId, Fault, Range};
 use acc_raw::Cells;
@@ -132,13 +131,29 @@ fn zero_rows(alloc: Global, uses: &[(BlockId, Range)]) -> Result<Vec<Cells>, Fau
     Ok(rows)
 }
 
+// Of each array the place of its use, or how many uses there are.
 fn places(alloc: Global, uses: &[(BlockId, Range)]) -> Result<Vec<usize>, Fault>
     ensures table { IfOk result (λ places. IsTable uses.now places.items) }
     ensures fault { IfErr result (λ f. f ≡ fault.Memory) }
 {
-    let mut places = Vec::with_capacity(alloc, 256)?;
-    for array in 0..256u16 {
-        places.push_reserved(place_of(uses, array));
-    }
+    let mut places = vec![in alloc; uses.len(); 256]?;
+    put_places(uses, 0, places.as_mut_slice());
     Ok(places)
+}
+
+// Puts in the place of each array's first use, where so many uses stand before these.
+fn put_places(uses: &[(BlockId, Range)], before: usize, places: &mut [usize])
+    requires count { length places.old ≡ 256 }
+    requires few { before + length uses.now < 2 ^ 64 }
+    requires behind { (array : ℕ) → array < 256 → slice_index_or places.old array 0 ≡ before + length uses.now }
+    ensures count { length places.new ≡ 256 }
+    ensures places { (array : ℕ) → array < 256 → slice_index_or places.new array 0 ≡ before + place_of uses.now array }
+{
+    match uses {
+        [] => {}
+        [(_, range), rest @ ..] => {
+            put_places(rest, before + 1, places);
+            places[usize::from(range.array)] = before;
+        }
+    }
 }

@@ -23,7 +23,7 @@ pub fn are_distinct(uses: &[(BlockId, Range)]) -> bool
 pub(crate) fn has_cell(uses: &[(BlockId, Range)], array: u8, cell: i128) -> bool
     ensures { result ≡ has_cell uses.now array cell }
 {
-    match uses.get(place_of(uses, u16::from(array))) {
+    match uses.get(place_of(uses, array)) {
         Some((_, range)) => i128::from(range.lo) <= cell && cell < i128::from(range.end()),
         None => false,
     }
@@ -45,8 +45,8 @@ pub(crate) fn is_lacking(
     !has_cell(uses, array, i128::from(last) + i128::from(offset))
 }
 
-/// The place of the first use of an array, or how many there are.
-pub(crate) fn place_of(uses: &[(BlockId, Range)], array: u16) -> usize
+// The place of the first use of an array, or how many there are.
+fn place_of(uses: &[(BlockId, Range)], array: u8) -> usize
     ensures { result ≡ place_of uses.now array }
 {
     match position(uses, array) {
@@ -55,8 +55,8 @@ pub(crate) fn place_of(uses: &[(BlockId, Range)], array: u16) -> usize
     }
 }
 
-fn position(uses: &[(BlockId, Range)], array: u16) -> Option<usize>
+fn position(uses: &[(BlockId, Range)], array: u8) -> Option<usize>
     ensures { result ≡ position (λ u. u.1.array == array) uses.now }
 {
-    uses.iter().position(|u| u16::from(u.1.array) == array)
+    uses.iter().position(|u| u.1.array == array)
 }
