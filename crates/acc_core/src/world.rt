@@ -3,6 +3,7 @@ ghost use Rattle.std.specs.Option.{option_map};
 ghost use Rattle.acc_present.specs.Presences.{presences, holder};
 ghost use Rattle.acc_present.specs.Tables.{entry_presence};
 ghost use Rattle.acc_base.specs.declared.config.TheConstants.{MAX_HOSTS};
+ghost use Rattle.acc_core.specs.Legality.{AllFollow, Legal};
 ghost use Rattle.acc_core.specs.Machine.{Step, standing_of};
 ghost use Rattle.acc_batch.specs.Labels.{on_queue, ops_of};
 ghost use Rattle.acc_core.specs.Logs.{all_done, performed};
@@ -207,6 +208,8 @@ impl World {
         ensures works { result.works.items ≡ reverse self.work }
         ensures hosts { result.hosts.items ≡ map state_of self.hosts }
         ensures lines { All IsHost self.hosts }
+        ensures legal { Legal self }
+        ensures follow { AllFollow self 0 self.hosts }
     {
         let World {
             alloc: _,

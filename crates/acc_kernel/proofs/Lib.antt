@@ -2,6 +2,7 @@ mod Flagging
 mod Holding
 mod Keeping
 mod Listing
+pub mod Reached
 mod Reaching
 mod Rowing
 pub mod Running

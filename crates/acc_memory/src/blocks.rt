@@ -55,6 +55,7 @@ impl Blocks {
         ensures room { self.old.room ≤ self.new.room }
         ensures ok { OnOk result (length self.new.rows + count ≤ self.new.room) }
         ensures fault { IfErr result (λ f. f ≡ fault.Memory) }
+        ensures kept { OnErr result (self.new ≡ self.old) }
         ensures missing { OnErr result (self.old.room < length self.old.rows + count) }
     {
         self.blocks.reserve(count)?;

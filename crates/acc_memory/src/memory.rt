@@ -63,7 +63,7 @@ impl Memory {
         ensures room { (d : ℕ) → room_on self.old d ≤ room_on self.new d }
         ensures ok { OnOk result ((d : ℕ) → d < length self.old.devices → length (rows_on self.new d) + count ≤ room_on self.new d) }
         ensures fault { IfErr result (λ f. f ≡ fault.Memory) }
-        ensures missing { OnErr result ((d : ℕ) × (room_on self.old d < length (rows_on self.old d) + count)) }
+        ensures missing { OnErr result ((d : ℕ) × (d < length self.old.devices) × (room_on self.old d < length (rows_on self.old d) + count)) }
     {
         spare_all(&mut self.devices, count)
     }
@@ -241,7 +241,7 @@ fn spare_all(devices: &mut Vec<Blocks>, count: usize) -> Result<(), Fault>
     ensures room { (d : ℕ) → room_in (slice_get devices.old.items d) ≤ room_in (slice_get devices.new.items d) }
     ensures ok { OnOk result ((d : ℕ) → d < length devices.old.items → length (rows_in (slice_get devices.new.items d)) + count ≤ room_in (slice_get devices.new.items d)) }
     ensures fault { IfErr result (λ f. f ≡ Fault.Memory) }
-    ensures missing { OnErr result ((d : ℕ) × (room_in (slice_get devices.old.items d) < length (rows_in (slice_get devices.old.items d)) + count)) }
+    ensures missing { OnErr result ((d : ℕ) × (d < length devices.old.items) × (room_in (slice_get devices.old.items d) < length (rows_in (slice_get devices.old.items d)) + count)) }
 {
     for n in 0..devices.len() {
         devices[n].spare(count)?;

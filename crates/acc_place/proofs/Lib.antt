@@ -5,6 +5,7 @@ mod Filling
 mod Inside
 mod Judging
 mod Looping
+mod PastReach
 mod Planning
 mod Simple
 mod Visits

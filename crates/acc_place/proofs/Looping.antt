@@ -112,7 +112,7 @@ stays_within k items array reach i is found inside =
     let between = is.between cell r in
     subst (λ (o : Option Item). IsInside o cell) found (grind (arith, ints), grind (arith, ints))
 
-stays_in_all : (k : Loop) (items : List Item) → All (StaysInsideOf k items) (arrays_of k) → StaysInside k items
+pub stays_in_all : (k : Loop) (items : List Item) → All (StaysInsideOf k items) (arrays_of k) → StaysInside k items
 stays_in_all k items stays = λ array cell r. all_among (StaysInsideOf k items) (arrays_of k) array stays (arrays_have k array cell r) cell r
 
 pub past_more : (k : Loop) (items : List Item) (arrays : List ℕ) (i e : ℕ) → i < length arrays

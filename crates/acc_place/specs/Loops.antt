@@ -1,6 +1,6 @@
 -- A loop as it is judged: where its implicit items come from, that it stays in the ranges of its items, and what it uses of
 -- what is present.
-use Rattle.std.specs.Prelude.{ℕ, ◌+◌, ℤ, ◌≤ℤ◌, ◌<ℤ◌, pos, ◌&&◌, ◌==◌, if◌then◌else◌, not, List, [], length, map, filter, Option, Some, None}
+use Rattle.std.specs.Prelude.{◌≡◌, ◌↔◌, false, ℕ, ◌+◌, ℤ, ◌≤ℤ◌, ◌<ℤ◌, pos, ◌&&◌, ◌==◌, if◌then◌else◌, not, List, [], length, map, filter, Option, Some, None}
 use Rattle.std.specs.List.{flat_map}
 use Rattle.acc_base.specs.Configurations.{Configuration}
 use Rattle.acc_kernel.specs.Jobs.{Use}
@@ -9,6 +9,7 @@ use Rattle.acc_present.specs.Presences.{Presence, holder}
 use Rattle.acc_place.specs.declared.directive.Directive.{Directive}
 use Rattle.acc_place.specs.declared.directive.Item.{Item}
 use Rattle.acc_place.specs.declared.directive.Region.{Region}
+use Rattle.acc_place.specs.Accepting.{is_past}
 use Rattle.acc_place.specs.Batches.{found_block}
 use Rattle.acc_place.specs.Implicit.{item_of, is_named, items_around, implicit_item}
 
@@ -37,6 +38,10 @@ StaysInsideOf k items array = (cell : ℤ) → Reaches k array cell → IsInside
 
 abbrev pub StaysInside : Loop → List Item → Type 0
 StaysInside k items = (array : ℕ) → StaysInsideOf k items array
+
+-- A loop isn't refused for its reach exactly if each cell that it reaches is in the range of the first item of its array.
+abbrev pub ReachIsJudged : Type 0
+ReachIsJudged = (k : Loop) (items : List Item) → (is_past (Some k) items ≡ false) ↔ StaysInside k items
 
 -- the use of an item, if it is one and is present
 abbrev pub use_in : List Presence → Option Item → List Use

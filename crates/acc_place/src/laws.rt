@@ -3,6 +3,7 @@ ghost use Rattle.acc_place.specs.LoopExamples.{RunsOnPresent, CopiesImplicitly, 
 ghost use Rattle.acc_place.specs.RefusalExamples.{EarlierItemFirst, ItemBeforeCounts, LimitsFirst, LastDirective, RangesOutside, CapacityReached};
 ghost use Rattle.acc_place.specs.RegionExamples.{AbsentAtEntry, PresentAtEntry, LastExit, NotTheLastExit, Nested, OwnRegion, Depth, Entries, ExitsInside, Updates, Questions, ItemsInTurn};
 ghost use Rattle.acc_place.specs.Counts.{AcceptedAreCounted, EnteredCanBeLeft};
+ghost use Rattle.acc_place.specs.Loops.{ReachIsJudged};
 ghost use Rattle.acc_place.specs.Plans.{KeptByAccepting, KeptByPlanning, KeptByTaking};
 
 /// After accepted directives the structured counter of each present range is the number of the ranges inside it that
@@ -10,6 +11,11 @@ ghost use Rattle.acc_place.specs.Plans.{KeptByAccepting, KeptByPlanning, KeptByT
 pub fn accepted_directives_are_counted()
     ensures counted { AcceptedAreCounted }
     ensures left { EnteredCanBeLeft }
+{}
+
+/// A loop is refused for its reach exactly where it reaches a cell outside the range that it uses of the cell's array.
+pub fn reach_is_judged()
+    ensures { ReachIsJudged }
 {}
 
 /// A plan stays one of its place, whatever is accepted or planned since: `Plan::fits` can always be asked.

@@ -16,8 +16,8 @@ pub use directive::{
 };
 pub use judge::is_in_array;
 pub use laws::{
-    accepted_directives_are_counted, plans_are_kept, plans_outlast_their_batches, worked_batches,
-    worked_directives, worked_loops, worked_refusals, worked_regions,
+    accepted_directives_are_counted, plans_are_kept, plans_outlast_their_batches, reach_is_judged,
+    worked_batches, worked_directives, worked_loops, worked_refusals, worked_regions,
 };
 pub use place::Place;
 pub use plan::Plan;

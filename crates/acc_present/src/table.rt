@@ -108,6 +108,7 @@ impl Table {
         ensures room { self.old.room ≤ self.new.room }
         ensures ok { OnOk result (length self.new.presences + count ≤ self.new.room) }
         ensures fault { IfErr result (λ fault. fault ≡ Memory) }
+        ensures kept { OnErr result (self.new ≡ self.old) }
         ensures missing { OnErr result (self.old.room < length self.old.presences + count) }
     {
         self.entries.reserve(count)?;

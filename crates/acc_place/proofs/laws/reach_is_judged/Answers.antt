@@ -1,0 +1,5 @@
+use Rattle.acc_place.proofs.PastReach.{reach_judged}
+use Rattle.acc_place.proofs.laws.reach_is_judged.Goals as goal
+
+pub returns : goal.returns
+returns c = reach_judged
