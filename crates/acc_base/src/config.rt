@@ -86,12 +86,14 @@ impl Config {
         let _ = &self.devices;
     }
 
+    /// How many devices there are.
     pub fn devices(&self) -> u8
         ensures { result ≡ self.now.devices }
     {
         self.devices
     }
 
+    /// How many hosts there are.
     pub fn hosts(&self) -> u8
         ensures { result ≡ self.now.hosts }
     {
@@ -105,7 +107,7 @@ impl Config {
         self.arrays.len()
     }
 
-    /// The opening values of an array.
+    /// The opening values of an array, one that `has_array` knows.
     pub fn array(&self, array: u8) -> &[i64]
         requires { array < length self.now.arrays }
         ensures { slice_get self.now.arrays array ≡ Some result.now }
@@ -127,24 +129,28 @@ impl Config {
         self.room
     }
 
+    /// Whether there is such a device.
     pub fn has_device(&self, device: DeviceId) -> bool
         ensures { result ≡ nat_lt device self.now.devices }
     {
         device.number() < self.devices
     }
 
+    /// Whether there is such a queue of such a device.
     pub fn has_queue(&self, at: QueueAt) -> bool
         ensures { result ≡ (nat_lt at.device self.now.devices && nat_lt at.queue QUEUES) }
     {
         self.has_device(at.device) && at.queue.number() < QUEUES
     }
 
+    /// Whether there is such a host.
     pub fn has_host(&self, host: HostId) -> bool
         ensures { result ≡ nat_lt host self.now.hosts }
     {
         host.number() < self.hosts
     }
 
+    /// Whether there is a host array with this number.
     pub fn has_array(&self, array: u8) -> bool
         ensures { result ≡ nat_lt array (length self.now.arrays) }
     {

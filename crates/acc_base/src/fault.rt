@@ -61,6 +61,7 @@ impl Fault {
         }
     }
 
+    /// The name behind the number, as in `F6 PartlyPresent`.
     pub fn name(&self) -> &'static str
         ensures { result.now ≡ name_of self.now }
     {

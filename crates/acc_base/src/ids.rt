@@ -21,12 +21,14 @@ impl Model for DeviceId {
 }
 
 impl DeviceId {
+    /// The device with this number.
     pub fn new(number: u8) -> Self
         ensures { result ≡ number }
     {
         DeviceId(number)
     }
 
+    /// Its number, from 0.
     pub fn number(self) -> u8
         ensures { result ≡ self }
     {
@@ -57,12 +59,14 @@ impl QueueId {
     /// The queue of `acc_async_noval`.
     pub const NOVAL: QueueId = QueueId(1);
 
+    /// The queue at this place.
     pub fn new(number: u8) -> Self
         ensures { result ≡ number }
     {
         QueueId(number)
     }
 
+    /// Its place, from 0.
     pub fn number(self) -> u8
         ensures { result ≡ self }
     {
@@ -86,12 +90,14 @@ impl Model for HostId {
 }
 
 impl HostId {
+    /// The host with this number.
     pub fn new(number: u8) -> Self
         ensures { result ≡ number }
     {
         HostId(number)
     }
 
+    /// Its number, from 0.
     pub fn number(self) -> u8
         ensures { result ≡ self }
     {
@@ -115,12 +121,14 @@ impl Model for BlockId {
 }
 
 impl BlockId {
+    /// The block with this number.
     pub fn new(number: u64) -> Self
         ensures { result ≡ number }
     {
         BlockId(number)
     }
 
+    /// Its number, from 1.
     pub fn number(self) -> u64
         ensures { result ≡ self }
     {

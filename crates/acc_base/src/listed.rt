@@ -34,6 +34,7 @@ impl<T> Listed<T> {
         items
     }
 
+    /// All items, in their order.
     pub fn as_slice(&self) -> &[T]
         ensures { result.now ≡ self.now }
     {

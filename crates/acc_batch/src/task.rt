@@ -30,7 +30,7 @@ pub enum Task {
 impl Task {
     ghost use Rattle.acc_base.specs.declared.fault.Fault.TheVariants as fault;
 
-    /// The task that performs an operation.
+    /// The task that performs an operation, one that has its cells, by `Op::has_its_cells`.
     ///
     /// # Errors
     ///

@@ -1,4 +1,4 @@
--- What holds of the histories after any list of events.
+-- What holds of the histories after any list of events (OpenACC API 3.0, 2.16, Asynchronous Behavior).
 use Rattle.std.specs.Prelude.{◌≡◌, ◌↔◌, ℕ, ◌+◌, ◌-◌, ◌≤◌, ◌==◌, IsTrue, List, [], ◌∷◌, ◌++◌, length, map, take, drop, slice_index_or, All, Contains, ℤ}
 use Rattle.acc_base.specs.declared.ids.QueueAt.{QueueAt}
 use Rattle.acc_base.specs.declared.range.Range.{Range}

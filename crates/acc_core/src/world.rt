@@ -63,7 +63,8 @@ impl Model for World {
 impl World {
     ghost use Rattle.acc_base.specs.declared.fault.Fault.TheVariants.{Memory};
 
-    /// Nothing is accepted, performed or shown yet, and each host is ready for its first statement.
+    /// Nothing is accepted, performed or shown yet, and each host is ready for its first statement. There is one program
+    /// for each host of the configuration, in their order, and each is synchronous, by `HostProgram::is_synchronous`.
     ///
     /// # Errors
     ///
@@ -141,7 +142,8 @@ impl World {
         Ok(replies)
     }
 
-    /// The structured and the dynamic counter on a device of the range, or of the present range that contains it.
+    /// The structured and the dynamic counter of the present range that contains a range with a cell, on a device that
+    /// `Config::has_device` knows.
     pub fn counters(&self, device: DeviceId, range: Range) -> Option<(u64, u64)>
         requires device { device < self.now.config.devices }
         requires cells { 0 < range.len }
@@ -150,7 +152,7 @@ impl World {
         self.accelerator.counters(device, range)
     }
 
-    /// The present range at this place on a device, by array, then by lower bound.
+    /// The present range at this place, from 0, by array, then by lower bound, on a device that is there.
     pub fn nth(&self, device: DeviceId, place: usize) -> Option<&Entry>
         requires { device < self.now.config.devices }
         ensures entry { option_map (λ e. entry_presence e.now) result ≡ slice_get (presences ((standing_of self.now).marks device)) place }

@@ -37,6 +37,7 @@ impl KernelFault {
         }
     }
 
+    /// The name behind the code.
     pub fn name(&self) -> &'static str
         ensures { result.now ≡ name_of self.now }
     {

@@ -32,7 +32,8 @@ impl Model for Job {
 }
 
 impl Job {
-    /// Copies the loop and its uses, with room for their cells, all zero at first.
+    /// Copies the loop and its uses, with room for their cells, all zero at first. The uses name each array at most
+    /// once, by `are_distinct`, and have all cells that the loop reaches, by `Kernel::is_held_by`.
     ///
     /// # Errors
     ///
@@ -64,6 +65,7 @@ impl Job {
         self.outputs.keeps_shape();
     }
 
+    /// The loop.
     pub fn kernel(&self) -> &Kernel
         ensures { result.now ≡ self.now.kernel }
     {
@@ -77,7 +79,7 @@ impl Job {
         self.outputs.uses()
     }
 
-    /// The inputs of a use, by its place.
+    /// The inputs of a use, by its place among them, from 0.
     pub fn input(&self, place: usize) -> &[i64]
         requires { place < length self.now.uses }
         ensures { result.now ≡ slice_index_or self.now.inputs place [] }
@@ -85,7 +87,7 @@ impl Job {
         self.inputs.row(place)
     }
 
-    /// The outputs of a use, by its place.
+    /// The outputs of a use, by its place likewise.
     pub fn output(&self, place: usize) -> &[i64]
         requires { place < length self.now.uses }
         ensures { result.now ≡ slice_index_or self.now.outputs place [] }

@@ -1,4 +1,5 @@
--- The values of cells: which cells there are, what an operation or a write makes of them, and what a range of them holds.
+-- The values of cells: which cells there are, what an operation or a write makes of them, and what a range of them holds
+-- (OpenACC API 3.0, 2.7, Data Clauses, and 2.9, Loop Construct).
 use Rattle.std.specs.Prelude.{ℕ, zero, suc, ◌+◌, Bool, ◌&&◌, nat_lt, nat_le, ◌==◌, List, [], ◌∷◌, find, slice_index_or, Option, Some, None, ℤ, pos, negsuc, if◌then◌else◌}
 use Rattle.acc_base.specs.declared.range.Range.{Range}
 use Rattle.acc_batch.specs.declared.operation.Op.{Op}

@@ -70,9 +70,9 @@ impl Memory {
 
     /// Performs a task on a device, one that `Config::has_device` knows, and gives its operation back. Takes no memory.
     ///
-    /// A block that is made isn't there, its range ends in its array, and there is room for it, as `spare` makes. A
-    /// block that is copied, released or used by a loop is there, as `block` tells, and its range contains the one that
-    /// is copied or used.
+    /// A block that is made has its cells, all zero, as `Task::new` gives them; it isn't there, its range ends in its
+    /// array, and there is room for it, as `spare` makes. A block that is copied, released or used by a loop is there, as
+    /// `block` tells, and its range contains the one that is copied or used.
     pub fn do_op(&mut self, device: DeviceId, task: Task) -> Op
         requires device { device < length self.old.devices }
         requires allowed { IsAllowed self.old device task }
@@ -104,7 +104,7 @@ impl Memory {
         }
     }
 
-    /// The value of a cell of a host array.
+    /// The value of a cell of a host array, one that the configuration's array has.
     pub fn host_get(&self, array: u8, cell: u32) -> i64
         requires there { has_array self.now (record { array = array; lo = cell; len = 1 }) ≡ true }
         ensures { result ≡ cell_of self.now (Host_cell array cell) }
@@ -113,7 +113,7 @@ impl Memory {
         cell_at(cells, cell)
     }
 
-    /// Writes a cell of a host array.
+    /// Writes a cell of a host array, one that the configuration's array has.
     pub fn host_set(&mut self, array: u8, cell: u32, value: i64)
         requires there { has_array self.old (record { array = array; lo = cell; len = 1 }) ≡ true }
         ensures shows { (was : Cell → ℤ) → Shows self.old was → Shows self.new (after_write array cell value was) }
@@ -124,7 +124,7 @@ impl Memory {
         cells[cell as usize] = value;
     }
 
-    /// The cells of a range of a host array.
+    /// The cells of a range of a host array, which ends in the configuration's array.
     pub fn host_cells(&self, range: Range) -> &[i64]
         requires there { has_array self.now range ≡ true }
         ensures { result.now ≡ values_of (cell_of self.now) range }
@@ -134,7 +134,7 @@ impl Memory {
         &cells[from..from + range.len as usize]
     }
 
-    /// The range and the cells of a block that is there.
+    /// The range and the cells of a block, if it is there on the device, one that `Config::has_device` knows.
     pub fn block(&self, device: DeviceId, id: BlockId) -> Option<(Range, &Cells)>
         requires { device < length self.now.devices }
         ensures { option_map (λ b. row_with id b.0 b.1.now) result ≡ find_row (rows_on self.now device) id }

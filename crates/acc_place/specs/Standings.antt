@@ -1,5 +1,5 @@
 -- What a history leaves, and what a directive marks after it, item by item (OpenACC API 3.0, 2.6.5, Data Construct,
--- 2.6.6, Enter Data and Exit Data Directives, and 2.7, Data Clauses).
+-- 2.6.6, Enter Data and Exit Data Directives, 2.6.7, Reference Counters, 2.7, Data Clauses, and 2.11, Combined Constructs).
 use Rattle.std.specs.Prelude.{ℕ, Bool, true, false, List, [], ◌∷◌, ◌++◌, map, Option, Some, None, ◌==◌, if◌then◌else◌}
 use Rattle.acc_base.specs.declared.range.Range.{Range}
 use Rattle.acc_batch.specs.declared.operation.Label.{Label}

@@ -218,7 +218,7 @@ impl Place {
         }
     }
 
-    /// Whether a range is present on a device.
+    /// Whether a range with a cell is present on a device, one that `Config::has_device` knows.
     #[tactic(auto, using(crate::proofs::Planning::held_is_present))]
     pub fn is_present(&self, device: DeviceId, range: Range) -> bool
         requires device { device < self.now.config.devices }
@@ -228,7 +228,7 @@ impl Place {
         self.counters(device, range).is_some()
     }
 
-    /// The structured and the dynamic counter of the range, or of the present range of the device that contains it.
+    /// The structured and the dynamic counter of the present range of a device that contains a range with a cell.
     pub fn counters(&self, device: DeviceId, range: Range) -> Option<(u64, u64)>
         requires device { device < self.now.config.devices }
         requires cells { 0 < range.len }
@@ -238,7 +238,7 @@ impl Place {
         self.table.counters(range)
     }
 
-    /// The entry of the device's table with this index, by array, then by lower bound.
+    /// The entry of the device's table with this index, from 0, by array, then by lower bound.
     pub fn nth(&self, device: DeviceId, index: usize) -> Option<&Entry>
         requires device { device < self.now.config.devices }
         ensures entry { option_map (λ e. entry_presence e.now) result ≡ slice_get (presences ((standing_in self.now).marks device)) index }

@@ -1,4 +1,4 @@
--- Legal marks: each met its condition when it was made.
+-- Legal marks: each met its condition when it was made (OpenACC API 3.0, 2.6.7, Reference Counters).
 use Rattle.std.specs.Prelude.{◌≡◌, ◌+◌, ◌<◌, ⊤, false, List, [], ◌∷◌, All, Option, IsSomeAnd}
 use Rattle.acc_base.specs.declared.range.Range.{Range}
 use Rattle.acc_present.specs.declared.change.Change.{Change}

@@ -60,7 +60,7 @@ impl Draft {
         self.used = table.used_cells();
     }
 
-    /// What the table would have of a range.
+    /// What the table would have of a range with a cell.
     pub fn look(&self, table: &Table, range: Range) -> Look
         requires draft { IsDraft table.now self.now }
         requires cells { 0 < range.len }
@@ -82,7 +82,8 @@ impl Draft {
         }
     }
 
-    /// Counts an entry to a range, and opens its data lifetime where it was absent.
+    /// Counts an entry to a range, and opens its data lifetime where it was absent. It asks of the range what
+    /// `Table::enter` asks, as the draft shows it, but for room: the draft has room for one more entry that changes.
     pub fn enter(
         &mut self,
         table: &Table,
@@ -116,8 +117,8 @@ impl Draft {
         }
     }
 
-    /// Counts an exit from a range, and ends its data lifetime where both counters are zero. A region leaves only
-    /// what a region entered.
+    /// Counts an exit from a range, and ends its data lifetime where both counters are zero. It asks what `Table::leave`
+    /// asks, as the draft shows it, and room likewise.
     pub fn leave(&mut self, table: &Table, range: Range, counter: Counter) -> Left
         requires draft { IsDraft table.now self.old }
         requires cells { 0 < range.len }

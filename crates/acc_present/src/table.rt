@@ -115,7 +115,7 @@ impl Table {
         Ok(())
     }
 
-    /// What the table has of a range.
+    /// What the table has of a range with a cell.
     pub fn look(&self, range: Range) -> Look
         requires { 0 < range.len }
         ensures { IsLook self.now.presences range result }
@@ -132,7 +132,10 @@ impl Table {
         }
     }
 
-    /// Counts an entry to a range, and opens its data lifetime where it was absent.
+    /// Counts an entry to a range with a cell, and opens its data lifetime where it was absent, with this block.
+    ///
+    /// The range isn't partly present, by `look`. Where it is present, the counter is below `COUNTER_LIMIT`; where it
+    /// is absent, the capacity has room for its cells beside `used_cells`, and the table for an entry, as `spare` makes.
     pub fn enter(&mut self, range: Range, counter: Counter, block: BlockId) -> Entered
         requires cells { 0 < range.len }
         requires whole { is_partly_present self.old.presences range ≡ false }
@@ -158,8 +161,8 @@ impl Table {
         }
     }
 
-    /// Counts an exit from a range, and ends its data lifetime where both counters are zero. A region leaves only
-    /// what a region entered.
+    /// Counts an exit from a range with a cell, and ends its data lifetime where both counters are zero. A region leaves
+    /// only what a region entered: by `look`, the range is present, and its structured counter positive.
     pub fn leave(&mut self, range: Range, counter: Counter) -> Left
         requires cells { 0 < range.len }
         requires condition { MeetsCondition (exit_change counter) range self.old.presences }
@@ -180,8 +183,8 @@ impl Table {
         }
     }
 
-    /// Sets the dynamic counter of a range to zero, and ends its data lifetime where the structured one is zero too
-    /// (OpenACC API 3.0, 2.6.6, Enter Data and Exit Data Directives: the `finalize` clause).
+    /// Sets the dynamic counter of a range with a cell to zero, and ends its data lifetime where the structured one is
+    /// zero too (OpenACC API 3.0, 2.6.6, Enter Data and Exit Data Directives: the `finalize` clause).
     pub fn finalize(&mut self, range: Range) -> Left
         requires { 0 < range.len }
         ensures presences { self.new.presences ≡ kept_after (finalize_mark range) self.old.presences }
@@ -227,7 +230,7 @@ impl Table {
         overlaps_beside_in(&entries[behind.saturating_sub(1)..], range, changed)
     }
 
-    /// The structured and the dynamic counter of a present range.
+    /// The structured and the dynamic counter of the present range that contains a range with a cell.
     pub fn counters(&self, range: Range) -> Option<(u64, u64)>
         requires { 0 < range.len }
         ensures { result ≡ option_map (λ p. (p.s, p.d)) (holder self.now.presences range) }
@@ -248,7 +251,7 @@ impl Table {
         self.used
     }
 
-    /// The entry at this place, by array, then by lower bound.
+    /// The entry at this place, from 0, by array, then by lower bound.
     pub fn nth(&self, place: usize) -> Option<&Entry>
         ensures entry { option_map (λ e. entry_presence e.now) result ≡ slice_get self.now.presences place }
         ensures next { OnSome result (place + 1 < 2 ^ 64) }

@@ -61,7 +61,7 @@ impl Cells {
         self.cells.as_slice()
     }
 
-    /// The value of a cell.
+    /// The value of a cell, one before `len`.
     pub fn get(&self, at: usize) -> i64
         requires { at < length self.now }
         ensures { slice_get self.now at ≡ Some result }
@@ -69,7 +69,7 @@ impl Cells {
         self.cells[at]
     }
 
-    /// Writes one cell.
+    /// Writes one cell, one before `len`.
     pub fn set(&mut self, at: usize, value: i64)
         requires { at < length self.old }
         ensures { self.new ≡ slice_set self.old at value }
@@ -77,7 +77,7 @@ impl Cells {
         self.cells[at] = value;
     }
 
-    /// Writes the source's values over as many cells, from `at` on.
+    /// Writes the source's values over as many cells, from `at` on, which end by `len`.
     pub fn copy_from(&mut self, at: usize, source: &[i64])
         requires { at + length source.now ≤ length self.old }
         ensures { self.new ≡ take at self.old ++ source.now ++ drop (at + length source.now) self.old }
@@ -85,7 +85,7 @@ impl Cells {
         self.cells[at..at + source.len()].copy_from_slice(source);
     }
 
-    /// Fills the target with the values of as many cells, from `at` on.
+    /// Fills the target with the values of as many cells, from `at` on, which end by `len`.
     pub fn copy_to(&self, at: usize, target: &mut [i64])
         requires { at + length target.old ≤ length self.now }
         ensures { target.new ≡ slice_range self.now at (at + length target.old) }
