@@ -1,10 +1,9 @@
-use crate::form::{Form, kind_of};
-use crate::operation::{Operation, operation_of};
-use acc_base::{Config, DeviceId, Fault, HostId, Listed, QueueAt, QueueId, Range};
+use acc_base::{Config, DeviceId, Fault, HostId, Listed, Range};
 use acc_core::{
     ASYNC_NOVAL, Act, Clause, Directive, Event, HostProgram, HostState, Item, Kind, Reply, Shown,
     Statement, Target, Waits, WorkEntry, World,
 };
+use acc_forms::{Form, Operation, item, kind_of, operation_of, sync};
 use std::alloc::{AllocError, Global};
 
 // The four cells of the first array.
@@ -23,17 +22,6 @@ pub fn refused(ended: u32, fault: Fault) -> HostState {
         line: ended,
         fault,
     }
-}
-
-pub fn queue(device: u8, number: u8) -> QueueAt {
-    QueueAt {
-        device: DeviceId::new(device),
-        queue: QueueId::new(number),
-    }
-}
-
-pub fn sync() -> QueueAt {
-    queue(0, 0)
 }
 
 pub fn host() -> Event {
@@ -56,10 +44,6 @@ pub fn cells(lo: u32, len: u32) -> Range {
 // Cells of the second array.
 pub fn second_cells(lo: u32, len: u32) -> Range {
     Range { array: 1, lo, len }
-}
-
-pub fn item(clause: Clause, range: Range) -> Item {
-    Item { clause, range }
 }
 
 /// A line of a program.

@@ -2,17 +2,11 @@
 #![tactic(auto)]
 
 #[cfg(test)]
-mod bodies;
-#[cfg(test)]
 mod fixtures;
-#[cfg(test)]
-mod form;
 #[cfg(test)]
 mod loops;
 #[cfg(test)]
 mod memory;
-#[cfg(test)]
-mod operation;
 #[cfg(test)]
 mod regions;
 #[cfg(test)]

@@ -1,25 +1,17 @@
-use crate::bodies::Body;
 use crate::fixtures::{
-    ALL, END, FINISHED, Line, cells, item, operations_of, printed, refused, second_cells, sync,
-    turns, world_over,
-};
-use crate::form::{EXIT, Form, UPDATE, over};
-use crate::operation::{
-    Operation, copy_in, copy_in_of, copy_out, copy_out_of, make, make_of, release, run, used,
+    ALL, END, FINISHED, Line, cells, operations_of, printed, refused, second_cells, turns,
+    world_over,
 };
 use acc_base::{DeviceId, Fault, HostId, Range};
-use acc_core::{Clause, HostState, Item, Totals, World};
+use acc_core::{Clause, HostState, Totals, World};
+use acc_forms::{
+    EXIT, Form, Operation, UPDATE, copy_in, copy_out, copyin, copyout, create, make, over, present,
+    release, run, sync, used,
+};
+use acc_parts::Body;
 use std::alloc::Global;
 use std::process::Abort;
 use std::test::Fail;
-
-fn create(range: Range) -> Item {
-    item(Clause::Create, range)
-}
-
-fn present(range: Range) -> Item {
-    item(Clause::Present, range)
-}
 
 /// A program over arrays and a device of this capacity, and what it leaves.
 #[derive(Drop)]
@@ -90,10 +82,10 @@ fn a_loop_over_what_is_present(rt: HostRuntime) -> Result<(), Fail> {
         present: &[],
         batches: 3,
         operations: &[
-            make(1),
-            copy_in(ALL),
+            make(1, ALL),
+            copy_in(1, ALL),
             run(&[used(1, ALL)]),
-            copy_out(ALL),
+            copy_out(1, ALL),
             release(1),
         ],
         state: FINISHED,
@@ -113,10 +105,10 @@ fn a_sum_wraps_round(rt: HostRuntime) -> Result<(), Fail> {
         present: &[],
         batches: 1,
         operations: &[
-            make_of(1, only),
-            copy_in(only),
+            make(1, only),
+            copy_in(1, only),
             run(&[used(1, only)]),
-            copy_out(only),
+            copy_out(1, only),
             release(1),
         ],
         state: FINISHED,
@@ -129,24 +121,22 @@ fn a_sum_wraps_round(rt: HostRuntime) -> Result<(), Fail> {
 #[test]
 fn a_loop_from_one_array_into_another(rt: HostRuntime) -> Result<(), Fail> {
     let b = second_cells(0, 4);
-    let copyin = item(Clause::Copyin, ALL);
-    let copyout = item(Clause::Copyout, b);
     let case = Case {
         arrays: &[&[1, 2, 3, 4], &[0, 0, 0, 0]],
         capacity: 8,
         lines: &[
-            Line::Two(over(0, 3, Body::Next), copyin, copyout),
+            Line::Two(over(0, 3, Body::Next), copyin(ALL), copyout(b)),
             Line::Print(b),
-            Line::Two(over(0, 4, Body::Next), copyin, copyout),
+            Line::Two(over(0, 4, Body::Next), copyin(ALL), copyout(b)),
         ],
         present: &[],
         batches: 1,
         operations: &[
-            make(1),
-            make_of(2, b),
-            copy_in(ALL),
+            make(1, ALL),
+            make(2, b),
+            copy_in(1, ALL),
             run(&[used(2, b), used(1, ALL)]),
-            copy_out_of(2, b),
+            copy_out(2, b),
             release(1),
             release(2),
         ],
@@ -168,13 +158,13 @@ fn a_choice_by_a_comparison(rt: HostRuntime) -> Result<(), Fail> {
         present: &[],
         batches: 1,
         operations: &[
-            make_of(1, b),
-            make_of(2, a),
-            copy_in_of(1, b),
-            copy_in_of(2, a),
+            make(1, b),
+            make(2, a),
+            copy_in(1, b),
+            copy_in(2, a),
             run(&[used(1, b), used(2, a)]),
-            copy_out_of(1, b),
-            copy_out_of(2, a),
+            copy_out(1, b),
+            copy_out(2, a),
             release(1),
             release(2),
         ],
@@ -200,13 +190,13 @@ fn a_loop_of_two_statements(rt: HostRuntime) -> Result<(), Fail> {
         present: &[],
         batches: 1,
         operations: &[
-            make_of(1, a),
-            make_of(2, b),
-            copy_in_of(1, a),
-            copy_in_of(2, b),
+            make(1, a),
+            make(2, b),
+            copy_in(1, a),
+            copy_in(2, b),
             run(&[used(2, b), used(1, a)]),
-            copy_out_of(1, a),
-            copy_out_of(2, b),
+            copy_out(1, a),
+            copy_out(2, b),
             release(1),
             release(2),
         ],
@@ -232,10 +222,10 @@ fn a_loop_in_a_data_construct(rt: HostRuntime) -> Result<(), Fail> {
         present: &[],
         batches: 3,
         operations: &[
-            make_of(1, middle),
-            copy_in(middle),
+            make(1, middle),
+            copy_in(1, middle),
             run(&[used(1, middle)]),
-            copy_out(middle),
+            copy_out(1, middle),
             release(1),
         ],
         state: FINISHED,
@@ -262,11 +252,11 @@ fn two_loops_in_a_data_construct(rt: HostRuntime) -> Result<(), Fail> {
         present: &[],
         batches: 4,
         operations: &[
-            make(1),
-            copy_in(ALL),
+            make(1, ALL),
+            copy_in(1, ALL),
             run(&[used(1, ALL)]),
             run(&[used(1, ALL)]),
-            copy_out(ALL),
+            copy_out(1, ALL),
             release(1),
         ],
         state: FINISHED,
@@ -288,7 +278,7 @@ fn a_partly_present_array(rt: HostRuntime) -> Result<(), Fail> {
         ],
         present: &[(cells(0, 2), 0, 1)],
         batches: 1,
-        operations: &[make_of(1, cells(0, 2))],
+        operations: &[make(1, cells(0, 2))],
         state: refused(2, Fault::PartlyPresent),
         shown: &[],
     };
@@ -313,11 +303,11 @@ fn an_array_in_two_clauses_of_a_loop(rt: HostRuntime) -> Result<(), Fail> {
         present: &[(ALL, 0, 1)],
         batches: 4,
         operations: &[
-            make(1),
-            copy_in(ALL),
+            make(1, ALL),
+            copy_in(1, ALL),
             run(&[used(1, ALL)]),
             run(&[used(1, half)]),
-            copy_out(ALL),
+            copy_out(1, ALL),
         ],
         state: refused(5, Fault::OutsideRange),
         shown: &[&[4, 8, 6, 8]],
@@ -340,14 +330,14 @@ fn a_loop_without_a_turn_places_its_whole_batch(rt: HostRuntime) -> Result<(), F
         present: &[],
         batches: 2,
         operations: &[
-            make(1),
-            copy_in(ALL),
+            make(1, ALL),
+            copy_in(1, ALL),
             run(&[used(1, ALL)]),
-            copy_out(ALL),
+            copy_out(1, ALL),
             release(1),
-            make_of(2, last),
+            make(2, last),
             run(&[used(2, last)]),
-            copy_out_of(2, last),
+            copy_out(2, last),
             release(2),
         ],
         state: FINISHED,
@@ -422,8 +412,8 @@ fn a_loop_in_two_data_constructs(rt: HostRuntime) -> Result<(), Fail> {
         present: &[(ALL, 2, 0)],
         batches: 3,
         operations: &[
-            make(1),
-            copy_in(ALL),
+            make(1, ALL),
+            copy_in(1, ALL),
             run(&[used(1, cells(2, 1))]),
             run(&[used(1, ALL)]),
         ],
@@ -449,11 +439,11 @@ fn a_loop_fills_the_device(rt: HostRuntime) -> Result<(), Fail> {
         present: &[(ALL, 0, 1)],
         batches: 2,
         operations: &[
-            make(1),
-            make_of(2, b),
-            copy_in_of(2, b),
+            make(1, ALL),
+            make(2, b),
+            copy_in(2, b),
             run(&[used(2, b), used(1, ALL)]),
-            copy_out_of(2, b),
+            copy_out(2, b),
             release(2),
         ],
         state: FINISHED,
@@ -466,7 +456,7 @@ fn a_loop_fills_the_device(rt: HostRuntime) -> Result<(), Fail> {
         lines: &lines,
         present: &[(ALL, 0, 1)],
         batches: 1,
-        operations: &[make(1)],
+        operations: &[make(1, ALL)],
         state: refused(1, Fault::DeviceFull),
         shown: &[],
     };
@@ -489,14 +479,14 @@ fn sixteen_items_of_a_loop(rt: HostRuntime) -> Result<(), Fail> {
         present: &[],
         batches: 2,
         operations: &[
-            make(1),
-            make_of(2, b),
-            copy_in_of(2, b),
+            make(1, ALL),
+            make(2, b),
+            copy_in(2, b),
             run(&[used(2, b), used(1, ALL)]),
-            copy_out_of(2, b),
+            copy_out(2, b),
             release(1),
             release(2),
-            make(3),
+            make(3, ALL),
             run(&[used(3, ALL)]),
             release(3),
         ],

@@ -1,10 +1,10 @@
-use crate::bodies::{Body, Loop};
 use crate::fixtures::{
     ALL, FINISHED, Line, host, perform, printed, refused, reply_to, take, turns, world_of,
 };
-use crate::form::{EXIT, Form};
 use acc_base::{Config, DeviceId, Fault, HostId};
 use acc_core::{Clause, Event, Outcome, Reply, World};
+use acc_forms::{EXIT, Form};
+use acc_parts::{Body, Loop};
 use acc_scarce::{Hoard, at_each_amount};
 use std::alloc::{AllocError, Global};
 use std::process::Abort;

@@ -1,10 +1,12 @@
 use crate::fixtures::{
-    ALL, END, FINISHED, Line, cells, item, operations_of, printed, refused, sync, turns, world_of,
+    ALL, END, FINISHED, Line, cells, operations_of, printed, refused, turns, world_of,
 };
-use crate::form::{EXIT, FINALIZE, Form, UPDATE, UPDATE_IF_PRESENT};
-use crate::operation::{Operation, copy_in, copy_out, make, make_of, release};
 use acc_base::{DeviceId, Fault, HostId, Range};
-use acc_core::{Clause, HostState, Item};
+use acc_core::{Clause, HostState};
+use acc_forms::{
+    EXIT, FINALIZE, Form, Operation, UPDATE, UPDATE_IF_PRESENT, copy_in, copy_out, create, item,
+    make, release, sync,
+};
 use std::alloc::Global;
 use std::process::Abort;
 use std::test::Fail;
@@ -40,10 +42,6 @@ fn check(rt: &impl Abort, alloc: Global, case: &Case) -> Result<(), Fail> {
     Ok(())
 }
 
-fn create(range: Range) -> Item {
-    item(Clause::Create, range)
-}
-
 #[test]
 fn a_finalized_exit_ends_all_entries(rt: HostRuntime) -> Result<(), Fail> {
     let case = Case {
@@ -54,7 +52,7 @@ fn a_finalized_exit_ends_all_entries(rt: HostRuntime) -> Result<(), Fail> {
         ],
         present: None,
         batches: 2,
-        operations: &[make(1), copy_in(ALL), release(1)],
+        operations: &[make(1, ALL), copy_in(1, ALL), release(1)],
         state: FINISHED,
         shown: &[],
     };
@@ -71,7 +69,7 @@ fn an_entry_inside_a_region_outlives_it(rt: HostRuntime) -> Result<(), Fail> {
         ],
         present: Some((ALL, 0, 1)),
         batches: 1,
-        operations: &[make(1), copy_in(ALL)],
+        operations: &[make(1, ALL), copy_in(1, ALL)],
         state: FINISHED,
         shown: &[],
     };
@@ -89,7 +87,7 @@ fn an_exit_inside_a_region_takes_no_action(rt: HostRuntime) -> Result<(), Fail> 
         ],
         present: None,
         batches: 2,
-        operations: &[make(1), release(1)],
+        operations: &[make(1, ALL), release(1)],
         state: FINISHED,
         shown: &[],
     };
@@ -107,7 +105,7 @@ fn a_finalized_exit_inside_a_region_ends_nothing(rt: HostRuntime) -> Result<(), 
         ],
         present: None,
         batches: 2,
-        operations: &[make(1), copy_out(cells(1, 2)), release(1)],
+        operations: &[make(1, ALL), copy_out(1, cells(1, 2)), release(1)],
         state: FINISHED,
         shown: &[],
     };
@@ -125,7 +123,7 @@ fn an_overlap_is_refused_behind_a_part(rt: HostRuntime) -> Result<(), Fail> {
         ],
         present: Some((cells(0, 3), 0, 2)),
         batches: 1,
-        operations: &[make_of(1, cells(0, 3))],
+        operations: &[make(1, cells(0, 3))],
         state: refused(2, Fault::PartlyPresent),
         shown: &[],
     };
@@ -158,7 +156,7 @@ fn an_update_of_a_partly_present_range_is_refused(rt: HostRuntime) -> Result<(),
         ],
         present: Some((cells(0, 2), 0, 1)),
         batches: 1,
-        operations: &[make_of(1, cells(0, 2))],
+        operations: &[make(1, cells(0, 2))],
         state: refused(1, Fault::PartlyPresent),
         shown: &[],
     };
@@ -178,7 +176,7 @@ fn the_outer_region_copies_out(rt: HostRuntime) -> Result<(), Fail> {
         ],
         present: None,
         batches: 2,
-        operations: &[make(1), copy_in(ALL), copy_out(ALL), release(1)],
+        operations: &[make(1, ALL), copy_in(1, ALL), copy_out(1, ALL), release(1)],
         state: FINISHED,
         shown: &[1, 2, 3, 4],
     };
@@ -191,7 +189,7 @@ fn a_region_with_copy(rt: HostRuntime) -> Result<(), Fail> {
         lines: &[Line::One(Form::Data, Clause::Copy, ALL), END],
         present: None,
         batches: 2,
-        operations: &[make(1), copy_in(ALL), copy_out(ALL), release(1)],
+        operations: &[make(1, ALL), copy_in(1, ALL), copy_out(1, ALL), release(1)],
         state: FINISHED,
         shown: &[],
     };
@@ -204,7 +202,7 @@ fn a_region_with_copyin(rt: HostRuntime) -> Result<(), Fail> {
         lines: &[Line::One(Form::Data, Clause::Copyin, ALL), END],
         present: None,
         batches: 2,
-        operations: &[make(1), copy_in(ALL), release(1)],
+        operations: &[make(1, ALL), copy_in(1, ALL), release(1)],
         state: FINISHED,
         shown: &[],
     };
@@ -221,7 +219,7 @@ fn a_region_with_copyout(rt: HostRuntime) -> Result<(), Fail> {
         ],
         present: None,
         batches: 2,
-        operations: &[make(1), copy_out(ALL), release(1)],
+        operations: &[make(1, ALL), copy_out(1, ALL), release(1)],
         state: FINISHED,
         shown: &[0, 0, 0, 0],
     };
@@ -238,7 +236,7 @@ fn a_region_with_create(rt: HostRuntime) -> Result<(), Fail> {
         ],
         present: None,
         batches: 2,
-        operations: &[make(1), release(1)],
+        operations: &[make(1, ALL), release(1)],
         state: FINISHED,
         shown: &[1, 2, 3, 4],
     };
@@ -257,7 +255,7 @@ fn a_last_exit_from_present_deletes(rt: HostRuntime) -> Result<(), Fail> {
         ],
         present: None,
         batches: 2,
-        operations: &[make(1), release(1)],
+        operations: &[make(1, ALL), release(1)],
         state: refused(4, Fault::NotPresent),
         shown: &[],
     };
@@ -279,7 +277,12 @@ fn entries_inside_and_outside_of_regions(rt: HostRuntime) -> Result<(), Fail> {
         ],
         present: None,
         batches: 2,
-        operations: &[make(1), copy_in(ALL), copy_out(cells(1, 2)), release(1)],
+        operations: &[
+            make(1, ALL),
+            copy_in(1, ALL),
+            copy_out(1, cells(1, 2)),
+            release(1),
+        ],
         state: FINISHED,
         shown: &[],
     };
@@ -304,11 +307,11 @@ fn an_update_from_the_device_and_then_to_it(rt: HostRuntime) -> Result<(), Fail>
         present: Some((ALL, 0, 1)),
         batches: 3,
         operations: &[
-            make(1),
-            copy_in(ALL),
-            copy_out(cells(1, 2)),
-            copy_in(cells(0, 2)),
-            copy_out(ALL),
+            make(1, ALL),
+            copy_in(1, ALL),
+            copy_out(1, cells(1, 2)),
+            copy_in(1, cells(0, 2)),
+            copy_out(1, ALL),
         ],
         state: FINISHED,
         shown: &[9, 2, 3, 4],
@@ -334,11 +337,11 @@ fn an_update_to_the_device_and_then_from_it(rt: HostRuntime) -> Result<(), Fail>
         present: Some((ALL, 0, 1)),
         batches: 3,
         operations: &[
-            make(1),
-            copy_in(ALL),
-            copy_in(cells(0, 2)),
-            copy_out(cells(1, 2)),
-            copy_out(ALL),
+            make(1, ALL),
+            copy_in(1, ALL),
+            copy_in(1, cells(0, 2)),
+            copy_out(1, cells(1, 2)),
+            copy_out(1, ALL),
         ],
         state: FINISHED,
         shown: &[9, 8, 3, 4],
@@ -359,11 +362,11 @@ fn cells_are_free_behind_a_region(rt: HostRuntime) -> Result<(), Fail> {
         present: None,
         batches: 4,
         operations: &[
-            make_of(1, cells(0, 2)),
-            make_of(2, cells(2, 2)),
+            make(1, cells(0, 2)),
+            make(2, cells(2, 2)),
             release(1),
             release(2),
-            make(3),
+            make(3, ALL),
             release(3),
         ],
         state: refused(4, Fault::PartlyPresent),
@@ -379,7 +382,7 @@ fn a_host_is_inside_thirty_two_regions_at_most(rt: HostRuntime) -> Result<(), Fa
         lines: &inside,
         present: Some((ALL, 32, 0)),
         batches: 1,
-        operations: &[make(1)],
+        operations: &[make(1, ALL)],
         state: refused(32, Fault::TooMany),
         shown: &[],
     };
@@ -396,7 +399,7 @@ fn thirty_two_regions_are_left(rt: HostRuntime) -> Result<(), Fail> {
         lines: &lines,
         present: None,
         batches: 2,
-        operations: &[make(1), copy_out(ALL), release(1)],
+        operations: &[make(1, ALL), copy_out(1, ALL), release(1)],
         state: refused(64, Fault::NoRegion),
         shown: &[],
     };

@@ -1,15 +1,17 @@
-use crate::bodies::Body;
 use crate::fixtures::{
-    ALL, FINISHED, Line, cells, host, item, perform, performed, place, printed, queue, refused,
-    reply_to, statement, sync, take, world_of, world_with,
+    ALL, FINISHED, Line, cells, host, perform, performed, place, printed, refused, reply_to,
+    statement, take, world_of, world_with,
 };
-use crate::form::{EXIT, Form, kind_of, over};
-use crate::operation::{Operation, copy_in, copy_out, make, make_of, release, run, used};
 use acc_base::{Config, DeviceId, Fault, HostId, Listed, Range};
 use acc_core::{
     Clause, Event, HostProgram, HostState, Item, Outcome, Reply, Statement, Totals, WorkEntry,
     World,
 };
+use acc_forms::{
+    EXIT, Form, Operation, copy_in, copy_out, copyin, create, item, kind_of, make, over, queue,
+    release, run, sync, used,
+};
+use acc_parts::Body;
 use std::alloc::{AllocError, Global};
 use std::process::Abort;
 use std::test::Fail;
@@ -136,7 +138,11 @@ fn entered_twice_and_left_once(rt: HostRuntime) -> Result<(), Fail> {
         batches: 1,
         operations: 2,
         places: 3,
-        log: &[Logged::Op(make(1)), Logged::Op(copy_in(ALL)), Logged::Item],
+        log: &[
+            Logged::Op(make(1, ALL)),
+            Logged::Op(copy_in(1, ALL)),
+            Logged::Item,
+        ],
         state: FINISHED,
     };
     check(&rt, rt.alloc(), &run)
@@ -163,8 +169,8 @@ fn an_overlapping_range_is_refused(rt: HostRuntime) -> Result<(), Fail> {
         operations: 2,
         places: 1,
         log: &[
-            Logged::Op(make_of(1, cells(0, 3))),
-            Logged::Op(copy_in(cells(0, 3))),
+            Logged::Op(make(1, cells(0, 3))),
+            Logged::Op(copy_in(1, cells(0, 3))),
             Logged::Item,
         ],
         state: refused(1, Fault::PartlyPresent),
@@ -202,12 +208,12 @@ fn a_copy_out_brings_back_what_the_device_holds(rt: HostRuntime) -> Result<(), F
         operations: 4,
         places: 2,
         log: &[
-            Logged::Op(make(1)),
-            Logged::Op(copy_in(ALL)),
+            Logged::Op(make(1, ALL)),
+            Logged::Op(copy_in(1, ALL)),
             Logged::Item,
             Logged::Item,
             Logged::Print(&[9, 2, 3, 4]),
-            Logged::Op(copy_out(ALL)),
+            Logged::Op(copy_out(1, ALL)),
             Logged::Op(release(1)),
             Logged::Item,
             Logged::Print(&[1, 2, 3, 4]),
@@ -243,10 +249,10 @@ fn a_loop_without_clauses(rt: HostRuntime) -> Result<(), Fail> {
         operations: 5,
         places: 1,
         log: &[
-            Logged::Op(make(1)),
-            Logged::Op(copy_in(ALL)),
+            Logged::Op(make(1, ALL)),
+            Logged::Op(copy_in(1, ALL)),
             Logged::Op(run(&[used(1, ALL)])),
-            Logged::Op(copy_out(ALL)),
+            Logged::Op(copy_out(1, ALL)),
             Logged::Op(release(1)),
             Logged::Item,
             Logged::Print(&[1, 4, 6, 8]),
@@ -260,8 +266,8 @@ fn a_loop_without_clauses(rt: HostRuntime) -> Result<(), Fail> {
 fn seventeen_ranges_are_too_many(rt: HostRuntime) -> Result<(), Fail> {
     let run = Run {
         lines: &[
-            Line::Many(Form::Data, item(Clause::Create, ALL), 16),
-            Line::Many(Form::EnterData, item(Clause::Copyin, ALL), 17),
+            Line::Many(Form::Data, create(ALL), 16),
+            Line::Many(Form::EnterData, copyin(ALL), 17),
         ],
         events: &[
             (host(), Reply::Did),
@@ -274,7 +280,7 @@ fn seventeen_ranges_are_too_many(rt: HostRuntime) -> Result<(), Fail> {
         batches: 1,
         operations: 1,
         places: 1,
-        log: &[Logged::Op(make(1)), Logged::Item],
+        log: &[Logged::Op(make(1, ALL)), Logged::Item],
         state: refused(1, Fault::TooMany),
     };
     check(&rt, rt.alloc(), &run)

@@ -1,7 +1,6 @@
-use crate::fixtures::{Row, statements_of};
-use acc_kernel::{Kernel, Operator};
-use acc_parts::Part;
-use acc_parts::Part::{Choose, Index, Number, Read};
+use acc_kernel::Kernel;
+use acc_parts::Part::{Choose, Index, Negate, Number, Read};
+use acc_parts::{PLUS, Row, TIMES, statements_of};
 use std::test::Fail;
 
 /// The statements of a loop, and the arrays that it refers to: each once, by its first reference.
@@ -10,16 +9,7 @@ const CASES: [(&[Row], &[u8]); 4] = [
     (&[(0, &[Number(1)])], &[0]),
     // c[i] = c[i] + a[i + 1] * c[i]
     (
-        &[(
-            2,
-            &[
-                Read(2, 0),
-                Read(0, 1),
-                Read(2, 0),
-                Part::Binary(Operator::Times),
-                Part::Binary(Operator::Plus),
-            ],
-        )],
+        &[(2, &[Read(2, 0), Read(0, 1), Read(2, 0), TIMES, PLUS])],
         &[2, 0],
     ),
     // c[i] = i ? b[i] : a[i]; b[i] = c[i]
@@ -34,7 +24,7 @@ const CASES: [(&[Row], &[u8]); 4] = [
     (
         &[
             (1, &[Read(255, -1), Read(1, 0), Number(0), Choose]),
-            (0, &[Read(255, 0), Part::Negate]),
+            (0, &[Read(255, 0), Negate]),
         ],
         &[1, 255, 0],
     ),

@@ -1,35 +1,19 @@
-use crate::fixtures::{Row, statements_of};
 use acc_base::{BlockId, Fault, Range};
-use acc_kernel::{Assign, Job, Kernel, Operator, are_distinct};
+use acc_kernel::{Job, Kernel, are_distinct};
 use acc_parts::Part::{self, Choose, Index, Negate, Number, Read};
-use acc_parts::expr_of;
+use acc_parts::{
+    AT_LEAST, AT_MOST, Body, DIFFERS, EQUAL, LESS, Loop, MINUS, MORE, PLUS, TIMES, kernel_of,
+    statements_of,
+};
 use std::alloc::Global;
 use std::process::Abort;
 use std::test::Fail;
 
-const PLUS: Part = Part::Binary(Operator::Plus);
-
-const MINUS: Part = Part::Binary(Operator::Minus);
-
-const TIMES: Part = Part::Binary(Operator::Times);
-
-const LESS: Part = Part::Binary(Operator::Less);
-
-const AT_MOST: Part = Part::Binary(Operator::AtMost);
-
-const MORE: Part = Part::Binary(Operator::More);
-
-const AT_LEAST: Part = Part::Binary(Operator::AtLeast);
-
-const EQUAL: Part = Part::Binary(Operator::Equal);
-
-const DIFFERS: Part = Part::Binary(Operator::Differs);
-
-/// A loop, and what its arrays x and y have before it and after it.
+/// A loop, and what its arrays 0 and 1 have before it and after it.
 struct Case {
     lo: i64,
     hi: i64,
-    statements: &'static [Row],
+    body: Body,
     before: [&'static [i64]; 2],
     after: [&'static [i64]; 2],
 }
@@ -245,32 +229,15 @@ const LOOPS: [Case; 9] = [
     Case {
         lo: 0,
         hi: 1,
-        statements: &[(0, &[Read(0, 0), Number(1), PLUS])],
+        body: Body::Counted,
         before: [&[i64::MAX], &[0]],
         after: [&[i64::MIN], &[0]],
     },
-    // 1 + 2 * -x[i] < 0 == 1 ? 5 : 6
+    // a comparison chooses
     Case {
         lo: 0,
         hi: 2,
-        statements: &[(
-            1,
-            &[
-                Number(1),
-                Number(2),
-                Read(0, 0),
-                Negate,
-                TIMES,
-                PLUS,
-                Number(0),
-                LESS,
-                Number(1),
-                EQUAL,
-                Number(5),
-                Number(6),
-                Choose,
-            ],
-        )],
+        body: Body::Chosen,
         before: [&[3, -3], &[0, 0]],
         after: [&[3, -3], &[5, 6]],
     },
@@ -278,7 +245,7 @@ const LOOPS: [Case; 9] = [
     Case {
         lo: 0,
         hi: 4,
-        statements: &[(0, &[Read(0, 0), Number(2), TIMES])],
+        body: Body::Doubled,
         before: [&[1, 2, 3, 4], &[0]],
         after: [&[2, 4, 6, 8], &[0]],
     },
@@ -286,7 +253,7 @@ const LOOPS: [Case; 9] = [
     Case {
         lo: 0,
         hi: 3,
-        statements: &[(1, &[Read(0, 1)])],
+        body: Body::Next,
         before: [&[1, 2, 3, 4], &[0, 0, 0, 0]],
         after: [&[1, 2, 3, 4], &[2, 3, 4, 0]],
     },
@@ -294,7 +261,7 @@ const LOOPS: [Case; 9] = [
     Case {
         lo: 1,
         hi: 3,
-        statements: &[(0, &[Read(0, 0), Negate])],
+        body: Body::Negated,
         before: [&[1, 2, 3, 4], &[0]],
         after: [&[1, -2, -3, 4], &[0]],
     },
@@ -302,7 +269,7 @@ const LOOPS: [Case; 9] = [
     Case {
         lo: 0,
         hi: 2,
-        statements: &[(0, &[Index, Number(7), PLUS])],
+        body: Body::Indices,
         before: [&[0, 0], &[0]],
         after: [&[7, 8], &[0]],
     },
@@ -310,11 +277,7 @@ const LOOPS: [Case; 9] = [
     Case {
         lo: 0,
         hi: 2,
-        statements: &[
-            (0, &[Read(0, 0), Number(1), PLUS]),
-            (1, &[Number(2), Read(0, 0), TIMES]),
-            (0, &[Read(1, 0), Number(5), MINUS]),
-        ],
+        body: Body::Three,
         before: [&[10, -20], &[1, 1]],
         after: [&[17, -43], &[22, -38]],
     },
@@ -322,7 +285,7 @@ const LOOPS: [Case; 9] = [
     Case {
         lo: 2,
         hi: 1,
-        statements: &[(0, &[Read(0, 0), Number(1), PLUS])],
+        body: Body::Counted,
         before: [&[1, 2, 3], &[0]],
         after: [&[1, 2, 3], &[0]],
     },
@@ -330,7 +293,7 @@ const LOOPS: [Case; 9] = [
     Case {
         lo: -3,
         hi: -3,
-        statements: &[(0, &[Read(0, 0), Number(1), PLUS])],
+        body: Body::Counted,
         before: [&[1, 2, 3], &[0]],
         after: [&[1, 2, 3], &[0]],
     },
@@ -379,8 +342,8 @@ fn check(
 #[test]
 fn loops_give_their_values(rt: HostRuntime) -> Result<(), Fail> {
     for case in &LOOPS {
-        let statements = statements_of(rt.alloc(), case.statements)?;
-        let kernel = Kernel::new(rt.alloc(), case.lo, case.hi, statements)?;
+        let (lo, hi, body) = (case.lo, case.hi, case.body);
+        let kernel = kernel_of(rt.alloc(), Loop { lo, hi, body })?;
         let x = (case.before[0], case.after[0]);
         let y = (case.before[1], case.after[1]);
         check(&rt, rt.alloc(), &kernel, x, y)?;
@@ -391,13 +354,11 @@ fn loops_give_their_values(rt: HostRuntime) -> Result<(), Fail> {
 fn check_value(
     rt: &impl Abort,
     alloc: Global,
-    parts: &[Part],
+    parts: &'static [Part],
     x: &[i64; 4],
     values: &[i64; 2],
 ) -> Result<(), Fault> {
-    let mut statements = Vec::new(alloc);
-    let value = expr_of(alloc, parts)?;
-    statements.push(Assign { array: 1, value })?;
+    let statements = statements_of(alloc, &[(1, parts)])?;
     match Kernel::new(alloc, 1, 3, statements) {
         Ok(kernel) => {
             let y = [0, values[0], values[1], 0];

@@ -1,7 +1,7 @@
 use acc_base::Fault;
-use acc_kernel::{Assign, Expr, Kernel, KernelFault, MAX_DISTANCE, Operator, Reach};
+use acc_kernel::{Assign, Expr, Kernel, KernelFault, MAX_DISTANCE, Reach};
 use acc_parts::Part::{self, Choose, Index, Negate, Number, Read};
-use acc_parts::expr_of;
+use acc_parts::{PLUS, expr_of};
 use std::alloc::Global;
 use std::test::Fail;
 
@@ -97,10 +97,7 @@ const FAULTS: [(&[Part], Option<KernelFault>); 11] = [
         &[Number(0), Index, Read(0, 65_537), Choose],
         Some(KernelFault::ReadsAssigned),
     ),
-    (
-        &[Read(0, 0), Read(1, 1), Part::Binary(Operator::Plus)],
-        None,
-    ),
+    (&[Read(0, 0), Read(1, 1), PLUS], None),
 ];
 
 #[test]

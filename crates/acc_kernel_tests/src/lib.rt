@@ -8,8 +8,6 @@ mod computed;
 #[cfg(test)]
 mod faults;
 #[cfg(test)]
-mod fixtures;
-#[cfg(test)]
 mod memory;
 #[cfg(test)]
 mod window;

@@ -1,8 +1,7 @@
-use crate::fixtures::{Row, statements_of};
 use acc_base::{BlockId, Fault, Range};
-use acc_kernel::{Assign, Expr, Job, Kernel, KernelFault, Operator, are_distinct};
+use acc_kernel::{Assign, Expr, Job, Kernel, KernelFault, are_distinct};
 use acc_parts::Part::{self, Choose, Index, Negate, Number, Read};
-use acc_parts::expr_of;
+use acc_parts::{Row, TIMES, expr_of, statements_of};
 use acc_scarce::at_each_amount;
 use std::alloc::Global;
 use std::test::Fail;
@@ -11,7 +10,7 @@ use std::test::Fail;
 const PARTS: [Part; 7] = [
     Index,
     Number(5),
-    Part::Binary(Operator::Times),
+    TIMES,
     Negate,
     Read(1, 2),
     Read(1, 0),

@@ -1,6 +1,6 @@
 use acc_base::{BlockId, Fault, Range};
-use acc_kernel::{Assign, Job, Kernel, Operator, are_distinct};
-use acc_parts::{Part, expr_of};
+use acc_kernel::{Job, Kernel, are_distinct};
+use acc_parts::{LESS, PLUS, Part, TIMES, statements_of};
 use std::alloc::Global;
 
 /// How many cells a loop assigns.
@@ -12,12 +12,6 @@ const BEFORE: Part = Part::Read(0, -1);
 const HERE: Part = Part::Read(0, 0);
 
 const BEHIND: Part = Part::Read(0, 1);
-
-const PLUS: Part = Part::Binary(Operator::Plus);
-
-const TIMES: Part = Part::Binary(Operator::Times);
-
-const LESS: Part = Part::Binary(Operator::Less);
 
 /// `y[i] = 3 * x[i] + 7`
 const SCALE: [Part; 5] = [Part::Number(3), HERE, TIMES, Part::Number(7), PLUS];
@@ -78,10 +72,8 @@ pub fn parts_of(name: &str) -> &'static [Part] {
 }
 
 /// A job that computes it for i from 1 to `CELLS`, where x has some values.
-pub fn job_of(alloc: Global, parts: &[Part]) -> Result<Option<Job>, Fault> {
-    let mut statements = Vec::new(alloc);
-    let value = expr_of(alloc, parts)?;
-    statements.push(Assign { array: 1, value })?;
+pub fn job_of(alloc: Global, parts: &'static [Part]) -> Result<Option<Job>, Fault> {
+    let statements = statements_of(alloc, &[(1, parts)])?;
     let Ok(kernel) = Kernel::new(alloc, 1, i64::from(CELLS) + 1, statements) else {
         return Ok(None);
     };

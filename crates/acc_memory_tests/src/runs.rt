@@ -4,10 +4,10 @@ ghost use Rattle.acc_memory.specs.Memories.{lengths_of};
 use crate::allowed::{is_allowed, is_in_array};
 use acc_base::{BlockId, Config, DeviceId, Fault, Listed, Range};
 use acc_batch::{Op, Task};
-use acc_kernel::{Assign, Kernel, Operator};
+use acc_kernel::Kernel;
 use acc_memory::Memory;
-use acc_parts::Part::{Binary, Number, Read};
-use acc_parts::expr_of;
+use acc_parts::Part::{Number, Read};
+use acc_parts::{TIMES, statements_of};
 use std::alloc::Global;
 use std::process::Abort;
 use std::test::Fail;
@@ -66,8 +66,7 @@ fn range(array: u8, lo: u32, len: u32) -> Range {
 
 // `for (i = 1; i < 4; i++) y[i] = x[i + 1] * 2`, over x[2] to x[4] of block 3 and y[1] to y[3] of block 5.
 fn doubles(rt: &impl Abort, alloc: Global) -> Result<Op, Fault> {
-    let value = expr_of(alloc, &[Read(0, 1), Number(2), Binary(Operator::Times)])?;
-    let statements = vec![in alloc; Assign { array: 1, value }]?;
+    let statements = statements_of(alloc, &[(1, &[Read(0, 1), Number(2), TIMES])])?;
     let kernel = Kernel::new(alloc, 1, 4, statements).expect(rt, "a loop within the limits");
     let uses = vec![in alloc;
         (BlockId::new(3), range(0, 2, 3)),

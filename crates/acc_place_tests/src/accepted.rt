@@ -1,11 +1,12 @@
 use crate::fixtures::{
     Step, a, accept_each, accepted, answer, b, check_batch, check_directive, check_label,
-    check_present, copyin, copyout, counters_of, create, delete, entry, given, item, place_of,
-    queue, sync, synchronous,
+    check_present, counters_of, entry, given, place_of, synchronous,
 };
-use crate::form::{EXIT, FINALIZE, Form, UPDATE, UPDATE_IF_PRESENT};
-use crate::operation::{copy_in, copy_out, make, release};
 use acc_base::{Fault, HostId, QueueAt, Range};
+use acc_forms::{
+    EXIT, FINALIZE, Form, UPDATE, UPDATE_IF_PRESENT, copy, copy_in, copy_out, copyin, copyout,
+    create, delete, item, make, present, queue, release, sync,
+};
 use acc_place::{Clause, Place, PlaceEntry};
 use std::alloc::Global;
 use std::process::Abort;
@@ -284,7 +285,7 @@ fn regions_of_two_hosts(rt: HostRuntime) -> Result<(), Fail> {
         Step {
             host: 0,
             form: Form::Data,
-            items: &[item(Clause::Copy, a(0, 4))],
+            items: &[copy(a(0, 4))],
             ops: &[make(1, a(0, 4)), copy_in(1, a(0, 4))],
             present: &[entry(a(0, 4), 1, 1, 0)],
         },
@@ -334,7 +335,7 @@ fn an_array_in_two_clauses_of_a_region(rt: HostRuntime) -> Result<(), Fail> {
         Step {
             host: 0,
             form: Form::Data,
-            items: &[copyin(a(0, 4)), item(Clause::Copy, a(0, 4))],
+            items: &[copyin(a(0, 4)), copy(a(0, 4))],
             ops: &[make(1, a(0, 4)), copy_in(1, a(0, 4))],
             present: &[entry(a(0, 4), 1, 2, 0)],
         },
@@ -348,7 +349,7 @@ fn an_array_in_two_clauses_of_a_region(rt: HostRuntime) -> Result<(), Fail> {
         Step {
             host: 0,
             form: Form::Data,
-            items: &[item(Clause::Copy, a(0, 4)), copyin(a(0, 4))],
+            items: &[copy(a(0, 4)), copyin(a(0, 4))],
             ops: &[make(2, a(0, 4)), copy_in(2, a(0, 4))],
             present: &[entry(a(0, 4), 2, 2, 0)],
         },
@@ -370,7 +371,7 @@ fn two_blocks_leave_at_once(rt: HostRuntime) -> Result<(), Fail> {
         Step {
             host: 0,
             form: Form::Data,
-            items: &[item(Clause::Copy, a(4, 4)), copyout(b(0, 2))],
+            items: &[copy(a(4, 4)), copyout(b(0, 2))],
             ops: &[make(1, a(4, 4)), make(2, b(0, 2)), copy_in(1, a(4, 4))],
             present: &[entry(a(4, 4), 1, 1, 0), entry(b(0, 2), 2, 1, 0)],
         },
@@ -484,7 +485,7 @@ fn check_range(
     counters: Option<(u64, u64)>,
 ) -> Result<(), Fault> {
     assert_eq!(rt; counters_of(rt, place, range), counters, "{range:?}");
-    let question = synchronous(alloc, 0, Form::IsPresent, &[item(Clause::Present, range)])?;
+    let question = synchronous(alloc, 0, Form::IsPresent, &[present(range)])?;
     let placed = accepted(place, 1, &question)?;
     assert_eq!(rt; placed, answer(None, counters.is_some()), "{range:?}");
     Ok(())

@@ -1,8 +1,8 @@
-use crate::bodies::{Body, Loop, kernel_of};
-use crate::fixtures::{a, b, check_ops, check_tasks, queue};
-use crate::operation::{Operation, make, run, used};
+use crate::fixtures::{a, b, check_ops, check_tasks};
 use acc_base::{BlockId, DeviceId, Fault, HostId, Listed, QueueId};
 use acc_batch::{Batch, Label, Op, Task};
+use acc_forms::{Operation, make, queue, run, used};
+use acc_parts::{Body, Loop, kernel_of};
 use acc_raw::Cells;
 use acc_scarce::at_each_amount;
 use std::alloc::Global;

@@ -1,7 +1,7 @@
-use crate::bodies::Body;
-use crate::fixtures::{a, b, check_directive, check_waits, copyin, copyout, delete};
-use crate::form::{EXIT, FINALIZE, Form, UPDATE, kind_of, over};
+use crate::fixtures::{a, b, check_directive, check_waits};
 use acc_base::{DeviceId, Fault, Listed};
+use acc_forms::{EXIT, FINALIZE, Form, UPDATE, copyin, copyout, delete, kind_of, over};
+use acc_parts::Body;
 use acc_place::{ASYNC_NOVAL, Directive, Item, Target, Waits};
 use acc_scarce::at_each_amount;
 use std::alloc::{AllocError, Global};

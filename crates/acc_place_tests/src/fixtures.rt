@@ -1,10 +1,10 @@
 ghost use Rattle.std.specs.Prelude.{◌≡◌};
 
-use crate::form::{Form, check_kind, kind_of};
-use crate::operation::{Operation, operation_of, performed_by};
-use acc_base::{BlockId, Config, DeviceId, Fault, HostId, Listed, QueueAt, QueueId, Range};
+use crate::kind::check_kind;
+use acc_base::{BlockId, Config, DeviceId, Fault, HostId, Listed, QueueAt, Range};
 use acc_batch::{Batch, Label, Op, Task};
-use acc_place::{ASYNC_NOVAL, Clause, Directive, Item, Place, Placed, Plan, Target, Waits};
+use acc_forms::{Form, Operation, kind_of, operation_of, performed_by, sync};
+use acc_place::{ASYNC_NOVAL, Directive, Item, Place, Placed, Plan, Target, Waits};
 use acc_present::Entry;
 use std::alloc::Global;
 use std::collections::VecDeque;
@@ -16,17 +16,6 @@ fn device() -> DeviceId
     DeviceId::new(0)
 }
 
-pub fn queue(device: u8, number: u8) -> QueueAt {
-    QueueAt {
-        device: DeviceId::new(device),
-        queue: QueueId::new(number),
-    }
-}
-
-pub fn sync() -> QueueAt {
-    queue(0, 0)
-}
-
 // Cells of the first array.
 pub fn a(lo: u32, len: u32) -> Range {
     Range { array: 0, lo, len }
@@ -35,26 +24,6 @@ pub fn a(lo: u32, len: u32) -> Range {
 // Cells of the second array.
 pub fn b(lo: u32, len: u32) -> Range {
     Range { array: 1, lo, len }
-}
-
-pub fn item(clause: Clause, range: Range) -> Item {
-    Item { clause, range }
-}
-
-pub fn copyin(range: Range) -> Item {
-    item(Clause::Copyin, range)
-}
-
-pub fn copyout(range: Range) -> Item {
-    item(Clause::Copyout, range)
-}
-
-pub fn create(range: Range) -> Item {
-    item(Clause::Create, range)
-}
-
-pub fn delete(range: Range) -> Item {
-    item(Clause::Delete, range)
 }
 
 // A range that is present, with its counters.

@@ -6,19 +6,15 @@ mod accepted;
 #[cfg(test)]
 mod batch;
 #[cfg(test)]
-mod bodies;
-#[cfg(test)]
 mod copies;
 #[cfg(test)]
 mod fixtures;
 #[cfg(test)]
-mod form;
+mod kind;
 #[cfg(test)]
 mod loops;
 #[cfg(test)]
 mod memory;
-#[cfg(test)]
-mod operation;
 #[cfg(test)]
 mod plans;
 #[cfg(test)]

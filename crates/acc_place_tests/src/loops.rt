@@ -1,20 +1,12 @@
 use crate::accepted::check_accepted;
-use crate::bodies::Body;
-use crate::fixtures::{Step, a, b, copyin, copyout, create, entry, given, item};
-use crate::form::{Form, over};
-use crate::operation::{copy_in, copy_out, make, release, run, used};
+use crate::fixtures::{Step, a, b, entry, given};
 use crate::refused::{Refused, check_refused};
-use acc_base::{Fault, Range};
-use acc_place::{Clause, Item};
+use acc_base::Fault;
+use acc_forms::{
+    Form, copy, copy_in, copy_out, copyin, copyout, create, make, over, present, release, run, used,
+};
+use acc_parts::Body;
 use std::test::Fail;
-
-fn copy(range: Range) -> Item {
-    item(Clause::Copy, range)
-}
-
-fn present(range: Range) -> Item {
-    item(Clause::Present, range)
-}
 
 /// With no clause, with all of them, with one that only counts; without a turn; and over a part of what is present.
 #[test]

@@ -1,12 +1,14 @@
-use crate::bodies::Body;
 use crate::fixtures::{
-    Shown, Step, a, accept_each, accepted, answer, b, check_batch, check_present, copyin, copyout,
-    create, delete, entry, item, place_of, planned, shown_by, sync, synchronous,
+    Shown, Step, a, accept_each, accepted, answer, b, check_batch, check_present, entry, place_of,
+    planned, shown_by, synchronous,
 };
-use crate::form::{EXIT, Form, over};
-use crate::operation::{copy_in, copy_out, make, release, run, used};
 use acc_base::{Config, Fault, HostId};
-use acc_place::{Clause, Directive, Place, Placed, Plan};
+use acc_forms::{
+    EXIT, Form, copy, copy_in, copy_out, copyin, copyout, create, delete, make, over, release, run,
+    sync, used,
+};
+use acc_parts::Body;
+use acc_place::{Directive, Place, Placed, Plan};
 use acc_scarce::{Hoard, at_each_amount};
 use std::alloc::Global;
 use std::process::Abort;
@@ -178,7 +180,7 @@ fn plans_of_regions_are_refused_until_there_is_memory(rt: HostRuntime) -> Result
     let outer = Step {
         host: 0,
         form: Form::Data,
-        items: &[item(Clause::Copy, a(0, 3)), create(b(2, 2))],
+        items: &[copy(a(0, 3)), create(b(2, 2))],
         ops: &[make(1, a(0, 3)), make(2, b(2, 2)), copy_in(1, a(0, 3))],
         present: &[entry(a(0, 3), 1, 1, 0), entry(b(2, 2), 2, 1, 0)],
     };
@@ -212,7 +214,7 @@ fn plans_of_loops_are_refused_until_there_is_memory(rt: HostRuntime) -> Result<(
     let outer = Step {
         host: 0,
         form: Form::Data,
-        items: &[item(Clause::Copy, a(0, 3)), create(b(2, 2))],
+        items: &[copy(a(0, 3)), create(b(2, 2))],
         ops: &[make(1, a(0, 3)), make(2, b(2, 2)), copy_in(1, a(0, 3))],
         present: &[entry(a(0, 3), 1, 1, 0), entry(b(2, 2), 2, 1, 0)],
     };

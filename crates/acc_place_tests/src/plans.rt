@@ -2,12 +2,9 @@ ghost use Rattle.std.specs.Prelude.{◌≡◌, true, IfOk};
 ghost use Rattle.acc_place.specs.Places.{is_synchronous};
 ghost use Rattle.acc_place.specs.Plans.{IsPlanOf};
 
-use crate::fixtures::{
-    Step, a, answer, check_batch, check_present, copyin, entry, place_of, sync, synchronous,
-};
-use crate::form::Form;
-use crate::operation::{copy_in, make};
+use crate::fixtures::{Step, a, answer, check_batch, check_present, entry, place_of, synchronous};
 use acc_base::{Fault, HostId};
+use acc_forms::{Form, copy_in, copyin, make, sync};
 use acc_place::{Directive, Place, Plan, plans_are_kept};
 use std::process::Abort;
 use std::test::Fail;

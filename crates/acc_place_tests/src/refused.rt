@@ -1,9 +1,10 @@
 use crate::fixtures::{
-    Shown, Step, a, accept_each, b, copyin, copyout, create, delete, given, item, place_of,
-    planned, shown_by, synchronous,
+    Shown, Step, a, accept_each, b, given, place_of, planned, shown_by, synchronous,
 };
-use crate::form::{EXIT, FINALIZE, Form, UPDATE, UPDATE_IF_PRESENT};
 use acc_base::{Fault, Range};
+use acc_forms::{
+    EXIT, FINALIZE, Form, UPDATE, UPDATE_IF_PRESENT, copyin, copyout, create, delete, item, present,
+};
 use acc_place::{Clause, Item, Place, is_in_array};
 use std::alloc::Global;
 use std::process::Abort;
@@ -120,7 +121,6 @@ fn entries_and_exits(rt: HostRuntime) -> Result<(), Fail> {
 #[test]
 fn regions(rt: HostRuntime) -> Result<(), Fail> {
     let data = Form::Data;
-    let present = |range| item(Clause::Present, range);
     let cases: [Refused; 11] = [
         (1, data, &[create(HELD)], Fault::BadDevice),
         (0, data, &[create(HELD); 17], Fault::TooMany),
@@ -150,7 +150,6 @@ fn regions(rt: HostRuntime) -> Result<(), Fail> {
 #[test]
 fn updates_and_questions(rt: HostRuntime) -> Result<(), Fail> {
     let to_self = |range| item(Clause::UpdateSelf, range);
-    let is_present = |range| item(Clause::Present, range);
     let cases: [Refused; 11] = [
         (1, UPDATE, &[to_self(HELD)], Fault::BadDevice),
         (0, UPDATE, &[to_self(HELD); 17], Fault::TooMany),
@@ -170,9 +169,9 @@ fn updates_and_questions(rt: HostRuntime) -> Result<(), Fail> {
             Fault::PartlyPresent,
         ),
         (0, UPDATE_IF_PRESENT, &[to_self(b(4, 1))], Fault::BadRange),
-        (1, Form::IsPresent, &[is_present(HELD)], Fault::BadDevice),
-        (0, Form::IsPresent, &[is_present(b(0, 0))], Fault::BadRange),
-        (0, Form::IsPresent, &[is_present(a(7, 2))], Fault::BadRange),
+        (1, Form::IsPresent, &[present(HELD)], Fault::BadDevice),
+        (0, Form::IsPresent, &[present(b(0, 0))], Fault::BadRange),
+        (0, Form::IsPresent, &[present(a(7, 2))], Fault::BadRange),
     ];
     check_holding(&rt, rt.alloc(), &cases)
 }

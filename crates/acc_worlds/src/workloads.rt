@@ -1,8 +1,8 @@
 use crate::script::Script;
 use acc_base::{Fault, Range};
 use acc_core::{Clause, Item, Kind};
-use acc_kernel::{Assign, Kernel, KernelFault, Operator};
-use acc_parts::{Part, expr_of};
+use acc_kernel::{Kernel, KernelFault};
+use acc_parts::{PLUS, Part, TIMES, statements_of};
 use std::alloc::{AllocError, Global};
 use thiserror::Error;
 
@@ -87,9 +87,9 @@ pub const OTHER_CELLS: u32 = 3 * RANGES;
 const VALUE: [Part; 5] = [
     Part::Number(3),
     Part::Read(1, 0),
-    Part::Binary(Operator::Times),
+    TIMES,
     Part::Read(0, 0),
-    Part::Binary(Operator::Plus),
+    PLUS,
 ];
 
 impl Workload {
@@ -165,8 +165,7 @@ impl Workload {
 }
 
 fn kernel_of(alloc: Global, cells: u32) -> Result<Kernel, Failure> {
-    let value = expr_of(alloc, &VALUE)?;
-    let statements = vec![in alloc; Assign { array: 1, value }]?;
+    let statements = statements_of(alloc, &[(1, &VALUE)])?;
     Ok(Kernel::new(alloc, 0, i64::from(cells), statements)?)
 }
 

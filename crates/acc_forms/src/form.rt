@@ -1,6 +1,6 @@
-use crate::bodies::{Body, Loop, kernel_of};
 use acc_base::Fault;
-use acc_core::Kind;
+use acc_parts::{Body, Loop, kernel_of};
+use acc_place::Kind;
 use std::alloc::Global;
 
 /// Which directive a table means.
@@ -23,11 +23,16 @@ pub const UPDATE: Form = Form::Update { if_present: false };
 
 pub const UPDATE_IF_PRESENT: Form = Form::Update { if_present: true };
 
-// A loop from one index to before another.
+/// A loop from one index to before another.
 pub fn over(lo: i64, hi: i64, body: Body) -> Form {
     Form::Loop(Loop { lo, hi, body })
 }
 
+/// What a directive of this form is.
+///
+/// # Errors
+///
+/// `BadRange` where the limits of loops refuse its loop, and `Memory` where memory is refused.
 pub fn kind_of(alloc: Global, form: Form) -> Result<Kind, Fault> {
     match form {
         Form::Data => Ok(Kind::Data),

@@ -1,52 +1,54 @@
+use crate::part::Part::{self, Choose, Index, Negate, Number, Read};
+use crate::part::{EQUAL, LESS, MINUS, PLUS, TIMES};
+use crate::row::{Row, statements_of};
 use acc_base::Fault;
-use acc_kernel::{Assign, Kernel, KernelFault, Operator};
-use acc_parts::Part::{self, Choose, Index, Negate, Number, Read};
-use acc_parts::expr_of;
+use acc_kernel::{Kernel, KernelFault};
 use std::alloc::Global;
 
-const PLUS: Part = Part::Binary(Operator::Plus);
-
-const TIMES: Part = Part::Binary(Operator::Times);
-
-const LESS: Part = Part::Binary(Operator::Less);
-
-const EQUAL: Part = Part::Binary(Operator::Equal);
-
-/// What a loop assigns at each index.
+/// What a loop assigns at each index, where a, b and c are the arrays 0, 1 and 2.
 #[derive(Clone, Copy, Debug)]
 pub enum Body {
     /// `a[i] = 1`
     Ones,
+    /// `a[i] = i + 7`
+    Indices,
     /// `a[i] = a[i] + 1`
     Counted,
     /// `a[i] = a[i] * 2`
     Doubled,
     /// `a[i] = -a[i]`
     Negated,
+    /// `a[i] = 0 ? a[i] : 7`
+    Sevens,
+    /// `b[i] = a[i]`
+    Copied,
     /// `b[i] = a[i] + 1`
     CountedAcross,
     /// `b[i] = a[i + 1]`
     Next,
+    /// `a[i] = b[i + 1]`
+    NextBack,
     /// `b[i] = a[i - 1]`
     Before,
     /// `b[i] = 1 ? a[i] : a[i + 1]`
     Either,
     /// `b[i] = 1 + 2 * -a[i] < 0 == 1 ? 5 : 6`
     Chosen,
+    /// `a[i] = c[i]`
+    Third,
     /// `b[i] = a[i] * 10; a[i] = b[i] + i;`
     Two,
+    /// `a[i] = a[i] + 1; b[i] = 2 * a[i]; a[i] = b[i] - 5;`
+    Three,
 }
 
-/// A loop in a table: its bounds, and what it assigns.
+/// A loop in a table: from one index to before another, and what it assigns.
 #[derive(Clone, Copy, Debug)]
 pub struct Loop {
     pub lo: i64,
     pub hi: i64,
     pub body: Body,
 }
-
-/// A statement: the array, and the parts of its cell's value.
-type Assigned = (u8, &'static [Part]);
 
 const CHOSEN: [Part; 13] = [
     Number(1),
@@ -64,34 +66,41 @@ const CHOSEN: [Part; 13] = [
     Choose,
 ];
 
-fn statements_of(body: Body) -> &'static [Assigned] {
+fn rows_of(body: Body) -> &'static [Row] {
     match body {
         Body::Ones => &[(0, &[Number(1)])],
+        Body::Indices => &[(0, &[Index, Number(7), PLUS])],
         Body::Counted => &[(0, &[Read(0, 0), Number(1), PLUS])],
         Body::Doubled => &[(0, &[Read(0, 0), Number(2), TIMES])],
         Body::Negated => &[(0, &[Read(0, 0), Negate])],
+        Body::Sevens => &[(0, &[Number(0), Read(0, 0), Number(7), Choose])],
+        Body::Copied => &[(1, &[Read(0, 0)])],
         Body::CountedAcross => &[(1, &[Read(0, 0), Number(1), PLUS])],
         Body::Next => &[(1, &[Read(0, 1)])],
+        Body::NextBack => &[(0, &[Read(1, 1)])],
         Body::Before => &[(1, &[Read(0, -1)])],
         Body::Either => &[(1, &[Number(1), Read(0, 0), Read(0, 1), Choose])],
         Body::Chosen => &[(1, &CHOSEN)],
+        Body::Third => &[(0, &[Read(2, 0)])],
         Body::Two => &[
             (1, &[Read(0, 0), Number(10), TIMES]),
             (0, &[Read(1, 0), Index, PLUS]),
         ],
+        Body::Three => &[
+            (0, &[Read(0, 0), Number(1), PLUS]),
+            (1, &[Number(2), Read(0, 0), TIMES]),
+            (0, &[Read(1, 0), Number(5), MINUS]),
+        ],
     }
 }
 
-// The loop, or a bad range where the limits of loops refuse it.
+/// The loop of a table.
+///
+/// # Errors
+///
+/// `BadRange` where the limits of loops refuse it, and `Memory` where memory is refused.
 pub fn kernel_of(alloc: Global, table: Loop) -> Result<Kernel, Fault> {
-    let mut statements = Vec::new(alloc);
-    for (array, parts) in statements_of(table.body) {
-        let value = expr_of(alloc, parts)?;
-        statements.push(Assign {
-            array: *array,
-            value,
-        })?;
-    }
+    let statements = statements_of(alloc, rows_of(table.body))?;
     match Kernel::new(alloc, table.lo, table.hi, statements) {
         Ok(kernel) => Ok(kernel),
         Err(KernelFault::Memory) => Err(Fault::Memory),

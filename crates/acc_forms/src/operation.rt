@@ -1,6 +1,5 @@
-use crate::fixtures::ALL;
 use acc_base::{BlockId, Range};
-use acc_core::Op;
+use acc_batch::{Op, Task};
 
 /// What a table says of an operation: of a loop, how many ranges it uses, and the first two with their blocks.
 #[derive(Clone, Copy, Debug, PartialEq, Eq)]
@@ -27,33 +26,21 @@ pub enum Operation {
     },
 }
 
-pub fn make(block: u64) -> Operation {
-    make_of(block, ALL)
-}
-
-pub fn make_of(block: u64, range: Range) -> Operation {
+pub fn make(block: u64, range: Range) -> Operation {
     Operation::Make {
         block: BlockId::new(block),
         range,
     }
 }
 
-pub fn copy_in(range: Range) -> Operation {
-    copy_in_of(1, range)
-}
-
-pub fn copy_in_of(block: u64, range: Range) -> Operation {
+pub fn copy_in(block: u64, range: Range) -> Operation {
     Operation::CopyIn {
         block: BlockId::new(block),
         range,
     }
 }
 
-pub fn copy_out(range: Range) -> Operation {
-    copy_out_of(1, range)
-}
-
-pub fn copy_out_of(block: u64, range: Range) -> Operation {
+pub fn copy_out(block: u64, range: Range) -> Operation {
     Operation::CopyOut {
         block: BlockId::new(block),
         range,
@@ -66,7 +53,7 @@ pub fn release(block: u64) -> Operation {
     }
 }
 
-// A loop that uses these ranges.
+/// A loop that uses these ranges.
 pub fn run(uses: &[(BlockId, Range)]) -> Operation {
     Operation::Run {
         count: uses.len(),
@@ -75,11 +62,12 @@ pub fn run(uses: &[(BlockId, Range)]) -> Operation {
     }
 }
 
-// A range that a loop uses, and its block.
+/// A range that a loop uses, and its block.
 pub fn used(block: u64, range: Range) -> (BlockId, Range) {
     (BlockId::new(block), range)
 }
 
+/// What a table says of it.
 pub fn operation_of(op: &Op) -> Operation {
     match op {
         Op::Make { block, range } => Operation::Make {
@@ -96,5 +84,25 @@ pub fn operation_of(op: &Op) -> Operation {
         },
         Op::Release { block } => Operation::Release { block: *block },
         Op::Run { uses, .. } => run(uses.as_slice()),
+    }
+}
+
+/// What a task performs.
+pub fn performed_by(task: &Task) -> Operation {
+    match task {
+        Task::Make { block } => Operation::Make {
+            block: block.block,
+            range: block.range,
+        },
+        Task::CopyIn { block, range } => Operation::CopyIn {
+            block: *block,
+            range: *range,
+        },
+        Task::CopyOut { block, range } => Operation::CopyOut {
+            block: *block,
+            range: *range,
+        },
+        Task::Release { block } => Operation::Release { block: *block },
+        Task::Run { job } => run(job.uses()),
     }
 }

@@ -1,0 +1,13 @@
+use acc_base::{DeviceId, QueueAt, QueueId};
+
+pub fn queue(device: u8, number: u8) -> QueueAt {
+    QueueAt {
+        device: DeviceId::new(device),
+        queue: QueueId::new(number),
+    }
+}
+
+/// The first device's synchronous queue.
+pub fn sync() -> QueueAt {
+    queue(0, 0)
+}
