@@ -22,7 +22,7 @@ use Rattle.acc_present.specs.Tables.{changed_counter, counter_of, stepped, has_c
 use Rattle.acc_present.proofs.Balancing.{can_count-balanced, legal}
 use Rattle.acc_present.proofs.Counting.{kept_none, counted_at}
 use Rattle.acc_present.proofs.Ending.{opened-more, ended_of, ended_in, ended-same, ended-more, ended_in-none, ended_in-some}
-use Rattle.acc_present.proofs.Entering.{has_count-entered, stepped-zero, finalized-zero}
+use Rattle.acc_present.proofs.Entering.{has_count-entered, exit_at_zero}
 use Rattle.acc_present.proofs.Marking.{found_in, used_cells-opened}
 use Rattle.acc_present.proofs.OneMore.{CanCount, presences-more}
 use Rattle.acc_present.proofs.Parts.{none_from_absent}
@@ -127,19 +127,11 @@ entered_counts DynamicUp x can = has_count-entered Dynamic x
 entered_counts DynamicDown x can = absurd cc
 entered_counts DynamicZero x can = absurd cc
 
--- an exit where the counter is zero changes nothing
-zero_stays : (change : Change) (x : Presence) → can_open change ≡ false → counter_of (changed_counter change) x ≡ 0 → stepped change x ≡ x
-zero_stays StructuredUp x cannot none = absurd cc
-zero_stays StructuredDown x cannot none = stepped-zero Structured x none
-zero_stays DynamicUp x cannot none = absurd cc
-zero_stays DynamicDown x cannot none = stepped-zero Dynamic x none
-zero_stays DynamicZero x cannot none = finalized-zero x none
-
 exit_ends : (change : Change) (x : Presence) (ps : List Presence) (r : Range) → can_open change ≡ false → has_count x ≡ true → holder ps r ≡ Some x
     → cond (has_count (stepped change x)) [] (x.block ∷ []) ≡ option_to_list (ended_by (Some change) ps r)
 exit_ends change x ps r cannot counted some = rw (cannot, some) (elim (cases_Bool (eqb (counter_of (changed_counter change) x) 0)) [
   | inl none ↦
-      (let still : has_count (stepped change x) ≡ true = ap has_count (zero_stays change x cannot (eqb-true (counter_of (changed_counter change) x) 0 none)) ∙ counted in
+      (let still : has_count (stepped change x) ≡ true = ap has_count (exit_at_zero change x cannot (eqb-true (counter_of (changed_counter change) x) 0 none)) ∙ counted in
       rw (none, still) refl)
   | inr few ↦ rw few (elim (cases_Bool (has_count (stepped change x))) [ inl still ↦ rw still refl | inr over ↦ rw over refl ])
 ])

@@ -1,8 +1,9 @@
 -- After legal marks, what is present is a table, and no live lifetime was left by more regions than entered it.
-use Rattle.std.proofs.Common.{◌≡◌, ℕ, zero, suc, ◌+◌, ◌<◌, ◌≤◌, Bool, true, false, cond, List, [], ◌∷◌, length, map, Some, None, Option, refl, ap, ◌∙◌, arith, inl, inr}
+use Rattle.std.proofs.Common.{◌≡◌, ℕ, ◌+◌, ◌<◌, ◌≤◌, Bool, true, false, cond, List, [], ◌∷◌, length, map, Some, None, Option, refl, ap, ◌∙◌, arith, inl, inr}
 use Rattle.std.specs.Prelude.{◌&&◌, not, filter, All}
 use Rattle.std.specs.List.{list_any}
 use Rattle.std.proofs.lemmas.Bool.{cases_Bool, and_parts, and_from}
+use Rattle.std.proofs.lemmas.List.Elements.{All-nil, All-cons}
 use Rattle.acc_base.specs.declared.range.Range.{Range}
 use Rattle.acc_base.specs.Ranges.{range_contains}
 use Rattle.acc_present.specs.declared.table.Counter.TheVariants.{Dynamic}
@@ -186,15 +187,11 @@ legal (m ∷ ms) h =
     }
 
 All-from_each : {X : Type 0} (P : X → Type 0) (L : X → Bool) (xs : List X) → Each (λ x. L x ≡ true → P x) xs → All P (filter L xs)
-All-from_each P L [] h = λ k d low. absurd (omega arith)
+All-from_each P L [] h = All-nil P
 All-from_each P L (x ∷ xs) h = elim (cases_Bool (L x)) [
-  | inl hit ↦ rw hit (both (h.0 hit) (All-from_each P L xs h.1))
+  | inl hit ↦ rw hit (All-cons P x (filter L xs) (h.0 hit) (All-from_each P L xs h.1))
   | inr miss ↦ rw miss (All-from_each P L xs h.1)
 ]
-  where
-    both : P x → All P (filter L xs) → All P (x ∷ filter L xs)
-    both first rest zero d low = first
-    both first rest (suc k) d low = rest k d (omega arith)
 
 pub structured_is_the_difference : StructuredIsTheDifference
 unfolding live

@@ -117,14 +117,14 @@ counts_sum m b qs x t cells some g =
     ]
 
 -- a changed presence is counted: what the draft shows then, and its cells
-pub record Counts (m : Mark) (cs ps : List Presence) (i : ℕ) (x : Presence) : Type 0 where
+pub record DraftCounts (m : Mark) (cs ps : List Presence) (i : ℕ) (x : Presence) : Type 0 where
   pub same : with_changed (set cs i (stepped m.change x)) ps ≡ kept_after m (with_changed cs ps)
   pub after : is_table (with_changed (set cs i (stepped m.change x)) ps) ≡ true
   pub used : used_cells (with_changed (set cs i (stepped m.change x)) ps) + x.range.len ≡ used_cells (with_changed cs ps) + cond (has_count (stepped m.change x)) x.range.len 0
 
-pub counts : (m : Mark) (cs ps : List Presence) (i : ℕ) (x : Presence) → is_table ps ≡ true → is_table (with_changed cs ps) ≡ true → 0 < m.range.len
-    → i < length cs → x ≡ get_or cs i x → holder (with_changed cs ps) m.range ≡ Some x → Counts m cs ps i x
-counts m cs ps i x t u cells low is some =
+pub draft_counts : (m : Mark) (cs ps : List Presence) (i : ℕ) (x : Presence) → is_table ps ≡ true → is_table (with_changed cs ps) ≡ true → 0 < m.range.len
+    → i < length cs → x ≡ get_or cs i x → holder (with_changed cs ps) m.range ≡ Some x → DraftCounts m cs ps i x
+draft_counts m cs ps i x t u cells low is some =
     let qs = with_changed cs ps in
     let y = stepped m.change x in
     let f = found_in qs m.range x some in
@@ -160,14 +160,14 @@ counts m cs ps i x t u cells low is some =
 -- ## A presence is opened
 
 -- a presence is opened: what the draft shows then, and its cells
-pub record Opens (m : Mark) (b : ℕ) (cs ps : List Presence) : Type 0 where
+pub record DraftOpens (m : Mark) (b : ℕ) (cs ps : List Presence) : Type 0 where
   pub same : with_changed (cs ++ opening m b ∷ []) ps ≡ presences_after m b (with_changed cs ps)
   pub after : is_table (with_changed (cs ++ opening m b ∷ []) ps) ≡ true
   pub used : used_cells (with_changed (cs ++ opening m b ∷ []) ps) ≡ used_cells (with_changed cs ps) + m.range.len
 
-pub opens : (m : Mark) (b : ℕ) (cs ps : List Presence) → is_table ps ≡ true → is_table (with_changed cs ps) ≡ true → 0 < m.range.len → can_open m.change ≡ true
-    → holder (with_changed cs ps) m.range ≡ None → is_partly_present (with_changed cs ps) m.range ≡ false → Opens m b cs ps
-opens m b cs ps t u cells can none whole =
+pub draft_opens : (m : Mark) (b : ℕ) (cs ps : List Presence) → is_table ps ≡ true → is_table (with_changed cs ps) ≡ true → 0 < m.range.len → can_open m.change ≡ true
+    → holder (with_changed cs ps) m.range ≡ None → is_partly_present (with_changed cs ps) m.range ≡ false → DraftOpens m b cs ps
+draft_opens m b cs ps t u cells can none whole =
     let qs = with_changed cs ps in
     let p = opening m b in
     let rest = beside cs ps in
@@ -214,7 +214,7 @@ counts_entry m es ps qs i x y t u cells same held low is step =
     let cs = map entry_presence es in
     let seen : holder qs m.range ≡ Some (entry_presence x) = sym held ∙ slice_get-entry es i x low is in
     let at : entry_presence x ≡ get_or cs i (entry_presence x) = ap entry_presence is ∙ sym (get_or-map entry_presence es i x (entry_presence x) low) in
-    let k = counts m cs ps i (entry_presence x) t (rw same u) cells (rw (length-map es entry_presence) low) at (rw same seen) in
+    let k = draft_counts m cs ps i (entry_presence x) t (rw same u) cells (rw (length-map es entry_presence) low) at (rw same seen) in
     let changed : map entry_presence (set es i y) ≡ set cs i (stepped m.change (entry_presence x)) = map-set entry_presence es i y ∙ ap (set cs i) step in
     record {
       seen = seen;
@@ -234,7 +234,7 @@ pub opens_entry : (m : Mark) (b : ℕ) (es : List Entry) (ps qs : List Presence)
     → OpensEntry m b es ps qs e
 opens_entry m b es ps qs e t u cells same can none whole is =
     let cs = map entry_presence es in
-    let k = opens m b cs ps t (rw same u) cells can (rw same none) (rw same whole) in
+    let k = draft_opens m b cs ps t (rw same u) cells can (rw same none) (rw same whole) in
     let changed : map entry_presence (es ++ e ∷ []) ≡ cs ++ opening m b ∷ [] = map_push entry_presence es e ∙ ap (λ p. cs ++ p ∷ []) is in
     record {
       same = rw changed (k.same ∙ ap (presences_after m b) same);

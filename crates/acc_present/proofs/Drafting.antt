@@ -18,12 +18,13 @@ use Rattle.acc_present.specs.Tables.{entry_presence, has_count, is_table, presen
 use Rattle.acc_present.specs.Drafts.{beside, counted_placed_in, with_changed}
 use Rattle.acc_present.proofs.Alike.{Alike, stands_in, one_at, one_at-self, any_alike, tables_alike}
 use Rattle.acc_present.proofs.Marking.{found_in}
+use Rattle.acc_present.proofs.OneMore.{filter_all}
 use Rattle.acc_present.proofs.Orders.{is_table-remove}
 use Rattle.acc_present.proofs.Searching.{is_present-none}
 use Rattle.acc_present.proofs.Parts.{placed_back, none_from_absent, holder_at, is_table-filter, holder-filter_none, holder-filter_some}
 
-abbrev pub both : List Presence → List Presence → List Presence
-both cs ps = filter has_count cs ++ beside cs ps
+abbrev pub counted_and_beside : List Presence → List Presence → List Presence
+counted_and_beside cs ps = filter has_count cs ++ beside cs ps
 
 sum_by-placed : (f : Presence → ℕ) (p : Presence) (ps : List Presence) → sum_by f (presence_placed_in p ps) ≡ f p + sum_by f ps
 sum_by-placed f p ps =
@@ -40,7 +41,7 @@ sum_by-counted_placed f (c ∷ cs) ps =
       | inr over ↦ rw over ih
     ]
 
-pub drafted_sums : (cs ps : List Presence) → Alike (with_changed cs ps) (both cs ps)
+pub drafted_sums : (cs ps : List Presence) → Alike (with_changed cs ps) (counted_and_beside cs ps)
 unfolding with_changed
 drafted_sums cs ps = record { sums = λ f. sum_by-counted_placed f cs (beside cs ps) ∙ sym (sum_by-append f (filter has_count cs) (beside cs ps)) }
 
@@ -60,14 +61,14 @@ placed_alike (c ∷ cs) ps qs t u a = elim (cases_Bool (has_count c)) [
         ap (presence_placed_in c) (ih (remove qs s.place) (is_table-remove qs s.place u) without) ∙ placed_back qs s.place c u s.low s.is
 
 -- a table of the presences that a draft shows is what it shows
-pub drafted_is : (cs ps qs : List Presence) → is_table ps ≡ true → is_table qs ≡ true → Alike qs (both cs ps) → with_changed cs ps ≡ qs
+pub drafted_is : (cs ps qs : List Presence) → is_table ps ≡ true → is_table qs ≡ true → Alike qs (counted_and_beside cs ps) → with_changed cs ps ≡ qs
 unfolding with_changed
 drafted_is cs ps qs t u a = placed_alike cs (beside cs ps) qs (is_table-filter (λ p. not (overlaps_any cs p.range)) ps t) u a
 
 -- ## What is found
 
 pub any_drafted : (t : Presence → Bool) (cs ps : List Presence) → list_any t (with_changed cs ps) ≡ (list_any t (filter has_count cs) || list_any t (beside cs ps))
-any_drafted t cs ps = any_alike t (with_changed cs ps) (both cs ps) (drafted_sums cs ps) ∙ list_any-append t (filter has_count cs) (beside cs ps)
+any_drafted t cs ps = any_alike t (with_changed cs ps) (counted_and_beside cs ps) (drafted_sums cs ps) ∙ list_any-append t (filter has_count cs) (beside cs ps)
 
 holder-alike : (xs ys : List Presence) (r : Range) → is_table xs ≡ true → 0 < r.len → Alike xs ys → holder xs r ≡ holder ys r
 holder-alike xs ys r t cells a = by_holder (holder ys r) refl
@@ -82,7 +83,7 @@ holder-alike xs ys r t cells a = by_holder (holder ys r) refl
 -- the presence that a range is part of is a changed one, or else one beside them
 pub holder_drafted : (cs ps : List Presence) (r : Range) → is_table (with_changed cs ps) ≡ true → 0 < r.len → holder (with_changed cs ps) r ≡ option_or (holder (filter has_count cs) r) (holder (beside cs ps) r)
 holder_drafted cs ps r t cells =
-    holder-alike (with_changed cs ps) (both cs ps) r t cells (drafted_sums cs ps) ∙ find-append (λ (p : Presence). range_contains p.range r) (filter has_count cs) (beside cs ps)
+    holder-alike (with_changed cs ps) (counted_and_beside cs ps) r t cells (drafted_sums cs ps) ∙ find-append (λ (p : Presence). range_contains p.range r) (filter has_count cs) (beside cs ps)
 
 pub held_changed : (cs ps : List Presence) (r : Range) (i : ℕ) → is_table (with_changed cs ps) ≡ true → 0 < r.len → i < length cs → slice_get cs i ≡ holder (filter has_count cs) r
     → slice_get cs i ≡ holder (with_changed cs ps) r
@@ -103,11 +104,7 @@ held_beside cs ps r o t cells none is =
 
 pub beside_all : (ps : List Presence) → with_changed [] ps ≡ ps
 unfolding with_changed
-beside_all ps = all ps
-  where
-    all : (ps : List Presence) → beside [] ps ≡ ps
-    all [] = refl
-    all (p ∷ ps) = ap (λ r. p ∷ r) (all ps)
+beside_all ps = filter_all ps
 
 pub beside_none : (cs ps : List Presence) (r : Range) → holder ps r ≡ None → holder (beside cs ps) r ≡ None
 beside_none cs ps r none = holder-filter_none (λ (p : Presence). not (overlaps_any cs p.range)) ps r none

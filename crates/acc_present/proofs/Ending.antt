@@ -3,7 +3,7 @@ use Rattle.std.proofs.Common.{◌≡◌, ℕ, zero, suc, ◌+◌, ◌<◌, Bool,
 use Rattle.std.specs.Prelude.{◌&&◌, not, filter}
 use Rattle.std.proofs.lemmas.Bool.{cases_Bool, or_parts}
 use Rattle.std.proofs.lemmas.List.{length-append}
-use Rattle.acc_base.specs.declared.range.Range.{Range}
+use Rattle.std.proofs.lemmas.List.Filters.{length-filter_both}
 use Rattle.acc_base.specs.Ranges.{range_contains}
 use Rattle.acc_present.specs.Marks.{Mark}
 use Rattle.acc_present.specs.Lifetimes.{Lifetime, opened, live, lives, opens, placed_in, can_open, is_before}
@@ -17,16 +17,11 @@ use Rattle.acc_present.proofs.Marking.{found_in}
 
 -- ## Opened
 
-length-parted : (r : Range) (ls : List Lifetime) → length (filter (λ k. not (is_before r k.range)) ls) + length (filter (λ k. is_before r k.range) ls) ≡ length ls
-length-parted r [] = refl
-length-parted r (l ∷ ls) =
-    let ih = length-parted r ls in
-    elim (cases_Bool (is_before r l.range)) [ inl hit ↦ rw hit (omega (arith, ih)) | inr miss ↦ rw miss (omega (arith, ih)) ]
-
 length-placed : (l : Lifetime) (ls : List Lifetime) → length (placed_in l ls) ≡ length ls + 1
 length-placed l ls =
-    let e = length-append (filter (λ k. not (is_before l.range k.range)) ls) (l ∷ filter (λ k. is_before l.range k.range) ls) in
-    omega (arith, e, length-parted l.range ls)
+    let behind = λ (k : Lifetime). is_before l.range k.range in
+    let e = length-append (filter (λ k. not (is_before l.range k.range)) ls) (l ∷ filter behind ls) in
+    omega (arith, e, length-filter_both behind (λ k. not (is_before l.range k.range)) (λ _. refl) ls)
 
 pub opened-more : (m : Mark) (ms : List Mark) → length (opened (m ∷ ms)) ≡ cond (can_open m.change && not (is_present (presences ms) m.range)) (length (opened ms) + 1) (length (opened ms))
 unfolding opened

@@ -1,7 +1,8 @@
 -- A table whose range is entered, left or finalized: one call is one mark.
-use Rattle.std.proofs.Common.{◌≡◌, ℕ, zero, suc, [], ◌+◌, ◌-◌, ◌<◌, ◌≤◌, Bool, true, false, cond, List, ◌∷◌, length, map, set, get_or, Some, None, refl, sym, ap, ◌∙◌, arith, inl, inr}
-use Rattle.std.specs.Prelude.{◌&&◌, insert, remove, slice_get}
+use Rattle.std.proofs.Common.{◌≡◌, ℕ, zero, suc, [], ◌+◌, ◌-◌, ◌<◌, ◌≤◌, true, false, cond, List, ◌∷◌, length, map, set, get_or, Some, None, refl, sym, ap, ◌∙◌, arith, inl, inr}
+use Rattle.std.specs.Prelude.{insert, remove, slice_get}
 use Rattle.std.specs.Option.{option_map}
+use Rattle.std.proofs.Math.Bool.{and-true}
 use Rattle.std.proofs.lemmas.Bool.{cases_Bool, lt-ltb, ne_eqb, eq-eqb}
 use Rattle.std.proofs.lemmas.List.{map-set, length-map, set-get_or, get_or-map}
 use Rattle.std.proofs.lemmas.List.Sums.{sum_by-insert, sum_by-remove, sum_by-set}
@@ -13,11 +14,11 @@ use Rattle.acc_present.specs.declared.table.Entry.{Entry}
 use Rattle.acc_present.specs.declared.table.Left.{Left}
 use Rattle.acc_present.specs.declared.table.Left.TheVariants as left
 use Rattle.acc_present.specs.declared.change.Change.{Change}
-use Rattle.acc_present.specs.declared.change.Change.TheVariants.{DynamicZero}
+use Rattle.acc_present.specs.declared.change.Change.TheVariants.{StructuredUp, StructuredDown, DynamicUp, DynamicDown, DynamicZero}
 use Rattle.acc_present.specs.Marks.{Mark}
 use Rattle.acc_present.specs.Lifetimes.{can_open}
 use Rattle.acc_present.specs.Presences.{Presence, holder, is_present, is_partly_present, overlaps_any, used_cells}
-use Rattle.acc_present.specs.Tables.{entry_change, exit_change, entry_mark, counter_of, changed_counter, stepped, opening, has_count, kept_after, presences_after, presence_placed_in, entry_presence, left_of}
+use Rattle.acc_present.specs.Tables.{entry_change, entry_mark, counter_of, changed_counter, stepped, opening, has_count, kept_after, presences_after, presence_placed_in, entry_presence, left_of}
 use Rattle.acc_present.specs.Invariants.{IsTable}
 use Rattle.acc_present.proofs.Orders.{is_table-set, is_table-remove}
 use Rattle.acc_present.proofs.Searching.{behind, slice_get-entry, is_present-some, is_present-none, holder-contains}
@@ -29,17 +30,21 @@ shown es = map entry_presence es
 
 -- ## The counters, one by one
 
-pub opens : (counter : Counter) → can_open (entry_change counter) ≡ true
-opens Structured = refl
-opens Dynamic = refl
+pub entry_opens : (counter : Counter) → can_open (entry_change counter) ≡ true
+entry_opens Structured = refl
+entry_opens Dynamic = refl
 
 pub has_count-entered : (counter : Counter) (p : Presence) → has_count (stepped (entry_change counter) p) ≡ true
 has_count-entered Structured p = lt-ltb 0 (p.s + 1 + p.d) (omega arith)
 has_count-entered Dynamic p = lt-ltb 0 (p.s + (p.d + 1)) (omega arith)
 
-pub stepped-zero : (counter : Counter) (p : Presence) → counter_of counter p ≡ 0 → stepped (exit_change counter) p ≡ p
-stepped-zero Structured p none = let e : p.s - 1 ≡ p.s = omega arith in ap (λ n. record p { s = n }) e
-stepped-zero Dynamic p none = let e : p.d - 1 ≡ p.d = omega arith in ap (λ n. record p { d = n }) e
+-- an exit where the counter is zero changes nothing
+pub exit_at_zero : (change : Change) (p : Presence) → can_open change ≡ false → counter_of (changed_counter change) p ≡ 0 → stepped change p ≡ p
+exit_at_zero StructuredUp p exit none = cc
+exit_at_zero StructuredDown p exit none = let e : p.s - 1 ≡ p.s = omega arith in ap (λ n. record p { s = n }) e
+exit_at_zero DynamicUp p exit none = cc
+exit_at_zero DynamicDown p exit none = let e : p.d - 1 ≡ p.d = omega arith in ap (λ n. record p { d = n }) e
+exit_at_zero DynamicZero p exit none = ap (λ n. record p { d = n }) (sym none)
 
 -- ## The entry that a range is part of
 
@@ -118,11 +123,7 @@ map-remove (x ∷ es) zero = refl
 map-remove (x ∷ es) (suc i) = ap (λ r. entry_presence x ∷ r) (map-remove es i)
 
 pub no_overlap : (ps : List Presence) (r : Range) → is_present ps r ≡ false → is_partly_present ps r ≡ false → overlaps_any ps r ≡ false
-no_overlap ps r absent whole = last (overlaps_any ps r) (rw absent at whole)
-  where
-    last : (b : Bool) → (b && true) ≡ false → b ≡ false
-    last true h = cc
-    last false h = refl
+no_overlap ps r absent whole = sym (and-true (overlaps_any ps r)) ∙ rw absent at whole
 
 pub entered_new : (es : List Entry) (r : Range) (counter : Counter) (block : ℕ) (e : Entry) (used capacity : ℕ) → IsTable (shown es) used capacity → 0 < r.len
     → holder (shown es) r ≡ None → is_partly_present (shown es) r ≡ false → used_cells (shown es) + r.len ≤ capacity
@@ -136,7 +137,7 @@ entered_new es r counter block e used capacity t cells none whole fits is =
     let new : shown (insert es k e) ≡ insert ps k p = map-insert es k e ∙ ap (insert ps k) is in
     let sum = sum_by-insert (λ (q : Presence). q.range.len) ps k p in
     record {
-      same = new ∙ (insert_is_placed p ps t.table ∙ rw (absent, opens counter) (ap (presence_placed_in p) (sym (kept_none (entry_mark counter r) ps t.table absent))));
+      same = new ∙ (insert_is_placed p ps t.table ∙ rw (absent, entry_opens counter) (ap (presence_placed_in p) (sym (kept_none (entry_mark counter r) ps t.table absent))));
       table = rw new (record {
         table = is_table-insert p ps t.table cells (has_count-entered counter (record { range = r; block = block; s = 0; d = 0 })) (no_overlap ps r absent whole);
         counted = omega (arith, t.counted, sum);
@@ -145,9 +146,6 @@ entered_new es r counter block e used capacity t cells none whole fits is =
     }
 
 -- ## Leaving
-
-pub finalized-zero : (p : Presence) → p.d ≡ 0 → stepped DynamicZero p ≡ p
-finalized-zero p none = ap (λ n. record p { d = n }) (sym none)
 
 -- a mark that leaves the presence that it is inside as it was
 pub left_nothing : (es : List Entry) (m : Mark) (i : ℕ) (x : Entry) (used capacity : ℕ) → IsTable (shown es) used capacity → 0 < m.range.len → FoundAt es m.range i x
@@ -208,7 +206,3 @@ pub says_settled : (p q : Presence) (change : Change) (answer : Left) → (count
     → answer ≡ cond (has_count q) left.Counted (left.Ended q.block) → answer ≡ left_of (Some p) change
 says_settled p q change answer some is settled =
     settled ∙ (ap (λ k. cond (has_count k) left.Counted (left.Ended k.block)) is ∙ rw (ne_eqb (counter_of (changed_counter change) p) 0 some) refl)
-
-pub exit_counter : (counter : Counter) → changed_counter (exit_change counter) ≡ counter
-exit_counter Structured = refl
-exit_counter Dynamic = refl

@@ -1,8 +1,9 @@
 -- What one mark leaves of a table: it stays a table, and grows by one presence at most.
-use Rattle.std.proofs.Common.{◌≡◌, ℕ, suc, ◌+◌, ◌<◌, ◌≤◌, Bool, true, false, cond, List, [], ◌∷◌, length, length-append, map, set, get_or, Option, Some, None, refl, sym, ap, ◌∙◌, arith, inl, inr}
+use Rattle.std.proofs.Common.{◌≡◌, ℕ, suc, ◌+◌, ◌<◌, ◌≤◌, true, false, cond, List, [], ◌∷◌, length, length-append, map, set, get_or, Option, Some, None, refl, sym, ap, ◌∙◌, arith, inl, inr}
 use Rattle.std.specs.Prelude.{◌&&◌, filter, insert, remove, not}
 use Rattle.std.proofs.lemmas.Bool.{cases_Bool}
 use Rattle.std.proofs.lemmas.List.{length-map}
+use Rattle.std.proofs.lemmas.List.Filters.{length-filter_both}
 use Rattle.std.proofs.lemmas.List.Sums.{sum_by-insert}
 use Rattle.acc_base.specs.declared.range.Range.{Range}
 use Rattle.acc_base.specs.Ranges.{range_contains}
@@ -87,25 +88,14 @@ used_cells-opened m b ps t can absent =
 
 -- ## How many there are
 
-length-filter-le : {X : Type 0} (p : X → Bool) (xs : List X) → length (filter p xs) ≤ length xs
-length-filter-le p [] = omega arith
-length-filter-le p (x ∷ xs) =
-    let ih = length-filter-le p xs in
-    elim (cases_Bool (p x)) [ inl hit ↦ rw hit (omega (arith, ih)) | inr miss ↦ rw miss (omega (arith, ih)) ]
-
 pub length-kept : (m : Mark) (ps : List Presence) → length (kept_after m ps) ≤ length ps
-length-kept m ps = omega (arith, length-filter-le has_count (map (presence_after m) ps), length-map ps (presence_after m))
-
-length-parted : (r : Range) (ps : List Presence) → length (filter (λ k. not (is_before r k.range)) ps) + length (filter (λ k. is_before r k.range) ps) ≡ length ps
-length-parted r [] = refl
-length-parted r (p ∷ ps) =
-    let ih = length-parted r ps in
-    elim (cases_Bool (is_before r p.range)) [ inl hit ↦ rw hit (omega (arith, ih)) | inr miss ↦ rw miss (omega (arith, ih)) ]
+length-kept m ps = omega (arith, length-filter_both has_count (λ p. not (has_count p)) (λ _. refl) (map (presence_after m) ps), length-map ps (presence_after m))
 
 pub length-placed : (p : Presence) (ps : List Presence) → length (presence_placed_in p ps) ≡ length ps + 1
 length-placed p ps =
-    let e = length-append (filter (λ k. not (is_before p.range k.range)) ps) (p ∷ filter (λ k. is_before p.range k.range) ps) in
-    omega (arith, e, length-parted p.range ps)
+    let after = λ (k : Presence). is_before p.range k.range in
+    let e = length-append (filter (λ k. not (is_before p.range k.range)) ps) (p ∷ filter after ps) in
+    omega (arith, e, length-filter_both after (λ k. not (is_before p.range k.range)) (λ _. refl) ps)
 
 pub length-after : (m : Mark) (b : ℕ) (ps : List Presence) → length (presences_after m b ps) ≤ length ps + 1
 length-after m b ps =

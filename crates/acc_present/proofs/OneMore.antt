@@ -1,9 +1,11 @@
 -- What is present after one more mark.
-use Rattle.std.proofs.Common.{◌≡◌, ℕ, suc, ◌+◌, ◌-◌, ◌≤◌, Bool, true, false, cond, List, [], ◌∷◌, ◌++◌, length, take, map, refl, sym, ap, ◌∙◌, arith, inl, inr}
+use Rattle.std.proofs.Common.{◌≡◌, ℕ, suc, ◌+◌, ◌-◌, ◌≤◌, Bool, true, false, cond, List, [], ◌∷◌, length, take, map, refl, sym, ap, ◌∙◌, arith, inl, inr}
 use Rattle.std.specs.Prelude.{◌&&◌, not, filter}
 use Rattle.std.specs.List.{list_any}
+pub use Rattle.std.specs.List.{AllByRecursion as Each}
+use Rattle.std.proofs.Math.Bool.{and-false}
 use Rattle.std.proofs.lemmas.List.{map-append}
-use Rattle.std.proofs.lemmas.List.Elements.{filter-append}
+use Rattle.std.proofs.lemmas.List.Elements.{filter-append, All-from_recursion, recursion_from_All, All-weaker, All-append, All-filter, All-cons}
 use Rattle.std.proofs.lemmas.Bool.{cases_Bool, and_parts, eq-eqb, le-leb}
 use Rattle.acc_base.specs.declared.range.Range.{Range}
 use Rattle.acc_base.specs.Ranges.{range_contains}
@@ -18,15 +20,6 @@ pub marks_since-more : (m : Mark) (ms : List Mark) (l : Lifetime) → l.since �
 marks_since-more m ms l h =
     let e : suc (length ms) - l.since ≡ suc (length ms - l.since) = omega arith in
     ap (λ k. take k (m ∷ ms)) e
-
-and-false : (b : Bool) → (b && false) ≡ false
-and-false true = refl
-and-false false = refl
-
--- a fact of each member of a list, by recursion
-abbrev pub Each : {X : Type 0} → (X → Type 0) → List X → Type 0
-Each P [] = Unit {0}
-Each P (x ∷ xs) = P x × Each P xs
 
 -- ## The counters after one more mark
 
@@ -107,27 +100,19 @@ filters_agree E E' L L' g C t t' (x ∷ xs) h =
       | inr over ↦ (let gone : L' x ≡ false = b ∙ (ap (λ v. C (g (E x)) && v) over ∙ and-false (C (g (E x)))) in grind (arith, ih, gone, over))
     ]
 
-Each-append : {X : Type 0} (P : X → Type 0) (xs ys : List X) → Each P xs → Each P ys → Each P (xs ++ ys)
-Each-append P [] ys h k = k
-Each-append P (x ∷ xs) ys h k = (h.0, Each-append P xs ys h.1 k)
-
-Each-filter : {X : Type 0} (P : X → Type 0) (p : X → Bool) (xs : List X) → Each P xs → Each P (filter p xs)
-Each-filter P p [] h = tt
-Each-filter P p (x ∷ xs) h =
-    elim (p x) as (λ v. Each P (cond v (x ∷ filter p xs) (filter p xs)))
-    [ true ↦ (h.0, Each-filter P p xs h.1) | false ↦ Each-filter P p xs h.1 ]
-
 pub Each-weaker : {X : Type 0} (P Q : X → Type 0) (xs : List X) → ((x : X) → P x → Q x) → Each P xs → Each Q xs
-Each-weaker P Q [] f h = tt
-Each-weaker P Q (x ∷ xs) f h = (f x h.0, Each-weaker P Q xs f h.1)
+Each-weaker P Q xs f h = recursion_from_All Q xs (All-weaker P Q f xs (All-from_recursion P xs h))
 
 abbrev pub IsSince : ℕ → Lifetime → Type 0
 IsSince n l = l.since ≤ n
 
 pub Each-placed_in : (P : Lifetime → Type 0) (l : Lifetime) (ls : List Lifetime) → P l → Each P ls → Each P (placed_in l ls)
 Each-placed_in P l ls h k =
-    Each-append P (filter (λ k. not (is_before l.range k.range)) ls) (l ∷ filter (λ k. is_before l.range k.range) ls)
-    (Each-filter P (λ k. not (is_before l.range k.range)) ls k) (h, Each-filter P (λ k. is_before l.range k.range) ls k)
+    let all = All-from_recursion P ls k in
+    let behind = λ (k : Lifetime). is_before l.range k.range in
+    let before = λ (k : Lifetime). not (is_before l.range k.range) in
+    recursion_from_All P (placed_in l ls)
+    (All-append P (filter before ls) (l ∷ filter behind ls) (All-filter before P ls all) (All-cons P l (filter behind ls) h (All-filter behind P ls all)))
 
 abbrev pub new_lifetime : Mark → List Mark → Lifetime
 new_lifetime m ms = record { range = m.range; block = length (opened ms) + 1; since = length ms }
@@ -161,7 +146,7 @@ presences_of_part m ms t ls h counts =
     filters_agree (presence_of ms) (presence_of (m ∷ ms)) (lives ms) (lives (m ∷ ms)) (presence_after m) has_count (λ l. t l.range) (λ p. t p.range) ls
     (agree_all m ms t ls h counts)
 
-filter_all : {X : Type 0} (xs : List X) → filter (λ x. true) xs ≡ xs
+pub filter_all : {X : Type 0} (xs : List X) → filter (λ x. true) xs ≡ xs
 filter_all [] = refl
 filter_all (x ∷ xs) = ap (λ ys. x ∷ ys) (filter_all xs)
 

@@ -1,11 +1,12 @@
 -- What a binary search of a table finds: only the last range that does not begin behind another can contain it,
 -- and only that one and the next can be the first to overlap it.
 use Rattle.std.proofs.Common.{◌≡◌, ℕ, zero, suc, ◌+◌, ◌-◌, ◌<◌, ◌≤◌, Bool, true, false, List, [], ◌∷◌, length, map, get_or, Option, Some, None, refl, sym, ap, ◌∙◌, arith, inl, inr}
-use Rattle.std.specs.Prelude.{◌&&◌, ◌||◌, not, nat_lt, slice_get, is_some}
+use Rattle.std.specs.Prelude.{◌||◌, not, nat_lt, slice_get, is_some}
 use Rattle.std.specs.List.{position_or_len, AllWithin}
 use Rattle.std.specs.List.Sorted.{IsPartitionedBy}
 use Rattle.std.specs.Option.{option_map_or}
-use Rattle.std.proofs.lemmas.Bool.{cases_Bool, and_parts}
+use Rattle.std.proofs.Math.Bool.{and-false}
+use Rattle.std.proofs.lemmas.Bool.{cases_Bool, and_parts, not-true, not-false}
 use Rattle.std.proofs.lemmas.Bool.Decides.{nat_tests}
 use Rattle.acc_base.specs.declared.range.Range.{Range}
 use Rattle.acc_base.specs.Ranges.{range_contains, range_overlaps}
@@ -51,22 +52,14 @@ IsPartitionedBy-table r (e ∷ es) t (suc i) zero d low high h = absurd (omega a
 IsPartitionedBy-table r (e ∷ es) t (suc i) (suc j) d low high h =
     IsPartitionedBy-table r es (table_parts (entry_presence e) (map entry_presence es) t).others i j d (omega arith) (omega arith) h
 
-not_true : (b : Bool) → not b ≡ true → b ≡ false
-not_true true h = cc
-not_true false h = refl
-
-not_false : (b : Bool) → not b ≡ false → b ≡ true
-not_false true h = refl
-not_false false h = cc
-
 pub partition_is_behind : (r : Range) (es : List Entry) (i : ℕ) → i ≤ length es
     → AllWithin (λ e. not (is_before r e.range) ≡ true) es 0 i → AllWithin (λ e. not (is_before r e.range) ≡ false) es i (length es)
     → i ≡ behind r (map entry_presence es)
 partition_is_behind r [] i low before after = omega arith
 partition_is_behind r (e ∷ es) zero low before after =
-    sym (behind-hit r (entry_presence e) (map entry_presence es) (not_false (is_before r e.range) (after 0 e (omega arith) (omega arith))))
+    sym (behind-hit r (entry_presence e) (map entry_presence es) (not-false (is_before r e.range) (after 0 e (omega arith) (omega arith))))
 partition_is_behind r (e ∷ es) (suc i) low before after =
-    let miss = not_true (is_before r e.range) (before 0 e (omega arith) (omega arith)) in
+    let miss = not-true (is_before r e.range) (before 0 e (omega arith) (omega arith)) in
     let ih = partition_is_behind r es i (omega arith) (λ k d l h. before (suc k) d (omega arith) (omega arith)) (λ k d l h. after (suc k) d (omega arith) (omega arith)) in
     omega (arith, ih, behind-miss r (entry_presence e) (map entry_presence es) miss)
 
@@ -217,8 +210,4 @@ holder-contains (q ∷ ps) r p some = elim (cases_Bool (range_contains q.range r
 ]
 
 pub not_partly : (ps : List Presence) (r : Range) → is_present ps r ≡ true → is_partly_present ps r ≡ false
-not_partly ps r held = rw held (none (overlaps_any ps r))
-  where
-    none : (b : Bool) → (b && false) ≡ false
-    none true = refl
-    none false = refl
+not_partly ps r held = rw held (and-false (overlaps_any ps r))

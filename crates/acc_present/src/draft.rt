@@ -1,15 +1,17 @@
-ghost use Rattle.std.specs.Prelude.{◌≡◌, ℕ, ◌+◌, ◌<◌, ◌≤◌, [], length, map, filter, slice_get, slice_set, true, false, None, if◌then◌else◌, vec_len, vec_capacity, IfSome, IfOk, IfErr};
+ghost use Rattle.std.specs.Prelude.{◌≡◌, ◌+◌, ◌<◌, ◌≤◌, [], length, map, filter, slice_get, slice_set, true, false, None, if◌then◌else◌, vec_len, vec_capacity, IfSome, IfOk, IfErr};
 ghost use Rattle.std.specs.Option.{option_map, option_and_then};
 ghost use Rattle.acc_base.specs.declared.fault.Fault.TheVariants.{Memory};
 ghost use Rattle.acc_present.specs.Legality.{MeetsCondition};
+ghost use Rattle.acc_present.specs.Lifetimes.{can_open};
 ghost use Rattle.acc_present.specs.declared.change.Change.TheVariants.{DynamicZero};
 ghost use Rattle.acc_present.specs.Presences.{holder, is_present, is_partly_present, overlaps_any, used_cells};
 ghost use Rattle.acc_present.specs.Tables.{entry_mark, exit_mark, finalize_mark, exit_change, counter_of, presences_after, kept_after, has_count, entry_presence, is_table, IsLook, left_of};
 ghost use Rattle.acc_present.specs.Drafts.{beside, with_changed, drafted, IsDraft};
 
+use crate::change::Change;
 use crate::table::{
     COUNTER_LIMIT, Counter, Entered, Entry, Left, Look, Table, count_of, counted_down, counted_up,
-    has_count, new_entry, overlaps_one,
+    exit_change, has_count, new_entry, overlaps_one,
 };
 use acc_base::{BlockId, Fault, Range};
 use std::alloc::Global;
@@ -130,16 +132,7 @@ impl Draft {
         ensures room { self.new.room ≡ self.old.room }
         ensures result { result ≡ left_of (holder (drafted table.now self.old) range) (exit_change counter) }
     {
-        match place_for(&mut self.changed, table, range) {
-            None => Left::Nothing,
-            Some(i) => {
-                let entry = self.changed[i];
-                if count_of(&entry, counter) == 0 {
-                    return Left::Nothing;
-                }
-                self.settle(i, counted_down(&entry, counter))
-            }
-        }
+        self.exit(table, range, exit_change(counter))
     }
 
     /// Sets the dynamic counter of a range to zero, and ends its data lifetime where the structured one is zero too
@@ -154,14 +147,29 @@ impl Draft {
         ensures room { self.new.room ≡ self.old.room }
         ensures result { result ≡ left_of (holder (drafted table.now self.old) range) DynamicZero }
     {
+        self.exit(table, range, Change::DynamicZero)
+    }
+
+    // Makes an exit's change to the range's counter, and ends the data lifetime where both counters are zero.
+    fn exit(&mut self, table: &Table, range: Range, change: Change) -> Left
+        requires draft { IsDraft table.now self.old }
+        requires cells { 0 < range.len }
+        requires exit { can_open change ≡ false }
+        requires room { length self.old.changed < self.old.room }
+        ensures draft { IsDraft table.now self.new }
+        ensures drafted { drafted table.now self.new ≡ kept_after (record { change = change; range = range }) (drafted table.now self.old) }
+        ensures changed { length self.new.changed ≤ length self.old.changed + 1 }
+        ensures room { self.new.room ≡ self.old.room }
+        ensures result { result ≡ left_of (holder (drafted table.now self.old) range) change }
+    {
         match place_for(&mut self.changed, table, range) {
             None => Left::Nothing,
             Some(i) => {
                 let entry = self.changed[i];
-                if entry.d == 0 {
+                if count_of(&entry, change) == 0 {
                     return Left::Nothing;
                 }
-                self.settle(i, Entry { d: 0, ..entry })
+                self.settle(i, counted_down(&entry, change))
             }
         }
     }

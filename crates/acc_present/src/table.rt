@@ -2,13 +2,14 @@ ghost use Rattle.std.specs.Prelude.{◌≡◌, ◌+◌, ◌^◌, ◌<◌, ◌≤
 ghost use Rattle.std.specs.Option.{option_map, option_map_or, option_and_then};
 ghost use Rattle.std.specs.List.{position_or_len};
 ghost use Rattle.acc_base.specs.Ranges.{range_overlaps};
-ghost use Rattle.acc_present.specs.Lifetimes.{is_before};
+ghost use Rattle.acc_present.specs.Lifetimes.{is_before, can_open};
 ghost use Rattle.acc_present.specs.declared.change.Change.TheVariants.{DynamicZero};
 ghost use Rattle.acc_present.specs.Presences.{holder, is_present, is_partly_present, overlaps_any, used_cells};
 ghost use Rattle.acc_present.specs.Drafts.{beside};
 ghost use Rattle.acc_present.specs.Legality.{MeetsCondition};
-ghost use Rattle.acc_present.specs.Tables.{entry_mark, exit_mark, finalize_mark, entry_change, exit_change, counter_of, stepped, opening, presences_after, kept_after, has_count, entry_presence, is_table, IsLook, left_of};
+ghost use Rattle.acc_present.specs.Tables.{entry_mark, exit_mark, finalize_mark, entry_change, exit_change, counter_of, changed_counter, stepped, opening, presences_after, kept_after, has_count, entry_presence, is_table, IsLook, left_of};
 
+use crate::change::Change;
 use acc_base::{BlockId, Fault, Range};
 use std::alloc::Global;
 use std::marker::Model;
@@ -154,6 +155,7 @@ impl Table {
             }
             None => {
                 let at = place_behind(self.entries.as_slice(), range);
+                // there is room, so this isn't refused
                 let _ = self.entries.insert(at, new_entry(range, counter, block));
                 self.used += u64::from(range.len);
                 Entered::Opened
@@ -171,16 +173,7 @@ impl Table {
         ensures room { self.new.room ≡ self.old.room }
         ensures result { result ≡ left_of (holder self.old.presences range) (exit_change counter) }
     {
-        match place_of(self.entries.as_slice(), range) {
-            None => Left::Nothing,
-            Some(i) => {
-                let entry = self.entries[i];
-                if count_of(&entry, counter) == 0 {
-                    return Left::Nothing;
-                }
-                self.settle(i, counted_down(&entry, counter))
-            }
-        }
+        self.exit(range, exit_change(counter))
     }
 
     /// Sets the dynamic counter of a range with a cell to zero, and ends its data lifetime where the structured one is
@@ -192,14 +185,26 @@ impl Table {
         ensures room { self.new.room ≡ self.old.room }
         ensures result { result ≡ left_of (holder self.old.presences range) DynamicZero }
     {
+        self.exit(range, Change::DynamicZero)
+    }
+
+    // Makes an exit's change to the range's counter, and ends the data lifetime where both counters are zero.
+    fn exit(&mut self, range: Range, change: Change) -> Left
+        requires cells { 0 < range.len }
+        requires exit { can_open change ≡ false }
+        ensures presences { self.new.presences ≡ kept_after (record { change = change; range = range }) self.old.presences }
+        ensures capacity { self.new.capacity ≡ self.old.capacity }
+        ensures room { self.new.room ≡ self.old.room }
+        ensures result { result ≡ left_of (holder self.old.presences range) change }
+    {
         match place_of(self.entries.as_slice(), range) {
             None => Left::Nothing,
             Some(i) => {
                 let entry = self.entries[i];
-                if entry.d == 0 {
+                if count_of(&entry, change) == 0 {
                     return Left::Nothing;
                 }
-                self.settle(i, Entry { d: 0, ..entry })
+                self.settle(i, counted_down(&entry, change))
             }
         }
     }
@@ -221,8 +226,8 @@ impl Table {
         Left::Ended(after.block)
     }
 
-    /// Whether the range overlaps a present one that none of these entries overlaps.
-    pub fn overlaps_beside(&self, range: Range, changed: &[Entry]) -> bool
+    // Whether the range overlaps a present one that none of these entries overlaps.
+    pub(crate) fn overlaps_beside(&self, range: Range, changed: &[Entry]) -> bool
         ensures { result ≡ overlaps_any (beside (map entry_presence changed.now) self.now.presences) range }
     {
         let entries = self.entries.as_slice();
@@ -304,7 +309,7 @@ fn place_of(entries: &[Entry], range: Range) -> Option<usize>
     }
 }
 
-// Only the entries on both sides of the range's first cell can overlap it first.
+// If any entry overlaps the range, one of the two on both sides of its first cell does.
 fn overlaps_any(entries: &[Entry], range: Range) -> bool
     requires { is_table (map entry_presence entries.now) ≡ true }
     ensures { result ≡ overlaps_any (map entry_presence entries.now) range }
@@ -377,28 +382,43 @@ pub(crate) fn counted_up(entry: &Entry, counter: Counter) -> Entry
     }
 }
 
-pub(crate) fn counted_down(entry: &Entry, counter: Counter) -> Entry
-    requires { 0 < counter_of counter (entry_presence entry.now) }
-    ensures { entry_presence result ≡ stepped (exit_change counter) (entry_presence entry.now) }
+// What an exit's change makes of an entry.
+pub(crate) fn counted_down(entry: &Entry, change: Change) -> Entry
+    requires exit { can_open change ≡ false }
+    requires some { 0 < counter_of (changed_counter change) (entry_presence entry.now) }
+    ensures { entry_presence result ≡ stepped change (entry_presence entry.now) }
 {
-    match counter {
-        Counter::Structured => Entry {
+    match change {
+        Change::StructuredDown => Entry {
             s: entry.s - 1,
             ..*entry
         },
-        Counter::Dynamic => Entry {
+        Change::DynamicDown => Entry {
             d: entry.d - 1,
             ..*entry
         },
+        Change::DynamicZero => Entry { d: 0, ..*entry },
+        Change::StructuredUp | Change::DynamicUp => unreachable!(),
     }
 }
 
-pub(crate) fn count_of(entry: &Entry, counter: Counter) -> u64
-    ensures { result ≡ counter_of counter (entry_presence entry.now) }
+pub(crate) fn exit_change(counter: Counter) -> Change
+    ensures change { result ≡ exit_change counter }
+    ensures exit { can_open result ≡ false }
 {
     match counter {
-        Counter::Structured => entry.s,
-        Counter::Dynamic => entry.d,
+        Counter::Structured => Change::StructuredDown,
+        Counter::Dynamic => Change::DynamicDown,
+    }
+}
+
+// The counter that a change is of.
+pub(crate) fn count_of(entry: &Entry, change: Change) -> u64
+    ensures { result ≡ counter_of (changed_counter change) (entry_presence entry.now) }
+{
+    match change {
+        Change::StructuredUp | Change::StructuredDown => entry.s,
+        Change::DynamicUp | Change::DynamicDown | Change::DynamicZero => entry.d,
     }
 }
 

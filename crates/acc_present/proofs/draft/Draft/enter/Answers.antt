@@ -2,7 +2,7 @@ use Rattle.std.proofs.Common.{◌≡◌, map, sym, ap, ◌∙◌, refl, None, ar
 use Rattle.acc_present.specs.Presences.{holder}
 use Rattle.acc_present.specs.Tables.{entry_presence, entry_mark, has_count}
 use Rattle.acc_present.specs.Drafts.{with_changed}
-use Rattle.acc_present.proofs.Entering.{opens, has_count-entered, stays}
+use Rattle.acc_present.proofs.Entering.{entry_opens, has_count-entered, stays}
 use Rattle.acc_present.proofs.DraftMarking.{counts_entry, opens_entry}
 use Rattle.acc_present.proofs.Searching.{is_present-some, is_present-none}
 use Rattle.acc_present.proofs.draft.Draft.enter.Goals as goal
@@ -52,7 +52,7 @@ returns-in-None-clause-drafted c =
     let whole = rw (← c.self.view_is) at c.requires.whole in
     let none : holder qs r ≡ None = sym c.in-None.ensures.held in
     let k = opens_entry (entry_mark c.args.counter r) c.args.block c.place_for.new.changed.items ps qs c.new_entry.result d.table d.after c.requires.cells c.in-None.ensures.same
-    (opens c.args.counter) none whole c.new_entry.ensures in
+    (entry_opens c.args.counter) none whole c.new_entry.ensures in
     rw (← c.self.view_is, c.push_reserved.ensures.items) k.same
 
 pub returns-in-None-clause-draft : goal.returns-in-None-clause-draft
@@ -64,7 +64,7 @@ returns-in-None-clause-draft c =
     let whole = rw (← c.self.view_is) at c.requires.whole in
     let none : holder qs r ≡ None = sym c.in-None.ensures.held in
     let k = opens_entry (entry_mark c.args.counter r) c.args.block c.place_for.new.changed.items ps qs c.new_entry.result d.table d.after c.requires.cells c.in-None.ensures.same
-    (opens c.args.counter) none whole c.new_entry.ensures in
+    (entry_opens c.args.counter) none whole c.new_entry.ensures in
     let capacity = rw (← c.self.view_is) at c.requires.capacity in
     rw c.push_reserved.ensures.items
     (record { table = d.table; after = k.after; counted = omega (arith, k.used, d.counted, c.from.ensures); within = omega (arith, k.used, capacity none) })

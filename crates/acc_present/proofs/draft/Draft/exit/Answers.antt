@@ -1,19 +1,19 @@
-use Rattle.std.proofs.Common.{◌≡◌, map, sym, ◌∙◌, ap, None, arith}
+use Rattle.std.proofs.Common.{◌≡◌, map, sym, ◌∙◌, None, arith}
 use Rattle.acc_present.specs.Presences.{holder}
-use Rattle.acc_present.specs.Tables.{exit_mark, exit_change, counter_of, changed_counter, entry_presence}
+use Rattle.acc_present.specs.Tables.{counter_of, changed_counter, entry_presence}
 use Rattle.acc_present.specs.Drafts.{with_changed}
 use Rattle.acc_present.proofs.Counting.{kept_none}
 use Rattle.acc_present.proofs.DraftMarking.{placed_for, draft_stays, settled_cells, draft_settled}
-use Rattle.acc_present.proofs.Entering.{stepped-zero, exit_counter, says_nothing, says_settled}
+use Rattle.acc_present.proofs.Entering.{exit_at_zero, says_nothing, says_settled}
 use Rattle.acc_present.proofs.Searching.{is_present-none}
-use Rattle.acc_present.proofs.draft.Draft.leave.Goals as goal
+use Rattle.acc_present.proofs.draft.Draft.exit.Goals as goal
 
 pub returns-in-None-clause-drafted : goal.returns-in-None-clause-drafted
 returns-in-None-clause-drafted c =
     let qs = with_changed (map entry_presence c.self.inside.changed.items) c.args.table.now.presences in
     let k = rw (← c.self.view_is) at c.requires.draft in
     let none : holder qs c.args.range ≡ None = sym c.in-None.ensures.held in
-    rw (← c.self.view_is) (c.in-None.ensures.same ∙ sym (kept_none (exit_mark c.args.counter c.args.range) qs k.after (is_present-none qs c.args.range none)))
+    rw (← c.self.view_is) (c.in-None.ensures.same ∙ sym (kept_none (record { change = c.args.change; range = c.args.range }) qs k.after (is_present-none qs c.args.range none)))
 
 pub returns-then-count_of-eq0-clause-drafted : goal.returns-then-count_of-eq0-clause-drafted
 returns-then-count_of-eq0-clause-drafted c =
@@ -21,8 +21,8 @@ returns-then-count_of-eq0-clause-drafted c =
     let x = c.index.result.now in
     let k = rw (← c.self.view_is) at c.requires.draft in
     let f = placed_for k c.args.range es c.in-Some.i x c.in-Some.ensures.same c.in-Some.ensures.held (omega (arith, c.in-Some.ensures.within)) c.index.ensures in
-    let zero : counter_of c.args.counter (entry_presence x) ≡ 0 = sym c.count_of.ensures ∙ c.if-count_of-eq0.true in
-    rw (← c.self.view_is) (draft_stays k (exit_mark c.args.counter c.args.range) es c.in-Some.i x f c.requires.cells (stepped-zero c.args.counter (entry_presence x) zero))
+    let zero : counter_of (changed_counter c.args.change) (entry_presence x) ≡ 0 = sym c.count_of.ensures ∙ c.if-count_of-eq0.true in
+    rw (← c.self.view_is) (draft_stays k (record { change = c.args.change; range = c.args.range }) es c.in-Some.i x f c.requires.cells (exit_at_zero c.args.change (entry_presence x) c.requires.exit zero))
 
 pub returns-then-count_of-eq0-clause-result : goal.returns-then-count_of-eq0-clause-result
 returns-then-count_of-eq0-clause-result c =
@@ -30,9 +30,8 @@ returns-then-count_of-eq0-clause-result c =
     let x = c.index.result.now in
     let k = rw (← c.self.view_is) at c.requires.draft in
     let f = placed_for k c.args.range es c.in-Some.i x c.in-Some.ensures.same c.in-Some.ensures.held (omega (arith, c.in-Some.ensures.within)) c.index.ensures in
-    let zero : counter_of (changed_counter (exit_change c.args.counter)) (entry_presence x) ≡ 0 =
-    ap (λ k. counter_of k (entry_presence x)) (exit_counter c.args.counter) ∙ (sym c.count_of.ensures ∙ c.if-count_of-eq0.true) in
-    rw (← c.self.view_is) (rw f.seen (says_nothing (entry_presence x) (exit_change c.args.counter) zero))
+    let zero : counter_of (changed_counter c.args.change) (entry_presence x) ≡ 0 = sym c.count_of.ensures ∙ c.if-count_of-eq0.true in
+    rw (← c.self.view_is) (rw f.seen (says_nothing (entry_presence x) c.args.change zero))
 
 pub settle-requires-clause-cells : goal.settle-requires-clause-cells
 settle-requires-clause-cells c =
@@ -40,7 +39,7 @@ settle-requires-clause-cells c =
     let x = c.index.result.now in
     let k = rw (← c.self.view_is) at c.requires.draft in
     let f = placed_for k c.args.range es c.in-Some.i x c.in-Some.ensures.same c.in-Some.ensures.held (omega (arith, c.in-Some.ensures.within)) c.index.ensures in
-    settled_cells k (exit_mark c.args.counter c.args.range) es c.in-Some.i x c.counted_down.result f c.requires.cells c.counted_down.ensures
+    settled_cells k (record { change = c.args.change; range = c.args.range }) es c.in-Some.i x c.counted_down.result f c.requires.cells c.counted_down.ensures
 
 pub returns-else-count_of-eq0-clause-drafted : goal.returns-else-count_of-eq0-clause-drafted
 returns-else-count_of-eq0-clause-drafted c =
@@ -49,7 +48,7 @@ returns-else-count_of-eq0-clause-drafted c =
     let k = rw (← c.self.view_is) at c.requires.draft in
     let f = placed_for k c.args.range es c.in-Some.i x c.in-Some.ensures.same c.in-Some.ensures.held (omega (arith, c.in-Some.ensures.within)) c.index.ensures in
     rw (← c.self.view_is)
-    (draft_settled k (exit_mark c.args.counter c.args.range) es c.in-Some.i x c.counted_down.result c.settle.new.self f c.requires.cells c.counted_down.ensures c.settle.ensures.changed c.settle.ensures.used).same
+    (draft_settled k (record { change = c.args.change; range = c.args.range }) es c.in-Some.i x c.counted_down.result c.settle.new.self f c.requires.cells c.counted_down.ensures c.settle.ensures.changed c.settle.ensures.used).same
 
 pub returns-else-count_of-eq0-clause-draft : goal.returns-else-count_of-eq0-clause-draft
 returns-else-count_of-eq0-clause-draft c =
@@ -57,7 +56,7 @@ returns-else-count_of-eq0-clause-draft c =
     let x = c.index.result.now in
     let k = rw (← c.self.view_is) at c.requires.draft in
     let f = placed_for k c.args.range es c.in-Some.i x c.in-Some.ensures.same c.in-Some.ensures.held (omega (arith, c.in-Some.ensures.within)) c.index.ensures in
-    (draft_settled k (exit_mark c.args.counter c.args.range) es c.in-Some.i x c.counted_down.result c.settle.new.self f c.requires.cells c.counted_down.ensures c.settle.ensures.changed c.settle.ensures.used).draft
+    (draft_settled k (record { change = c.args.change; range = c.args.range }) es c.in-Some.i x c.counted_down.result c.settle.new.self f c.requires.cells c.counted_down.ensures c.settle.ensures.changed c.settle.ensures.used).draft
 
 pub returns-else-count_of-eq0-clause-result : goal.returns-else-count_of-eq0-clause-result
 returns-else-count_of-eq0-clause-result c =
@@ -65,6 +64,5 @@ returns-else-count_of-eq0-clause-result c =
     let x = c.index.result.now in
     let k = rw (← c.self.view_is) at c.requires.draft in
     let f = placed_for k c.args.range es c.in-Some.i x c.in-Some.ensures.same c.in-Some.ensures.held (omega (arith, c.in-Some.ensures.within)) c.index.ensures in
-    let some = λ (z : counter_of (changed_counter (exit_change c.args.counter)) (entry_presence x) ≡ 0).
-    c.if-count_of-eq0.false (c.count_of.ensures ∙ (ap (λ k. counter_of k (entry_presence x)) (sym (exit_counter c.args.counter)) ∙ z)) in
-    rw (← c.self.view_is) (rw f.seen (says_settled (entry_presence x) (entry_presence c.counted_down.result) (exit_change c.args.counter) c.settle.result some c.counted_down.ensures c.settle.ensures.result))
+    let some = λ (z : counter_of (changed_counter c.args.change) (entry_presence x) ≡ 0). c.if-count_of-eq0.false (c.count_of.ensures ∙ z) in
+    rw (← c.self.view_is) (rw f.seen (says_settled (entry_presence x) (entry_presence c.counted_down.result) c.args.change c.settle.result some c.counted_down.ensures c.settle.ensures.result))

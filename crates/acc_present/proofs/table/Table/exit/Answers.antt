@@ -1,16 +1,16 @@
 use Rattle.std.proofs.Common.{◌≡◌, sym, ap, ◌∙◌, None}
 use Rattle.acc_present.specs.Presences.{Presence, holder}
-use Rattle.acc_present.specs.Tables.{exit_mark, exit_change, counter_of, changed_counter, entry_presence}
+use Rattle.acc_present.specs.Tables.{counter_of, changed_counter, entry_presence}
 use Rattle.acc_present.proofs.Counting.{kept_none}
-use Rattle.acc_present.proofs.Entering.{shown, found_at, stepped-zero, exit_counter, left_nothing, left_settled, range_at, says_nothing, says_settled}
+use Rattle.acc_present.proofs.Entering.{shown, found_at, exit_at_zero, left_nothing, left_settled, range_at, says_nothing, says_settled}
 use Rattle.acc_present.proofs.Searching.{is_present-none}
-use Rattle.acc_present.proofs.table.Table.leave.Goals as goal
+use Rattle.acc_present.proofs.table.Table.exit.Goals as goal
 
 pub returns-in-None-clause-presences : goal.returns-in-None-clause-presences
 returns-in-None-clause-presences c =
     let es = c.self.inside.entries.items in
     let none : holder (shown es) c.args.range ≡ None = rw c.as_slice.ensures.value at c.in-None.ensures.held in
-    rw (← c.self.view_is) (sym (kept_none (exit_mark c.args.counter c.args.range) (shown es) c.self.invariant.table (is_present-none (shown es) c.args.range none)))
+    rw (← c.self.view_is) (sym (kept_none (record { change = c.args.change; range = c.args.range }) (shown es) c.self.invariant.table (is_present-none (shown es) c.args.range none)))
 
 pub returns-then-count_of-eq0-clause-presences : goal.returns-then-count_of-eq0-clause-presences
 returns-then-count_of-eq0-clause-presences c =
@@ -19,9 +19,9 @@ returns-then-count_of-eq0-clause-presences c =
     let held = rw c.as_slice.ensures.value at c.in-Some.ensures.held in
     let low = rw c.as_slice.ensures.value at c.in-Some.ensures.within in
     let f = found_at es c.args.range c.in-Some.i x held low c.index.ensures in
-    let zero : counter_of c.args.counter (entry_presence x) ≡ 0 = sym c.count_of.ensures ∙ c.if-count_of-eq0.true in
+    let zero : counter_of (changed_counter c.args.change) (entry_presence x) ≡ 0 = sym c.count_of.ensures ∙ c.if-count_of-eq0.true in
     rw (← c.self.view_is)
-    (left_nothing es (exit_mark c.args.counter c.args.range) c.in-Some.i x c.self.inside.used c.self.inside.capacity c.self.invariant c.requires.cells f (stepped-zero c.args.counter (entry_presence x) zero))
+    (left_nothing es (record { change = c.args.change; range = c.args.range }) c.in-Some.i x c.self.inside.used c.self.inside.capacity c.self.invariant c.requires.cells f (exit_at_zero c.args.change (entry_presence x) c.requires.exit zero))
 
 pub returns-then-count_of-eq0-clause-result : goal.returns-then-count_of-eq0-clause-result
 returns-then-count_of-eq0-clause-result c =
@@ -30,9 +30,8 @@ returns-then-count_of-eq0-clause-result c =
     let held = rw c.as_slice.ensures.value at c.in-Some.ensures.held in
     let low = rw c.as_slice.ensures.value at c.in-Some.ensures.within in
     let f = found_at es c.args.range c.in-Some.i x held low c.index.ensures in
-    let zero : counter_of (changed_counter (exit_change c.args.counter)) (entry_presence x) ≡ 0 =
-    ap (λ k. counter_of k (entry_presence x)) (exit_counter c.args.counter) ∙ (sym c.count_of.ensures ∙ c.if-count_of-eq0.true) in
-    rw (← c.self.view_is) (rw f.seen (says_nothing (entry_presence x) (exit_change c.args.counter) zero))
+    let zero : counter_of (changed_counter c.args.change) (entry_presence x) ≡ 0 = sym c.count_of.ensures ∙ c.if-count_of-eq0.true in
+    rw (← c.self.view_is) (rw f.seen (says_nothing (entry_presence x) c.args.change zero))
 
 pub settle-requires : goal.settle-requires
 settle-requires c =
@@ -51,7 +50,7 @@ returns-else-count_of-eq0-clause-presences c =
     let low = rw c.as_slice.ensures.value at c.in-Some.ensures.within in
     let f = found_at es c.args.range c.in-Some.i x held low c.index.ensures in
     rw (← c.self.view_is)
-    (left_settled es (exit_mark c.args.counter c.args.range) c.in-Some.i x c.counted_down.result c.settle.new.self.presences c.self.inside.used c.self.inside.capacity c.self.invariant c.requires.cells f
+    (left_settled es (record { change = c.args.change; range = c.args.range }) c.in-Some.i x c.counted_down.result c.settle.new.self.presences c.self.inside.used c.self.inside.capacity c.self.invariant c.requires.cells f
     c.counted_down.ensures (rw (← c.self.view_is) at c.settle.ensures.presences))
 
 pub returns-else-count_of-eq0-clause-result : goal.returns-else-count_of-eq0-clause-result
@@ -61,6 +60,5 @@ returns-else-count_of-eq0-clause-result c =
     let held = rw c.as_slice.ensures.value at c.in-Some.ensures.held in
     let low = rw c.as_slice.ensures.value at c.in-Some.ensures.within in
     let f = found_at es c.args.range c.in-Some.i x held low c.index.ensures in
-    let some = λ (z : counter_of (changed_counter (exit_change c.args.counter)) (entry_presence x) ≡ 0).
-    c.if-count_of-eq0.false (c.count_of.ensures ∙ (ap (λ k. counter_of k (entry_presence x)) (sym (exit_counter c.args.counter)) ∙ z)) in
-    rw (← c.self.view_is) (rw f.seen (says_settled (entry_presence x) (entry_presence c.counted_down.result) (exit_change c.args.counter) c.settle.result some c.counted_down.ensures c.settle.ensures.result))
+    let some = λ (z : counter_of (changed_counter c.args.change) (entry_presence x) ≡ 0). c.if-count_of-eq0.false (c.count_of.ensures ∙ z) in
+    rw (← c.self.view_is) (rw f.seen (says_settled (entry_presence x) (entry_presence c.counted_down.result) c.args.change c.settle.result some c.counted_down.ensures c.settle.ensures.result))
