@@ -1,4 +1,5 @@
 mod Limits
+pub mod Lists
 mod Rows
 pub mod SameQueue
 pub mod Sets

@@ -2,19 +2,19 @@
 use Rattle.std.proofs.Common.{◌≡◌, ◌≢◌, ℕ, ◌+◌, ◌<◌, ◌≤◌, Bool, true, false, List, [], ◌∷◌, ◌++◌, length, take, get_or, set, replicate, refl, sym, ap, subst, ◌∙◌, arith}
 use Rattle.std.specs.Prelude.{◌==◌, ◌||◌, nat_lt}
 use Rattle.std.specs.List.{All, list_any}
+use Rattle.std.proofs.Math.Bool.{or-false, or-true}
+use Rattle.std.proofs.lemmas.Bool.{ltb-false}
 use Rattle.std.proofs.lemmas.Bool.Decides.{Decides-eqb, Decides-ltb}
 use Rattle.std.proofs.lemmas.List.{get_or-replicate, get_or_past, length-replicate, get_or_default, get_or-take, get_or-set_same, get_or-set_other, length-take-le, take_more}
 use Rattle.std.proofs.lemmas.List.Folds.{Any-from_list_any, list_any_more}
 use Rattle.std.proofs.lemmas.List.Quantifiers.{all_pairs_push}
 use Rattle.acc_kernel.specs.Jobs.{Use, AreDistinct}
-use Rattle.acc_kernel.proofs.Rowing.{not_below}
-use Rattle.acc_kernel.proofs.Scanning.{or_false}
 use Rattle.acc_kernel.proofs.Valid.{none_passes}
 
 unset : (n i : ℕ) (b : Bool) → nat_lt i n ≡ b → get_or (replicate n false) i false ≡ false
 unset n i true e = get_or-replicate n i false false ((Decides-ltb i n).0 e)
 unset n i false e =
-    let past : n ≤ i = not_below i n e in
+    let past : n ≤ i = ltb-false i n e in
     let len : length (replicate n false) ≡ n = length-replicate n false in
     get_or_past (replicate n false) i false (omega arith)
 
@@ -52,10 +52,6 @@ not_distinct uses k u lt at some distinct =
         distinct m k v first lt
         (ap (λ (x : Use). x.1.array) there ∙ ((Decides-eqb v.1.array u.1.array).0 same ∙ ap (λ (x : Use). x.1.array) (sym here)))
 
-or_true : (b : Bool) → (b || true) ≡ true
-or_true true = refl
-or_true false = refl
-
 -- one more item sets its array's flag
 pub flag_next : {X : Type 0} (f : X → ℕ) (xs : List X) (k : ℕ) (x : X) (flags : List Bool) (array : ℕ) → k < length xs → x ≡ get_or xs k x → f x < length flags
     → get_or flags array false ≡ list_any (λ y. f y == array) (take k xs)
@@ -72,9 +68,9 @@ flag_next {X} f xs k x flags array lt at small before = by_array (f x == array) 
         let same : f x ≡ array = (Decides-eqb (f x) array).0 e in
         ap (λ (n : ℕ). get_or (set flags (f x) true) n false) (sym same)
         ∙ (get_or-set_same flags (f x) true false small
-        ∙ sym (more ∙ (ap (λ (b : Bool). list_any (λ y. f y == array) (take k xs) || b) e ∙ or_true (list_any (λ y. f y == array) (take k xs)))))
+        ∙ sym (more ∙ (ap (λ (b : Bool). list_any (λ y. f y == array) (take k xs) || b) e ∙ or-true (list_any (λ y. f y == array) (take k xs)))))
     by_array false e =
         let other : array ≢ f x = λ q. (let yes : (f x == array) ≡ true = (Decides-eqb (f x) array).1 (sym q) in let never : ⊥ = cc in absurd never) in
         get_or-set_other flags (f x) array true false other
         ∙ (before
-        ∙ sym (more ∙ (ap (λ (b : Bool). list_any (λ y. f y == array) (take k xs) || b) e ∙ or_false (list_any (λ y. f y == array) (take k xs)))))
+        ∙ sym (more ∙ (ap (λ (b : Bool). list_any (λ y. f y == array) (take k xs) || b) e ∙ or-false (list_any (λ y. f y == array) (take k xs)))))

@@ -2,9 +2,10 @@ mod Flagging
 mod Holding
 mod Keeping
 mod Listing
+pub mod Looping
 pub mod Reached
 mod Reaching
-mod Rowing
+pub mod Rowing
 pub mod Running
 mod Scanning
 pub mod Turning

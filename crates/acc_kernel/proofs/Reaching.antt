@@ -3,14 +3,13 @@ use Rattle.std.proofs.Common.{◌≡◌, ℕ, Bool, true, false, List, [], ◌�
 use Rattle.std.specs.Prelude.{ℤ, pos, ◌+ℤ◌, ◌-ℤ◌, ◌≤ℤ◌, ◌<ℤ◌, ◌==◌, int_lt, if◌then◌else◌, Option, Some, None}
 use Rattle.std.specs.List.{fold, Contains}
 use Rattle.std.specs.Int.{int_min, int_max}
-use Rattle.std.specs.Option.{option_map}
 use Rattle.std.proofs.lemmas.List.{append-nil}
 use Rattle.std.proofs.lemmas.Bool.Decides.{Decides-eqb}
 use Rattle.std.proofs.lemmas.Int.{ints, clamps}
 use Rattle.std.proofs.lemmas.List.Elements.{All-contains, Contains-append_left, Contains-push, Contains-push_cases}
 use Rattle.acc_kernel.specs.declared.reach.Reach.{Reach}
 use Rattle.acc_kernel.specs.Faults.{IsNear, IsWithinLimits}
-use Rattle.acc_kernel.specs.Kernels.{Loop, references, Reaches, IsReach, reach_of, spanned, widened}
+use Rattle.acc_kernel.specs.Kernels.{Loop, references, Reaches, IsReach, spanned, widened}
 use Rattle.acc_kernel.specs.Trees.{Reference}
 
 -- a reference to the array, so far from the index
@@ -131,18 +130,3 @@ module _ (k : Loop) (array : ℕ) where
 
   pub reach_none : IsSpan array (references k.statements) None → (cell : ℤ) → Reaches k array cell → ⊥
   reach_none span cell r = span r.reference.offset (named_of cell r)
-
-  pub no_reach : k.hi ≤ℤ k.lo → (cell : ℤ) → Reaches k array cell → ⊥
-  no_reach h cell r =
-      let from : k.lo ≤ℤ r.index = r.from in
-      let to : r.index <ℤ k.hi = r.to in
-      omega (arith, ints)
-
-  -- what that is in the definition's words
-  pub reach_some : (s : Reach) → k.lo <ℤ k.hi → Some s ≡ fold (spanned array) None (references k.statements)
-      → Some (record { first = k.lo +ℤ s.first; last = (k.hi -ℤ pos 1) +ℤ s.last }) ≡ reach_of k array
-  reach_some s some e =
-      let F : Reach → Reach = λ r. record { first = k.lo +ℤ r.first; last = (k.hi -ℤ pos 1) +ℤ r.last } in
-      let holds : int_lt k.lo k.hi ≡ true = grind (arith, ints) in
-      ap (λ (o : Option Reach). option_map F o) e
-      ∙ sym (ap (λ (b : Bool). if b then option_map F (fold (spanned array) None (references k.statements)) else None) holds)

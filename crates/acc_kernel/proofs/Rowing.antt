@@ -1,10 +1,11 @@
 -- Cells of rows: where a cell is, what writing it changes, and rows that have given cells.
-use Rattle.std.proofs.Common.{◌≡◌, ◌≢◌, ℕ, ◌+◌, ◌<◌, ◌≤◌, Bool, true, false, List, [], length, map, get_or, set, refl, sym, ap, subst, ◌∙◌, arith}
+use Rattle.std.proofs.Common.{◌≡◌, ◌≢◌, ℕ, ◌+◌, ◌<◌, ◌≤◌, Bool, true, false, List, [], length, map, get_or, set, refl, sym, ap, subst, ◌∙◌, arith, inl, inr}
 use Rattle.std.specs.Prelude.{ℤ, pos, negsuc, ◌-ℤ◌, ◌≤ℤ◌, ◌<ℤ◌, not, ◌&&◌, ◌==◌, nat_lt, int_le, int_lt, cond, slice_get, Some, None, if◌then◌else◌}
 use Rattle.std.specs.List.{range_with_len}
 use Rattle.std.specs.Ordering.{int_eq}
 use Rattle.std.proofs.Math.Path.{fun_ext}
-use Rattle.std.proofs.lemmas.Bool.Decides.{Decides-eqb, Decides-ltb, Decides-int_eq, not_from_Decides, nat_tests}
+use Rattle.std.proofs.lemmas.Bool.{cases_lt, ltb-false}
+use Rattle.std.proofs.lemmas.Bool.Decides.{Decides-eqb, Decides-int_eq, not_from_Decides}
 use Rattle.std.proofs.lemmas.Int.{ints}
 use Rattle.std.proofs.lemmas.List.{ext_get_or, get_or_default, get_or_past, get_or-map, get_or-set_other, get_or-set_same, length-map}
 use Rattle.std.proofs.lemmas.List.FromFn.{length-map-range_with_len, get_or-map-range_with_len}
@@ -13,16 +14,13 @@ use Rattle.std.proofs.lemmas.List.Sums.{passes_at_first, position_or_len_is, pre
 use Rattle.acc_kernel.specs.Cells.{with_cell}
 use Rattle.acc_kernel.specs.Jobs.{Use, no_use, place_of, range_of, has_cell, value_in, cell_in, AreDistinct, AreRows}
 use Rattle.acc_kernel.specs.RowTables.{IsStored}
-use Rattle.acc_kernel.proofs.Turning.{CellsOf}
+use Rattle.acc_kernel.proofs.Looping.{CellsOf, within}
 
-abbrev uses_array : ℕ → Use → Bool
+abbrev pub uses_array : ℕ → Use → Bool
 uses_array array u = u.1.array == array
 
 place-le : (uses : List Use) (array : ℕ) → place_of uses array ≤ length uses
 place-le uses array = prefix_len-le-length (λ (u : Use). not (u.1.array == array)) uses
-
-pub not_below : (a b : ℕ) → nat_lt a b ≡ false → b ≤ a
-not_below a b h = grind (arith, nat_tests)
 
 -- where nothing was found, the answer is the length
 pub place_if_none : (uses : List Use) (array : ℕ) (b : Bool) → nat_lt (place_of uses array) (length uses) ≡ b
@@ -30,33 +28,35 @@ pub place_if_none : (uses : List Use) (array : ℕ) (b : Bool) → nat_lt (place
 place_if_none uses array true e h = let never : ⊥ = cc in absurd never
 place_if_none uses array false e h =
     let le : place_of uses array ≤ length uses = place-le uses array in
-    let ge : length uses ≤ place_of uses array = not_below (place_of uses array) (length uses) e in
+    let ge : length uses ≤ place_of uses array = ltb-false (place_of uses array) (length uses) e in
     omega arith
 
-pub both_true : (a b : Bool) → (a && b) ≡ true → (a ≡ true) × (b ≡ true)
-both_true true b h = (refl, h)
-both_true false b h = let never : ⊥ = cc in absurd never
-
-pub within : (lo len : ℕ) (cell : ℤ) → (int_le (pos lo) cell && int_lt cell (pos (lo + len))) ≡ true → (pos lo ≤ℤ cell) × (cell <ℤ pos (lo + len))
-within lo len cell h =
-    let b = both_true (int_le (pos lo) cell) (int_lt cell (pos (lo + len))) h in
-    let low : int_le (pos lo) cell ≡ true = b.0 in
-    let high : int_lt cell (pos (lo + len)) ≡ true = b.1 in
-    (grind (arith, ints), grind (arith, ints))
-
 -- a cell that is there is in a use's range
-used : (uses : List Use) (array : ℕ) (cell : ℤ) (b : Bool) → nat_lt (place_of uses array) (length uses) ≡ b → has_cell uses array cell ≡ true → place_of uses array < length uses
-used uses array cell true e h = (Decides-ltb (place_of uses array) (length uses)).0 e
-used uses array cell false e h =
-    let ge : length uses ≤ place_of uses array = not_below (place_of uses array) (length uses) e in
-    let none : get_or uses (place_of uses array) no_use ≡ no_use = get_or_past uses (place_of uses array) no_use ge in
-    let nothing : (int_le (pos 0) cell && int_lt cell (pos (0 + 0))) ≡ true =
-    subst (λ (u : Use). (int_le (pos u.1.lo) cell && int_lt cell (pos (u.1.lo + u.1.len))) ≡ true) none h in
-    let w = within 0 0 cell nothing in
-    let low : pos 0 ≤ℤ cell = w.0 in
-    let high : cell <ℤ pos (0 + 0) = w.1 in
-    let never : ⊥ = omega (arith, ints) in
-    absurd never
+pub used : (uses : List Use) (array : ℕ) (cell : ℤ) → has_cell uses array cell ≡ true → place_of uses array < length uses
+used uses array cell has =
+    elim (cases_lt (place_of uses array) (length uses)) [
+      | inl here ↦ here
+      | inr past ↦ absurd (no_cell past)
+    ]
+  where
+    no_cell : length uses ≤ place_of uses array → ⊥
+    no_cell past =
+        let none : get_or uses (place_of uses array) no_use ≡ no_use = get_or_past uses (place_of uses array) no_use past in
+        let w = within (pos 0) (pos (0 + 0)) cell (subst (λ (u : Use). (int_le (pos u.1.lo) cell && int_lt cell (pos (u.1.lo + u.1.len))) ≡ true) none has) in
+        let low : pos 0 ≤ℤ cell = w.0 in
+        let high : cell <ℤ pos (0 + 0) = w.1 in
+        omega (arith, ints)
+
+-- the use of an array stands at the first place that has the array
+pub its_place : (uses : List Use) (place : ℕ) → AreDistinct uses → place < length uses → place_of uses (get_or uses place no_use).1.array ≡ place
+its_place uses place distinct h =
+    position_or_len_is (uses_array (get_or uses place no_use).1.array) uses place no_use (omega arith)
+    (λ k lt. different k lt (uses_array (get_or uses place no_use).1.array (get_or uses k no_use)) refl)
+    (λ lt. (Decides-eqb (get_or uses place no_use).1.array (get_or uses place no_use).1.array).1 refl)
+  where
+    different : (k : ℕ) → k < place → (b : Bool) → uses_array (get_or uses place no_use).1.array (get_or uses k no_use) ≡ b → b ≡ false
+    different k lt true e = absurd (distinct k place no_use lt h ((Decides-eqb (get_or uses k no_use).1.array (get_or uses place no_use).1.array).0 e))
+    different k lt false e = refl
 
 -- where a cell is
 pub record Spot (uses : List Use) (rows : List (List ℤ)) (array : ℕ) (cell : ℤ) (place : ℕ) : Type 0 where
@@ -67,17 +67,17 @@ pub record Spot (uses : List Use) (rows : List (List ℤ)) (array : ℕ) (cell :
   pub high : cell <ℤ pos ((get_or uses place no_use).1.lo + (get_or uses place no_use).1.len)
   pub long : length (get_or rows place []) ≡ (get_or uses place no_use).1.len
 
-pub spot : (uses : List Use) (places : List ℕ) (rows : List (List ℤ)) (array : ℕ) (cell : ℤ) (index place : ℕ) → IsStored uses places rows
+pub spot_of : (uses : List Use) (places : List ℕ) (rows : List (List ℤ)) (array : ℕ) (cell : ℤ) (index place : ℕ) → IsStored uses places rows
     → index ≡ array → array < 256 → place ≡ get_or places index place → has_cell uses array cell ≡ true → Spot uses rows array cell place
-spot uses places rows array cell index place stored same small at has =
+spot_of uses places rows array cell index place stored same small at has =
     let count : length places ≡ 256 = stored.table.count in
     let e : place ≡ place_of uses array =
     at ∙ (ap (λ (n : ℕ). get_or places n place) same
     ∙ (get_or_default places array place 0 (omega arith) ∙ stored.table.places_are array small)) in
-    let found : place_of uses array < length uses = used uses array cell (nat_lt (place_of uses array) (length uses)) refl has in
+    let found : place_of uses array < length uses = used uses array cell has in
     let here : place < length uses = omega arith in
     let rows_are : length rows ≡ length uses = stored.shape.count in
-    let w = within (range_of uses array).lo (range_of uses array).len cell has in
+    let w = within (pos (range_of uses array).lo) (pos ((range_of uses array).lo + (range_of uses array).len)) cell has in
     record {
       at = e;
       here = here;
@@ -94,30 +94,32 @@ value_in_other row n value (pos m) h =
     get_or-set_other row n m value (pos 0) other
 value_in_other row n value (negsuc m) h = refl
 
+pub value_in-set : (row : List ℤ) (n lo : ℕ) (cell c value : ℤ) → n < length row → cell -ℤ pos lo ≡ pos n
+    → value_in (set row n value) (c -ℤ pos lo) ≡ (if int_eq cell c then value else value_in row (c -ℤ pos lo))
+value_in-set row n lo cell c value inside at = by (int_eq cell c) refl
+  where
+    by : (b : Bool) → int_eq cell c ≡ b → value_in (set row n value) (c -ℤ pos lo) ≡ (if b then value else value_in row (c -ℤ pos lo))
+    by true e =
+        let there : c -ℤ pos lo ≡ pos n = ap (λ (x : ℤ). x -ℤ pos lo) (sym ((Decides-int_eq cell c).0 e)) ∙ at in
+        ap (value_in (set row n value)) there ∙ get_or-set_same row n value (pos 0) inside
+    by false e =
+        let other : cell ≢ c = not_from_Decides (int_eq cell c) (Decides-int_eq cell c) e in
+        let apart : c -ℤ pos lo ≢ pos n = λ q. other (omega (arith, ints)) in
+        value_in_other row n value (c -ℤ pos lo) apart
+
 module _ (uses : List Use) (rows : List (List ℤ)) (array : ℕ) (cell value : ℤ) (place n : ℕ) where
   abbrev written : List (List ℤ)
   written = set rows place (set (get_or rows place []) n value)
 
-  row_written : Spot uses rows array cell place → get_or written place [] ≡ set (get_or rows place []) n value
-  row_written s = get_or-set_same rows place (set (get_or rows place []) n value) [] s.there
-
   -- the cells of the array itself
-  own : Spot uses rows array cell place → cell -ℤ pos (get_or uses place no_use).1.lo ≡ pos n → (c : ℤ) (b : Bool) → int_eq cell c ≡ b
+  own : Spot uses rows array cell place → cell -ℤ pos (get_or uses place no_use).1.lo ≡ pos n → (c : ℤ)
       → value_in (get_or written place []) (c -ℤ pos (get_or uses place no_use).1.lo)
-      ≡ (if b then value else value_in (get_or rows place []) (c -ℤ pos (get_or uses place no_use).1.lo))
-  own s at c true e =
-      let same : cell ≡ c = (Decides-int_eq cell c).0 e in
+      ≡ (if int_eq cell c then value else value_in (get_or rows place []) (c -ℤ pos (get_or uses place no_use).1.lo))
+  own s at c =
       let lo : ℕ = (get_or uses place no_use).1.lo in
       let inside : n < length (get_or rows place []) = (let long = s.long in let high = s.high in omega (arith, ints)) in
-      ap (λ (l : List ℤ). value_in l (c -ℤ pos (get_or uses place no_use).1.lo)) (row_written s)
-      ∙ (ap (λ (z : ℤ). value_in (set (get_or rows place []) n value) z) (ap (λ (x : ℤ). x -ℤ pos (get_or uses place no_use).1.lo) (sym same) ∙ at)
-      ∙ get_or-set_same (get_or rows place []) n value (pos 0) inside)
-  own s at c false e =
-      let other : cell ≢ c = not_from_Decides (int_eq cell c) (Decides-int_eq cell c) e in
-      let z : ℤ = c -ℤ pos (get_or uses place no_use).1.lo in
-      let apart : c -ℤ pos (get_or uses place no_use).1.lo ≢ pos n = λ q. other (omega (arith, ints)) in
-      ap (λ (l : List ℤ). value_in l (c -ℤ pos (get_or uses place no_use).1.lo)) (row_written s)
-      ∙ value_in_other (get_or rows place []) n value (c -ℤ pos (get_or uses place no_use).1.lo) apart
+      ap (λ (l : List ℤ). value_in l (c -ℤ pos (get_or uses place no_use).1.lo)) (get_or-set_same rows place (set (get_or rows place []) n value) [] s.there)
+      ∙ value_in-set (get_or rows place []) n (get_or uses place no_use).1.lo cell c value inside at
 
   one_cell : Spot uses rows array cell place → cell -ℤ pos (get_or uses place no_use).1.lo ≡ pos n → (a : ℕ) (c : ℤ) (b : Bool) → (array == a) ≡ b
       → cell_in uses written a c ≡ (if b && int_eq cell c then value else cell_in uses rows a c)
@@ -125,7 +127,7 @@ module _ (uses : List Use) (rows : List (List ℤ)) (array : ℕ) (cell value : 
       let same : array ≡ a = (Decides-eqb array a).0 e in
       let here : place ≡ place_of uses a = s.at ∙ ap (λ (x : ℕ). place_of uses x) same in
       subst (λ (p : ℕ). value_in (get_or written p []) (c -ℤ pos (get_or uses p no_use).1.lo) ≡ (if int_eq cell c then value else value_in (get_or rows p []) (c -ℤ pos (get_or uses p no_use).1.lo)))
-      here (own s at c (int_eq cell c) refl)
+      here (own s at c)
   one_cell s at a c false e =
       let other : array ≢ a = not_from_Decides (array == a) (Decides-eqb array a) e in
       let apart : place_of uses a ≢ place = λ q.
@@ -151,31 +153,17 @@ module _ (uses : List Use) (rows : List (List ℤ)) (array : ℕ) (cell value : 
 
 -- rows that have these cells are the lists of the ranges' cells
 module _ (uses : List Use) (rows : List (List ℤ)) (cells : CellsOf) where
-  listed : Use → List ℤ
-  listed u = map (λ n. cells u.1.array (pos n)) (range_with_len u.1.lo u.1.len)
-
-  its_place : AreDistinct uses → (place : ℕ) → place < length uses → place_of uses (get_or uses place no_use).1.array ≡ place
-  its_place distinct place h =
-      position_or_len_is (uses_array (get_or uses place no_use).1.array) uses place no_use (omega arith)
-      (λ k lt. different k lt (uses_array (get_or uses place no_use).1.array (get_or uses k no_use)) refl)
-      (λ lt. (Decides-eqb (get_or uses place no_use).1.array (get_or uses place no_use).1.array).1 refl)
-    where
-      different : (k : ℕ) → k < place → (b : Bool) → uses_array (get_or uses place no_use).1.array (get_or uses k no_use) ≡ b → b ≡ false
-      different k lt true e = absurd (distinct k place no_use lt h ((Decides-eqb (get_or uses k no_use).1.array (get_or uses place no_use).1.array).0 e))
-      different k lt false e = refl
-
   value_of : AreDistinct uses → (place n : ℕ) → place < length uses
       → cell_in uses rows (get_or uses place no_use).1.array (pos ((get_or uses place no_use).1.lo + n)) ≡ get_or (get_or rows place []) n (pos 0)
   value_of distinct place n h =
       let at : pos ((get_or uses place no_use).1.lo + n) -ℤ pos (get_or uses place no_use).1.lo ≡ pos n = omega (arith, ints) in
-      ap (λ (p : ℕ). value_in (get_or rows p []) (pos ((get_or uses place no_use).1.lo + n) -ℤ pos (get_or uses p no_use).1.lo)) (its_place distinct place h)
+      ap (λ (p : ℕ). value_in (get_or rows p []) (pos ((get_or uses place no_use).1.lo + n) -ℤ pos (get_or uses p no_use).1.lo)) (its_place uses place distinct h)
       ∙ ap (λ (z : ℤ). value_in (get_or rows place []) z) at
 
   one_row : AreDistinct uses → AreRows uses rows → cell_in uses rows ≡ cells → (place : ℕ) → place < length uses
       → get_or rows place [] ≡ map (λ n. cells (get_or uses place no_use).1.array (pos n)) (range_with_len (get_or uses place no_use).1.lo (get_or uses place no_use).1.len)
   one_row distinct shape e place h =
       let long : length (get_or rows place []) ≡ (get_or uses place no_use).1.len = shape.lengths place h in
-      let f : ℕ → ℤ = λ n. cells (get_or uses place no_use).1.array (pos n) in
       ext_get_or (pos 0) (get_or rows place []) (map (λ n. cells (get_or uses place no_use).1.array (pos n)) (range_with_len (get_or uses place no_use).1.lo (get_or uses place no_use).1.len))
       (long ∙ sym (length-map-range_with_len (λ n. cells (get_or uses place no_use).1.array (pos n)) (get_or uses place no_use).1.lo (get_or uses place no_use).1.len))
       (λ n lt.
@@ -186,7 +174,6 @@ module _ (uses : List Use) (rows : List (List ℤ)) (cells : CellsOf) where
   pub rows_are : AreDistinct uses → AreRows uses rows → cell_in uses rows ≡ cells
       → rows ≡ map (λ u. map (λ n. cells u.1.array (pos n)) (range_with_len u.1.lo u.1.len)) uses
   rows_are distinct shape e =
-      let g : Use → List ℤ = λ u. map (λ n. cells u.1.array (pos n)) (range_with_len u.1.lo u.1.len) in
       let count : length rows ≡ length uses = shape.count in
       ext_get_or [] rows (map (λ u. map (λ n. cells u.1.array (pos n)) (range_with_len u.1.lo u.1.len)) uses)
       (count ∙ sym (length-map uses (λ u. map (λ n. cells u.1.array (pos n)) (range_with_len u.1.lo u.1.len))))

@@ -1,10 +1,11 @@
 -- What each call makes of the blocks of a device.
-use Rattle.std.proofs.Common.{◌≡◌, ℕ, zero, suc, ◌+◌, ◌-◌, ◌<◌, true, List, [], ◌∷◌, length, map, set, get_or, Option, Some, None, refl, sym, ap, ◌∙◌, arith}
+use Rattle.std.proofs.Common.{◌≡◌, ℕ, ◌+◌, ◌-◌, ◌<◌, true, List, length, map, set, get_or, Option, Some, None, refl, sym, ap, ◌∙◌, arith}
 use Rattle.std.specs.Prelude.{insert, remove, replicate, slice_get, is_some, ℤ, pos}
 use Rattle.std.specs.Option.{option_map}
 use Rattle.std.proofs.lemmas.Bool.{eq-eqb, eqb-true}
 use Rattle.std.proofs.lemmas.List.{length-map, length-replicate, map-set}
 use Rattle.std.proofs.lemmas.Option.{slice_get_within, slice_get_read, slice_get-map}
+use Rattle.acc_base.proofs.Lists.{map-insert, map-remove}
 use Rattle.acc_base.specs.declared.range.Range.{Range}
 use Rattle.acc_batch.specs.declared.task.Block.{Block}
 use Rattle.acc_batch.specs.declared.operation.Op.{Op}
@@ -17,18 +18,6 @@ use Rattle.acc_memory.proofs.Rows.{row_there, no_row, place_of-found, place_of-w
 
 abbrev pub rows_of : List Block → List Row
 rows_of bs = map row_of bs
-
-map-insert : {X Y : Type 0} (f : X → Y) (xs : List X) (i : ℕ) (x : X) → map f (insert xs i x) ≡ insert (map f xs) i (f x)
-map-insert f [] zero x = refl
-map-insert f [] (suc i) x = refl
-map-insert f (y ∷ ys) zero x = refl
-map-insert f (y ∷ ys) (suc i) x = ap (λ r. f y ∷ r) (map-insert f ys i x)
-
-map-remove : {X Y : Type 0} (f : X → Y) (xs : List X) (i : ℕ) → map f (remove xs i) ≡ remove (map f xs) i
-map-remove f [] zero = refl
-map-remove f [] (suc i) = refl
-map-remove f (x ∷ xs) zero = refl
-map-remove f (x ∷ xs) (suc i) = ap (λ r. f x ∷ r) (map-remove f xs i)
 
 -- ## The block that a call finds
 

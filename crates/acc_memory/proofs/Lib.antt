@@ -4,7 +4,6 @@ mod Copying
 mod Devices
 mod Effects
 mod Fitting
-mod Looping
 mod Places
 mod Rows
 mod Runs

@@ -4,8 +4,8 @@ use Rattle.std.specs.Prelude.{◌==◌, ◌&&◌, nat_lt, nat_le, find, slice_ge
 use Rattle.std.specs.List.{list_all}
 use Rattle.std.proofs.lemmas.Bool.{cases_Bool, cases_eq, cases_lt, and_parts, and_from, eq-eqb, eqb-true, le-leb, lt-ltb, leb-true, ltb-true}
 use Rattle.std.proofs.lemmas.Int.{ints}
-use Rattle.std.proofs.lemmas.List.{get_or_default, get_or_past}
-use Rattle.std.proofs.lemmas.List.Sums.{passes_at_first, position_or_len_is}
+use Rattle.std.proofs.lemmas.List.{get_or_default}
+use Rattle.std.proofs.lemmas.List.Sums.{passes_at_first}
 use Rattle.std.proofs.lemmas.Option.{get_or_from_slice_get, slice_get_within}
 use Rattle.acc_base.specs.declared.range.Range.{Range}
 use Rattle.acc_batch.specs.declared.operation.Op.TheVariants.{Run}
@@ -13,15 +13,16 @@ use Rattle.acc_batch.specs.declared.task.Block.{Block}
 use Rattle.acc_kernel.specs.Jobs.{Use, no_use, range_of, has_cell, value_in, AreDistinct, HoldReached}
 use Rattle.acc_kernel.specs.Jobs as jobs
 use Rattle.acc_kernel.specs.Kernels.{Loop, Reaches, value_after}
+use Rattle.acc_kernel.proofs.Looping.{within, loop_alike, loop_leaves}
+use Rattle.acc_kernel.proofs.Rowing.{uses_array, used, its_place}
 use Rattle.acc_memory.specs.Blocks.{row_of}
 use Rattle.acc_memory.specs.Memories.{Row, Made, HasRanges, IsMemory, ShowsRows, made_of, find_row, row_cell, row_has, place_of, is_ascending, is_before_all, is_whole}
 use Rattle.acc_memory.specs.Seen.{KeepsBlocks, ArePlaces, block_for, cell_at, is_seen, has_at, seen_in}
 use Rattle.acc_memory.specs.Values.{Cell, Block_cell, is_in, or_zero, seen_by, use_with, after_loop, after_op}
 use Rattle.acc_memory.proofs.Calls.{rows_of}
 use Rattle.acc_memory.proofs.Copying.{slice_get-set_same, slice_get-set_other}
-use Rattle.acc_memory.proofs.Looping.{loop_alike, loop_elsewhere}
 use Rattle.acc_memory.proofs.Rows.{row_there, find_row-name, place_of-found, place_of-here, place_of-past, ascending_parts, list_all-at}
-use Rattle.acc_memory.proofs.Seeing.{block_for_is, bounds}
+use Rattle.acc_memory.proofs.Seeing.{block_for_is}
 
 -- ## The places of the blocks that are used
 
@@ -171,9 +172,6 @@ is_within r i low high =
 
 -- ## Uses
 
-abbrev uses_array : ℕ → Use → Bool
-uses_array array u = u.1.array == array
-
 abbrev names_cell : ℕ → ℕ → Use → Bool
 names_cell n i u = (u.0 == n) && is_in u.1 i
 
@@ -205,17 +203,6 @@ find_none p (v ∷ uses) (suc j) d none low = find_none p uses j d (by (p v) ref
     by true e = let first : find p (v ∷ uses) ≡ Some v = rw e refl in let never : ⊥ = cc in absurd never
     by false e = let next : find p (v ∷ uses) ≡ find p uses = rw e refl in sym next ∙ none
 
--- the use of an array stands at the first place that has the array
-its_place : (uses : List Use) (j : ℕ) → AreDistinct uses → j < length uses → jobs.place_of uses (get_or uses j no_use).1.array ≡ j
-its_place uses j distinct low =
-    position_or_len_is (uses_array (get_or uses j no_use).1.array) uses j no_use (omega arith)
-    (λ k lt. different k lt (uses_array (get_or uses j no_use).1.array (get_or uses k no_use)) refl)
-    (λ lt. eq-eqb (get_or uses j no_use).1.array (get_or uses j no_use).1.array refl)
-  where
-    different : (k : ℕ) → k < j → (b : Bool) → uses_array (get_or uses j no_use).1.array (get_or uses k no_use) ≡ b → b ≡ false
-    different k lt true e = absurd (distinct k j no_use lt low (eqb-true (get_or uses k no_use).1.array (get_or uses j no_use).1.array e))
-    different k lt false e = refl
-
 -- the use that has a cell of an array
 record UseOf (uses : List Use) (array : ℕ) (cell : ℤ) : Type 0 where
   pub here : jobs.place_of uses array < length uses
@@ -228,32 +215,16 @@ record UseOf (uses : List Use) (array : ℕ) (cell : ℤ) : Type 0 where
 use_of : (uses : List Use) (array : ℕ) (cell : ℤ) → has_cell uses array cell ≡ true → UseOf uses array cell
 use_of uses array cell has = by_cell cell has
   where
-    no_cell : (cell : ℤ) → length uses ≤ jobs.place_of uses array → has_cell uses array cell ≡ true → ⊥
-    no_cell cell past has =
-        let none : get_or uses (jobs.place_of uses array) no_use ≡ no_use = get_or_past uses (jobs.place_of uses array) no_use past in
-        let nothing : (int_le (pos 0) cell && int_lt cell (pos (0 + 0))) ≡ true =
-        subst (λ (u : Use). (int_le (pos u.1.lo) cell && int_lt cell (pos (u.1.lo + u.1.len))) ≡ true) none has in
-        let w = bounds 0 0 cell nothing in
-        let low : pos 0 ≤ℤ cell = w.0 in
-        let high : cell <ℤ pos (0 + 0) = w.1 in
-        omega (arith, ints)
-
-    there : (cell : ℤ) → has_cell uses array cell ≡ true → jobs.place_of uses array < length uses
-    there cell has = elim (cases_lt (jobs.place_of uses array) (length uses)) [
-      | inl low ↦ low
-      | inr past ↦ absurd (no_cell cell past has)
-    ]
-
     by_cell : (cell : ℤ) → has_cell uses array cell ≡ true → UseOf uses array cell
     by_cell (negsuc n) has =
-        let w = bounds (range_of uses array).lo (range_of uses array).len (negsuc n) has in
+        let w = within (pos (range_of uses array).lo) (pos ((range_of uses array).lo + (range_of uses array).len)) (negsuc n) has in
         absurd (below_zero (range_of uses array).lo n w.0)
       where
         below_zero : (lo n : ℕ) → pos lo ≤ℤ negsuc n → ⊥
         below_zero lo n h = omega (arith, ints)
     by_cell (pos i) has =
-        let w = bounds (range_of uses array).lo (range_of uses array).len (pos i) has in
-        let here = there (pos i) has in
+        let w = within (pos (range_of uses array).lo) (pos ((range_of uses array).lo + (range_of uses array).len)) (pos i) has in
+        let here = used uses array (pos i) has in
         record {
           here = here;
           same = eqb-true (get_or uses (jobs.place_of uses array) no_use).1.array array (passes_at_first (uses_array array) uses no_use here);
@@ -471,7 +442,7 @@ module _ (bs : List Block) (places : List ℕ) (k : Loop) (uses : List Use) (r :
                 let table : slice_get places b.old.range.array ≡ Some (place_of (rows_of bs) n) = e ∙ ap Some same in
                 sym (seen_new table)
                 ∙ (ap (λ g. g b.old.range.array (pos i)) ran
-                ∙ (loop_elsewhere k (seen_in bs places) b.old.range.array (pos i) (not_reached table) ∙ (seen_old table ∙ cell_before)))
+                ∙ (loop_leaves k (seen_in bs places) b.old.range.array (pos i) (not_reached table) ∙ (seen_old table ∙ cell_before)))
             | inr apart ↦ is_kept (kept.unseen (place_of (rows_of bs) n) b.old b.at_old (λ q. let both : Some p ≡ Some (place_of (rows_of bs) n) = sym e ∙ q in let never : p ≡ place_of (rows_of bs) n = cc in apart never))
           ]
 

@@ -1,16 +1,17 @@
 -- A cell that a loop sees: the block where it is, its value, and what writing it changes.
-use Rattle.std.proofs.Common.{◌≡◌, ◌≢◌, ℕ, ◌+◌, ◌<◌, Bool, true, false, List, length, set, get_or, Option, Some, None, refl, sym, ap, subst, ◌∙◌, arith, inl, inr}
-use Rattle.std.specs.Prelude.{◌==◌, ◌&&◌, slice_get, ℤ, pos, negsuc, ◌-ℤ◌, ◌≤ℤ◌, ◌<ℤ◌, int_le, int_lt, if◌then◌else◌}
+use Rattle.std.proofs.Common.{◌≡◌, ℕ, ◌+◌, ◌<◌, Bool, true, false, List, length, set, get_or, Option, Some, None, refl, sym, ap, subst, ◌∙◌, arith, inl, inr}
+use Rattle.std.specs.Prelude.{◌==◌, ◌&&◌, slice_get, ℤ, pos, ◌-ℤ◌, ◌≤ℤ◌, ◌<ℤ◌, int_le, int_lt, if◌then◌else◌}
 use Rattle.std.specs.Ordering.{int_eq}
 use Rattle.std.proofs.Math.Path.{fun_ext}
 use Rattle.std.proofs.lemmas.Bool.{and_parts, cases_eq, eq-eqb, ne_eqb, eqb-true}
-use Rattle.std.proofs.lemmas.Bool.Decides.{Decides-int_eq, not_from_Decides}
 use Rattle.std.proofs.lemmas.Int.{ints}
-use Rattle.std.proofs.lemmas.List.{length-set, get_or-set_other, get_or-set_same}
+use Rattle.std.proofs.lemmas.List.{length-set}
 use Rattle.std.proofs.lemmas.Option.{get_or_from_slice_get, slice_get_within}
 use Rattle.acc_batch.specs.declared.task.Block.{Block}
 use Rattle.acc_kernel.specs.Cells.{with_cell}
 use Rattle.acc_kernel.specs.Jobs.{value_in}
+use Rattle.acc_kernel.proofs.Looping.{within}
+use Rattle.acc_kernel.proofs.Rowing.{value_in-set}
 use Rattle.acc_memory.specs.Blocks.{row_of}
 use Rattle.acc_memory.specs.Memories.{made_of, is_whole}
 use Rattle.acc_memory.specs.Seen.{of_array, block_there, block_for, has_at, cell_at, is_seen, seen_in, KeepsBlocks}
@@ -28,21 +29,14 @@ pub record Spot (blocks : List Block) (places : List ℕ) (array : ℕ) (cell : 
   pub low : pos block.range.lo ≤ℤ cell
   pub high : cell <ℤ pos (block.range.lo + block.range.len)
 
-pub bounds : (lo len : ℕ) (cell : ℤ) → (int_le (pos lo) cell && int_lt cell (pos (lo + len))) ≡ true → (pos lo ≤ℤ cell) × (cell <ℤ pos (lo + len))
-bounds lo len cell h =
-    let parts = and_parts (int_le (pos lo) cell) (int_lt cell (pos (lo + len))) h in
-    let low : int_le (pos lo) cell ≡ true = parts.0 in
-    let high : int_lt cell (pos (lo + len)) ≡ true = parts.1 in
-    (grind (arith, ints), grind (arith, ints))
-
-pub spot : (blocks : List Block) (places : List ℕ) (array : ℕ) (cell : ℤ) → is_seen blocks places array cell ≡ true → Spot blocks places array cell
-spot blocks places array cell h = by_place (slice_get places array) refl h
+pub spot_seen : (blocks : List Block) (places : List ℕ) (array : ℕ) (cell : ℤ) → is_seen blocks places array cell ≡ true → Spot blocks places array cell
+spot_seen blocks places array cell h = by_place (slice_get places array) refl h
   where
     by_array : (i : ℕ) (b : Block) → slice_get places array ≡ Some i → slice_get blocks i ≡ Some b → (t : Bool) → (b.range.array == array) ≡ t
         → has_at (if t then Some b else None) cell ≡ true → Spot blocks places array cell
     by_array i b e f true same h =
         let parts = and_parts (is_whole (row_of b)) (int_le (pos b.range.lo) cell && int_lt cell (pos (b.range.lo + b.range.len))) h in
-        let ends = bounds b.range.lo b.range.len cell parts.1 in
+        let ends = within (pos b.range.lo) (pos (b.range.lo + b.range.len)) cell parts.1 in
         record {
           place = i;
           block = b;
@@ -68,12 +62,6 @@ pub block_for_is : (blocks : List Block) (places : List ℕ) (array i : ℕ) (b 
     → block_for blocks places array ≡ Some b
 block_for_is blocks places array i b e f same = rw (e, f, eq-eqb b.range.array array same) refl
 
-pub read_seen : (blocks : List Block) (places : List ℕ) (array : ℕ) (cell : ℤ) (n : ℕ) (value : ℤ) → (s : Spot blocks places array cell)
-    → cell -ℤ pos s.block.range.lo ≡ pos n → slice_get s.block.cells n ≡ Some value → value ≡ seen_in blocks places array cell
-read_seen blocks places array cell n value s at found =
-    sym (ap (λ (o : Option Block). cell_at o cell) (block_for_is blocks places array s.place s.block s.at_array s.at_place s.same_array)
-    ∙ (ap (value_in s.block.cells) at ∙ get_or_from_slice_get s.block.cells n value (pos 0) found))
-
 -- ## A cell that is written
 
 -- the block with one cell written
@@ -81,12 +69,6 @@ pub record IsWritten (n : ℕ) (value : ℤ) (old new : Block) : Type 0 where
   pub block : new.block ≡ old.block
   pub range : new.range ≡ old.range
   pub cells : new.cells ≡ set old.cells n value
-
-value_in_other : (row : List ℤ) (n : ℕ) (value z : ℤ) → z ≢ pos n → value_in (set row n value) z ≡ value_in row z
-value_in_other row n value (pos m) h =
-    let other : m ≢ n = λ e. h (ap pos e) in
-    get_or-set_other row n m value (pos 0) other
-value_in_other row n value (negsuc m) h = refl
 
 module _ (blocks : List Block) (places : List ℕ) (array : ℕ) (cell value : ℤ) (n : ℕ) (s : Spot blocks places array cell) (y : Block)
     (at : cell -ℤ pos s.block.range.lo ≡ pos n) (w : IsWritten n value s.block y) where
@@ -119,21 +101,16 @@ module _ (blocks : List Block) (places : List ℕ) (array : ℕ) (cell value : �
     | inr other ↦ ap (λ o. has_at o c) (other_block a other)
   ]
 
-  own_cell : (c : ℤ) (b : Bool) → int_eq cell c ≡ b → value_in y.cells (c -ℤ pos y.range.lo) ≡ (if b then value else value_in s.block.cells (c -ℤ pos s.block.range.lo))
-  own_cell c true e =
-      let same : cell ≡ c = (Decides-int_eq cell c).0 e in
+  own_cell : (c : ℤ) → value_in y.cells (c -ℤ pos y.range.lo) ≡ (if int_eq cell c then value else value_in s.block.cells (c -ℤ pos s.block.range.lo))
+  own_cell c =
       let low : n < length s.block.cells = (let long = s.long in let high = s.high in omega (arith, ints)) in
-      rw (w.cells, w.range, ← same, at) (get_or-set_same s.block.cells n value (pos 0) low)
-  own_cell c false e =
-      let other : cell ≢ c = not_from_Decides (int_eq cell c) (Decides-int_eq cell c) e in
-      let apart : c -ℤ pos s.block.range.lo ≢ pos n = λ q. other (omega (arith, ints)) in
-      rw (w.cells, w.range) (value_in_other s.block.cells n value (c -ℤ pos s.block.range.lo) apart)
+      rw (w.cells, w.range) (value_in-set s.block.cells n s.block.range.lo cell c value low at)
 
   cell_one : (a : ℕ) (c : ℤ) → seen_in (set blocks s.place y) places a c ≡ with_cell (seen_in blocks places) array cell value a c
   cell_one a c = elim (cases_eq a array) [
     | inl same ↦
         let old : block_for blocks places array ≡ Some s.block = block_for_is blocks places array s.place s.block s.at_array s.at_place s.same_array in
-        rw (same, own_block, old, eq-eqb array array refl) (own_cell c (int_eq cell c) refl)
+        rw (same, own_block, old, eq-eqb array array refl) (own_cell c)
     | inr other ↦ rw (ne_eqb array a (λ e. other (sym e))) (ap (λ o. cell_at o c) (other_block a other))
   ]
 
@@ -167,7 +144,7 @@ pub writes : (blocks : List Block) (places : List ℕ) (array : ℕ) (cell value
     → cell -ℤ pos (get_or blocks (get_or places index 0) x).range.lo ≡ pos n → IsWritten n value (get_or blocks (get_or places index 0) x) y
     → Writes blocks places array cell value (get_or places index 0) y
 writes blocks places array cell value index n x y has same at w =
-    let s = spot blocks places array cell has in
+    let s = spot_seen blocks places array cell has in
     let place : get_or places index 0 ≡ s.place = ap (λ i. get_or places i 0) same ∙ get_or_from_slice_get places array s.place 0 s.at_array in
     let block : get_or blocks (get_or places index 0) x ≡ s.block = ap (λ i. get_or blocks i x) place ∙ get_or_from_slice_get blocks s.place s.block x s.at_place in
     let there : cell -ℤ pos s.block.range.lo ≡ pos n = ap (λ (b : Block). cell -ℤ pos b.range.lo) (sym block) ∙ at in

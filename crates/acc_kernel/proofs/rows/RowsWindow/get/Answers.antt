@@ -9,12 +9,12 @@ use Rattle.std.proofs.lemmas.Bool.{lt-ltb}
 use mir.Syntax.{w64}
 use Rattle.acc_kernel.specs.Jobs.{Use, no_use, has_cell}
 use Rattle.acc_kernel.specs.RowTables.{Stored}
-use Rattle.acc_kernel.proofs.Rowing.{spot, read_one}
+use Rattle.acc_kernel.proofs.Rowing.{spot_of, read_one}
 use Rattle.acc_kernel.proofs.rows.RowsWindow.get.Goals as goal
 
 pub index-requires : goal.index-requires
 index-requires c =
-    let s = spot c.self.inside.uses.items c.self.inside.places.items c.self.inside.rows.items c.args.array c.args.cell c.from.result c.index-place.result.now
+    let s = spot_of c.self.inside.uses.items c.self.inside.places.items c.self.inside.rows.items c.args.array c.args.cell c.from.result c.index-place.result.now
     c.self.invariant c.from.ensures c.ranges.array.fits c.index-place.ensures
     (subst (λ (v : Stored). IsTrue (has_cell v.uses c.args.array c.args.cell)) (sym c.self.view_is) c.requires) in
     let there = s.there in
@@ -22,7 +22,7 @@ index-requires c =
 
 pub index-requires-2 : goal.index-requires-2
 index-requires-2 c =
-    let s = spot c.self.inside.uses.items c.self.inside.places.items c.self.inside.rows.items c.args.array c.args.cell c.from.result c.index-place.result.now
+    let s = spot_of c.self.inside.uses.items c.self.inside.places.items c.self.inside.rows.items c.args.array c.args.cell c.from.result c.index-place.result.now
     c.self.invariant c.from.ensures c.ranges.array.fits c.index-place.ensures
     (subst (λ (v : Stored). IsTrue (has_cell v.uses c.args.array c.args.cell)) (sym c.self.view_is) c.requires) in
     let here = s.here in
@@ -30,7 +30,7 @@ index-requires-2 c =
 
 pub distance-requires : goal.distance-requires
 distance-requires c =
-    let s = spot c.self.inside.uses.items c.self.inside.places.items c.self.inside.rows.items c.args.array c.args.cell c.from.result c.index-place.result.now
+    let s = spot_of c.self.inside.uses.items c.self.inside.places.items c.self.inside.rows.items c.args.array c.args.cell c.from.result c.index-place.result.now
     c.self.invariant c.from.ensures c.ranges.array.fits c.index-place.ensures
     (subst (λ (v : Stored). IsTrue (has_cell v.uses c.args.array c.args.cell)) (sym c.self.view_is) c.requires) in
     let e = c.index-2.ensures ∙ get_or_default c.self.inside.uses.items c.index-place.result.now c.index-2.result.now no_use s.here in
@@ -40,7 +40,7 @@ distance-requires c =
 
 pub get-requires : goal.get-requires
 get-requires c =
-    let s = spot c.self.inside.uses.items c.self.inside.places.items c.self.inside.rows.items c.args.array c.args.cell c.from.result c.index-place.result.now
+    let s = spot_of c.self.inside.uses.items c.self.inside.places.items c.self.inside.rows.items c.args.array c.args.cell c.from.result c.index-place.result.now
     c.self.invariant c.from.ensures c.ranges.array.fits c.index-place.ensures
     (subst (λ (v : Stored). IsTrue (has_cell v.uses c.args.array c.args.cell)) (sym c.self.view_is) c.requires) in
     let e = c.index-2.ensures ∙ get_or_default c.self.inside.uses.items c.index-place.result.now c.index-2.result.now no_use s.here in
@@ -53,7 +53,7 @@ get-requires c =
 
 pub returns : goal.returns
 returns c =
-    let s = spot c.self.inside.uses.items c.self.inside.places.items c.self.inside.rows.items c.args.array c.args.cell c.from.result c.index-place.result.now
+    let s = spot_of c.self.inside.uses.items c.self.inside.places.items c.self.inside.rows.items c.args.array c.args.cell c.from.result c.index-place.result.now
     c.self.invariant c.from.ensures c.ranges.array.fits c.index-place.ensures
     (subst (λ (v : Stored). IsTrue (has_cell v.uses c.args.array c.args.cell)) (sym c.self.view_is) c.requires) in
     let e = c.index-2.ensures ∙ get_or_default c.self.inside.uses.items c.index-place.result.now c.index-2.result.now no_use s.here in

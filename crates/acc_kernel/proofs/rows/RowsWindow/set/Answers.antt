@@ -5,12 +5,12 @@ use Rattle.std.proofs.lemmas.List.{get_or_default}
 use mir.Syntax.{w64}
 use Rattle.acc_kernel.specs.Jobs.{Use, no_use, has_cell}
 use Rattle.acc_kernel.specs.RowTables.{Stored}
-use Rattle.acc_kernel.proofs.Rowing.{spot, write_one}
+use Rattle.acc_kernel.proofs.Rowing.{spot_of, write_one}
 use Rattle.acc_kernel.proofs.rows.RowsWindow.set.Goals as goal
 
 pub index-requires : goal.index-requires
 index-requires c =
-    let s = spot c.self.inside.uses.items c.self.inside.places.items c.self.inside.rows.items c.args.array c.args.cell c.from.result c.index-place.result.now
+    let s = spot_of c.self.inside.uses.items c.self.inside.places.items c.self.inside.rows.items c.args.array c.args.cell c.from.result c.index-place.result.now
     c.self.invariant c.from.ensures c.ranges.array.fits c.index-place.ensures
     (subst (λ (v : Stored). IsTrue (has_cell v.uses c.args.array c.args.cell)) (sym c.self.view_is) c.requires) in
     let here = s.here in
@@ -18,7 +18,7 @@ index-requires c =
 
 pub distance-at-requires : goal.distance-at-requires
 distance-at-requires c =
-    let s = spot c.self.inside.uses.items c.self.inside.places.items c.self.inside.rows.items c.args.array c.args.cell c.from.result c.index-place.result.now
+    let s = spot_of c.self.inside.uses.items c.self.inside.places.items c.self.inside.rows.items c.args.array c.args.cell c.from.result c.index-place.result.now
     c.self.invariant c.from.ensures c.ranges.array.fits c.index-place.ensures
     (subst (λ (v : Stored). IsTrue (has_cell v.uses c.args.array c.args.cell)) (sym c.self.view_is) c.requires) in
     let e = c.index.ensures ∙ get_or_default c.self.inside.uses.items c.index-place.result.now c.index.result.now no_use s.here in
@@ -28,7 +28,7 @@ distance-at-requires c =
 
 pub index_mut-row-requires : goal.index_mut-row-requires
 index_mut-row-requires c =
-    let s = spot c.self.inside.uses.items c.self.inside.places.items c.self.inside.rows.items c.args.array c.args.cell c.from.result c.index-place.result.now
+    let s = spot_of c.self.inside.uses.items c.self.inside.places.items c.self.inside.rows.items c.args.array c.args.cell c.from.result c.index-place.result.now
     c.self.invariant c.from.ensures c.ranges.array.fits c.index-place.ensures
     (subst (λ (v : Stored). IsTrue (has_cell v.uses c.args.array c.args.cell)) (sym c.self.view_is) c.requires) in
     let there = s.there in
@@ -36,7 +36,7 @@ index_mut-row-requires c =
 
 pub set-requires : goal.set-requires
 set-requires c =
-    let s = spot c.self.inside.uses.items c.self.inside.places.items c.self.inside.rows.items c.args.array c.args.cell c.from.result c.index-place.result.now
+    let s = spot_of c.self.inside.uses.items c.self.inside.places.items c.self.inside.rows.items c.args.array c.args.cell c.from.result c.index-place.result.now
     c.self.invariant c.from.ensures c.ranges.array.fits c.index-place.ensures
     (subst (λ (v : Stored). IsTrue (has_cell v.uses c.args.array c.args.cell)) (sym c.self.view_is) c.requires) in
     let e = c.index.ensures ∙ get_or_default c.self.inside.uses.items c.index-place.result.now c.index.result.now no_use s.here in
@@ -49,7 +49,7 @@ set-requires c =
 
 pub returns-clause-cells : goal.returns-clause-cells
 returns-clause-cells c =
-    let s = spot c.self.inside.uses.items c.self.inside.places.items c.self.inside.rows.items c.args.array c.args.cell c.from.result c.index-place.result.now
+    let s = spot_of c.self.inside.uses.items c.self.inside.places.items c.self.inside.rows.items c.args.array c.args.cell c.from.result c.index-place.result.now
     c.self.invariant c.from.ensures c.ranges.array.fits c.index-place.ensures
     (subst (λ (v : Stored). IsTrue (has_cell v.uses c.args.array c.args.cell)) (sym c.self.view_is) c.requires) in
     let e = c.index.ensures ∙ get_or_default c.self.inside.uses.items c.index-place.result.now c.index.result.now no_use s.here in
