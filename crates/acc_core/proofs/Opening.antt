@@ -8,14 +8,14 @@ use Rattle.acc_batch.specs.declared.operation.Label.{Label}
 use Rattle.acc_place.specs.Histories.{standing}
 use Rattle.acc_core.specs.Logs.{value}
 use Rattle.acc_core.specs.Machine.{State, state_at_first}
-use Rattle.acc_memory.specs.Memories.{Cells, Shows, rows_on, is_held, cell_of, lengths_of}
+use Rattle.acc_memory.specs.Memories.{MemoryView, Shows, rows_on, is_held, cell_of, lengths_of}
 use Rattle.acc_core.specs.Ties.{Queued, Remembers, IsAccelerator}
 use Rattle.acc_memory.specs.Values.{Cell, Host_cell, Block_cell}
 use Rattle.acc_core.specs.Works.{WorkView}
 use Rattle.acc_core.proofs.Keeping.{legal_start}
 
 -- without blocks a memory shows the values of its arrays
-shows_opening : (m : Cells) (arrays : List (List ℤ)) → m.arrays ≡ arrays → ((d : ℕ) → rows_on m d ≡ []) → Shows m (value arrays [])
+shows_opening : (m : MemoryView) (arrays : List (List ℤ)) → m.arrays ≡ arrays → ((d : ℕ) → rows_on m d ≡ []) → Shows m (value arrays [])
 shows_opening m arrays e none = λ cell. cases cell
   where
     cases : (c : Cell) → IsTrue (is_held m c) → cell_of m c ≡ value arrays [] c

@@ -14,7 +14,7 @@ use Rattle.acc_core.specs.Legality.{made, UsesLive, AllLive, HoldsBlock}
 use Rattle.acc_core.specs.Logs.{device_ops, value}
 use Rattle.acc_core.specs.Machine.{State, with_op, with_item}
 use Rattle.acc_kernel.specs.Jobs.{Use}
-use Rattle.acc_memory.specs.Memories.{Made, Cells, Shows, is_held, cell_of, rows_on, room_on, held_blocks, blocks_after, lengths_of, HasRange, reaches, ends_in, has_array, find_block, MayPerform}
+use Rattle.acc_memory.specs.Memories.{Made, MemoryView, Shows, is_held, cell_of, rows_on, room_on, held_blocks, blocks_after, lengths_of, HasRange, reaches, ends_in, has_array, find_block, MayPerform}
 use Rattle.acc_core.specs.Ties.{Remembers}
 use Rattle.acc_core.specs.Works.{WorkView, HasPerformed, HasShown, sync}
 use Rattle.acc_memory.specs.Values.{Cell, Host_cell, Block_cell, values_from, values_of}
@@ -37,7 +37,7 @@ remembers_shown w v v' h item r s = record {
 }
 
 -- A memory with the same cells shows the same.
-pub shows_same : (m n : Cells) (was : Cell → ℤ) → n.arrays ≡ m.arrays → ((d : ℕ) → rows_on n d ≡ rows_on m d) → Shows m was → Shows n was
+pub shows_same : (m n : MemoryView) (was : Cell → ℤ) → n.arrays ≡ m.arrays → ((d : ℕ) → rows_on n d ≡ rows_on m d) → Shows m was → Shows n was
 shows_same m n was arrays rows shows = λ cell. by_cell cell
   where
     by_cell : (c : Cell) → IsTrue (is_held n c) → cell_of n c ≡ was c
@@ -50,7 +50,7 @@ same_values f g lo zero same = refl
 same_values f g lo (suc n) same = rw (same lo) (ap (λ zs. g lo ∷ zs) (same_values f g (lo + 1) n same))
 
 -- The cells of a range of a host array have the values that the memory shows.
-pub shows_values : (m : Cells) (r : Range) (was : Cell → ℤ) → Shows m was → values_of (cell_of m) r ≡ values_of was r
+pub shows_values : (m : MemoryView) (r : Range) (was : Cell → ℤ) → Shows m was → values_of (cell_of m) r ≡ values_of was r
 shows_values m r was shows =
     same_values (λ i. cell_of m (Host_cell r.array i)) (λ i. was (Host_cell r.array i)) r.lo r.len (λ i. shows (Host_cell r.array i) refl)
 
@@ -61,7 +61,7 @@ reaches_is (cells ∷ arrays) zero end = refl
 reaches_is (cells ∷ arrays) (suc array) end = reaches_is arrays array end
 
 -- A range that lies in its array ends in it, also where the memory's arrays are only as long.
-pub has_same : (m : Cells) (arrays : List (List ℤ)) (r : Range) → lengths_of m.arrays ≡ lengths_of arrays → is_in_array arrays r ≡ true → has_array m r ≡ true
+pub has_same : (m : MemoryView) (arrays : List (List ℤ)) (r : Range) → lengths_of m.arrays ≡ lengths_of arrays → is_in_array arrays r ≡ true → has_array m r ≡ true
 has_same m arrays r e inside =
     ap (λ lengths. ends_in lengths r) e
     ∙ (reaches_is arrays r.array (r.lo + r.len) ∙ (and_parts (nat_lt 0 r.len) (ends_within (slice_get arrays r.array) (r.lo + r.len)) inside).1)
@@ -109,7 +109,7 @@ length_blocks (Release b) bs =
     omega (arith, both)
 
 -- the rows are as many as the blocks that are there
-pub length_held : (m : Cells) → length (held_blocks m 0) ≡ length (rows_on m 0)
+pub length_held : (m : MemoryView) → length (held_blocks m 0) ≡ length (rows_on m 0)
 length_held m = length-map (rows_on m 0) (λ row. record { block = row.block; range = row.range })
 
 -- The memory has no more rows than it had, and those that the operation made.

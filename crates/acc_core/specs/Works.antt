@@ -9,7 +9,7 @@ use Rattle.acc_core.specs.declared.log.WorkEntry.{WorkEntry}
 use Rattle.acc_core.specs.declared.log.WorkEntry.TheVariants as entry
 use Rattle.acc_batch.specs.declared.operation.Op.{Op}
 use Rattle.acc_core.specs.Logs.{items_of, all_items, after_item}
-use Rattle.acc_memory.specs.Memories.{Cells, Shows, rows_on, room_on, held_blocks, blocks_after, lengths_of, MayPerform}
+use Rattle.acc_memory.specs.Memories.{MemoryView, Shows, rows_on, room_on, held_blocks, blocks_after, lengths_of, MayPerform}
 use Rattle.acc_memory.specs.Values.{Cell, values_of, after_op}
 
 abbrev pub sync : QueueAt
@@ -18,7 +18,7 @@ sync = record { device = 0; queue = 0 }
 -- The memory; the log, the latest entry first, and how many entries there is room for; what is left of the batch in
 -- the lane, the host of that batch, and how many items it had before.
 pub record WorkView : Type 0 where
-  pub memory : Cells
+  pub memory : MemoryView
   pub work : List WorkEntry
   pub room : ℕ
   pub lane : List Op

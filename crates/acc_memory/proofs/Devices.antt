@@ -6,12 +6,12 @@ use Rattle.std.proofs.lemmas.Option.{slice_get_read}
 use Rattle.acc_base.specs.declared.range.Range.{Range}
 use Rattle.acc_batch.specs.declared.operation.Op.{Op}
 use Rattle.acc_batch.specs.declared.operation.Op.TheVariants.{CopyOut}
-use Rattle.acc_memory.specs.Memories.{Row, DeviceRows, Cells, rows_in, room_in, find_row, row_cell, row_has, cell_of, Shows, ShowsRows, ShowsArray, blocks_after, made_of, lengths_of, PerformsOn}
+use Rattle.acc_memory.specs.Memories.{Row, DeviceRows, MemoryView, rows_in, room_in, find_row, row_cell, row_has, cell_of, Shows, ShowsRows, ShowsArray, blocks_after, made_of, lengths_of, PerformsOn}
 use Rattle.acc_memory.specs.Values.{Cell, Host_cell, Block_cell, or_empty, or_zero, values_of, after_op, after_write}
 use Rattle.acc_memory.proofs.Arrays.{IsReplaced}
 use Rattle.acc_memory.proofs.Copying.{slice_get-set_same, slice_get-set_other, values_are}
 
-abbrev pub memory : List (List ℤ) → List DeviceRows → Cells
+abbrev pub memory : List (List ℤ) → List DeviceRows → MemoryView
 memory arrays devices = record { arrays = arrays; devices = devices }
 
 abbrev pub cell_in : List (List ℤ) → ℕ → ℕ → ℤ
@@ -102,7 +102,7 @@ shows_write old new ds array cell value before was low is shows (Host_cell a i) 
     ]
 
 -- the values of a range are those of its array's cells
-pub range_values : (m : Cells) (r : Range) (arr : List ℤ) → slice_get m.arrays r.array ≡ Some arr → r.lo + r.len ≤ length arr → take r.len (drop r.lo arr) ≡ values_of (cell_of m) r
+pub range_values : (m : MemoryView) (r : Range) (arr : List ℤ) → slice_get m.arrays r.array ≡ Some arr → r.lo + r.len ≤ length arr → take r.len (drop r.lo arr) ≡ values_of (cell_of m) r
 range_values m r arr array long =
     values_are (λ i. cell_of m (Host_cell r.array i)) arr r.lo r.len long (λ i. ap (λ o. or_zero (slice_get (or_empty o) i)) (sym array))
 

@@ -6,7 +6,7 @@ use Rattle.std.proofs.lemmas.List.Elements.{All-cons, All-append, All-filter, Al
 use Rattle.acc_base.specs.declared.range.Range.{Range}
 use Rattle.acc_batch.specs.declared.operation.Op.{Op}
 use Rattle.acc_batch.specs.declared.operation.Op.TheVariants.{Make, CopyIn, CopyOut, Release, Run}
-use Rattle.acc_memory.specs.Memories.{Made, Cells, AllFit, HasRange, PerformsOn, reaches, ends_in, has_array, lengths_of, held_blocks, blocks_after, find_block}
+use Rattle.acc_memory.specs.Memories.{Made, MemoryView, AllFit, HasRange, PerformsOn, reaches, ends_in, has_array, lengths_of, held_blocks, blocks_after, find_block}
 
 -- what holds of each block holds of the one that is found
 all_found : (P : Made → Type 0) (bs : List Made) (n : ℕ) (m : Made) → All P bs → find_block bs n ≡ Some m → P m
@@ -28,7 +28,7 @@ reaches_before None near far low h = h
 reaches_before (Some len) near far low h = le-leb near len (omega (arith, low, leb-true far len h))
 
 -- A range that has a cell, of a block that is there, ends in its array.
-pub range_fits : (m : Cells) (device n : ℕ) (r : Range) → AllFit m → HasRange (held_blocks m device) n r → 0 < r.len → has_array m r ≡ true
+pub range_fits : (m : MemoryView) (device n : ℕ) (r : Range) → AllFit m → HasRange (held_blocks m device) n r → 0 < r.len → has_array m r ≡ true
 range_fits m device n r fit h some =
     let whole : Made = record { block = n; range = h.whole_range } in
     let fits : ends_in (lengths_of m.arrays) h.whole_range ≡ true = all_found (λ b. ends_in (lengths_of m.arrays) b.range ≡ true) (held_blocks m device) n whole (fit device) h.held in
@@ -59,7 +59,7 @@ blocks_fit lengths (Run k uses) bs makes h = h
 blocks_fit lengths (Release b) bs makes h = All-filter (λ k. not (k.block == b)) (λ k. ends_in lengths k.range ≡ true) bs h
 
 -- So the blocks lie in their arrays after an operation.
-pub fits_after : (device : ℕ) (op : Op) (old new : Cells) → AllFit old → MakesFit (lengths_of old.arrays) op → PerformsOn device op old new → AllFit new
+pub fits_after : (device : ℕ) (op : Op) (old new : MemoryView) → AllFit old → MakesFit (lengths_of old.arrays) op → PerformsOn device op old new → AllFit new
 fits_after device op old new fit makes p d =
     rw p.lengths (elim (cases_eq d device) [
       | inl same ↦ rw (same, p.blocks) (blocks_fit (lengths_of old.arrays) op (held_blocks old device) makes (fit device))
@@ -67,5 +67,5 @@ fits_after device op old new fit makes p d =
     ])
 
 -- and where the arrays are as long and the blocks the same
-pub fits_kept : (old new : Cells) → AllFit old → lengths_of new.arrays ≡ lengths_of old.arrays → ((d : ℕ) → held_blocks new d ≡ held_blocks old d) → AllFit new
+pub fits_kept : (old new : MemoryView) → AllFit old → lengths_of new.arrays ≡ lengths_of old.arrays → ((d : ℕ) → held_blocks new d ≡ held_blocks old d) → AllFit new
 fits_kept old new fit lengths blocks d = rw (lengths, blocks d) (fit d)

@@ -23,7 +23,7 @@ pub record DeviceRows : Type 0 where
   pub room : ℕ
 
 -- The host arrays, and the blocks of each device.
-pub record Cells : Type 0 where
+pub record MemoryView : Type 0 where
   pub arrays : List (List ℤ)
   pub devices : List DeviceRows
 
@@ -36,10 +36,10 @@ room_in None = 0
 room_in (Some device) = device.room
 
 -- the rows of a device, and how many there is memory for
-abbrev pub rows_on : Cells → ℕ → List Row
+abbrev pub rows_on : MemoryView → ℕ → List Row
 rows_on m device = rows_in (slice_get m.devices device)
 
-abbrev pub room_on : Cells → ℕ → ℕ
+abbrev pub room_on : MemoryView → ℕ → ℕ
 room_on m device = room_in (slice_get m.devices device)
 
 abbrev pub find_row : List Row → ℕ → Option Row
@@ -50,7 +50,7 @@ row_cell None cell = pos 0
 row_cell (Some row) cell = or_zero (slice_get row.cells (cell - row.range.lo))
 
 -- what a cell holds, zero where there is none
-abbrev pub cell_of : Cells → Cell → ℤ
+abbrev pub cell_of : MemoryView → Cell → ℤ
 cell_of m (Host_cell array cell) = or_zero (slice_get (or_empty (slice_get m.arrays array)) cell)
 cell_of m (Block_cell device block cell) = row_cell (find_row (rows_on m device) block) cell
 
@@ -59,12 +59,12 @@ row_has None cell = false
 row_has (Some row) cell = is_in row.range cell
 
 -- a cell of a host array, or of a block that is there
-abbrev pub is_held : Cells → Cell → Bool
+abbrev pub is_held : MemoryView → Cell → Bool
 is_held m (Host_cell array cell) = true
 is_held m (Block_cell device block cell) = row_has (find_row (rows_on m device) block) cell
 
 -- A memory shows these values, wherever it holds the cell.
-abbrev pub Shows : Cells → (Cell → ℤ) → Type 0
+abbrev pub Shows : MemoryView → (Cell → ℤ) → Type 0
 Shows m was = (c : Cell) → IsTrue (is_held m c) → cell_of m c ≡ was c
 
 -- So do the rows of a device, and the cells of a host array.
@@ -84,7 +84,7 @@ abbrev pub made_of : Row → Made
 made_of row = record { block = row.block; range = row.range }
 
 -- the blocks that are there, with their ranges
-abbrev pub held_blocks : Cells → ℕ → List Made
+abbrev pub held_blocks : MemoryView → ℕ → List Made
 held_blocks m device = map made_of (rows_on m device)
 
 -- a block is placed behind those with smaller numbers
@@ -136,11 +136,11 @@ reaches (Some len) end = nat_le end len
 abbrev pub ends_in : List ℕ → Range → Bool
 ends_in lengths range = reaches (slice_get lengths range.array) (range.lo + range.len)
 
-abbrev pub has_array : Cells → Range → Bool
+abbrev pub has_array : MemoryView → Range → Bool
 has_array m range = ends_in (lengths_of m.arrays) range
 
 -- What every memory keeps: each block's range ends in its array.
-abbrev pub AllFit : Cells → Type 0
+abbrev pub AllFit : MemoryView → Type 0
 AllFit m = (d : ℕ) → All (λ (b : Made). ends_in (lengths_of m.arrays) b.range ≡ true) (held_blocks m d)
 
 -- The block is there, and each cell of this range is one of its own.
@@ -155,7 +155,7 @@ HasRanges bs uses = All (λ (u : Use). HasRange bs u.0 u.1) uses
 
 -- When an operation may be performed on a device: a block that is made isn't there, its range ends in its array, and there
 -- is room for it; a block that is copied, released or used by a loop is there.
-abbrev pub MayPerform : Cells → ℕ → Op → Type 0
+abbrev pub MayPerform : MemoryView → ℕ → Op → Type 0
 MayPerform m device (Make b r) =
     (find_block (held_blocks m device) b ≡ None) × (has_array m r ≡ true) × (length (rows_on m device) < room_on m device)
 MayPerform m device (CopyIn b r) = HasRange (held_blocks m device) b r
@@ -171,11 +171,11 @@ HasZeros (task.CopyOut b r) = Unit {0}
 HasZeros (task.Release b) = Unit {0}
 HasZeros (task.Run j) = Unit {0}
 
-abbrev pub IsAllowed : Cells → ℕ → Task → Type 0
+abbrev pub IsAllowed : MemoryView → ℕ → Task → Type 0
 IsAllowed m device t = MayPerform m device (op_of t) × HasZeros t
 
 -- An operation was performed on a device: the memory shows its effect, and nothing else changed.
-pub record PerformsOn (device : ℕ) (op : Op) (old new : Cells) : Type 0 where
+pub record PerformsOn (device : ℕ) (op : Op) (old new : MemoryView) : Type 0 where
   pub shows : (was : Cell → ℤ) → Shows old was → Shows new (after_op device op was)
   pub blocks : held_blocks new device ≡ blocks_after op (held_blocks old device)
   pub others : (d : ℕ) → (d ≡ device → ⊥) → held_blocks new d ≡ held_blocks old d

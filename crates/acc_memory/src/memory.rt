@@ -22,9 +22,9 @@ pub struct Memory {
 
 impl Model for Memory {
     ghost use Rattle.std.specs.Prelude.{map};
-    ghost use Rattle.acc_memory.specs.Memories.{Cells, AllFit};
+    ghost use Rattle.acc_memory.specs.Memories.{MemoryView, AllFit};
 
-    ghost Value = { Cells };
+    ghost Value = { MemoryView };
 
     ghost view = { λ m. record { arrays = map (λ v. v.items) m.arrays.items; devices = m.devices.items } };
 
