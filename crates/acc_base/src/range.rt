@@ -1,4 +1,4 @@
-ghost use Rattle.std.specs.Prelude.{◌≡◌, ◌+◌, ◌↔◌, ◌<◌, IsTrue};
+ghost use Rattle.std.specs.Prelude.{◌≡◌, ◌+◌, ◌↔◌, IsTrue};
 ghost use Rattle.acc_base.specs.Ranges.{Includes, Meets, range_contains, range_overlaps};
 
 /// The cells `lo` to `lo + len - 1` of an array; the arrays are numbered from 0. A range may have no

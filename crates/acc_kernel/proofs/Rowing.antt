@@ -116,7 +116,6 @@ module _ (uses : List Use) (rows : List (List ℤ)) (array : ℕ) (cell value : 
       → value_in (get_or written place []) (c -ℤ pos (get_or uses place no_use).1.lo)
       ≡ (if int_eq cell c then value else value_in (get_or rows place []) (c -ℤ pos (get_or uses place no_use).1.lo))
   own s at c =
-      let lo : ℕ = (get_or uses place no_use).1.lo in
       let inside : n < length (get_or rows place []) = (let long = s.long in let high = s.high in omega (arith, ints)) in
       ap (λ (l : List ℤ). value_in l (c -ℤ pos (get_or uses place no_use).1.lo)) (get_or-set_same rows place (set (get_or rows place []) n value) [] s.there)
       ∙ value_in-set (get_or rows place []) n (get_or uses place no_use).1.lo cell c value inside at

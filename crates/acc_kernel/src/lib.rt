@@ -27,4 +27,4 @@ pub use limits::{MAX_DEPTH, MAX_DISTANCE, MAX_STATEMENTS};
 pub use operator::Operator;
 pub use reach::Reach;
 pub use uses::are_distinct;
-pub use window::Window;
+pub use window::{Window, distance};

@@ -1,10 +1,9 @@
-ghost use Rattle.std.specs.Prelude.{◌≡◌, ◌==◌, ℕ, ℤ, ◌+◌, ◌<◌, ◌≤ℤ◌, ◌<ℤ◌, ◌-ℤ◌, pos, [], map, length, replicate, slice_index_or, slice_set, slice_get, Some, IfOk, IfErr, IsTrue, ◌^◌};
+ghost use Rattle.std.specs.Prelude.{◌≡◌, ℕ, ◌+◌, ◌<◌, [], length, slice_index_or, slice_set, IfOk, IfErr, ◌^◌};
 ghost use Rattle.acc_base.specs.declared.fault.Fault.TheVariants as fault;
-ghost use Rattle.acc_kernel.specs.Cells.{with_cell};
 ghost use Rattle.acc_kernel.specs.Jobs.{AreRows, zero_rows, has_cell, cell_in, place_of, no_use};
 ghost use Rattle.acc_kernel.specs.RowTables.{Stored, IsTable};
 
-use crate::window::Window;
+use crate::window::{Window, distance};
 use acc_base::{BlockId, Fault, Range};
 use acc_raw::Cells;
 use std::alloc::Global;
@@ -111,13 +110,6 @@ impl Window for Rows {
     ghost keeps_itself = { λ w. refl };
 
     ghost keeps_on = { λ u v w e f. f ∙ e };
-}
-
-fn distance(cell: i64, lo: u32) -> usize
-    requires { pos lo ≤ℤ cell }
-    ensures { cell -ℤ pos lo ≡ pos result }
-{
-    (cell - i64::from(lo)) as usize
 }
 
 fn zero_rows(alloc: Global, uses: &[(BlockId, Range)]) -> Result<Vec<Cells>, Fault>

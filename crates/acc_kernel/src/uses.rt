@@ -1,4 +1,4 @@
-ghost use Rattle.std.specs.List.{position, list_any};
+ghost use Rattle.std.specs.List.{position};
 ghost use Rattle.std.specs.Prelude.{◌≡◌, ◌==◌, ◌↔◌, IsTrue};
 ghost use Rattle.acc_kernel.specs.Jobs.{AreDistinct, has_cell, is_lacking, place_of};
 

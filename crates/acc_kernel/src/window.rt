@@ -1,4 +1,4 @@
-ghost use Rattle.std.specs.Prelude.{◌≡◌, ℕ, ℤ, Bool, IsTrue};
+ghost use Rattle.std.specs.Prelude.{◌≡◌, ℕ, ℤ, ◌-ℤ◌, ◌≤ℤ◌, pos, Bool, IsTrue};
 ghost use Rattle.acc_kernel.specs.Cells.{with_cell};
 
 /// Cells of some arrays, that a loop reads and writes.
@@ -27,4 +27,12 @@ pub trait Window {
     ghost keeps_itself: { (w : Self) → keeps w w };
 
     ghost keeps_on: { (u v w : Self) → keeps u v → keeps v w → keeps u w };
+}
+
+/// How far a cell is behind the first of a range.
+pub fn distance(cell: i64, lo: u32) -> usize
+    requires { pos lo ≤ℤ cell }
+    ensures { cell -ℤ pos lo ≡ pos result }
+{
+    (cell - i64::from(lo)) as usize
 }

@@ -96,6 +96,7 @@ impl Blocks {
         ensures room { self.new.room ≡ self.old.room }
     {
         let place = place_of(self.blocks.as_slice(), block.block);
+        // There is room for it.
         let _ = self.blocks.insert(place, block);
     }
 

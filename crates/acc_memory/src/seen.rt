@@ -1,9 +1,9 @@
-ghost use Rattle.std.specs.Prelude.{◌≡◌, ℕ, ℤ, ◌-ℤ◌, ◌≤ℤ◌, pos, IsTrue};
+ghost use Rattle.std.specs.Prelude.{◌≡◌, ℕ, ℤ, IsTrue};
 ghost use Rattle.acc_kernel.specs.Kernels.{Reaches, value_after};
 ghost use Rattle.acc_memory.specs.Seen.{is_seen, seen_in, KeepsBlocks};
 
 use acc_batch::Block;
-use acc_kernel::{Kernel, Window};
+use acc_kernel::{Kernel, Window, distance};
 
 /// The blocks of a device as a loop sees them: the cells of an array are those of the block at its place.
 #[derive(Drop)]
@@ -66,11 +66,4 @@ impl<'a> Window for Seen<'a> {
         unseen = λ i b at apart. f.2.unseen i b (e.2.unseen i b at apart) (λ there. apart (ap (λ ps. slice_get ps b.range.array) (sym e.1) ∙ there));
       },
     ) };
-}
-
-fn distance(cell: i64, lo: u32) -> usize
-    requires { pos lo ≤ℤ cell }
-    ensures { cell -ℤ pos lo ≡ pos result }
-{
-    (cell - i64::from(lo)) as usize
 }
