@@ -1,2 +1,5 @@
+pub mod Labels
+pub mod NextOperation
 pub mod OneQueue
 mod Readiness
+pub mod Wholes

@@ -1,13 +1,12 @@
 -- How many batches of a queue are performed.
-use Rattle.std.proofs.Common.{◌≡◌, ℕ, ◌+◌, ◌-◌, ◌<◌, ◌≤◌, false, List, [], ◌∷◌, ◌++◌, length, take, drop, refl, sym, ap, ◌∙◌, arith}
-use Rattle.std.specs.Prelude.{All}
-use Rattle.std.proofs.lemmas.Bool.{le-leb, lt-leb}
+use Rattle.std.proofs.Common.{◌≡◌, ℕ, ◌+◌, ◌-◌, ◌<◌, ◌≤◌, false, List, [], ◌∷◌, ◌++◌, length, take, drop, sym, ap, ◌∙◌, arith}
 use Rattle.std.proofs.lemmas.List.{length-append, length-drop, length-take-le, take-append-drop}
-use Rattle.std.proofs.lemmas.List.Elements.{All-head, All-drop}
+use Rattle.std.proofs.lemmas.List.Elements.{All-drop}
 use Rattle.acc_base.specs.declared.ids.QueueAt.{QueueAt}
 use Rattle.acc_base.specs.Queues.{same_queue}
 use Rattle.acc_batch.specs.declared.operation.Label.{Label}
 use Rattle.acc_batch.specs.Labels.{on_queue, ops_of, whole}
+use Rattle.acc_batch.proofs.Wholes.{whole_behind, none_whole, none_begun}
 use Rattle.acc_core.specs.Legality.{Legal}
 use Rattle.acc_core.specs.Logs.{done, performed}
 use Rattle.acc_core.specs.Machine.{State}
@@ -15,26 +14,6 @@ use Rattle.acc_core.specs.Ties.{Queued, labels_of, performed_count}
 use Rattle.acc_core.specs.Works.{WorkView, sync}
 use Rattle.acc_core.proofs.Elsewhere.{none_placed}
 use Rattle.acc_core.proofs.Lanes.{ops_of_taken}
-
--- the batches that end within the first operations are counted, and then those behind them
-whole_behind : (earlier later : List Label) (n : ℕ) → length (ops_of earlier) ≤ n → whole (earlier ++ later) n ≡ length earlier + whole later (n - length (ops_of earlier))
-whole_behind [] later n h =
-    let same : n - 0 ≡ n = omega arith in
-    rw same (omega arith)
-whole_behind (l ∷ earlier) later n h =
-    let size : length (ops_of (l ∷ earlier)) ≡ length l.ops + length (ops_of earlier) = length-append l.ops (ops_of earlier) in
-    let ih = whole_behind earlier later (n - length l.ops) (omega (arith, h, size)) in
-    let rest : n - length l.ops - length (ops_of earlier) ≡ n - length (ops_of (l ∷ earlier)) = omega (arith, h, size) in
-    rw (le-leb (length l.ops) n (omega (arith, h, size)), ← rest) (omega (arith, ih))
-
--- a batch that isn't whole isn't counted, nor is what stands behind it
-none_whole : (l : Label) (later : List Label) (n : ℕ) → n < length l.ops → whole (l ∷ later) n ≡ 0
-none_whole l later n h = rw (lt-leb (length l.ops) n h) refl
-
--- no batch of these is counted where no operation is performed
-none_begun : (later : List Label) → All (λ (l : Label). 0 < length l.ops) later → whole later 0 ≡ 0
-none_begun [] h = refl
-none_begun (l ∷ later) h = none_whole l later 0 (All-head (λ (l : Label). 0 < length l.ops) l later h)
 
 -- where the lane is empty all batches that were taken are performed
 pub done_all : (w : State) (v : WorkView) (queue : List Label) (t waiting : ℕ) → Queued w v queue t waiting → length v.lane ≤ 0 → done (labels_of w) w.work sync ≡ t

@@ -12,8 +12,8 @@ use Rattle.acc_core.specs.Machine.{State, Outcome, idle, is_there, held, rest, t
 use Rattle.acc_core.specs.Ties.{labels_of}
 use Rattle.acc_core.specs.Works.{sync}
 use Rattle.acc_core.proofs.Histories.{placed_use}
-use Rattle.acc_core.proofs.Performing.{no_rest}
 use Rattle.acc_base.proofs.SameQueue.{same_queue_is, same_queue_itself}
+use Rattle.acc_batch.proofs.Labels.{no_rest}
 use Rattle.acc_batch.proofs.OneQueue.{on_queue_none}
 
 -- a queue that isn't sync has no batch

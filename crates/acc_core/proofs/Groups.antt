@@ -4,12 +4,16 @@ use Rattle.std.specs.Prelude.{Contains, All, not, filter, IsTrue, ℤ, Option, S
 use Rattle.std.specs.List.{flat_map}
 use Rattle.std.proofs.lemmas.Bool.{cases_Bool, ltb-true}
 use Rattle.std.proofs.lemmas.List.{append_assoc, append-nil}
-use Rattle.std.proofs.lemmas.List.Elements.{Contains-append_cases, Contains-append_left, Contains-append_right, All-nil, All-cons, All-head, All-tail, All-append, All-map, All-contains_itself, All-weaker}
+use Rattle.std.proofs.lemmas.List.Elements.{Contains-append_cases, Contains-append_left, Contains-append_right, All-nil, All-cons, All-head, All-tail, All-append, All-map, All-contains, All-contains_itself, All-weaker}
+use Rattle.std.proofs.lemmas.List.Kept.{AllPairs-filter}
 use Rattle.acc_base.specs.declared.range.Range.{Range}
 use Rattle.acc_base.specs.Ranges.{Includes}
+use Rattle.acc_base.proofs.Members.{no_member, member_first, member_rest, member_one, member_filter, member_map}
 use Rattle.acc_base.proofs.Sets.{includes_from_test}
 use Rattle.acc_present.specs.Marks.{Mark}
 use Rattle.acc_present.specs.Lifetimes.{Lifetime, opened, live, lives}
+use Rattle.acc_present.proofs.Apart.{Differ, Apart, apart_first, apart_others}
+use Rattle.acc_present.proofs.Numbering.{numbered}
 use Rattle.acc_batch.specs.declared.operation.Op.{Op}
 use Rattle.acc_batch.specs.declared.operation.Op.TheVariants.{Make, CopyIn, CopyOut, Release, Run}
 use Rattle.acc_kernel.specs.Jobs.{Use}
@@ -23,8 +27,6 @@ use Rattle.acc_place.specs.Batches.{opened_blocks, ended_blocks, holding_blocks,
 use Rattle.acc_place.specs.Accepting.{is_in_array}
 use Rattle.acc_core.specs.Legality.{made, released, HoldsBlock}
 use Rattle.acc_memory.specs.Memories.{Made}
-use Rattle.acc_core.proofs.Members.{no_member, member_first, member_rest, member_one, member_filter, member_map, Apart, apart_filter}
-use Rattle.acc_core.proofs.Blocks.{numbered}
 use Rattle.acc_core.proofs.Uses.{made-append, released-append, AllUse, AllUse-append, marked_by, visit_is, visit, made_of, Booked, booked_more, ended_is, held_block_is, is_opened, new_made, new_is_made, live_member}
 
 -- A block of these was made with a range that has this one, and is none of the released ones.
@@ -265,18 +267,18 @@ releases_all : (arrays : List (List ℤ)) (ls : List Lifetime) (before : List Op
 releases_all arrays [] before apart makes gone = tt
 releases_all arrays (l ∷ ls) before apart makes gone = (
   (l.range, record { whole_range = l.range; is_made = makes l (member_first l ls); not_released = gone l (member_first l ls); inside = includes_itself l.range }),
-  releases_all arrays ls (before ++ Release l.block ∷ []) apart.1
+  releases_all arrays ls (before ++ Release l.block ∷ []) (apart_others l ls apart)
       (λ k c. rw (made_same before (Release l.block) (made before) refl refl) (makes k (member_rest k l ls c)))
       (λ k c g. elim (Contains-append_cases (released before) (l.block ∷ []) k.block (rw (released-append before (Release l.block ∷ [])) at g)) [
         | inl old ↦ gone k (member_rest k l ls c) old
-        | inr new ↦ apart.0 k c (member_one k.block l.block new)
+        | inr new ↦ All-contains (Differ l) ls k (apart_first l ls apart) c (member_one k.block l.block new)
       ]),
 )
 
 -- no two lifetimes that live have one block
 live_apart : (ms : List Mark) → Apart (live ms)
 unfolding live
-live_apart ms = apart_filter (lives ms) (opened ms) (numbered ms).apart
+live_apart ms = AllPairs-filter Differ (lives ms) (opened ms) (numbered ms).apart
 
 -- The releases of all visits of a directive use live blocks.
 pub releases_use : (arrays : List (List ℤ)) (asks : List Asked) (ms : List Mark) (makings : List Made) (before : List Op) → Booked ms makings (released before) →
@@ -293,7 +295,7 @@ releases_use arrays (a ∷ asks) ms makings before h sub =
     let same : made (before ++ releases (visit ms a)) ≡ made before =
     made-append before (releases (visit ms a)) ∙ (ap (λ r. made before ++ r) (made_releases (ended_blocks (visit ms a))) ∙ append-nil (made before)) in
     AllUse-append arrays before (releases (visit ms a)) (flat_map releases (visits (marked_by ms a) asks))
-    (releases_all arrays over before (apart_filter (λ l. not (lives (marked_by ms a) l)) (live ms) (live_apart ms))
+    (releases_all arrays over before (AllPairs-filter Differ (λ l. not (lives (marked_by ms a) l)) (live ms) (live_apart ms))
     (λ l c. sub (made_of l) (Contains-append_left makings (makings_of (visits ms (a ∷ asks))) (made_of l) (h.made_all l (member l c).1)))
     (λ l c. h.gone_dead l (member l c).1 (member l c).0))
     (releases_use arrays asks (marked_by ms a) (makings ++ here) (before ++ releases (visit ms a))

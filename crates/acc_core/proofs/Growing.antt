@@ -9,10 +9,11 @@ use Rattle.acc_core.specs.declared.log.Shown.{Shown}
 use Rattle.acc_core.specs.declared.log.Shown.TheVariants as shown
 use Rattle.acc_core.specs.declared.log.WorkEntry.{WorkEntry}
 use Rattle.acc_core.specs.declared.log.WorkEntry.TheVariants as entry
-use Rattle.acc_batch.specs.Labels.{on_queue, ops_of, whole, batch_at}
+use Rattle.acc_batch.specs.Labels.{on_queue, ops_of, batch_at}
+use Rattle.acc_batch.proofs.Labels.{ops_of-append, on_queue-append}
+use Rattle.acc_batch.proofs.Wholes.{whole-more}
 use Rattle.acc_core.specs.Legality.{InOrder, ShowsTruth, InHostOrder}
 use Rattle.acc_core.specs.Logs.{performed, done, all_done, host_allows}
-use Rattle.acc_core.proofs.Queues.{ops_of-append, on_queue-append}
 
 -- an operation that its batch allows is still allowed
 pub host_allows-more : (ls more : List Label) (n : ℕ) (work : List WorkEntry) → IsTrue (host_allows (batch_at ls n) work) → IsTrue (host_allows (batch_at (ls ++ more) n) work)
@@ -21,14 +22,6 @@ host_allows-more (l ∷ ls) more n work h =
     elim (nat_lt n (length l.ops))
     as (λ v. IsTrue (host_allows (cond v (Some l) (batch_at ls (n - length l.ops))) work) → IsTrue (host_allows (cond v (Some l) (batch_at (ls ++ more) (n - length l.ops))) work))
     [ true ↦ (λ k. k) | false ↦ (λ k. host_allows-more ls more (n - length l.ops) work k) ] h
-
--- no fewer batches are performed
-pub whole-more : (ls more : List Label) (n : ℕ) → whole ls n ≤ whole (ls ++ more) n
-whole-more [] more n = omega arith
-whole-more (l ∷ ls) more n =
-    let ih = whole-more ls more (n - length l.ops) in
-    elim (nat_le (length l.ops) n) as (λ v. cond v (1 + whole ls (n - length l.ops)) 0 ≤ cond v (1 + whole (ls ++ more) (n - length l.ops)) 0)
-    [ true ↦ omega (arith, ih) | false ↦ omega arith ]
 
 -- no fewer batches of each queue are performed
 pub done-more : (labels more : List Label) (work : List WorkEntry) (at : QueueAt) → done labels work at ≤ done (labels ++ more) work at

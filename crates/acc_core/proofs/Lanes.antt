@@ -3,16 +3,8 @@ use Rattle.std.proofs.Common.{◌≡◌, ℕ, zero, suc, ◌+◌, ◌-◌, ◌<�
 use Rattle.std.proofs.lemmas.List.{append_assoc, length-append, length-drop, take-append-drop, append-nil, drop_at, take_at, length-take-le}
 use Rattle.acc_batch.specs.declared.operation.Label.{Label}
 use Rattle.acc_batch.specs.Labels.{ops_of, batch_at}
+use Rattle.acc_batch.proofs.Labels.{ops_of-append, batch_at-append}
 use Rattle.acc_core.specs.Ties.{IsLaneOf}
-use Rattle.acc_core.proofs.Queues.{ops_of-append}
-
-batch_at-append : (xs : List Label) (l : Label) (ys : List Label) (k : ℕ) → k < length l.ops → batch_at (xs ++ l ∷ ys) (length (ops_of xs) + k) ≡ Some l
-batch_at-append [] l ys k h = grind arith
-batch_at-append (x ∷ xs) l ys k h =
-    let ih = batch_at-append xs l ys k h in
-    let e : length (x.ops ++ ops_of xs) + k - length x.ops ≡ length (ops_of xs) + k = omega (arith, length-append x.ops (ops_of xs)) in
-    let f : length x.ops ≤ length (x.ops ++ ops_of xs) + k = omega (arith, length-append x.ops (ops_of xs)) in
-    grind (arith, ih, e, f)
 
 -- what stands at a place, and what stands behind it
 pub take_one_more : {X : Type 0} (t : ℕ) (xs : List X) (x : X) (more : List X) → drop t xs ≡ x ∷ more → (take (t + 1) xs ≡ take t xs ++ x ∷ []) × (drop (t + 1) xs ≡ more) × (t < length xs)
@@ -74,10 +66,3 @@ batch_at_next {ls = ls} {t = t} {n = n} b h =
     let place : n ≡ length (ops_of b.earlier) + k = omega (arith, b.begun) in
     let at : batch_at (b.earlier ++ b.label ∷ b.later) (length (ops_of b.earlier) + k) ≡ Some b.label = batch_at-append b.earlier b.label b.later k short in
     ap (λ r. batch_at r n) b.split ∙ (ap (λ m. batch_at (b.earlier ++ b.label ∷ b.later) m) place ∙ at)
-
--- all operations are those of the batches that were taken, and then the others
-pub ops_of_all : (t : ℕ) (ls : List Label) → ops_of ls ≡ ops_of (take t ls) ++ ops_of (drop t ls)
-ops_of_all t ls = ap ops_of (sym (take-append-drop t ls)) ∙ ops_of-append (take t ls) (drop t ls)
-
-pub ops_of-take-le : (t : ℕ) (ls : List Label) → length (ops_of (take t ls)) ≤ length (ops_of ls)
-ops_of-take-le t ls = omega (arith, ap length (ops_of_all t ls), length-append (ops_of (take t ls)) (ops_of (drop t ls)))

@@ -15,7 +15,7 @@ use Rattle.acc_place.specs.Accepting.{refusal, is_deep}
 use Rattle.acc_place.specs.Batches.{batch_of, labelled, next_number, walk_at}
 use Rattle.acc_place.specs.Histories.{AllAccepted, standing}
 use Rattle.acc_place.specs.Standings.{Standing, walk_of}
-use Rattle.acc_core.proofs.Faultless.{no_fault_of}
+use Rattle.acc_place.proofs.Faultless.{no_fault_of}
 
 -- an accepted directive isn't behind the last of a run
 pub accepted_few : (config : Configuration) (st : Standing) (host : ℕ) (d : Directive) → refusal config st host d ≡ None → st.accepted < MAX_DIRECTIVES

@@ -1,8 +1,8 @@
 -- The operation that a queue performs next is the next of all that were placed there, and uses live blocks.
-use Rattle.std.proofs.Common.{inl, inr, ◌≡◌, ℕ, zero, suc, List, [], ◌∷◌, ◌++◌, length, take, drop, refl, sym, ap, ◌∙◌}
+use Rattle.std.proofs.Common.{inl, inr, ◌≡◌, ℕ, List, [], ◌∷◌, ◌++◌, length, take, drop, sym, ap, ◌∙◌}
 use Rattle.std.specs.Prelude.{ℤ}
 use Rattle.std.proofs.lemmas.Bool.{cases_Bool}
-use Rattle.std.proofs.lemmas.List.{append_assoc, append-nil, take-append-drop}
+use Rattle.std.proofs.lemmas.List.{append_assoc, append-nil}
 use Rattle.acc_base.specs.declared.ids.QueueAt.{QueueAt}
 use Rattle.acc_base.specs.Queues.{same_queue}
 use Rattle.acc_core.specs.declared.log.WorkEntry.{WorkEntry}
@@ -16,31 +16,18 @@ use Rattle.acc_core.specs.Machine.{State, standing_of, taken_on, rest}
 use Rattle.acc_core.specs.Works.{sync}
 use Rattle.acc_core.proofs.Histories.{placed_use}
 use Rattle.acc_base.proofs.SameQueue.{same_queue_is}
+use Rattle.acc_batch.proofs.Labels.{ops_of_all, no_rest}
+use Rattle.acc_batch.proofs.NextOperation.{NextOp, next_in}
 use Rattle.acc_batch.proofs.OneQueue.{on_queue_all, on_queue_none}
-use Rattle.acc_core.proofs.Queues.{ops_of-append, NoneElsewhere, none_elsewhere, device_ops_is}
+use Rattle.acc_core.proofs.Queues.{NoneElsewhere, none_elsewhere, device_ops_is}
 use Rattle.acc_core.proofs.Uses.{AllUse}
-
--- The operations are those that were done, then this one, then more.
-pub record NextOp (done : List Op) (op : Op) (all : List Op) : Type 0 where
-  pub later : List Op
-  pub split : all ≡ done ++ op ∷ later
-
--- where a list is cut in two ways, what the first part of one has behind all of the other comes next in the list
-next_in : (n first second more : List Op) (op : Op) (ops : List Op) {all : List Op} → n ++ more ≡ first ++ second → drop (length n) first ≡ op ∷ ops → all ≡ first ++ second → NextOp n op all
-next_in [] first second more op ops e f g = record { later = ops ++ second; split = g ∙ ap (λ r. r ++ second) f }
-next_in (x ∷ n) [] second more op ops e f g = cc
-next_in (x ∷ n) (y ∷ first) second more op ops e f g =
-    let same : x ≡ y = cc in
-    let rest_same : n ++ more ≡ first ++ second = cc in
-    let ih = next_in n first second more op ops rest_same f refl in
-    record { later = ih.later; split = g ∙ (ap (λ z. z ∷ first ++ second) (sym same) ∙ ap (λ r. x ∷ r) ih.split) }
 
 -- what isn't performed of the first batches begins with the next operation of all of them
 next_of_taken : (labels : List Label) (taken : ℕ) (done : List Op) (op : Op) (ops : List Op) → IsPrefix done (ops_of labels) → drop (length done) (ops_of (take taken labels)) ≡ op ∷ ops → NextOp done op (ops_of labels)
 next_of_taken labels taken done op ops p e =
     let first = ops_of (take taken labels) in
     let second = ops_of (drop taken labels) in
-    let cut : ops_of labels ≡ first ++ second = ap ops_of (sym (take-append-drop taken labels)) ∙ ops_of-append (take taken labels) (drop taken labels) in
+    let cut = ops_of_all taken labels in
     next_in done first second p.0 op ops (p.1 ∙ cut) e cut
 
 -- the next operation of a queue
@@ -62,13 +49,6 @@ in_order_performed labels work at op h next = λ other. elim (cases_Bool (same_q
 use_at : (arrays : List (List ℤ)) (before xs : List Op) (op : Op) (ys : List Op) → AllUse arrays before (xs ++ op ∷ ys) → UsesLive arrays op (before ++ xs)
 use_at arrays before [] op ys h = rw (append-nil before) h.0
 use_at arrays before (x ∷ xs) op ys h = rw (← append_assoc before (x ∷ []) xs) (use_at arrays (before ++ x ∷ []) xs op ys h.1)
-
--- nothing is left where nothing was placed
-pub no_rest : (taken n : ℕ) → drop n (ops_of (take taken [])) ≡ []
-no_rest zero zero = refl
-no_rest zero (suc n) = refl
-no_rest (suc taken) zero = refl
-no_rest (suc taken) (suc n) = refl
 
 -- a queue that has an operation left is queue sync where all batches are placed there
 at_sync : (labels : List Label) (taken n : ℕ) (at : QueueAt) (op : Op) (ops : List Op) → AllAt sync labels → drop n (ops_of (take taken (on_queue at labels))) ≡ op ∷ ops → at ≡ sync

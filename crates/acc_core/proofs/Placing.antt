@@ -26,15 +26,16 @@ use Rattle.acc_core.specs.Logs.{items_of, value}
 use Rattle.acc_core.specs.Machine.{State, standing_of, accepting, is_empty, is_full, held}
 use Rattle.acc_place.specs.Standings.{walk_of}
 use Rattle.acc_memory.specs.Memories.{rows_on, room_on}
+use Rattle.acc_memory.proofs.Showing.{shows_same}
 use Rattle.acc_core.specs.Ties.{Queued, Remembers, IsAccelerator, IsLaneOf, labels_of, performed_count}
 use Rattle.acc_core.specs.Works.{WorkView, HasMadeRoom, sync}
-use Rattle.acc_core.proofs.Faultless.{accepted_fits}
+use Rattle.acc_core.proofs.InArrays.{accepted_fits}
 use Rattle.acc_core.proofs.Histories.{placed_use}
-use Rattle.acc_core.proofs.Remembering.{shows_same}
 use Rattle.acc_core.proofs.OneDevice.{walk_is}
 use Rattle.acc_core.proofs.Keeping.{legal_accepted, legal_hosts, labels_accepted, more_labels}
 use Rattle.acc_base.proofs.SameQueue.{same_queue_itself}
-use Rattle.acc_core.proofs.Queues.{added, on_queue-append, ops_of-append}
+use Rattle.acc_batch.proofs.Labels.{on_queue-append, ops_of-append}
+use Rattle.acc_core.proofs.Queues.{added}
 use Rattle.acc_core.proofs.Taking.{with_taken, held_is}
 
 -- a host that has done nothing
@@ -244,11 +245,6 @@ fault_is : (w : State) (v : WorkView) (queue : List Label) (t waiting host : ℕ
     → fault_of_place false (with_taken w t) host d ≡ queue_fault (length queue == w.config.room)
 fault_is w v queue t waiting host d q one l e some =
     ap (place_fault false (with_taken w t) host d) e ∙ ap queue_fault (full_at w v queue t waiting host d q (acts_on_sync w host d one l e) some)
-
--- A directive with an empty batch is answered without one.
-pub places_empty : (w w' : State) (host : ℕ) (d : Directive) (placed : Placed) → refusal w.config (standing_of w) host d ≡ None → batch_of (standing_of w) (walk_of (standing_of w) host d) ≡ []
-    → placed ≡ answer_of (standing_of w) d (walk_of (standing_of w) host d) → w' ≡ after_accept w host d → Places w host d (Ok placed) w'
-places_empty w w' host d placed e none answer is = (rw (e, none) refl, answer, is)
 
 -- A directive whose queue holds its room is refused.
 pub places_full : (w w' : State) (v : WorkView) (queue : List Label) (t waiting host : ℕ) (d : Directive) → Queued w v queue t waiting → w.config.devices ≡ 1 → Legal w

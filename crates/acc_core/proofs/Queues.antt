@@ -1,30 +1,21 @@
--- The labels and the operations of a queue, and what holds where there is one queue alone.
+-- The labels that a batch adds, and what holds where there is one queue alone.
 use Rattle.std.proofs.Common.{inl, inr, ◌≡◌, ℕ, ◌+◌, Bool, true, false, List, [], ◌∷◌, ◌++◌, length, refl, sym, ap, ◌∙◌, arith}
 use Rattle.std.proofs.lemmas.Bool.{cases_Bool}
-use Rattle.std.proofs.lemmas.List.{append_assoc, append-nil, length-append}
-use Rattle.std.proofs.lemmas.List.Elements.{filter-append}
+use Rattle.std.proofs.lemmas.List.{append-nil, length-append}
 use Rattle.acc_base.specs.declared.ids.QueueAt.{QueueAt}
 use Rattle.acc_base.specs.Queues.{same_queue}
 use Rattle.acc_base.proofs.SameQueue.{same_queue_itself, same_queue_is}
+use Rattle.acc_batch.proofs.Labels.{ops_of-append}
 use Rattle.acc_batch.proofs.OneQueue.{on_queue_none}
 use Rattle.acc_batch.specs.declared.operation.Op.{Op}
 use Rattle.acc_batch.specs.declared.operation.Label.{Label}
 use Rattle.acc_core.specs.declared.log.WorkEntry.{WorkEntry}
 use Rattle.acc_core.specs.declared.log.WorkEntry.TheVariants as entry
 use Rattle.acc_place.specs.Batches.{labelled, next_number}
-use Rattle.acc_batch.specs.Labels.{on_queue, ops_of, AllAt}
+use Rattle.acc_batch.specs.Labels.{ops_of, AllAt}
 use Rattle.acc_core.specs.Legality.{InOrder}
 use Rattle.acc_core.specs.Logs.{one_more, performed, device_ops, all_items}
 use Rattle.acc_core.specs.Works.{sync}
-
--- the operations of two lists of labels
-pub ops_of-append : (xs ys : List Label) → ops_of (xs ++ ys) ≡ ops_of xs ++ ops_of ys
-ops_of-append [] ys = refl
-ops_of-append (x ∷ xs) ys = rw (ops_of-append xs ys) (sym (append_assoc x.ops (ops_of xs) (ops_of ys)))
-
--- a queue's labels of two lists of labels
-pub on_queue-append : (at : QueueAt) (xs ys : List Label) → on_queue at (xs ++ ys) ≡ on_queue at xs ++ on_queue at ys
-on_queue-append at xs ys = filter-append (λ l. same_queue l.at at) xs ys
 
 -- the labels that a batch adds: one, or none where it is empty
 abbrev pub added : QueueAt → ℕ → ℕ → ℕ → List Op → List Label

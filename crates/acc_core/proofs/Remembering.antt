@@ -1,8 +1,8 @@
 -- The memory goes on to show what the log says.
 use Rattle.std.proofs.Common.{◌≡◌, ℕ, zero, suc, ◌+◌, ◌≤◌, true, List, [], ◌∷◌, length, refl, sym, ap, ◌∙◌, arith}
-use Rattle.std.specs.Prelude.{not, filter, nat_lt, ◌==◌, ℤ, IsTrue, slice_get, is_some}
+use Rattle.std.specs.Prelude.{not, filter, nat_lt, ◌==◌, ℤ, slice_get, is_some}
 use Rattle.std.proofs.lemmas.Bool.{and_parts}
-use Rattle.std.proofs.lemmas.List.{length-append, length-map}
+use Rattle.std.proofs.lemmas.List.{length-append}
 use Rattle.std.proofs.lemmas.List.Elements.{All-weaker}
 use Rattle.std.proofs.lemmas.List.Filters.{length-filter_both}
 use Rattle.acc_base.specs.declared.range.Range.{Range}
@@ -14,10 +14,10 @@ use Rattle.acc_core.specs.Legality.{made, UsesLive, AllLive, HoldsBlock}
 use Rattle.acc_core.specs.Logs.{device_ops, value}
 use Rattle.acc_core.specs.Machine.{State, with_op, with_item}
 use Rattle.acc_kernel.specs.Jobs.{Use}
-use Rattle.acc_memory.specs.Memories.{Made, MemoryView, Shows, is_held, cell_of, rows_on, room_on, held_blocks, blocks_after, lengths_of, HasRange, reaches, ends_in, has_array, find_block, MayPerform}
+use Rattle.acc_memory.specs.Memories.{Made, MemoryView, rows_on, room_on, held_blocks, blocks_after, lengths_of, HasRange, reaches, ends_in, has_array, find_block, MayPerform}
+use Rattle.acc_memory.proofs.Showing.{length_held}
 use Rattle.acc_core.specs.Ties.{Remembers}
 use Rattle.acc_core.specs.Works.{WorkView, HasPerformed, HasShown, sync}
-use Rattle.acc_memory.specs.Values.{Cell, Host_cell, Block_cell, values_from, values_of}
 use Rattle.acc_core.proofs.LiveBlocks.{held_in, blocks_by_more}
 
 -- The memory shows the values of the log after an operation is performed.
@@ -35,24 +35,6 @@ remembers_shown w v v' h item r s = record {
   blocks = s.blocks ∙ r.blocks;
   lengths = s.lengths ∙ r.lengths;
 }
-
--- A memory with the same cells shows the same.
-pub shows_same : (m n : MemoryView) (was : Cell → ℤ) → n.arrays ≡ m.arrays → ((d : ℕ) → rows_on n d ≡ rows_on m d) → Shows m was → Shows n was
-shows_same m n was arrays rows shows = λ cell. by_cell cell
-  where
-    by_cell : (c : Cell) → IsTrue (is_held n c) → cell_of n c ≡ was c
-    by_cell (Host_cell array cell) held = rw arrays (shows (Host_cell array cell) held)
-    by_cell (Block_cell d block cell) held = rw (rows d) (shows (Block_cell d block cell) (rw (rows d) at held))
-
--- equal values of cells one after another
-same_values : (f g : ℕ → ℤ) (lo n : ℕ) → ((i : ℕ) → f i ≡ g i) → values_from f lo n ≡ values_from g lo n
-same_values f g lo zero same = refl
-same_values f g lo (suc n) same = rw (same lo) (ap (λ zs. g lo ∷ zs) (same_values f g (lo + 1) n same))
-
--- The cells of a range of a host array have the values that the memory shows.
-pub shows_values : (m : MemoryView) (r : Range) (was : Cell → ℤ) → Shows m was → values_of (cell_of m) r ≡ values_of was r
-shows_values m r was shows =
-    same_values (λ i. cell_of m (Host_cell r.array i)) (λ i. was (Host_cell r.array i)) r.lo r.len (λ i. shows (Host_cell r.array i) refl)
 
 -- an array is as long as its length says
 reaches_is : (arrays : List (List ℤ)) (array end : ℕ) → reaches (slice_get (lengths_of arrays) array) end ≡ ends_within (slice_get arrays array) end
@@ -107,10 +89,6 @@ length_blocks (Run k uses) bs = omega arith
 length_blocks (Release b) bs =
     let both : length (filter (λ (k : Made). k.block == b) bs) + length (filter (λ (k : Made). not (k.block == b)) bs) ≡ length bs = length-filter_both (λ k. k.block == b) (λ k. not (k.block == b)) (λ k. refl) bs in
     omega (arith, both)
-
--- the rows are as many as the blocks that are there
-pub length_held : (m : MemoryView) → length (held_blocks m 0) ≡ length (rows_on m 0)
-length_held m = length-map (rows_on m 0) (λ row. record { block = row.block; range = row.range })
 
 -- The memory has no more rows than it had, and those that the operation made.
 pub length_rows : (v v' : WorkView) (op : Op) (ops : List Op) → HasPerformed v v' op ops → length (rows_on v'.memory 0) ≤ length (rows_on v.memory 0) + length (made (op ∷ []))

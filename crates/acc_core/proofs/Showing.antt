@@ -12,12 +12,13 @@ use Rattle.acc_core.specs.Legality.{ShowsTruth}
 use Rattle.acc_core.specs.Logs.{all_items, value}
 use Rattle.acc_core.specs.Machine.{State}
 use Rattle.acc_memory.specs.Memories.{rows_on}
+use Rattle.acc_memory.proofs.Showing.{length_held}
 use Rattle.acc_core.specs.Ties.{IsAccelerator, labels_of}
 use Rattle.acc_core.specs.Works.{WorkView, HasMadeRoom, HasShown, HasPrinted}
 use Rattle.acc_core.proofs.Advancing.{with_work}
 use Rattle.acc_core.proofs.Keeping.{legal_item}
 use Rattle.acc_core.proofs.Placing.{remembers_room}
-use Rattle.acc_core.proofs.Remembering.{remembers_shown, length_held}
+use Rattle.acc_core.proofs.Remembering.{remembers_shown}
 
 -- more room leaves an accelerator what it is
 pub roomier : {w : State} {v v' : WorkView} {queue : List Label} {t waiting queue_room : ℕ} → IsAccelerator w v queue t waiting queue_room → HasMadeRoom v v' → IsAccelerator w v' queue t waiting queue_room

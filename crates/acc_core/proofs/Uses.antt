@@ -1,23 +1,25 @@
 -- What a visit does to lifetimes, and what was made and released against them.
 use Rattle.std.proofs.Common.{inl, inr, ◌≡◌, ◌⊎◌, ℕ, ◌<◌, ◌≤◌, Bool, true, false, List, [], ◌∷◌, ◌++◌, length, map, refl, sym, ap, ◌∙◌, arith}
 use Rattle.std.specs.Prelude.{Contains, not, filter, nat_lt, ℤ, Option, Some, None}
-use Rattle.std.proofs.lemmas.Bool.{cases_Bool, lt-ltb, ltb-true}
+use Rattle.std.proofs.lemmas.Bool.{cases_Bool, lt-ltb, ltb-true, not-true}
 use Rattle.std.proofs.lemmas.List.{append_assoc, append-nil}
 use Rattle.std.proofs.lemmas.List.Elements.{Contains-append_cases, Contains-append_left, Contains-append_right}
 use Rattle.acc_base.specs.declared.range.Range.{Range}
 use Rattle.acc_base.specs.Ranges.{range_contains}
+use Rattle.acc_base.proofs.Members.{no_member, member_first, member_rest, member_one, member_filter, member_map}
 use Rattle.acc_present.specs.declared.change.Change.{Change}
 use Rattle.acc_present.specs.Marks.{Mark}
 use Rattle.acc_present.specs.Lifetimes.{Lifetime, opened, live, lives}
 use Rattle.acc_present.specs.Presences.{presence_of, presences, holder}
+use Rattle.acc_present.proofs.Apart.{apart_same}
+use Rattle.acc_present.proofs.Lasting.{lives_before, ended_inside}
+use Rattle.acc_present.proofs.Numbering.{numbered, opened_one}
 use Rattle.acc_batch.specs.declared.operation.Op.{Op}
 use Rattle.acc_batch.specs.declared.operation.Op.TheVariants.{Make, CopyIn, CopyOut, Release, Run}
 use Rattle.acc_place.specs.Standings.{Asked, Visit, made_by, one_mark, marked}
 use Rattle.acc_place.specs.Batches.{ended_blocks, found_block, holding_blocks, makes}
 use Rattle.acc_core.specs.Legality.{made, released, UsesLive}
 use Rattle.acc_memory.specs.Memories.{Made}
-use Rattle.acc_core.proofs.Members.{no_member, member_first, member_rest, member_one, member_filter, member_map, apart_same}
-use Rattle.acc_core.proofs.Blocks.{numbered, opened_one, lives_before, ended_inside}
 
 -- These operations, in order behind those before, each use live blocks.
 abbrev pub AllUse : List (List ℤ) → List Op → List Op → Type 0
@@ -121,11 +123,6 @@ pub record IsEnded (ms after : List Mark) (b : ℕ) : Type 0 where
   pub over : lives after lifetime ≡ false
   pub named : lifetime.block ≡ b
 
--- a test whose contrary holds has failed
-not_true : (b : Bool) → not b ≡ true → b ≡ false
-not_true true h = cc
-not_true false h = refl
-
 -- a lifetime that is live was opened and lives
 pub live_member : (ms : List Mark) (l : Lifetime) → Contains (live ms) l → (lives ms l ≡ true) × Contains (opened ms) l
 unfolding live
@@ -137,7 +134,7 @@ ended_is ms a b c =
     let f = member_map (λ (l : Lifetime). l.block) (filter (λ l. not (lives (marked_by ms a) l)) (live ms)) b c in
     let g = member_filter (λ l. not (lives (marked_by ms a) l)) (live ms) f.source f.member in
     let h = live_member ms f.source g.1 in
-    record { lifetime = f.source; member = h.1; lived = h.0; over = not_true (lives (marked_by ms a) f.source) g.0; named = f.same }
+    record { lifetime = f.source; member = h.1; lived = h.0; over = not-true (lives (marked_by ms a) f.source) g.0; named = f.same }
 
 -- a block that holds a range is that of a lifetime that lives
 pub record IsHeld (ms : List Mark) (r : Range) (b : ℕ) : Type 0 where

@@ -1,12 +1,11 @@
 -- Directives and what they mean, as the place says it, handed on to the crates above.
 pub use Rattle.acc_batch.specs.Labels.{on_queue, ops_of}
 pub use Rattle.acc_place.specs.declared.directive.Clause.{Clause}
-pub use Rattle.acc_place.specs.declared.directive.Clause.TheVariants.{Copy, Copyin, Copyout, Create, Present, Delete, UpdateSelf, UpdateDevice}
+pub use Rattle.acc_place.specs.declared.directive.Clause.TheVariants.{Copyin, Copyout, Delete}
 pub use Rattle.acc_place.specs.declared.directive.Directive.{Directive}
 pub use Rattle.acc_place.specs.declared.directive.Item.{Item}
 pub use Rattle.acc_place.specs.declared.directive.Kind.{Kind}
-pub use Rattle.acc_place.specs.declared.directive.Kind.TheVariants.{Data, EndData, EnterData, ExitData, Update, Loop, IsPresent}
-pub use Rattle.acc_place.specs.declared.directive.Region.{Region}
+pub use Rattle.acc_place.specs.declared.directive.Kind.TheVariants.{EnterData, ExitData}
 pub use Rattle.acc_place.specs.declared.directive.Target.TheVariants.{Plain}
 pub use Rattle.acc_place.specs.declared.directive.Waits.TheVariants.{Nothing}
 unfoldable pub use Rattle.acc_place.specs.Accepting.{refusal}

@@ -41,9 +41,9 @@ module _ (hosts devices : ℕ) where
   turns_behind number times count events line read found is few = rw (read, found, ← is, few) refl
 
 -- what holds of the events that a definition gives holds where they are given
-pub given : {P : Type 0} (r : Result (Unit {0}) ReadError) (items defined : List Event) → (items ≡ defined → P) → Gives (λ _. items) r (Ok defined) → OnOk r P
-given (Ok x) items defined then gives = then (let is : defined ≡ items = cc in sym is)
-given (Err error) items defined then gives = tt
+pub holds_where_given : {P : Type 0} (r : Result (Unit {0}) ReadError) (items defined : List Event) → (items ≡ defined → P) → Gives (λ _. items) r (Ok defined) → OnOk r P
+holds_where_given (Ok x) items defined then gives = then (let is : defined ≡ items = cc in sym is)
+holds_where_given (Err error) items defined then gives = tt
 
 -- the events behind a line are few enough
 pub few_behind : (length_new count : ℕ) (old turns new : List Event) → length_new ≡ length new → count ≡ length old

@@ -2,12 +2,12 @@
 use Rattle.std.proofs.Common.{◌≡◌, ℕ, zero, suc, ◌+◌, ◌-◌, ◌*◌, ◌<◌, ◌≤◌, Bool, true, false, List, [], ◌∷◌, ◌++◌, length, take, drop, drop-drop, take-add, append-nil, append_assoc, Result, refl, sym, ap, ◌∙◌, arith}
 use Rattle.std.proofs.lemmas.Bool.{and_parts, lt-ltb, ltb-true, ltb-false}
 use Rattle.std.proofs.lemmas.List.{take_all, drop_all, take-take, drop-take, length-take-le}
-use Rattle.std.specs.Prelude.{◌==◌, ◌&&◌, not, nat_lt, bytes_eq, codes, if◌then◌else◌}
-use Rattle.std.specs.List.{prefix_len}
+use Rattle.std.specs.Prelude.{◌==◌, ◌&&◌, nat_lt, bytes_eq, codes, if◌then◌else◌}
 use Rattle.acc_driver.specs.declared.fault.ReadFault.{ReadFault}
 use Rattle.acc_driver.specs.declared.fault.ReadKind.TheVariants.{Limit}
 use Rattle.acc_driver.specs.Faults.{fails}
 use Rattle.acc_driver.specs.Inputs.{Parts, line_of, behind_line, is_split_line, with_front, parts_from, parts, line_feeds, within}
+use Rattle.acc_driver.proofs.Pieces.{line_len}
 
 -- ## The line `%%`
 
@@ -78,9 +78,6 @@ parts_from-other at_start b bs e = rw e refl
 
 -- ## Line by line
 
-abbrev line_len : List ℕ → ℕ
-line_len bs = prefix_len (λ b. not (b == 10)) bs
-
 abbrev with_line : List ℕ → Parts → Parts
 with_line line others = record others { script = line ++ others.script }
 
@@ -109,10 +106,6 @@ splits_here (b ∷ bs) split = rw split refl
 pub record LineBegins (text : List ℕ) (start : ℕ) : Type 0 where
   pub script : (parts text).script ≡ take start text ++ (parts_from true (drop start text)).script
   pub schedule : (parts text).schedule ≡ (parts_from true (drop start text)).schedule
-
-pub first_line : (text : List ℕ) → LineBegins text 0
-unfolding parts
-first_line text = record { script = refl; schedule = refl }
 
 pub next_line : (text here : List ℕ) (start len : ℕ) → LineBegins text start → here ≡ drop start text → is_split_line here ≡ false
     → len ≡ line_len here → LineBegins text (start + (len + 1))

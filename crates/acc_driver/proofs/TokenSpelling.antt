@@ -1,9 +1,9 @@
 -- Tokens that are spelled out are read again.
-use Rattle.std.proofs.Common.{◌≡◌, ℕ, ◌+◌, ◌-◌, ◌*◌, ◌/◌, ◌%◌, ◌^◌, ◌<◌, ◌≤◌, Bool, true, false, List, [], ◌∷◌, ◌++◌, length, drop, get_or, Ok, refl, sym, ap, ◌∙◌, arith, ⊎_elim, add-one, eq-eqb, length-append}
+use Rattle.std.proofs.Common.{◌≡◌, ℕ, ◌+◌, ◌-◌, ◌*◌, ◌/◌, ◌%◌, ◌^◌, ◌<◌, ◌≤◌, Bool, true, false, List, [], ◌∷◌, ◌++◌, length, drop, get_or, Ok, refl, ap, ◌∙◌, arith, ⊎_elim, add-one, eq-eqb, length-append}
 use Rattle.std.specs.Prelude.{◌==◌, ◌&&◌, ◌||◌, not, nat_lt, bytes_eq, All, codes}
 use Rattle.std.specs.List.{list_any, prefix_len}
 use Rattle.std.specs.Fmt.{decimal}
-use Rattle.std.proofs.lemmas.Bool.{and_left, and_right, and_parts, or_parts, eqb-true, false≢true, ltb-true, le-ltb, lt-ltb, ne_eqb, cases_lt}
+use Rattle.std.proofs.lemmas.Bool.{and_left, and_right, and_parts, or_parts, eqb-true, false≢true, ltb-true, le-ltb, lt-ltb, ne_eqb, not-true, cases_lt}
 use Rattle.std.proofs.lemmas.Bool.Decides.{nat_tests}
 use Rattle.std.proofs.lemmas.Fmt.{decimal_by_steps}
 use Rattle.std.proofs.lemmas.List.Elements.{All-tail}
@@ -97,11 +97,7 @@ sign_at_once in_directive line text (sign ∷ rest) some is =
     let all = and_parts (bytes_eq text (sign ∷ []) && is_sign sign) (not (is_pair sign (front rest))) is in
     let known = and_parts (bytes_eq text (sign ∷ [])) (is_sign sign) all.0 in
     let same : text ≡ sign ∷ [] = (bytes_eq-Decides text (sign ∷ [])).0 known.0 in
-    rw same (expected_sign in_directive line sign rest known.1 (not_true (is_pair sign (front rest)) all.1))
-  where
-    not_true : (v : Bool) → not v ≡ true → v ≡ false
-    not_true true e = sym e
-    not_true false e = refl
+    rw same (expected_sign in_directive line sign rest known.1 (not-true (is_pair sign (front rest)) all.1))
 
 pub opening_bracket : (in_directive : Bool) (line : ℕ) (rest : List ℕ)
     → token_at in_directive (record { line = line; bytes = 91 ∷ rest })

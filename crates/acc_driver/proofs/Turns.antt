@@ -1,11 +1,9 @@
 -- Loops over turns: those that are left give what all of them give.
 use Rattle.std.proofs.Common.{◌≡◌, ℕ, suc, ◌+◌, ◌-◌, ◌<◌, Bool, true, false, length, Result, Ok, Err, sym, ◌∙◌, refl, arith}
-use Rattle.std.specs.Prelude.{IsErrAnd}
-use Rattle.std.proofs.lemmas.Result.{err_from_is_err_and}
 use Rattle.acc_driver.specs.declared.fault.ReadError.{ReadError}
 use Rattle.acc_driver.specs.declared.fault.ReadError.TheVariants as error
 use Rattle.acc_driver.specs.declared.fault.ReadFault.{ReadFault}
-use Rattle.acc_driver.specs.Faults.{Fails, Gives}
+use Rattle.acc_driver.specs.Faults.{Fails}
 use Rattle.acc_driver.specs.Tokens.{Spot}
 use Rattle.acc_driver.specs.Turns.{Turn, turn, turns}
 
@@ -40,10 +38,3 @@ module _ {S : Type 0} {read : S → Spot → Result (Turn S) ReadFault} {all pas
   fails_too (error.Fault fault) left failed =
       let one : turns read (all - past) so_far at ≡ Err fault = rw (one_more left, failed) refl in
       sym left.same ∙ one
-
-  -- the same at the exit of `?`
-  pub fails_at_exit : {A : Type 0} (view : A → Turn S) (e : ReadError) (r : Result A ReadError) → IsErrAnd r (λ y. y ≡ e)
-      → TurnsLeft read all past so_far at total → Fails e (read so_far at) → Gives view r total
-  fails_at_exit view e r exit left failed =
-      let p = err_from_is_err_and r exit in
-      rw (p.1, p.2) (fails_too e left failed)

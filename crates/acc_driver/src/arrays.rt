@@ -18,7 +18,6 @@ pub struct Arrays<'a> {
 }
 
 impl<'a> Model for Arrays<'a> {
-    ghost use Rattle.std.specs.Prelude.{◌≡◌, ◌≤◌, length};
     ghost use Rattle.acc_base.specs.Configurations.{rows};
     ghost use Rattle.acc_driver.specs.Arrays.{Declared, texts, IsDeclared};
 

@@ -3,8 +3,11 @@ mod Calls
 mod Copying
 mod Devices
 mod Effects
+pub mod Finding
 mod Fitting
+pub mod HeldBlocks
 mod Places
 mod Rows
 mod Runs
 mod Seeing
+pub mod Showing

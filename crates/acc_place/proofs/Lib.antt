@@ -1,6 +1,7 @@
 mod Accepted
 mod Counted
 mod Entered
+pub mod Faultless
 mod Filling
 mod Inside
 mod Judging

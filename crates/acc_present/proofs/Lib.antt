@@ -1,11 +1,14 @@
 pub mod Alike
+pub mod Apart
 pub mod Balancing
 pub mod Counting
 pub mod DraftMarking
 pub mod Drafting
 pub mod Ending
 pub mod Entering
+pub mod Lasting
 pub mod Marking
+pub mod Numbering
 pub mod OneMore
 pub mod Opening
 pub mod Orders

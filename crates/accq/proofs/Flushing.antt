@@ -1,5 +1,5 @@
 -- A report that was written whole, and that doesn't go out, is one whose writer failed.
-use Rattle.std.proofs.Common.{◌≡◌, ℕ, List, take, length, ◌++◌, arith, Option, Some, None, IfSome, Ok, Err, ap, sym, ◌∙◌}
+use Rattle.std.proofs.Common.{ℕ, List, length, ◌++◌, arith, Option, Some, None, IfSome, Ok, Err, ap, sym, ◌∙◌}
 use Rattle.std.proofs.lemmas.List.{take_all}
 use Rattle.std.specs.Io.KnownBytes.{Appends, Keeps}
 use Rattle.acc_driver.specs.declared.fault.DriverFault.TheVariants as fault

@@ -1,5 +1,5 @@
 use Rattle.std.proofs.Common.{◌∙◌}
-use Rattle.acc_core.proofs.Remembering.{shows_values}
+use Rattle.acc_memory.proofs.Showing.{shows_values}
 use Rattle.acc_core.proofs.work.values_in.Goals as goal
 
 pub returns-clause-shows : goal.returns-clause-shows

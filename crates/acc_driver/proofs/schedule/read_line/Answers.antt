@@ -1,5 +1,5 @@
 use Rattle.std.proofs.Common.{◌≡◌, length, sym, arith}
-use Rattle.acc_driver.proofs.LineEvents.{too_many_behind, turns_behind, given, few_behind}
+use Rattle.acc_driver.proofs.LineEvents.{too_many_behind, turns_behind, holds_where_given, few_behind}
 use Rattle.acc_driver.proofs.schedule.read_line.Goals as goal
 
 pub returns-then-are_too_many-clause-found : goal.returns-then-are_too_many-clause-found
@@ -17,4 +17,4 @@ returns-else-are_too_many-clause-found c =
 
 pub returns-else-are_too_many-clause-within : goal.returns-else-are_too_many-clause-within
 returns-else-are_too_many-clause-within c =
-    given c.push_turns.result c.push_turns.new.events.items _ (λ e. few_behind _ c.len.result c.args.events.now.items _ c.push_turns.new.events.items (omega (arith, c.push_turns.new.events.ok.0)) (omega (arith, c.len.ensures, c.args.events.now.ok.0)) (sym c.if-are_too_many.ensures) e) c.push_turns.ensures
+    holds_where_given c.push_turns.result c.push_turns.new.events.items _ (λ e. few_behind _ c.len.result c.args.events.now.items _ c.push_turns.new.events.items (omega (arith, c.push_turns.new.events.ok.0)) (omega (arith, c.len.ensures, c.args.events.now.ok.0)) (sym c.if-are_too_many.ensures) e) c.push_turns.ensures

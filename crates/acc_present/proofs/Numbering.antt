@@ -1,16 +1,14 @@
--- The numbers of blocks, and what one more mark does to lifetimes.
-use Rattle.std.proofs.Common.{inl, inr, ◌≡◌, ◌⊎◌, suc, ◌+◌, ◌-◌, ◌<◌, ◌≤◌, true, false, List, [], ◌∷◌, length, refl, sym, ap, ◌∙◌, arith}
+-- The numbers of blocks: each lifetime that a mark opens has the next one.
+use Rattle.std.proofs.Common.{inl, inr, ◌≡◌, ◌⊎◌, suc, ◌+◌, ◌<◌, ◌≤◌, List, [], ◌∷◌, length, refl, ap, ◌∙◌, arith}
 use Rattle.std.specs.Prelude.{Contains, not, filter}
-use Rattle.std.proofs.lemmas.Bool.{cases_Bool, and_parts, and_from}
-use Rattle.std.proofs.lemmas.List.{length-append, length-take}
-use Rattle.std.proofs.lemmas.List.Elements.{Contains-append_cases}
+use Rattle.std.proofs.lemmas.Bool.{cases_Bool}
+use Rattle.std.proofs.lemmas.List.{length-append}
+use Rattle.std.proofs.lemmas.List.Elements.{All-contains_itself, All-weaker, Contains-append_cases}
 use Rattle.std.proofs.lemmas.List.Filters.{length-filter_both}
-use Rattle.acc_base.specs.declared.range.Range.{Range}
-use Rattle.acc_base.specs.Ranges.{range_contains}
-use Rattle.acc_present.specs.Marks.{Mark, inside}
-use Rattle.acc_present.specs.Lifetimes.{Lifetime, opened, opens, placed_in, is_before, lives, marks_since, stays_counted, is_counted}
-use Rattle.acc_present.proofs.OneMore.{marks_since-more}
-use Rattle.acc_core.proofs.Members.{member_cases, member_filter, member_parts, Apart, apart_parts, apart_insert}
+use Rattle.acc_base.proofs.Members.{member_cases, member_filter}
+use Rattle.acc_present.specs.Marks.{Mark}
+use Rattle.acc_present.specs.Lifetimes.{Lifetime, opened, opens, placed_in, is_before}
+use Rattle.acc_present.proofs.Apart.{Differ, Apart, apart_insert, all_parted, apart_parted}
 
 -- the lifetime that a mark opens
 abbrev pub opening : Mark → List Mark → Lifetime
@@ -71,9 +69,10 @@ apart_more m ms h = elim (opened_more m ms) [
   | inr more ↦
       let l = opening m ms in
       let p = λ (x : Lifetime). is_before l.range x.range in
+      let new = All-weaker (Contains (opened ms)) (Differ l) (λ k c e. absurd (omega (arith, e, h.low k c))) (opened ms) (All-contains_itself (opened ms)) in
       rw more
-      (apart_insert l (filter (λ x. not (p x)) (opened ms)) (filter p (opened ms)) (apart_parts p (opened ms) h.apart)
-      (λ k c e. absurd (omega (arith, e, h.low k (member_parts p (opened ms) k c)))))
+      (apart_insert l (filter (λ x. not (p x)) (opened ms)) (filter p (opened ms)) (apart_parted p (opened ms) h.apart)
+      (all_parted (Differ l) p (opened ms) new))
 ]
 
 -- before the first mark there is no lifetime
@@ -84,7 +83,7 @@ no_lifetime l c = absurd (omega (arith, c.1))
 -- and so there are no two with one block
 apart_none : Apart (opened [])
 unfolding opened
-apart_none = tt
+apart_none = λ i j d below within. absurd (omega (arith, within))
 
 -- the lifetimes of any marks are numbered so
 pub numbered : (ms : List Mark) → Numbered ms
@@ -123,31 +122,3 @@ numbered (m ∷ ms) =
         | inr new ↦ omega (arith, ap (λ (z : Lifetime). z.since) new.0)
       ];
     }
-
--- what lives after a mark lived before it
-pub lives_before : (m : Mark) (ms : List Mark) (l : Lifetime) → l.since < length ms → lives (m ∷ ms) l ≡ true → lives ms l ≡ true
-lives_before m ms l h is =
-    let e = marks_since-more m ms l (omega arith) in
-    (and_parts (is_counted l.range (m ∷ marks_since ms l)) (lives ms l) (rw e at is)).1
-
--- what stays counted over some marks is counted after the latest
-is_counted_last : (r : Range) (ms : List Mark) → 0 < length ms → stays_counted r ms ≡ true → is_counted r ms ≡ true
-is_counted_last r [] some h = absurd (omega arith)
-is_counted_last r (m ∷ ms) some h = (and_parts (is_counted r (m ∷ ms)) (stays_counted r ms) h).0
-
--- a mark outside a range leaves it counted, or not, as it was
-is_counted_outside : (r : Range) (m : Mark) (ms : List Mark) → inside r m ≡ false → is_counted r (m ∷ ms) ≡ is_counted r ms
-is_counted_outside r m ms h = rw h refl
-
--- a mark that ends a lifetime is inside its range
-pub ended_inside : (m : Mark) (ms : List Mark) (l : Lifetime) → l.since < length ms → lives ms l ≡ true → lives (m ∷ ms) l ≡ false → range_contains l.range m.range ≡ true
-ended_inside m ms l h was ended = elim (cases_Bool (inside l.range m)) [
-  | inl yes_in ↦ yes_in
-  | inr out ↦
-      let e = marks_since-more m ms l (omega arith) in
-      let some : 0 < length (marks_since ms l) = omega (arith, length-take (length ms - l.since) ms) in
-      let counted = is_counted_last l.range (marks_since ms l) some was in
-      let still : is_counted l.range (m ∷ marks_since ms l) ≡ true = is_counted_outside l.range m (marks_since ms l) out ∙ counted in
-      let lived : lives (m ∷ ms) l ≡ true = rw e (and_from (is_counted l.range (m ∷ marks_since ms l)) (lives ms l) still was) in
-      let f : false ≡ true = sym ended ∙ lived in cc
-]
