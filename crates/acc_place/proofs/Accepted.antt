@@ -92,7 +92,7 @@ refusal_is config st host d t blocks regions labels tied =
     (three_first (nat_le config.devices d.device) (nat_lt MAX_ITEMS (length s.items) || (is_deep d.kind host regions || nat_le MAX_DIRECTIVES st.accepted)) (is_outside d.kind (open_region host regions)) (faults ++ past ∷ [])
     ∙ ap (fault_or (limit_in config st.accepted st.lengths regions host d)) (first_behind faults (past ∷ []) ∙ ap (fault_or (first_fault faults)) (first_one past)))
 
-pub refused_by_limit : (config : Configuration) (st : Standing) (host : ℕ) (d : Directive) (t : Present) (blocks : ℕ) (regions : List Region) (labels : List Label) (f : Fault) → IsTied st t blocks regions labels
+refused_by_limit : (config : Configuration) (st : Standing) (host : ℕ) (d : Directive) (t : Present) (blocks : ℕ) (regions : List Region) (labels : List Label) (f : Fault) → IsTied st t blocks regions labels
     → limit_fault config st.accepted regions host d (length (items_in st.lengths regions host d)) ≡ Some f → refusal config st host d ≡ Some f
 refused_by_limit config st host d t blocks regions labels f tied is = refusal_is config st host d t blocks regions labels tied ∙ rw is refl
 
@@ -162,6 +162,22 @@ refused_by_items config st host d t blocks regions labels tied one none =
     ∙ (ap (λ f. fault_or f (fault_or (faults_in config st s d.kind) past)) none
     ∙ ap (λ f. fault_or f past) (faults_are config d.kind (st.marks s.device) s.items sub.legal sub.entered ∙ ap (λ h. first_fault_in config d.kind h s.items) (sym sub.held)))
 
+-- the limits before the items, and these before the loop
+abbrev items_faults : Configuration → List ℕ → Directive → ℕ → Present → ℕ → List Region → Option Fault
+items_faults config lengths d host t blocks regions =
+    fault_or (first_fault_in config d.kind (holding t.presences blocks) (items_in lengths regions host d)) (past_fault (loop_of d.kind) (items_in lengths regions host d))
+
+pub refused_by : (config : Configuration) (st : Standing) (host : ℕ) (d : Directive) (t : Present) (blocks : ℕ) (regions : List Region) (labels : List Label) → IsTied st t blocks regions labels → config.devices ≡ 1
+    → refusal config st host d ≡ fault_or (limit_in config st.accepted st.lengths regions host d) (items_faults config st.lengths d host t blocks regions)
+refused_by config st host d t blocks regions labels tied one = by_limit (limit_in config st.accepted st.lengths regions host d) refl
+  where
+    by_limit : (o : Option Fault) → limit_in config st.accepted st.lengths regions host d ≡ o
+        → refusal config st host d ≡ fault_or (limit_in config st.accepted st.lengths regions host d) (items_faults config st.lengths d host t blocks regions)
+    by_limit None is =
+        refused_by_items config st host d t blocks regions labels tied one is ∙ sym (ap (λ f. fault_or f (items_faults config st.lengths d host t blocks regions)) is)
+    by_limit (Some fault) is =
+        refused_by_limit config st host d t blocks regions labels fault tied is ∙ sym (ap (λ f. fault_or f (items_faults config st.lengths d host t blocks regions)) is)
+
 none_or : (a b : Option Fault) → fault_or a b ≡ None → a ≡ None
 none_or None b h = refl
 none_or (Some f) b h = absurd (cc)
@@ -173,7 +189,7 @@ pub all_cells : (capacity : ℕ) (change : Option Change) (h : Holding) (items :
 all_cells capacity change h [] fine = All-nil (λ (i : Item). 0 < i.range.len)
 all_cells capacity change h (i ∷ is) fine = All-cons (λ (i : Item). 0 < i.range.len) i is fine.0.cells (all_cells capacity change (holding_after change i.range h) is fine.1)
 
-ends_all : (P : Item → Type 0) (k : Kind) (items : List Item) → All P items → All P (ends_of k items)
+pub ends_all : (P : Item → Type 0) (k : Kind) (items : List Item) → All P items → All P (ends_of k items)
 ends_all P (kind.Loop kernel) items all = all
 ends_all P kind.Data items all = All-nil P
 ends_all P kind.EndData items all = All-nil P

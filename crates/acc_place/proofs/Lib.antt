@@ -9,5 +9,6 @@ mod Looping
 mod PastReach
 mod Planning
 mod Simple
+mod Trying
 mod Visits
 mod Walking

@@ -1,11 +1,11 @@
 -- What a place knows of its standing, as a plan and an accepted directive need it.
-use Rattle.std.proofs.Common.{◌≡◌, ℕ, zero, suc, ◌+◌, ◌-◌, ◌<◌, ◌≤◌, Bool, true, false, cond, List, [], ◌∷◌, ◌++◌, length, Option, Some, None, refl, sym, ap, ◌∙◌, arith}
-use Rattle.std.specs.Prelude.{reverse, replicate, drop, take, is_some, slice_get, nat_le, ◌||◌}
+use Rattle.std.proofs.Common.{◌≡◌, ℕ, zero, suc, ◌+◌, ◌-◌, ◌<◌, Bool, true, false, cond, List, [], ◌∷◌, ◌++◌, length, Option, Some, None, refl, sym, ap, ◌∙◌, arith}
+use Rattle.std.specs.Prelude.{reverse, replicate, drop, take, is_some, slice_get, ◌||◌}
 use Rattle.std.specs.Option.{option_map, option_to_list}
-use Rattle.std.proofs.lemmas.List.{length-reverse, length-append, reverse-append, take_all}
+use Rattle.std.proofs.lemmas.List.{length-reverse, length-append, reverse-append}
 use Rattle.std.proofs.lemmas.List.Elements.{All-nil}
 use Rattle.acc_base.specs.declared.fault.Fault.{Fault}
-use Rattle.acc_base.specs.declared.fault.Fault.TheVariants.{BadDevice, Memory, NoRegion, TooMany}
+use Rattle.acc_base.specs.declared.fault.Fault.TheVariants.{Memory}
 use Rattle.acc_base.specs.declared.ids.QueueAt.{QueueAt}
 use Rattle.acc_base.specs.declared.range.Range.{Range}
 use Rattle.acc_base.specs.Configurations.{Configuration}
@@ -16,7 +16,6 @@ use Rattle.acc_batch.specs.declared.operation.Label.{Label}
 use Rattle.acc_batch.specs.declared.operation.Op.{Op}
 use Rattle.acc_batch.specs.Labels.{on_queue}
 use Rattle.acc_batch.proofs.OneQueue.{on_queue_all, on_queue_none}
-use Rattle.acc_present.specs.declared.change.Change.TheVariants.{StructuredDown}
 use Rattle.acc_present.specs.Lifetimes.{opened, live}
 use Rattle.acc_present.specs.Presences.{Presence, presences, holder, is_present}
 use Rattle.acc_present.specs.Tables.{Present}
@@ -27,20 +26,19 @@ use Rattle.acc_place.specs.declared.directive.Kind.TheVariants.{Data, EndData, E
 use Rattle.acc_place.specs.declared.directive.PlaceEntry.{PlaceEntry}
 use Rattle.acc_place.specs.declared.directive.PlaceEntry.TheVariants.{Accepted}
 use Rattle.acc_place.specs.declared.directive.Region.{Region}
-use Rattle.acc_place.specs.declared.directive.TheConstants.{MAX_DIRECTIVES, MAX_ITEMS}
-use Rattle.acc_place.specs.declared.judge.Marked.{Marked}
-use Rattle.acc_place.specs.Accepting.{first_fault, fault_where, is_deep, is_outside, refusal}
+use Rattle.acc_place.specs.declared.judge.Known.{Known}
+use Rattle.acc_place.specs.Accepting.{refusal}
 use Rattle.acc_place.specs.Batches.{answer_of, batch_of, is_answered, next_number, placed_batch, walk_at}
 use Rattle.acc_place.specs.Histories.{standing, after_directive}
 use Rattle.acc_place.specs.Places.{IsPlace, IsHere, nth_batch, sync}
 use Rattle.acc_place.specs.Plans.{KeptByAccepting, KeptByPlanning, KeptByTaking, PlaceView, PlanView, standing_in, IsRefusal, IsPlanOf, Fits, label_for, label_in, opened_region, place_after}
 use Rattle.acc_place.specs.Loops.{lengths_of}
-use Rattle.acc_place.specs.Regions.{open_region, regions_after}
-use Rattle.acc_place.specs.Standings.{Standing, Walk, change_by, loop_of, subject_by, walk_of}
-use Rattle.acc_place.specs.Walks.{Holding, holding, holding_between, holding_behind, ends_of, all_marked, limit_fault, fault_or, first_fault_in, past_fault, run_in, marked_ops, all_steps}
-use Rattle.acc_place.proofs.Accepted.{IsFree, is_within, items_in, refused_by_limit, refused_by_items, is_free, tied_after, batch_is, next_is, at_sync}
-use Rattle.acc_place.proofs.Filling.{long_taken}
-use Rattle.acc_place.proofs.Walking.{left_alike}
+use Rattle.acc_place.specs.Regions.{regions_after}
+use Rattle.acc_place.specs.Standings.{Standing, Walk, loop_of, subject_by, walk_of}
+use Rattle.acc_place.specs.Trials.{fault_by, held_by, items_by, ops_by, IsKnown}
+use Rattle.acc_place.specs.Walks.{holding, holding_between, holding_behind, limit_fault, fault_or, first_fault_in, past_fault, run_in, marked_ops, all_steps}
+use Rattle.acc_place.proofs.Accepted.{IsFree, few_for, items_in, low_for, refused_by, is_free, tied_after, batch_is, next_is, at_sync}
+use Rattle.acc_place.proofs.Trying.{all_taken}
 
 reverse-push : {X : Type 0} (xs : List X) (x : X) → reverse (xs ++ x ∷ []) ≡ x ∷ reverse xs
 reverse-push xs x = reverse-append xs (x ∷ [])
@@ -49,28 +47,11 @@ reverse-push xs x = reverse-append xs (x ∷ [])
 pub counted_by : {X : Type 0} (xs : List X) (n len : ℕ) → n ≡ len → len ≡ length xs → n ≡ length (reverse xs)
 counted_by xs n len is same = is ∙ (same ∙ sym (length-reverse xs))
 
-limit_at : (p : PlaceView) (host : ℕ) (d : Directive) (t : Present) (blocks n count : ℕ) (regions : List Region) (labels : List Label) → IsPlace p t blocks regions labels → n ≡ length p.history
-    → limit_fault p.config (standing_in p).accepted regions host d count ≡ limit_fault p.config n regions host d count
-limit_at p host d t blocks n count regions labels h is = ap (λ k. limit_fault p.config k regions host d count) (sym (is ∙ h.accepted))
-
 -- how many cells the host arrays have doesn't change
 lengths_kept : (config : Configuration) (history : List PlaceEntry) (counts : List ℕ) → (standing config history counts).lengths ≡ lengths_of config
 unfolding standing
 lengths_kept config [] counts = refl
 lengths_kept config (Accepted host d ∷ before) counts = lengths_kept config before (drop 1 counts)
-
--- whether there are too many items is seen in one more than there may be
-limit_taken : (config : Configuration) (n : ℕ) (regions : List Region) (host : ℕ) (d : Directive) (items : List Item)
-    → limit_fault config n regions host d (length (take 17 items)) ≡ limit_fault config n regions host d (length items)
-unfolding limit_fault
-limit_taken config n regions host d items =
-    ap (λ many. first_fault (
-    fault_where (nat_le config.devices d.device) BadDevice
-    ∷ fault_where (many || (is_deep d.kind host regions || nat_le MAX_DIRECTIVES n)) TooMany
-    ∷ fault_where (is_outside d.kind (open_region host regions)) NoRegion
-    ∷ []
-    ))
-    (long_taken 16 items)
 
 -- the items that were put in, and those of the directive
 abbrev pub ArePut : PlaceView → ℕ → Directive → List Region → List Item → Type 0
@@ -80,48 +61,44 @@ pub are_put : (p : PlaceView) (host : ℕ) (d : Directive) (regions rs : List Re
 are_put p host d regions rs xs here put =
     put ∙ (ap (λ qs. take 17 (items_in (lengths_of p.config) qs host d)) here ∙ ap (λ ls. take 17 (items_in ls regions host d)) (sym (lengths_kept p.config p.history p.counts)))
 
-pub put_limit : (p : PlaceView) (host : ℕ) (d : Directive) (n : ℕ) (regions : List Region) (xs : List Item) → ArePut p host d regions xs
-    → limit_fault p.config n regions host d (length xs) ≡ limit_fault p.config n regions host d (length (items_in (standing_in p).lengths regions host d))
-put_limit p host d n regions xs put =
-    ap (λ ys. limit_fault p.config n regions host d (length ys)) put ∙ limit_taken p.config n regions host d (items_in (standing_in p).lengths regions host d)
+-- what is known where a place tries a directive
+pub record IsKnownOf (p : PlaceView) (k : Known) (open_regions : List Region) (labels : List Label) : Type 0 where
+  pub place : IsPlace p k.table.now k.opened open_regions labels
+  pub config : k.config.now ≡ p.config
+  pub regions : k.regions.now ≡ open_regions
+  pub accepted : k.accepted ≡ length p.history
+  pub next : k.next_batch ≡ length labels + 1
 
-all_taken : (items : List Item) → length items ≤ MAX_ITEMS → take 17 items ≡ items
-all_taken items short = take_all 17 items (omega arith)
+pub known_in : (p : PlaceView) (k : Known) (regions : List Region) (labels : List Label) → IsKnownOf p k regions labels → IsKnown k
+known_in p k regions labels h =
+    let tied = h.place.tied in
+    record {
+      capacity = h.place.capacity ∙ ap (λ (config : Configuration). config.capacity) (sym h.config);
+      low = low_for (standing_in p) k.table.now k.opened 16 regions labels tied (omega arith);
+      few = few_for (standing_in p) k.table.now k.opened 16 regions labels tied (omega arith);
+      entered = rw h.regions tied.entered;
+    }
 
--- they are all of them, where they aren't too many
-pub put_all : (p : PlaceView) (host : ℕ) (d : Directive) (n : ℕ) (regions : List Region) (xs : List Item) → ArePut p host d regions xs
-    → None ≡ limit_fault p.config n regions host d (length xs) → xs ≡ items_in (standing_in p).lengths regions host d
-put_all p host d n regions xs put none =
-    let items = items_in (standing_in p).lengths regions host d in
-    put ∙ all_taken items (is_within p.config n regions host d (length items) (sym (none ∙ put_limit p host d n regions xs put))).short
+-- its items are the directive's
+items_known : (p : PlaceView) (k : Known) (host : ℕ) (d : Directive) (regions : List Region) (labels : List Label) → IsKnownOf p k regions labels
+    → items_by k host d ≡ items_in (standing_in p).lengths regions host d
+items_known p k host d regions labels h =
+    ap (λ rs. items_in (lengths_of k.config.now) rs host d) h.regions
+    ∙ ap (λ ls. items_in ls regions host d) (ap lengths_of h.config ∙ sym (lengths_kept p.config p.history p.counts))
 
-pub limit_refuses : (p : PlaceView) (host : ℕ) (d : Directive) (t : Present) (blocks n : ℕ) (regions : List Region) (labels : List Label) (f : Fault) → IsPlace p t blocks regions labels → n ≡ length p.history
-    → Some f ≡ limit_fault p.config n regions host d (length (items_in (standing_in p).lengths regions host d)) → IsRefusal (refusal p.config (standing_in p) host d) f
-limit_refuses p host d t blocks n regions labels f h is some =
-    rw (refused_by_limit p.config (standing_in p) host d t blocks regions labels f h.tied (limit_at p host d t blocks n (length (items_in (standing_in p).lengths regions host d)) regions labels h is ∙ sym some)) refl
-
--- where no limit is passed
-pub judged : (p : PlaceView) (host : ℕ) (d : Directive) (t : Present) (blocks n : ℕ) (regions : List Region) (labels : List Label) → IsPlace p t blocks regions labels → n ≡ length p.history
-    → None ≡ limit_fault p.config n regions host d (length (items_in (standing_in p).lengths regions host d))
-    → refusal p.config (standing_in p) host d ≡ fault_or (first_fault_in p.config d.kind (holding t.presences blocks) (items_in (standing_in p).lengths regions host d)) (past_fault (loop_of d.kind) (items_in (standing_in p).lengths regions host d))
-judged p host d t blocks n regions labels h is none =
-    refused_by_items p.config (standing_in p) host d t blocks regions labels h.tied h.one (limit_at p host d t blocks n (length (items_in (standing_in p).lengths regions host d)) regions labels h is ∙ sym none)
-
--- the fault that was found of the items that were put in is the directive's
-pub judged_put : (p : PlaceView) (host : ℕ) (d : Directive) (t : Present) (blocks n : ℕ) (regions : List Region) (labels : List Label) (xs : List Item) → IsPlace p t blocks regions labels → n ≡ length p.history
-    → ArePut p host d regions xs → None ≡ limit_fault p.config n regions host d (length xs)
-    → refusal p.config (standing_in p) host d ≡ fault_or (first_fault_in p.config d.kind (holding t.presences blocks) xs) (past_fault (loop_of d.kind) xs)
-judged_put p host d t blocks n regions labels xs h is put none =
-    judged p host d t blocks n regions labels h is (none ∙ put_limit p host d n regions xs put)
-    ∙ ap (λ ys. fault_or (first_fault_in p.config d.kind (holding t.presences blocks) ys) (past_fault (loop_of d.kind) ys)) (sym (put_all p host d n regions xs put none))
-
--- where there is none
-pub free_now : (p : PlaceView) (host : ℕ) (d : Directive) (t : Present) (blocks n : ℕ) (regions : List Region) (labels : List Label) (xs : List Item) → IsPlace p t blocks regions labels → n ≡ length p.history
-    → ArePut p host d regions xs → None ≡ limit_fault p.config n regions host d (length xs)
-    → None ≡ fault_or (first_fault_in p.config d.kind (holding t.presences blocks) xs) (past_fault (loop_of d.kind) xs)
-    → IsFree p.config (standing_in p) host d t blocks regions
-free_now p host d t blocks n regions labels xs h is put none found =
-    is_free p.config (standing_in p) host d t blocks regions labels h.tied h.one (judged_put p host d t blocks n regions labels xs h is put none ∙ sym found)
+-- and so is the fault that is found
+pub fault_known : (p : PlaceView) (k : Known) (host : ℕ) (d : Directive) (regions : List Region) (labels : List Label) → IsKnownOf p k regions labels
+    → refusal p.config (standing_in p) host d ≡ fault_by k host d
+fault_known p k host d regions labels h =
+    let st = standing_in p in
+    let accepted : st.accepted ≡ k.accepted = sym (h.accepted ∙ h.place.accepted) in
+    let items = items_by k host d in
+    let fault : Configuration → ℕ → List Region → List Item → Option Fault =
+    λ config n rs xs. fault_or (limit_fault config n rs host d (length xs)) (fault_or (first_fault_in config d.kind (held_by k) xs) (past_fault (loop_of d.kind) xs)) in
+    refused_by p.config st host d k.table.now k.opened regions labels h.place.tied h.place.one
+    ∙ (ap (fault p.config st.accepted regions) (sym (items_known p k host d regions labels h))
+    ∙ (ap (λ n. fault p.config n regions items) accepted
+    ∙ (ap (λ rs. fault p.config k.accepted rs items) (sym h.regions) ∙ ap (λ config. fault config k.accepted k.regions.now items) (sym h.config))))
 
 pub refused_as : (given : Option Fault) (f : Fault) → given ≡ Some f → IsRefusal given f
 refused_as given f is = rw is refl
@@ -248,37 +225,23 @@ first_place config history counts regions labels t no_history no_counts no_regio
 
 -- ## A plan
 
+-- a place of which each part is known
+pub same_place : (p : PlaceView) (config : Configuration) (history : List PlaceEntry) (counts : List ℕ) (is_ready : Bool) → p.config ≡ config → p.history ≡ history → p.counts ≡ counts → p.is_ready ≡ is_ready
+    → p ≡ record { config = config; history = history; counts = counts; is_ready = is_ready }
+same_place p config history counts is_ready a b c d = rw (← a, ← b, ← c, ← d) refl
+
 -- a place with memory for one more directive
 pub ready_place : (config : Configuration) (history : List PlaceEntry) (counts : List ℕ) (is_ready : Bool) (t : Present) (blocks : ℕ) (regions : List Region) (labels : List Label) → IsPlace (viewed config history counts is_ready) t blocks regions labels
     → IsPlace (viewed config history counts true) t blocks regions labels
 ready_place config history counts is_ready t blocks regions labels h = record { one = h.one; capacity = h.capacity; accepted = h.accepted; counted = h.counted; lawful = h.lawful; tied = h.tied }
 
--- the steps of its two walks
-pub steps_made : (k : Kind) (h : Holding) (ps : List Presence) (xs items ends : List Item) (first all : List Marked) → first ≡ all_marked (change_by k) h xs → ps ≡ (holding_between k h xs).presences
-    → ends ≡ ends_of k xs → xs ≡ items
-    → all ≡ first ++ all_marked (Some StructuredDown) (holding ps 0) ends → all ≡ all_steps k h items
-steps_made k h ps xs items ends first all done drafted left own is =
-    let down = Some StructuredDown in
-    is
-    ∙ (ap (λ ts. ts ++ all_marked down (holding ps 0) ends) done
-    ∙ (ap (λ qs. all_marked (change_by k) h xs ++ all_marked down (holding qs 0) ends) drafted
-    ∙ (ap (λ es. all_marked (change_by k) h xs ++ all_marked down (holding (holding_between k h xs).presences 0) es) left
-    ∙ (ap (λ ts. all_marked (change_by k) h xs ++ ts) (left_alike (holding_between k h xs) 0 (ends_of k xs))
-    ∙ ap (all_steps k h) own))))
-
--- and the loop that runs between them
-pub run_made : (k : Kind) (h : Holding) (ps : List Presence) (xs items : List Item) (run : List Op) → ps ≡ (holding_between k h xs).presences → xs ≡ items
-    → run ≡ run_in (loop_of k) xs ps → run ≡ run_in (loop_of k) items (holding_between k h items).presences
-run_made k h ps xs items run drafted own is =
-    is ∙ (ap (run_in (loop_of k) xs) drafted ∙ ap (λ ys. run_in (loop_of k) ys (holding_between k h ys).presences) own)
-
 -- the operations of a directive's two walks
-abbrev pub ops_in : PlaceView → ℕ → Directive → Present → ℕ → List Region → List Op
+abbrev ops_in : PlaceView → ℕ → Directive → Present → ℕ → List Region → List Op
 ops_in p host d t blocks regions =
     marked_ops (run_in (loop_of d.kind) (items_in (standing_in p).lengths regions host d) (holding_between d.kind (holding t.presences blocks) (items_in (standing_in p).lengths regions host d)).presences)
     (all_steps d.kind (holding t.presences blocks) (items_in (standing_in p).lengths regions host d))
 
-pub fits_plan : (p : PlaceView) (host : ℕ) (d : Directive) (t : Present) (blocks : ℕ) (regions : List Region) (labels : List Label) (q : PlanView) → IsPlace p t blocks regions labels → refusal p.config (standing_in p) host d ≡ None
+fits_plan : (p : PlaceView) (host : ℕ) (d : Directive) (t : Present) (blocks : ℕ) (regions : List Region) (labels : List Label) (q : PlanView) → IsPlace p t blocks regions labels → refusal p.config (standing_in p) host d ≡ None
     → q.host ≡ host → q.directive ≡ d → q.region ≡ opened_region host d d.kind
     → q.label ≡ label_for sync (length labels + 1) host q.items_done (ops_in p host d t blocks regions) → p.is_ready ≡ true → Fits p q
 fits_plan p host d t blocks regions labels q h none by is inside named ready =
@@ -298,6 +261,18 @@ fits_plan p host d t blocks regions labels q h none by is inside named ready =
           ∙ ap (λ w. label_for w (next_number w st.labels) host q.items_done (batch_of st (walk_of st host d))) (sym here)));
       ready = ready;
     })
+
+-- one for what the place knows
+pub fits_known : (p : PlaceView) (k : Known) (host : ℕ) (d : Directive) (regions : List Region) (labels : List Label) (q : PlanView) → IsKnownOf p k regions labels → fault_by k host d ≡ None
+    → q.host ≡ host → q.directive ≡ d → q.region ≡ opened_region host d d.kind
+    → q.label ≡ label_for sync k.next_batch host q.items_done (ops_by k host d) → p.is_ready ≡ true → Fits p q
+fits_known p k host d regions labels q h none by is inside named ready =
+    let items = items_known p k host d regions labels h in
+    fits_plan p host d k.table.now k.opened regions labels q h.place (fault_known p k host d regions labels h ∙ none) by is inside
+    (named
+    ∙ (ap (λ n. label_for sync n host q.items_done (ops_by k host d)) h.next
+    ∙ ap (λ xs. label_for sync (length labels + 1) host q.items_done (marked_ops (run_in (loop_of d.kind) xs (holding_between d.kind (held_by k) xs).presences) (all_steps d.kind (held_by k) xs))) items))
+    ready
 
 -- a plan that was just made
 pub plan_of_now : (p : PlaceView) (q : PlanView) → Fits p q → q.stamp ≡ length p.history → IsPlanOf p q

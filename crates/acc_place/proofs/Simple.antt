@@ -1,9 +1,10 @@
 -- The operations of directives have their cells, where the one that runs a loop does.
-use Rattle.std.proofs.Common.{ℕ, Bool, true, false, List, [], ◌∷◌, ◌++◌, Option, Some, None}
+use Rattle.std.proofs.Common.{ℕ, ◌<◌, Bool, true, false, List, [], ◌∷◌, ◌++◌, length, Option, Some, None, arith}
 use Rattle.std.specs.Prelude.{IfSome, if◌then◌else◌}
 use Rattle.std.specs.List.{All, flat_map}
 use Rattle.std.specs.Option.{option_and_then, option_to_list}
 use Rattle.std.proofs.lemmas.List.Elements.{All-nil, All-cons, All-append}
+use Rattle.acc_base.specs.declared.ids.QueueAt.{QueueAt}
 use Rattle.acc_base.specs.declared.range.Range.{Range}
 use Rattle.acc_batch.specs.declared.operation.Op.{Op}
 use Rattle.acc_batch.specs.declared.operation.Op.TheVariants as op
@@ -14,6 +15,7 @@ use Rattle.acc_place.specs.declared.judge.Marked.{Marked}
 use Rattle.acc_place.specs.declared.plan.Group.{Group}
 use Rattle.acc_place.specs.declared.plan.Group.TheVariants.{Makes, CopyIns, Updates, CopyOuts, Releases}
 use Rattle.acc_place.specs.Batches.{copies_in, copies_out}
+use Rattle.acc_place.specs.Plans.{label_for}
 use Rattle.acc_place.specs.Walks.{op_for, update_for, op_of, group_ops, block_of, marked_ops}
 
 copied_in : (copies : Bool) (b : ℕ) (r : Range) → IfSome (if copies then Some (op.CopyIn b r) else None) HasItsCells
@@ -66,3 +68,9 @@ have_their_cells run ts runs =
     (both (flat_map (group_ops CopyOuts) ts) (flat_map (group_ops Releases) ts)
     (in_group CopyOuts ts)
     (in_group Releases ts)))))
+
+-- so do those of a batch's label
+pub labelled_cells : (at_queue : QueueAt) (number host items_done : ℕ) (ops : List Op) → All HasItsCells ops
+    → IfSome (label_for at_queue number host items_done ops) (λ l. (0 < length l.ops) × All HasItsCells l.ops)
+labelled_cells at_queue number host items_done [] all = tt
+labelled_cells at_queue number host items_done (op ∷ ops) all = (omega arith, all)

@@ -13,4 +13,5 @@ pub mod RefusalExamples
 pub mod RegionExamples
 pub mod Regions
 pub mod Standings
+pub mod Trials
 pub mod Walks

@@ -76,10 +76,3 @@ pub record IsRoomy (t : Present) (entries entry_room numbers number_room depth r
   pub regions : depth < region_room
   pub labels : batches < batch_room
   pub table : length t.presences + 2 * MAX_ITEMS ≤ t.room
-
--- There is memory for any directive to be judged, and, if the place is ready, to be accepted.
-pub record HasRooms (is_ready : Bool) (t : Present) (entries entry_room numbers number_room depth region_room batches batch_room draft_room step_room item_room : ℕ) : Type 0 where
-  pub draft : 2 * MAX_ITEMS ≤ draft_room
-  pub steps : 2 * MAX_ITEMS ≤ step_room
-  pub items : MAX_ITEMS + 1 ≤ item_room
-  pub more : is_ready ≡ true → IsRoomy t entries entry_room numbers number_room depth region_room batches batch_room

@@ -6,16 +6,27 @@ ghost use Rattle.acc_present.specs.declared.table.TheConstants.{COUNTER_LIMIT};
 ghost use Rattle.acc_present.specs.Tables.{entry_mark, presences_after};
 ghost use Rattle.acc_place.specs.Accepting.{is_in_array, is_deep, is_outside, wants_presence};
 ghost use Rattle.acc_place.specs.Regions.{open_region};
-ghost use Rattle.acc_place.specs.Standings.{change_by, loop_of};
-ghost use Rattle.acc_place.specs.Walks.{holding, holding_after_all, presences_by, can_open_by, fault_in, fault_or, found_fault, limit_fault, first_fault_in, past_fault, block_found, block_held, block_opened, block_ended, marked_in, all_marked, opened_after, AllLow, HasEntered, AllEntered, CanEnter, CanMark, StaysBy};
+ghost use Rattle.acc_place.specs.Standings.{change_by};
+ghost use Rattle.acc_place.specs.Walks.{holding, holding_after_all, presences_by, can_open_by, fault_in, found_fault, limit_fault, first_fault_in, block_found, block_held, block_opened, block_ended, marked_in, all_marked, opened_after, AllLow, HasEntered, AllEntered, CanEnter, CanMark};
 
 use crate::directive::{
     Clause, Directive, Item, Kind, MAX_DIRECTIVES, MAX_ITEMS, MAX_REGIONS, Region,
 };
 use crate::regions::{depth, open_place};
-use crate::subject::past_fault;
 use acc_base::{BlockId, Config, Fault, HostId, Range};
 use acc_present::{Change, Counter, Draft, Entered, Left, Look, Table};
+
+/// What is known where a directive is judged: the configuration, the device's table, the data constructs that the hosts
+/// are inside, how many directives were accepted and how many lifetimes opened, and the number of the next batch.
+#[derive(Clone, Copy)]
+pub struct Known<'a> {
+    pub config: &'a Config,
+    pub table: &'a Table,
+    pub regions: &'a [Region],
+    pub accepted: usize,
+    pub opened: u64,
+    pub next_batch: u64,
+}
 
 /// What became of an item: the number of the block that held its range before, of the block of the lifetime that it
 /// opened, and of the one that it ended.
@@ -29,26 +40,19 @@ pub struct Marked {
 
 /// The first fault of a host's directive on so many items that does not depend on their ranges.
 #[tactic(auto, unfolding(crate::specs::Walks::limit_fault))]
-pub fn limit_of(
-    config: &Config,
-    accepted: usize,
-    regions: &[Region],
-    host: HostId,
-    directive: &Directive,
-    count: usize,
-) -> Option<Fault>
-    ensures { result ≡ limit_fault config.now accepted regions.now host directive.now count }
+pub fn limit_of(known: &Known, host: HostId, directive: &Directive, count: usize) -> Option<Fault>
+    ensures { result ≡ limit_fault known.now.config.now known.now.accepted known.now.regions.now host directive.now count }
 {
-    if !config.has_device(directive.device) {
+    if !known.config.has_device(directive.device) {
         return Some(Fault::BadDevice);
     }
-    if count > MAX_ITEMS || is_deep(regions, host, &directive.kind) {
+    if count > MAX_ITEMS || is_deep(known.regions, host, &directive.kind) {
         return Some(Fault::TooMany);
     }
-    if accepted as u64 >= MAX_DIRECTIVES {
+    if known.accepted as u64 >= MAX_DIRECTIVES {
         return Some(Fault::TooMany);
     }
-    if is_outside(regions, host, &directive.kind) {
+    if is_outside(known.regions, host, &directive.kind) {
         return Some(Fault::NoRegion);
     }
     None
@@ -68,75 +72,39 @@ fn is_outside(regions: &[Region], host: HostId, kind: &Kind) -> bool
     matches!(kind, Kind::EndData) && open_place(regions, host).is_none()
 }
 
-/// The first fault of the items, each judged with the marks of those before it, and then of a loop that reaches past
-/// them; where there is none, the steps are what would become of them. The table isn't changed: the marks stand in the
-/// draft.
-pub fn judge(
-    table: &Table,
+/// The first fault of the items, each judged with the marks of those before it; where there is none, the steps are what
+/// would become of them. The table isn't changed: the marks stand in the draft.
+pub fn walk(
+    known: &Known,
     draft: &mut Draft,
-    config: &Config,
     kind: &Kind,
     items: &[Item],
     opened: u64,
     steps: &mut Vec<Marked>,
 ) -> Option<Fault>
-    requires capacity { table.now.capacity ≡ config.now.capacity }
-    requires draft_room { length items.now ≤ draft.old.room }
-    requires low { AllLow COUNTER_LIMIT (length items.now) table.now.presences }
-    requires few { opened + length items.now ≤ COUNTER_LIMIT }
-    requires entered { AllEntered (change_by kind.now) (holding table.now.presences opened) items.now }
-    requires step_room { length items.now ≤ vec_capacity steps.old }
-    ensures draft_room { draft.new.room ≡ draft.old.room }
-    ensures fault { result ≡ fault_or (first_fault_in config.now kind.now (holding table.now.presences opened) items.now) (past_fault (loop_of kind.now) items.now) }
-    ensures stays { IfNone result (StaysBy kind.now items.now) }
-    ensures draft { IfNone result (IsDraft table.now draft.new) }
-    ensures drafted { IfNone result (drafted table.now draft.new ≡ (holding_after_all (change_by kind.now) (holding table.now.presences opened) items.now).presences) }
-    ensures changed { IfNone result (length draft.new.changed ≤ length items.now) }
-    ensures steps { IfNone result (steps.new.items ≡ all_marked (change_by kind.now) (holding table.now.presences opened) items.now) }
-    ensures step_room { vec_capacity steps.new ≡ vec_capacity steps.old }
-{
-    draft.begin(table);
-    steps.clear();
-    let found = walk(table, draft, config, kind, items, opened, steps);
-    if found.is_some() {
-        return found;
-    }
-    past_fault(kind, items)
-}
-
-// Takes the items in turn.
-fn walk(
-    table: &Table,
-    draft: &mut Draft,
-    config: &Config,
-    kind: &Kind,
-    items: &[Item],
-    opened: u64,
-    steps: &mut Vec<Marked>,
-) -> Option<Fault>
-    requires capacity { table.now.capacity ≡ config.now.capacity }
-    requires draft { IsDraft table.now draft.old }
+    requires capacity { known.now.table.now.capacity ≡ known.now.config.now.capacity }
+    requires draft { IsDraft known.now.table.now draft.old }
     requires draft_room { length draft.old.changed + length items.now ≤ draft.old.room }
-    requires low { AllLow COUNTER_LIMIT (length items.now) (drafted table.now draft.old) }
+    requires low { AllLow COUNTER_LIMIT (length items.now) (drafted known.now.table.now draft.old) }
     requires few { opened + length items.now ≤ COUNTER_LIMIT }
-    requires entered { AllEntered (change_by kind.now) (holding (drafted table.now draft.old) opened) items.now }
+    requires entered { AllEntered (change_by kind.now) (holding (drafted known.now.table.now draft.old) opened) items.now }
     requires step_room { vec_len steps.old + length items.now ≤ vec_capacity steps.old }
     ensures draft_room { draft.new.room ≡ draft.old.room }
-    ensures fault { result ≡ first_fault_in config.now kind.now (holding (drafted table.now draft.old) opened) items.now }
-    ensures draft { IfNone result (IsDraft table.now draft.new) }
-    ensures drafted { IfNone result (drafted table.now draft.new ≡ (holding_after_all (change_by kind.now) (holding (drafted table.now draft.old) opened) items.now).presences) }
+    ensures fault { result ≡ first_fault_in known.now.config.now kind.now (holding (drafted known.now.table.now draft.old) opened) items.now }
+    ensures draft { IfNone result (IsDraft known.now.table.now draft.new) }
+    ensures drafted { IfNone result (drafted known.now.table.now draft.new ≡ (holding_after_all (change_by kind.now) (holding (drafted known.now.table.now draft.old) opened) items.now).presences) }
     ensures changed { IfNone result (length draft.new.changed ≤ length draft.old.changed + length items.now) }
-    ensures steps { IfNone result (steps.new.items ≡ steps.old.items ++ all_marked (change_by kind.now) (holding (drafted table.now draft.old) opened) items.now) }
+    ensures steps { IfNone result (steps.new.items ≡ steps.old.items ++ all_marked (change_by kind.now) (holding (drafted known.now.table.now draft.old) opened) items.now) }
     ensures step_room { vec_capacity steps.new ≡ vec_capacity steps.old }
 {
     match items {
         [] => None,
-        [first, rest @ ..] => match visit(table, draft, config, kind, first, opened) {
+        [first, rest @ ..] => match visit(known, draft, kind, first, opened) {
             Err(fault) => Some(fault),
             Ok(marked) => {
                 steps.push_reserved(marked);
                 let next = count_opened(opened, marked);
-                walk(table, draft, config, kind, rest, next, steps)
+                walk(known, draft, kind, rest, next, steps)
             }
         },
     }
@@ -144,35 +112,41 @@ fn walk(
 
 // Judges an item, where the draft has the marks of those before it, and leaves its mark.
 fn visit(
-    table: &Table,
+    known: &Known,
     draft: &mut Draft,
-    config: &Config,
     kind: &Kind,
     item: &Item,
     opened: u64,
 ) -> Result<Marked, Fault>
-    requires capacity { table.now.capacity ≡ config.now.capacity }
-    requires draft { IsDraft table.now draft.old }
+    requires capacity { known.now.table.now.capacity ≡ known.now.config.now.capacity }
+    requires draft { IsDraft known.now.table.now draft.old }
     requires draft_room { length draft.old.changed < draft.old.room }
-    requires low { AllLow COUNTER_LIMIT 1 (drafted table.now draft.old) }
+    requires low { AllLow COUNTER_LIMIT 1 (drafted known.now.table.now draft.old) }
     requires few { opened < COUNTER_LIMIT }
-    requires entered { HasEntered (change_by kind.now) item.now.range (drafted table.now draft.old) }
-    ensures refused { IfErr result (λ fault. fault_in config.now kind.now (drafted table.now draft.old) item.now ≡ Some fault) }
-    ensures fine { OnOk result (fault_in config.now kind.now (drafted table.now draft.old) item.now ≡ None) }
-    ensures marked { IfOk result (λ m. m ≡ marked_in (change_by kind.now) (holding (drafted table.now draft.old) opened) item.now) }
-    ensures draft { OnOk result (IsDraft table.now draft.new) }
-    ensures drafted { OnOk result (drafted table.now draft.new ≡ presences_by (change_by kind.now) item.now.range (opened + 1) (drafted table.now draft.old)) }
+    requires entered { HasEntered (change_by kind.now) item.now.range (drafted known.now.table.now draft.old) }
+    ensures refused { IfErr result (λ fault. fault_in known.now.config.now kind.now (drafted known.now.table.now draft.old) item.now ≡ Some fault) }
+    ensures fine { OnOk result (fault_in known.now.config.now kind.now (drafted known.now.table.now draft.old) item.now ≡ None) }
+    ensures marked { IfOk result (λ m. m ≡ marked_in (change_by kind.now) (holding (drafted known.now.table.now draft.old) opened) item.now) }
+    ensures draft { OnOk result (IsDraft known.now.table.now draft.new) }
+    ensures drafted { OnOk result (drafted known.now.table.now draft.new ≡ presences_by (change_by kind.now) item.now.range (opened + 1) (drafted known.now.table.now draft.old)) }
     ensures changed { OnOk result (length draft.new.changed ≤ length draft.old.changed + 1) }
     ensures draft_room { draft.new.room ≡ draft.old.room }
 {
-    if !is_in_array(config, item.range) {
+    if !is_in_array(known.config, item.range) {
         return Err(Fault::BadRange);
     }
-    let found = draft.look(table, item.range);
-    let free = config.capacity() - draft.used_cells();
+    let found = draft.look(known.table, item.range);
+    let free = known.config.capacity() - draft.used_cells();
     match fault_of(kind, item, &found, free) {
         Some(fault) => Err(fault),
-        None => Ok(mark(table, draft, kind.change(), item, held_by(&found), opened)),
+        None => Ok(mark(
+            known.table,
+            draft,
+            kind.change(),
+            item,
+            held_by(&found),
+            opened,
+        )),
     }
 }
 

@@ -9,6 +9,7 @@ mod place;
 mod plan;
 mod regions;
 mod subject;
+mod trial;
 
 pub use directive::{
     ASYNC_NOVAL, Clause, Directive, Item, Kind, MAX_DIRECTIVES, MAX_ITEMS, MAX_REGIONS, PlaceEntry,

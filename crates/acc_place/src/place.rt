@@ -1,4 +1,4 @@
-ghost use Rattle.std.specs.Prelude.{All, not, reverse, ◌≡◌, ◌+◌, ◌<◌, ◌≤◌, ◌==◌, ◌++◌, [], ◌∷◌, length, true, None, IfOk, IfErr, OnOk, OnSome, slice_get, vec_len, vec_capacity, ◌^◌};
+ghost use Rattle.std.specs.Prelude.{All, not, reverse, ◌≡◌, ◌+◌, ◌<◌, ◌==◌, ◌++◌, [], ◌∷◌, length, true, None, IfOk, IfErr, OnOk, OnSome, slice_get, vec_len, vec_capacity, ◌^◌};
 ghost use Rattle.std.specs.Option.{option_map, option_to_list};
 ghost use Rattle.acc_base.specs.declared.fault.Fault.TheVariants.{Memory};
 ghost use Rattle.acc_batch.specs.Labels.{on_queue};
@@ -8,19 +8,20 @@ ghost use Rattle.acc_present.specs.Tables.{entry_mark, entry_presence, presences
 ghost use Rattle.acc_place.specs.Accepting.{refusal};
 ghost use Rattle.acc_place.specs.Batches.{answer_of, is_answered};
 ghost use Rattle.acc_place.specs.Histories.{AllAccepted};
-ghost use Rattle.acc_place.specs.Places.{IsRoomy, is_synchronous, nth_batch, sync};
+ghost use Rattle.acc_place.specs.Places.{is_synchronous, nth_batch};
 ghost use Rattle.acc_place.specs.Plans.{standing_in, IsRefusal, IsPlanOf, Fits, place_after};
 ghost use Rattle.acc_place.specs.Standings.{walk_of};
 ghost use Rattle.acc_place.specs.Walks.{holding, holding_after, holding_after_all, opened_after, CanEnter, CanMark, HasRoomFor, AllEntered, AllFine};
 
 use crate::directive::{Directive, Item, Kind, MAX_ITEMS, PlaceEntry, Placed, Region};
-use crate::judge::{Marked, judge, leave_all, limit_of};
-use crate::plan::{Plan, plan_of};
+use crate::judge::Known;
+use crate::plan::{Plan, sync_queue};
 use crate::regions::settle;
-use crate::subject::{ends_of, put_items, run_of};
-use acc_base::{BlockId, Config, DeviceId, Fault, HostId, QueueAt, QueueId, Range};
+use crate::subject::ends_of;
+use crate::trial::Trial;
+use acc_base::{BlockId, Config, DeviceId, Fault, HostId, QueueAt, Range};
 use acc_batch::Label;
-use acc_present::{Change, Counter, Draft, Entered, Entry, Table};
+use acc_present::{Change, Counter, Entered, Entry, Table};
 use std::alloc::Global;
 use std::marker::Model;
 
@@ -38,20 +39,18 @@ pub struct Place {
     labels: Vec<Label>,
     // how many lifetimes have been opened
     opened: u64,
-    // where a directive is judged: its marks, what became of its items, and these
-    draft: Draft,
-    steps: Vec<Marked>,
-    items: Vec<Item>,
+    // where a directive is tried before it is accepted
+    trial: Trial,
     // whether there is memory for one more directive
     is_ready: bool,
 }
 
 impl Model for Place {
-    ghost use Rattle.std.specs.Prelude.{All, not, reverse, vec_len, vec_capacity};
+    ghost use Rattle.std.specs.Prelude.{All, ◌≡◌, not, reverse, true, vec_len, vec_capacity};
     ghost use Rattle.std.specs.Coded.{codes};
     ghost use Rattle.acc_kernel.specs.contracts.expr.Expr as expr;
     ghost use Rattle.acc_place.specs.Plans.{PlaceView};
-    ghost use Rattle.acc_place.specs.Places.{IsPlace, HasRooms};
+    ghost use Rattle.acc_place.specs.Places.{IsPlace, IsRoomy};
 
     ghost Value = { PlaceView };
 
@@ -61,7 +60,7 @@ impl Model for Place {
 
     ghost invariant = { λ w.
         IsPlace (record { config = w.config; history = reverse w.history.items; counts = reverse w.counts.items; is_ready = w.is_ready }) w.table w.opened w.regions.items w.labels.items
-        × HasRooms w.is_ready w.table (vec_len w.history) (vec_capacity w.history) (vec_len w.counts) (vec_capacity w.counts) (vec_len w.regions) (vec_capacity w.regions) (vec_len w.labels) (vec_capacity w.labels) w.draft.room (vec_capacity w.steps) (vec_capacity w.items) };
+        × (w.is_ready ≡ true → IsRoomy w.table (vec_len w.history) (vec_capacity w.history) (vec_len w.counts) (vec_capacity w.counts) (vec_len w.regions) (vec_capacity w.regions) (vec_len w.labels) (vec_capacity w.labels)) };
 }
 
 impl Place {
@@ -78,9 +77,7 @@ impl Place {
         ensures fault { IfErr result (λ fault. fault ≡ Memory) }
     {
         let table = Table::new(alloc, config.capacity());
-        let draft = Draft::with_room(alloc, 2 * MAX_ITEMS)?;
-        let steps = Vec::with_capacity(alloc, 2 * MAX_ITEMS)?;
-        let items = Vec::with_capacity(alloc, MAX_ITEMS + 1)?;
+        let trial = Trial::new(alloc)?;
         Ok(Place {
             alloc,
             config,
@@ -90,9 +87,7 @@ impl Place {
             regions: Vec::new(alloc),
             labels: Vec::new(alloc),
             opened: 0,
-            draft,
-            steps,
-            items,
+            trial,
             is_ready: false,
         })
     }
@@ -120,61 +115,40 @@ impl Place {
         ensures fits { IfOk result (λ q. Fits self.new q × IsPlanOf self.new q) }
         ensures batch { IfOk result (λ q. q.batch ≡ q.label) }
     {
-        put_items(
-            &self.config,
-            self.regions.as_slice(),
-            host,
-            directive,
-            &mut self.items,
-        );
-        let items = self.items.as_slice();
-        let limit = limit_of(
-            &self.config,
-            self.history.len(),
-            self.regions.as_slice(),
-            host,
-            directive,
-            items.len(),
-        );
-        if let Some(fault) = limit {
+        let known = Known {
+            config: &self.config,
+            table: &self.table,
+            regions: self.regions.as_slice(),
+            accepted: self.history.len(),
+            opened: self.opened,
+            next_batch: self.labels.len() as u64 + 1,
+        };
+        if let Some(fault) = self.trial.judge(&known, host, directive) {
             return Err(fault);
         }
-        let opened = self.opened;
-        let found = judge(
-            &self.table,
-            &mut self.draft,
-            &self.config,
-            &directive.kind,
-            items,
-            opened,
-            &mut self.steps,
-        );
-        if let Some(fault) = found {
-            return Err(fault);
-        }
-        let run = run_of(self.alloc, &self.table, &self.draft, &directive.kind, items)?;
-        let ends = ends_of(&directive.kind, items);
-        leave_all(&self.table, &mut self.draft, ends, &mut self.steps);
-        let plan = plan_of(
-            self.alloc,
-            host,
-            items_done,
-            directive,
-            self.steps.as_slice(),
-            run,
-            sync_queue(),
-            self.labels.len() as u64 + 1,
-            self.history.len(),
-        )?;
-        make_room(
-            &mut self.table,
-            &mut self.history,
-            &mut self.counts,
-            &mut self.regions,
-            &mut self.labels,
-        )?;
-        self.is_ready = true;
+        let plan = self
+            .trial
+            .plan(self.alloc, &known, host, items_done, directive)?;
+        self.make_room()?;
         Ok(plan)
+    }
+
+    // Makes room for one more directive.
+    fn make_room(&mut self) -> Result<(), Fault>
+        ensures config { self.new.config ≡ self.old.config }
+        ensures history { self.new.history ≡ self.old.history }
+        ensures counts { self.new.counts ≡ self.old.counts }
+        ensures ready { self.old.is_ready ≡ true → self.new.is_ready ≡ true }
+        ensures ok { OnOk result (self.new.is_ready ≡ true) }
+        ensures fault { IfErr result (λ fault. fault ≡ Memory) }
+    {
+        self.history.reserve(1)?;
+        self.counts.reserve(1)?;
+        self.regions.reserve(1)?;
+        self.labels.reserve(1)?;
+        self.table.spare(2 * MAX_ITEMS)?;
+        self.is_ready = true;
+        Ok(())
     }
 
     /// Accepts the directive of a plan that fits, by `Plan::fits`. Takes no memory.
@@ -191,14 +165,9 @@ impl Place {
             label,
             ..
         } = plan;
-        put_items(
-            &self.config,
-            self.regions.as_slice(),
-            host,
-            &directive,
-            &mut self.items,
-        );
-        let items = self.items.as_slice();
+        self.trial
+            .put_items(&self.config, self.regions.as_slice(), host, &directive);
+        let items = self.trial.items();
         let present = is_answered(&self.table, &directive.kind, items);
         let opened = self.opened;
         let between = mark_all(&mut self.table, directive.kind.change(), items, opened);
@@ -308,16 +277,6 @@ impl Place {
     }
 }
 
-// The queue that synchronous directives use.
-fn sync_queue() -> QueueAt
-    ensures { result ≡ sync }
-{
-    QueueAt {
-        device: DeviceId::new(0),
-        queue: QueueId::SYNC,
-    }
-}
-
 // The answer of `acc_is_present`, and of no other directive.
 fn is_answered(table: &Table, kind: &Kind, items: &[Item]) -> bool
     requires cells { All (λ i. 0 < i.range.len) items.now }
@@ -407,34 +366,4 @@ fn push_label(labels: &mut Vec<Label>, label: Option<Label>) -> Option<(QueueAt,
             Some(placed)
         }
     }
-}
-
-// Makes room for one more directive.
-fn make_room(
-    table: &mut Table,
-    history: &mut Vec<PlaceEntry>,
-    counts: &mut Vec<u64>,
-    regions: &mut Vec<Region>,
-    labels: &mut Vec<Label>,
-) -> Result<(), Fault>
-    ensures presences { table.new.presences ≡ table.old.presences }
-    ensures capacity { table.new.capacity ≡ table.old.capacity }
-    ensures room { table.old.room ≤ table.new.room }
-    ensures history { history.new.items ≡ history.old.items }
-    ensures history_room { vec_capacity history.old ≤ vec_capacity history.new }
-    ensures counts { counts.new.items ≡ counts.old.items }
-    ensures counts_room { vec_capacity counts.old ≤ vec_capacity counts.new }
-    ensures regions { regions.new.items ≡ regions.old.items }
-    ensures regions_room { vec_capacity regions.old ≤ vec_capacity regions.new }
-    ensures labels { labels.new.items ≡ labels.old.items }
-    ensures labels_room { vec_capacity labels.old ≤ vec_capacity labels.new }
-    ensures ok { OnOk result (IsRoomy table.new (vec_len history.new) (vec_capacity history.new) (vec_len counts.new) (vec_capacity counts.new) (vec_len regions.new) (vec_capacity regions.new) (vec_len labels.new) (vec_capacity labels.new)) }
-    ensures fault { IfErr result (λ fault. fault ≡ Memory) }
-{
-    history.reserve(1)?;
-    counts.reserve(1)?;
-    regions.reserve(1)?;
-    labels.reserve(1)?;
-    table.spare(2 * MAX_ITEMS)?;
-    Ok(())
 }

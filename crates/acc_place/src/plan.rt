@@ -1,17 +1,18 @@
-ghost use Rattle.std.specs.Prelude.{◌≡◌, ◌++◌, ◌==◌, if◌then◌else◌, length, IfOk, IfErr, IfSome, OnOk, IsTrue, Some, None};
+ghost use Rattle.std.specs.Prelude.{All, ◌≡◌, ◌<◌, ◌++◌, ◌==◌, if◌then◌else◌, length, IfOk, IfErr, IfSome, OnOk, IsTrue, Some, None};
 ghost use Rattle.std.specs.List.{flat_map};
 ghost use Rattle.std.specs.Option.{option_to_list};
 ghost use Rattle.acc_batch.specs.declared.operation.Op.TheVariants as op;
 ghost use Rattle.acc_batch.specs.Tasks.{HasItsCells};
 ghost use Rattle.acc_place.specs.Batches.{copies_in, copies_out};
+ghost use Rattle.acc_place.specs.Places.{sync};
 ghost use Rattle.acc_place.specs.Plans.{Fits, IsPlanOf, label_for, opened_region};
 ghost use Rattle.acc_place.specs.Walks.{block_of, op_of, op_for, update_for, group_ops, marked_ops};
 
 use crate::directive::{Clause, Directive, Region};
-use crate::judge::Marked;
+use crate::judge::{Known, Marked};
 use crate::place::Place;
 use crate::regions::opened_by;
-use acc_base::{BlockId, Fault, HostId, Listed, QueueAt, Range};
+use acc_base::{BlockId, DeviceId, Fault, HostId, Listed, QueueAt, QueueId, Range};
 use acc_batch::{Batch, Label, Op};
 use std::alloc::Global;
 use std::marker::Model;
@@ -74,59 +75,81 @@ impl Plan {
     }
 }
 
-/// A plan for a directive with these steps that runs this loop, if any, whose batch goes to this queue and has this
-/// number there.
+/// A plan for a host's directive with these steps, that runs this loop, if any. Its batch is the next one of the queue
+/// that synchronous directives use.
 pub fn plan_of(
     alloc: Global,
+    known: &Known,
     host: HostId,
     items_done: u64,
     directive: &Directive,
     steps: &[Marked],
     run: Option<Op>,
-    at: QueueAt,
-    number: u64,
-    stamp: usize,
 ) -> Result<Plan, Fault>
     requires { IfSome run HasItsCells }
-    ensures host { IfOk result (λ q. (q.host ≡ host) × (q.items_done ≡ items_done) × (q.stamp ≡ stamp)) }
+    ensures host { IfOk result (λ q. (q.host ≡ host) × (q.items_done ≡ items_done) × (q.stamp ≡ known.now.accepted)) }
     ensures directive { IfOk result (λ q. q.directive ≡ directive.now) }
     ensures region { IfOk result (λ q. q.region ≡ opened_region host directive.now directive.now.kind) }
-    ensures label { IfOk result (λ q. q.label ≡ label_for at number host items_done (marked_ops (option_to_list run) steps.now)) }
+    ensures label { IfOk result (λ q. q.label ≡ label_for sync known.now.next_batch host items_done (marked_ops (option_to_list run) steps.now)) }
     ensures batch { IfOk result (λ q. q.batch ≡ q.label) }
     ensures fault { IfErr result (λ fault. fault ≡ Fault.Memory) }
 {
     let region = opened_by(alloc, host, directive)?;
     let directive = directive.try_clone(alloc)?;
     let ops = ops_of(alloc, steps, run)?;
-    if ops.is_empty() {
-        return Ok(Plan {
-            host,
-            items_done,
-            directive,
-            region,
-            label: None,
-            batch: None,
-            stamp,
-        });
-    }
-    let label = Label {
-        at,
-        number,
-        host,
-        items_done,
-        ops: Listed::from_vec(ops),
-    };
-    let copy = label.try_clone(alloc)?;
-    let batch = Batch::new(alloc, copy)?;
+    let label = label_of(known, host, items_done, ops);
+    let batch = batch_of(alloc, &label)?;
     Ok(Plan {
         host,
         items_done,
         directive,
         region,
-        label: Some(label),
-        batch: Some(batch),
-        stamp,
+        label,
+        batch,
+        stamp: known.accepted,
     })
+}
+
+// The label of a batch of these operations, if there are any.
+fn label_of(known: &Known, host: HostId, items_done: u64, ops: Vec<Op>) -> Option<Label>
+    ensures { result ≡ label_for sync known.now.next_batch host items_done ops.items }
+{
+    if ops.is_empty() {
+        return None;
+    }
+    Some(Label {
+        at: sync_queue(),
+        number: known.next_batch,
+        host,
+        items_done,
+        ops: Listed::from_vec(ops),
+    })
+}
+
+// The batch with this label, if there is one.
+fn batch_of(alloc: Global, label: &Option<Label>) -> Result<Option<Batch>, Fault>
+    requires { IfSome label.now (λ l. (0 < length l.ops) × All HasItsCells l.ops) }
+    ensures batch { IfOk result (λ batch. batch ≡ label.now) }
+    ensures fault { IfErr result (λ fault. fault ≡ Fault.Memory) }
+{
+    match label {
+        None => Ok(None),
+        Some(label) => {
+            let copy = label.try_clone(alloc)?;
+            let batch = Batch::new(alloc, copy)?;
+            Ok(Some(batch))
+        }
+    }
+}
+
+/// The queue that synchronous directives use.
+pub fn sync_queue() -> QueueAt
+    ensures { result ≡ sync }
+{
+    QueueAt {
+        device: DeviceId::new(0),
+        queue: QueueId::SYNC,
+    }
 }
 
 // The operations of a batch; a loop runs behind the copies in.

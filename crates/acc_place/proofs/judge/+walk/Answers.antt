@@ -17,15 +17,15 @@ no_item = record { clause = Copy; range = record { array = 0; lo = 0; len = 0 } 
 pub visit-requires-clause-low : goal.visit-requires-clause-low
 visit-requires-clause-low t c =
     let n = length c.args.items.now in
-    AllLow-fewer COUNTER_LIMIT COUNTER_LIMIT n 1 (drafted c.args.table.now c.args.draft.now) (omega (arith, c.in-len1-up.len_at_least)) c.requires.low
+    AllLow-fewer COUNTER_LIMIT COUNTER_LIMIT n 1 (drafted c.args.known.now.table.now c.args.draft.now) (omega (arith, c.in-len1-up.len_at_least)) c.requires.low
 
 pub walk-requires : goal.walk-requires
 walk-requires t c =
     let change = change_by c.args.kind.now in
     let items = c.args.items.now in
     let item = get_or items 0 no_item in
-    let ps = drafted c.args.table.now c.args.draft.now in
-    let qs = drafted c.args.table.now c.visit.new.draft in
+    let ps = drafted c.args.known.now.table.now c.args.draft.now in
+    let qs = drafted c.args.known.now.table.now c.visit.new.draft in
     let h = holding ps c.args.opened in
     let next = c.count_opened-next.result in
     let some = c.in-len1-up.len_at_least in
@@ -63,25 +63,25 @@ returns-in-Ok-clause-drafted t c =
     let change = change_by c.args.kind.now in
     let items = c.args.items.now in
     let item = get_or items 0 no_item in
-    let ps = drafted c.args.table.now c.args.draft.now in
-    let qs = drafted c.args.table.now c.visit.new.draft in
+    let ps = drafted c.args.known.now.table.now c.args.draft.now in
+    let qs = drafted c.args.known.now.table.now c.visit.new.draft in
     let h = holding ps c.args.opened in
     let next = c.count_opened-next.result in
     let after = holding_is change ps qs c.args.opened next item c.in-Ok.marked c.in-Ok.ensures.drafted c.in-Ok.ensures.marked c.count_opened-next.ensures in
     let same : holding_after_all change (holding qs next) (rest_of items) ≡ holding_after_all change h items =
     ap (λ g. holding_after_all change g (rest_of items)) after
     ∙ (ap (holding_after_all change (holding_after change item.range h)) (rest_is items) ∙ sym (holding-next change h items no_item c.in-len1-up.len_at_least)) in
-    drafted_on c.walk.result (drafted c.args.table.now c.walk.new.draft) (holding_after_all change (holding qs next) (rest_of items)) (holding_after_all change h items) same c.walk.ensures.drafted
+    drafted_on c.walk.result (drafted c.args.known.now.table.now c.walk.new.draft) (holding_after_all change (holding qs next) (rest_of items)) (holding_after_all change h items) same c.walk.ensures.drafted
 
 pub returns-in-Ok-clause-fault : goal.returns-in-Ok-clause-fault
 returns-in-Ok-clause-fault t c =
     let k = c.args.kind.now in
     let change = change_by k in
-    let config = c.args.config.now in
+    let config = c.args.known.now.config.now in
     let items = c.args.items.now in
     let item = get_or items 0 no_item in
-    let ps = drafted c.args.table.now c.args.draft.now in
-    let qs = drafted c.args.table.now c.visit.new.draft in
+    let ps = drafted c.args.known.now.table.now c.args.draft.now in
+    let qs = drafted c.args.known.now.table.now c.visit.new.draft in
     let h = holding ps c.args.opened in
     let after = holding_is change ps qs c.args.opened c.count_opened-next.result item c.in-Ok.marked c.in-Ok.ensures.drafted c.in-Ok.ensures.marked c.count_opened-next.ensures in
     c.walk.ensures.fault
@@ -99,8 +99,8 @@ returns-in-Ok-clause-steps t c =
     let change = change_by c.args.kind.now in
     let items = c.args.items.now in
     let item = get_or items 0 no_item in
-    let ps = drafted c.args.table.now c.args.draft.now in
-    let qs = drafted c.args.table.now c.visit.new.draft in
+    let ps = drafted c.args.known.now.table.now c.args.draft.now in
+    let qs = drafted c.args.known.now.table.now c.visit.new.draft in
     let h = holding ps c.args.opened in
     let next = c.count_opened-next.result in
     let after = holding_is change ps qs c.args.opened next item c.in-Ok.marked c.in-Ok.ensures.drafted c.in-Ok.ensures.marked c.count_opened-next.ensures in

@@ -8,14 +8,14 @@ use Rattle.acc_place.proofs.judge.visit.Goals as goal
 
 pub returns-then-not-is_in_array-clause-refused : goal.returns-then-not-is_in_array-clause-refused
 returns-then-not-is_in_array-clause-refused c =
-    let outside : is_in_array c.args.config.now.arrays c.args.item.now.range ≡ false = cc in
-    fault-outside c.args.config.now c.args.kind.now (drafted c.args.table.now c.args.draft.now) c.args.item.now outside
+    let outside : is_in_array c.args.known.now.config.now.arrays c.args.item.now.range ≡ false = cc in
+    fault-outside c.args.known.now.config.now c.args.kind.now (drafted c.args.known.now.table.now c.args.draft.now) c.args.item.now outside
 
 pub mark-requires-clause-can : goal.mark-requires-clause-can
 mark-requires-clause-can c =
-    let config = c.args.config.now in
+    let config = c.args.known.now.config.now in
     let k = c.args.kind.now in
-    let t = c.args.table.now in
+    let t = c.args.known.now.table.now in
     let d = c.args.draft.now in
     let item = c.args.item.now in
     let inside : is_in_array config.arrays item.range ≡ true = cc in
@@ -26,22 +26,22 @@ mark-requires-clause-can c =
     rw (c.requires.capacity, c.change.ensures) (can_mark (change_by k) (drafted t d) item.range config.capacity 1 fine c.requires.entered c.requires.low (omega arith))
 
 pub mark-requires-clause-held : goal.mark-requires-clause-held
-mark-requires-clause-held c = c.held_by.ensures ∙ block_is (drafted c.args.table.now c.args.draft.now) c.args.item.now.range c.look-found.result c.look-found.ensures
+mark-requires-clause-held c = c.held_by.ensures ∙ block_is (drafted c.args.known.now.table.now c.args.draft.now) c.args.item.now.range c.look-found.result c.look-found.ensures
 
 pub returns-in-Some-clause-refused : goal.returns-in-Some-clause-refused
 returns-in-Some-clause-refused c =
-    let config = c.args.config.now in
+    let config = c.args.known.now.config.now in
     let item = c.args.item.now in
     let inside : is_in_array config.arrays item.range ≡ true = cc in
-    found_is config c.args.kind.now c.args.table.now c.args.draft.now item c.look-found.result c.capacity.result c.used_cells.result c.fault_of.result inside c.look-found.ensures
+    found_is config c.args.kind.now c.args.known.now.table.now c.args.draft.now item c.look-found.result c.capacity.result c.used_cells.result c.fault_of.result inside c.look-found.ensures
     c.requires.draft c.requires.capacity c.capacity.ensures c.used_cells.ensures c.fault_of.ensures
     ∙ c.in-Some.is
 
 pub returns-in-None-clause-fine : goal.returns-in-None-clause-fine
 returns-in-None-clause-fine c =
-    let config = c.args.config.now in
+    let config = c.args.known.now.config.now in
     let item = c.args.item.now in
     let inside : is_in_array config.arrays item.range ≡ true = cc in
-    found_is config c.args.kind.now c.args.table.now c.args.draft.now item c.look-found.result c.capacity.result c.used_cells.result c.fault_of.result inside c.look-found.ensures
+    found_is config c.args.kind.now c.args.known.now.table.now c.args.draft.now item c.look-found.result c.capacity.result c.used_cells.result c.fault_of.result inside c.look-found.ensures
     c.requires.draft c.requires.capacity c.capacity.ensures c.used_cells.ensures c.fault_of.ensures
     ∙ c.in-None.is

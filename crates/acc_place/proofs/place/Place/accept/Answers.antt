@@ -24,8 +24,8 @@ is_answered-present-requires c =
     let fits : Fits (seen w) q = rw (← c.self.view_is, ← c.plan.view_is) at c.requires in
     let free = free_in (seen w) q w.table w.opened w.regions.items w.labels.items h.0 fits in
     let items = items_in (standing_in (seen w)).lengths w.regions.items q.host q.directive in
-    let put = are_put (seen w) q.host q.directive w.regions.items c.as_slice.result.now c.as_slice-items.result.now c.as_slice.ensures.value (c.as_slice-items.ensures.value ∙ c.put_items.ensures.items) in
-    let own : c.as_slice-items.result.now ≡ items = put_then (seen w) q w.table w.opened w.regions.items w.labels.items c.as_slice-items.result.now h.0 fits put in
+    let put = are_put (seen w) q.host q.directive w.regions.items c.as_slice.result.now c.items-items.result.now c.as_slice.ensures.value (c.items-items.ensures ∙ c.put_items.ensures) in
+    let own : c.items-items.result.now ≡ items = put_then (seen w) q w.table w.opened w.regions.items w.labels.items c.items-items.result.now h.0 fits put in
     rw own (record { cells = all_cells w.config.capacity (change_by q.directive.kind) (holding w.table.presences w.opened) items free.fine })
 
 pub mark_all-between-requires-clause-fine : goal.mark_all-between-requires-clause-fine
@@ -36,8 +36,8 @@ mark_all-between-requires-clause-fine c =
     let fits : Fits (seen w) q = rw (← c.self.view_is, ← c.plan.view_is) at c.requires in
     let free = free_in (seen w) q w.table w.opened w.regions.items w.labels.items h.0 fits in
     let items = items_in (standing_in (seen w)).lengths w.regions.items q.host q.directive in
-    let put = are_put (seen w) q.host q.directive w.regions.items c.as_slice.result.now c.as_slice-items.result.now c.as_slice.ensures.value (c.as_slice-items.ensures.value ∙ c.put_items.ensures.items) in
-    let own : c.as_slice-items.result.now ≡ items = put_then (seen w) q w.table w.opened w.regions.items w.labels.items c.as_slice-items.result.now h.0 fits put in
+    let put = are_put (seen w) q.host q.directive w.regions.items c.as_slice.result.now c.items-items.result.now c.as_slice.ensures.value (c.items-items.ensures ∙ c.put_items.ensures) in
+    let own : c.items-items.result.now ≡ items = put_then (seen w) q w.table w.opened w.regions.items w.labels.items c.items-items.result.now h.0 fits put in
     rw (own, h.0.capacity, c.change.ensures) free.fine
 
 pub mark_all-between-requires-clause-entered : goal.mark_all-between-requires-clause-entered
@@ -48,8 +48,8 @@ mark_all-between-requires-clause-entered c =
     let fits : Fits (seen w) q = rw (← c.self.view_is, ← c.plan.view_is) at c.requires in
     let free = free_in (seen w) q w.table w.opened w.regions.items w.labels.items h.0 fits in
     let items = items_in (standing_in (seen w)).lengths w.regions.items q.host q.directive in
-    let put = are_put (seen w) q.host q.directive w.regions.items c.as_slice.result.now c.as_slice-items.result.now c.as_slice.ensures.value (c.as_slice-items.ensures.value ∙ c.put_items.ensures.items) in
-    let own : c.as_slice-items.result.now ≡ items = put_then (seen w) q w.table w.opened w.regions.items w.labels.items c.as_slice-items.result.now h.0 fits put in
+    let put = are_put (seen w) q.host q.directive w.regions.items c.as_slice.result.now c.items-items.result.now c.as_slice.ensures.value (c.items-items.ensures ∙ c.put_items.ensures) in
+    let own : c.items-items.result.now ≡ items = put_then (seen w) q w.table w.opened w.regions.items w.labels.items c.items-items.result.now h.0 fits put in
     rw (own, c.change.ensures)
     (entered_in (standing_in (seen w)) q.host q.directive w.table w.opened w.regions.items w.labels.items h.0.tied)
 
@@ -61,10 +61,10 @@ mark_all-between-requires-clause-room c =
     let fits : Fits (seen w) q = rw (← c.self.view_is, ← c.plan.view_is) at c.requires in
     let free = free_in (seen w) q w.table w.opened w.regions.items w.labels.items h.0 fits in
     let items = items_in (standing_in (seen w)).lengths w.regions.items q.host q.directive in
-    let put = are_put (seen w) q.host q.directive w.regions.items c.as_slice.result.now c.as_slice-items.result.now c.as_slice.ensures.value (c.as_slice-items.ensures.value ∙ c.put_items.ensures.items) in
-    let own : c.as_slice-items.result.now ≡ items = put_then (seen w) q w.table w.opened w.regions.items w.labels.items c.as_slice-items.result.now h.0 fits put in
+    let put = are_put (seen w) q.host q.directive w.regions.items c.as_slice.result.now c.items-items.result.now c.as_slice.ensures.value (c.items-items.ensures ∙ c.put_items.ensures) in
+    let own : c.items-items.result.now ≡ items = put_then (seen w) q w.table w.opened w.regions.items w.labels.items c.items-items.result.now h.0 fits put in
     rw own
-    (room_for (standing_in (seen w)) w.table w.opened (length items) w.regions.items w.labels.items h.0.tied (omega (arith, free.within.short)) (h.1.more fits.ready).table)
+    (room_for (standing_in (seen w)) w.table w.opened (length items) w.regions.items w.labels.items h.0.tied (omega (arith, free.within.short)) (h.1 fits.ready).table)
 
 pub mark_all-self-inside-requires-clause-fine : goal.mark_all-self-inside-requires-clause-fine
 mark_all-self-inside-requires-clause-fine c =
@@ -74,8 +74,8 @@ mark_all-self-inside-requires-clause-fine c =
     let fits : Fits (seen w) q = rw (← c.self.view_is, ← c.plan.view_is) at c.requires in
     let free = free_in (seen w) q w.table w.opened w.regions.items w.labels.items h.0 fits in
     let items = items_in (standing_in (seen w)).lengths w.regions.items q.host q.directive in
-    let put = are_put (seen w) q.host q.directive w.regions.items c.as_slice.result.now c.as_slice-items.result.now c.as_slice.ensures.value (c.as_slice-items.ensures.value ∙ c.put_items.ensures.items) in
-    let own : c.as_slice-items.result.now ≡ items = put_then (seen w) q w.table w.opened w.regions.items w.labels.items c.as_slice-items.result.now h.0 fits put in
+    let put = are_put (seen w) q.host q.directive w.regions.items c.as_slice.result.now c.items-items.result.now c.as_slice.ensures.value (c.items-items.ensures ∙ c.put_items.ensures) in
+    let own : c.items-items.result.now ≡ items = put_then (seen w) q w.table w.opened w.regions.items w.labels.items c.items-items.result.now h.0 fits put in
     let between : holding c.mark_all-between.new.table.presences c.mark_all-between.result ≡ holding_between q.directive.kind (holding w.table.presences w.opened) items =
     rw (own, c.change.ensures) at c.mark_all-between.ensures.holding in
     let ends : c.ends_of-ends.result.now ≡ ends_of q.directive.kind items = c.ends_of-ends.ensures ∙ ap (ends_of q.directive.kind) own in
@@ -89,8 +89,8 @@ mark_all-self-inside-requires-clause-entered c =
     let fits : Fits (seen w) q = rw (← c.self.view_is, ← c.plan.view_is) at c.requires in
     let free = free_in (seen w) q w.table w.opened w.regions.items w.labels.items h.0 fits in
     let items = items_in (standing_in (seen w)).lengths w.regions.items q.host q.directive in
-    let put = are_put (seen w) q.host q.directive w.regions.items c.as_slice.result.now c.as_slice-items.result.now c.as_slice.ensures.value (c.as_slice-items.ensures.value ∙ c.put_items.ensures.items) in
-    let own : c.as_slice-items.result.now ≡ items = put_then (seen w) q w.table w.opened w.regions.items w.labels.items c.as_slice-items.result.now h.0 fits put in
+    let put = are_put (seen w) q.host q.directive w.regions.items c.as_slice.result.now c.items-items.result.now c.as_slice.ensures.value (c.items-items.ensures ∙ c.put_items.ensures) in
+    let own : c.items-items.result.now ≡ items = put_then (seen w) q w.table w.opened w.regions.items w.labels.items c.items-items.result.now h.0 fits put in
     let between : holding c.mark_all-between.new.table.presences c.mark_all-between.result ≡ holding_between q.directive.kind (holding w.table.presences w.opened) items =
     rw (own, c.change.ensures) at c.mark_all-between.ensures.holding in
     let ends : c.ends_of-ends.result.now ≡ ends_of q.directive.kind items = c.ends_of-ends.ensures ∙ ap (ends_of q.directive.kind) own in
@@ -104,14 +104,14 @@ mark_all-self-inside-requires-clause-room c =
     let fits : Fits (seen w) q = rw (← c.self.view_is, ← c.plan.view_is) at c.requires in
     let free = free_in (seen w) q w.table w.opened w.regions.items w.labels.items h.0 fits in
     let items = items_in (standing_in (seen w)).lengths w.regions.items q.host q.directive in
-    let put = are_put (seen w) q.host q.directive w.regions.items c.as_slice.result.now c.as_slice-items.result.now c.as_slice.ensures.value (c.as_slice-items.ensures.value ∙ c.put_items.ensures.items) in
-    let own : c.as_slice-items.result.now ≡ items = put_then (seen w) q w.table w.opened w.regions.items w.labels.items c.as_slice-items.result.now h.0 fits put in
+    let put = are_put (seen w) q.host q.directive w.regions.items c.as_slice.result.now c.items-items.result.now c.as_slice.ensures.value (c.items-items.ensures ∙ c.put_items.ensures) in
+    let own : c.items-items.result.now ≡ items = put_then (seen w) q w.table w.opened w.regions.items w.labels.items c.items-items.result.now h.0 fits put in
     let between : holding c.mark_all-between.new.table.presences c.mark_all-between.result ≡ holding_between q.directive.kind (holding w.table.presences w.opened) items =
     rw (own, c.change.ensures) at c.mark_all-between.ensures.holding in
     let ends : c.ends_of-ends.result.now ≡ ends_of q.directive.kind items = c.ends_of-ends.ensures ∙ ap (ends_of q.directive.kind) own in
     let n = length (ends_of q.directive.kind items) in
     let room =
-    room_for (standing_in (seen w)) w.table w.opened (length items + n) w.regions.items w.labels.items h.0.tied (omega (arith, free.within.short, length-ends q.directive.kind items)) (h.1.more fits.ready).table in
+    room_for (standing_in (seen w)) w.table w.opened (length items + n) w.regions.items w.labels.items h.0.tied (omega (arith, free.within.short, length-ends q.directive.kind items)) (h.1 fits.ready).table in
     rw ends
     (room_all (change_by q.directive.kind) w.table c.mark_all-between.new.table items n w.opened c.mark_all-between.result room between c.mark_all-between.ensures.room)
 
@@ -123,8 +123,8 @@ invariant_of-self c =
     let fits : Fits (seen w) q = rw (← c.self.view_is, ← c.plan.view_is) at c.requires in
     let free = free_in (seen w) q w.table w.opened w.regions.items w.labels.items h.0 fits in
     let items = items_in (standing_in (seen w)).lengths w.regions.items q.host q.directive in
-    let put = are_put (seen w) q.host q.directive w.regions.items c.as_slice.result.now c.as_slice-items.result.now c.as_slice.ensures.value (c.as_slice-items.ensures.value ∙ c.put_items.ensures.items) in
-    let own : c.as_slice-items.result.now ≡ items = put_then (seen w) q w.table w.opened w.regions.items w.labels.items c.as_slice-items.result.now h.0 fits put in
+    let put = are_put (seen w) q.host q.directive w.regions.items c.as_slice.result.now c.items-items.result.now c.as_slice.ensures.value (c.items-items.ensures ∙ c.put_items.ensures) in
+    let own : c.items-items.result.now ≡ items = put_then (seen w) q w.table w.opened w.regions.items w.labels.items c.items-items.result.now h.0 fits put in
     let between : holding c.mark_all-between.new.table.presences c.mark_all-between.result ≡ holding_between q.directive.kind (holding w.table.presences w.opened) items =
     rw (own, c.change.ensures) at c.mark_all-between.ensures.holding in
     let ends : c.ends_of-ends.result.now ≡ ends_of q.directive.kind items = c.ends_of-ends.ensures ∙ ap (ends_of q.directive.kind) own in
@@ -139,7 +139,7 @@ invariant_of-self c =
           w.regions.items c.settle.new.regions.items w.labels.items c.push_label-batch.new.labels.items
           c.push_reserved.ensures.items c.push_reserved-2.ensures.items c.settle.ensures.regions c.push_label-batch.ensures.labels h.0 fits is
           (marked.capacity ∙ c.mark_all-between.ensures.capacity),
-      record { draft = h.1.draft; steps = h.1.steps; items = omega (arith, c.put_items.ensures.room, h.1.items); more = λ no. absurd (cc) },
+      λ no. absurd (cc),
     )
 
 pub returns-clause-place : goal.returns-clause-place
@@ -157,8 +157,8 @@ returns-clause-answer c =
     let fits : Fits (seen w) q = rw (← c.self.view_is, ← c.plan.view_is) at c.requires in
     let free = free_in (seen w) q w.table w.opened w.regions.items w.labels.items h.0 fits in
     let items = items_in (standing_in (seen w)).lengths w.regions.items q.host q.directive in
-    let put = are_put (seen w) q.host q.directive w.regions.items c.as_slice.result.now c.as_slice-items.result.now c.as_slice.ensures.value (c.as_slice-items.ensures.value ∙ c.put_items.ensures.items) in
-    let own : c.as_slice-items.result.now ≡ items = put_then (seen w) q w.table w.opened w.regions.items w.labels.items c.as_slice-items.result.now h.0 fits put in
+    let put = are_put (seen w) q.host q.directive w.regions.items c.as_slice.result.now c.items-items.result.now c.as_slice.ensures.value (c.items-items.ensures ∙ c.put_items.ensures) in
+    let own : c.items-items.result.now ≡ items = put_then (seen w) q w.table w.opened w.regions.items w.labels.items c.items-items.result.now h.0 fits put in
     let told = rw own at c.is_answered-present.ensures in
     rw (← c.self.view_is, ← c.plan.view_is)
     (answer_is (seen w) q w.table w.opened w.regions.items w.labels.items c.push_label-batch.result c.is_answered-present.result h.0 fits c.push_label-batch.ensures.result told)

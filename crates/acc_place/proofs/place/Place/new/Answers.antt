@@ -5,7 +5,7 @@ use Rattle.acc_place.proofs.place.Place.new.Goals as goal
 pub invariant_of-result : goal.invariant_of-result
 invariant_of-result c =
     let table = c.new-table.ensures in (
-      first_place c.args.config c.new.result.items c.new-2.result.items c.new-3.result.items c.new-4.result.items c.new-table.result
-          c.new.ensures.items c.new-2.ensures.items c.new-3.ensures.items c.new-4.ensures.items c.requires table.presences (table.capacity ∙ c.capacity.ensures),
-      record { draft = c.in_ok-draft.ensures.room; steps = c.in_ok-steps.ensures.capacity; items = c.in_ok-items.ensures.capacity; more = λ no. absurd (cc) },
+      first_place c.args.config c.new-2.result.items c.new-3.result.items c.new-4.result.items c.new-5.result.items c.new-table.result
+          c.new-2.ensures.items c.new-3.ensures.items c.new-4.ensures.items c.new-5.ensures.items c.requires table.presences (table.capacity ∙ c.capacity.ensures),
+      λ no. absurd (cc),
     )

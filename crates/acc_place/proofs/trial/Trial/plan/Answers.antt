@@ -1,0 +1,102 @@
+use Rattle.std.proofs.Common.{◌≡◌, List, length, ap, ◌∙◌, arith, subst}
+use Rattle.std.specs.Prelude.{IfOk}
+use Rattle.std.specs.Option.{option_to_list}
+use Rattle.acc_batch.specs.declared.operation.Op.{Op}
+use Rattle.acc_present.specs.Drafts.{drafted}
+use Rattle.acc_place.specs.declared.trial.Trial.TheInside.{Inside}
+use Rattle.acc_place.specs.Places.{sync}
+use Rattle.acc_place.specs.Plans.{label_for}
+use Rattle.acc_place.specs.Standings.{change_by, loop_of}
+use Rattle.acc_place.specs.Trials.{held_by, items_by, ops_by, IsTried, TrialView}
+use Rattle.acc_place.specs.Walks.{holding_between, ends_of, marked_ops, all_steps, run_in}
+use Rattle.acc_place.proofs.Accepted.{length-ends}
+use Rattle.acc_place.proofs.Trying.{is_clean, run_made, steps_made}
+use Rattle.acc_place.proofs.Walking.{entered_alike, length-marked}
+use Rattle.acc_place.proofs.trial.Trial.plan.Goals as goal
+
+abbrev seen : Inside → TrialView
+seen w = record { draft = w.draft; steps = w.steps.items; items = w.items.items }
+
+pub run_of-requires-clause-cells : goal.run_of-requires-clause-cells
+run_of-requires-clause-cells c =
+    let k = c.args.known.now in
+    let host = c.args.host in
+    let d = c.args.directive.now in
+    let tried : IsTried k host d (seen c.self.inside) = rw (← c.self.view_is) at c.requires.tried in
+    let own : c.as_slice-items.result.now ≡ items_by k host d = c.as_slice-items.ensures.value ∙ tried.whole in
+    rw own (is_clean k host d c.requires.known tried.draft.table tried.faultless).cells
+
+pub run_of-requires-clause-held : goal.run_of-requires-clause-held
+run_of-requires-clause-held c =
+    let k = c.args.known.now in
+    let host = c.args.host in
+    let d = c.args.directive.now in
+    let tried : IsTried k host d (seen c.self.inside) = rw (← c.self.view_is) at c.requires.tried in
+    rw (c.as_slice-items.ensures.value, tried.marks, tried.whole) (is_clean k host d c.requires.known tried.draft.table tried.faultless).held
+
+pub leave_all-requires-clause-draft_room : goal.leave_all-requires-clause-draft_room
+leave_all-requires-clause-draft_room c =
+    let k = c.args.known.now in
+    let host = c.args.host in
+    let d = c.args.directive.now in
+    let xs = c.as_slice-items.result.now in
+    let tried : IsTried k host d (seen c.self.inside) = rw (← c.self.view_is) at c.requires.tried in
+    let clean = is_clean k host d c.requires.known tried.draft.table tried.faultless in
+    let ends : c.ends_of-ends.result.now ≡ ends_of d.kind xs = c.ends_of-ends.ensures in
+    omega (arith, tried.changed, ap length tried.whole, ap length c.as_slice-items.ensures.value, clean.short, ap length ends, length-ends d.kind xs, c.self.invariant.0)
+
+pub leave_all-requires-clause-step_room : goal.leave_all-requires-clause-step_room
+leave_all-requires-clause-step_room c =
+    let k = c.args.known.now in
+    let host = c.args.host in
+    let d = c.args.directive.now in
+    let w = c.self.inside in
+    let xs = c.as_slice-items.result.now in
+    let tried : IsTried k host d (seen w) = rw (← c.self.view_is) at c.requires.tried in
+    let clean = is_clean k host d c.requires.known tried.draft.table tried.faultless in
+    let ends : c.ends_of-ends.result.now ≡ ends_of d.kind xs = c.ends_of-ends.ensures in
+    let made = length-marked (change_by d.kind) (held_by k) w.items.items in
+    omega (arith, w.steps.ok.0, ap length tried.became, made, ap length tried.whole, ap length c.as_slice-items.ensures.value, clean.short, ap length ends, length-ends d.kind xs, c.self.invariant.1)
+
+pub leave_all-requires-clause-cells : goal.leave_all-requires-clause-cells
+leave_all-requires-clause-cells c =
+    let k = c.args.known.now in
+    let host = c.args.host in
+    let d = c.args.directive.now in
+    let tried : IsTried k host d (seen c.self.inside) = rw (← c.self.view_is) at c.requires.tried in
+    let own : c.as_slice-items.result.now ≡ items_by k host d = c.as_slice-items.ensures.value ∙ tried.whole in
+    let ends : c.ends_of-ends.result.now ≡ ends_of d.kind c.as_slice-items.result.now = c.ends_of-ends.ensures in
+    rw (ends, own) (is_clean k host d c.requires.known tried.draft.table tried.faultless).ends_cells
+
+pub leave_all-requires-clause-entered : goal.leave_all-requires-clause-entered
+leave_all-requires-clause-entered c =
+    let k = c.args.known.now in
+    let host = c.args.host in
+    let d = c.args.directive.now in
+    let items = items_by k host d in
+    let tried : IsTried k host d (seen c.self.inside) = rw (← c.self.view_is) at c.requires.tried in
+    let ends : c.ends_of-ends.result.now ≡ ends_of d.kind c.as_slice-items.result.now = c.ends_of-ends.ensures in
+    let clean = is_clean k host d c.requires.known tried.draft.table tried.faultless in
+    rw (ends, c.as_slice-items.ensures.value, tried.marks, tried.whole) (entered_alike (holding_between d.kind (held_by k) items) 0 (ends_of d.kind items) clean.ends_entered)
+
+pub returns-clause-label : goal.returns-clause-label
+returns-clause-label c =
+    let k = c.args.known.now in
+    let host = c.args.host in
+    let d = c.args.directive.now in
+    let w = c.self.inside in
+    let items = items_by k host d in
+    let h = held_by k in
+    let here = c.as_slice-items.ensures.value in
+    let tried : IsTried k host d (seen w) = rw (← c.self.view_is) at c.requires.tried in
+    let ps = drafted k.table.now w.draft in
+    let ends : c.ends_of-ends.result.now ≡ ends_of d.kind w.items.items = c.ends_of-ends.ensures ∙ ap (ends_of d.kind) here in
+    let steps : c.as_slice.result.now ≡ all_steps d.kind h items =
+    steps_made d.kind h ps w.items.items items c.ends_of-ends.result.now w.steps.items c.as_slice.result.now
+    tried.became tried.marks ends tried.whole (c.as_slice.ensures.value ∙ c.leave_all.ensures.steps) in
+    let made = c.in_ok-run.ensures.run ∙ ap (λ ys. run_in (loop_of d.kind) ys ps) here in
+    let run : option_to_list c.in_ok-run.run' ≡ run_in (loop_of d.kind) items (holding_between d.kind h items).presences =
+    run_made d.kind h ps w.items.items items (option_to_list c.in_ok-run.run') tried.marks tried.whole made in
+    let ops : marked_ops (option_to_list c.in_ok-run.run') c.as_slice.result.now ≡ ops_by k host d =
+    ap (λ r. marked_ops r c.as_slice.result.now) run ∙ ap (marked_ops (run_in (loop_of d.kind) items (holding_between d.kind h items).presences)) steps in
+    subst (λ (os : List Op). IfOk c.plan_of.result (λ q. q.label ≡ label_for sync k.next_batch host c.args.items_done os)) ops c.plan_of.ensures.label
