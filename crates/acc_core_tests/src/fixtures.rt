@@ -13,6 +13,12 @@ pub const ALL: Range = Range {
     len: 4,
 };
 
+/// One array, whose four cells are 1, 2, 3, 4.
+pub const COUNTED: &[&[i64]] = &[&[1, 2, 3, 4]];
+
+/// One array, whose four cells are zero.
+pub const ZEROS: &[&[i64]] = &[&[0, 0, 0, 0]];
+
 pub const FINISHED: HostState = HostState::Finished;
 
 // The host was refused at its statement of this number, from 0.
@@ -88,7 +94,7 @@ pub fn place(kind: Kind, items: Vec<Item>) -> Act {
     }
 }
 
-fn act_of(alloc: Global, line: Line) -> Result<Act, Fault> {
+pub fn act_of(alloc: Global, line: Line) -> Result<Act, Fault> {
     let form = match line {
         Line::Bare(form) | Line::One(form, ..) | Line::Two(form, ..) | Line::Many(form, ..) => form,
         Line::Write(cell, value) => {
@@ -153,7 +159,7 @@ pub fn world_over(
 
 // One host with these lines, four cells that are 1, 2, 3, 4, and a device of four.
 pub fn world_of(alloc: Global, lines: &[Line]) -> Result<World, Fault> {
-    world_over(alloc, &[&[1, 2, 3, 4]], 4, lines)
+    world_over(alloc, COUNTED, 4, lines)
 }
 
 // One event, of whose reply alone the callers make something.
@@ -192,9 +198,9 @@ pub fn performed(entry: Option<&WorkEntry>) -> Option<Operation> {
 }
 
 // The operations that were performed, in order.
-pub fn operations_of(alloc: Global, world: &World) -> Result<Vec<Operation>, AllocError> {
+pub fn operations_of(alloc: Global, works: &[WorkEntry]) -> Result<Vec<Operation>, AllocError> {
     let mut operations = Vec::new(alloc);
-    for entry in world.log() {
+    for entry in works {
         if let Some(operation) = performed(Some(entry)) {
             operations.push(operation)?;
         }

@@ -2,6 +2,10 @@
 #![tactic(auto)]
 
 #[cfg(test)]
+mod case;
+#[cfg(test)]
+mod entries;
+#[cfg(test)]
 mod fixtures;
 #[cfg(test)]
 mod loops;
@@ -9,5 +13,7 @@ mod loops;
 mod memory;
 #[cfg(test)]
 mod regions;
+#[cfg(test)]
+mod updates;
 #[cfg(test)]
 mod world;

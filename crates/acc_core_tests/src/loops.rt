@@ -1,77 +1,18 @@
-use crate::fixtures::{
-    ALL, END, FINISHED, Line, cells, operations_of, printed, refused, second_cells, turns,
-    world_over,
-};
-use acc_base::{DeviceId, Fault, HostId, Range};
-use acc_core::{Clause, HostState, Totals, World};
+use crate::case::{Case, check};
+use crate::fixtures::{ALL, COUNTED, END, FINISHED, Line, ZEROS, cells, refused, second_cells};
+use acc_base::Fault;
+use acc_core::Clause;
 use acc_forms::{
-    EXIT, Form, Operation, UPDATE, copy_in, copy_out, copyin, copyout, create, make, over, present,
-    release, run, sync, used,
+    EXIT, Form, UPDATE, copy_in, copy_out, copyin, copyout, create, make, over, present, release,
+    run, used,
 };
 use acc_parts::Body;
-use std::alloc::Global;
-use std::process::Abort;
 use std::test::Fail;
-
-/// A program over arrays and a device of this capacity, and what it leaves.
-#[derive(Drop)]
-struct Case<'a> {
-    arrays: &'a [&'a [i64]],
-    capacity: u64,
-    lines: &'a [Line],
-    // the present ranges, with their counters
-    present: &'a [(Range, u64, u64)],
-    batches: u64,
-    operations: &'a [Operation],
-    state: HostState,
-    // what each print showed
-    shown: &'a [&'a [i64]],
-}
-
-fn check(rt: &impl Abort, alloc: Global, case: &Case) -> Result<(), Fail> {
-    let mut world = world_over(alloc, case.arrays, case.capacity, case.lines)?;
-    turns(&mut world, 100);
-    check_present(rt, &world, case.present);
-    let count = case.operations.len() as u64;
-    let totals = Totals {
-        batches: case.batches,
-        operations: count,
-        performed: count,
-    };
-    assert_eq!(rt; world.totals(sync()), totals);
-    assert_eq!(rt; world.state(HostId::new(0)), Some(case.state));
-    let operations = operations_of(alloc, &world)?;
-    assert_eq!(rt; operations.as_slice(), case.operations);
-    check_prints(rt, &world, case.shown);
-    Ok(())
-}
-
-// These ranges are present, and no others.
-fn check_present(rt: &impl Abort, world: &World, ranges: &[(Range, u64, u64)]) {
-    assert_eq!(rt; world.devices(), 1);
-    for (place, wanted) in ranges.iter().enumerate() {
-        let entry = world.nth(DeviceId::new(0), place);
-        assert_eq!(rt; entry.map(|e| (e.range, e.s, e.d)), Some(*wanted));
-    }
-    assert!(rt; world.nth(DeviceId::new(0), ranges.len()).is_none());
-}
-
-// The prints showed these values, in order.
-fn check_prints(rt: &impl Abort, world: &World, shown: &[&[i64]]) {
-    let mut count = 0usize;
-    for entry in world.log() {
-        if let Some(values) = printed(Some(entry)) {
-            assert_eq!(rt; Some(values), shown.get(count).copied());
-            count = count.wrapping_add(1);
-        }
-    }
-    assert_eq!(rt; count, shown.len());
-}
 
 #[test]
 fn a_loop_over_what_is_present(rt: HostRuntime) -> Result<(), Fail> {
     let case = Case {
-        arrays: &[&[1, 2, 3, 4]],
+        arrays: COUNTED,
         capacity: 4,
         lines: &[
             Line::One(Form::EnterData, Clause::Copyin, ALL),
@@ -79,6 +20,7 @@ fn a_loop_over_what_is_present(rt: HostRuntime) -> Result<(), Fail> {
             Line::One(EXIT, Clause::Copyout, ALL),
             Line::Print(ALL),
         ],
+        did: 15,
         present: &[],
         batches: 3,
         operations: &[
@@ -102,6 +44,7 @@ fn a_sum_wraps_round(rt: HostRuntime) -> Result<(), Fail> {
         arrays: &[&[i64::MAX]],
         capacity: 1,
         lines: &[Line::Bare(over(0, 1, Body::Counted)), Line::Print(only)],
+        did: 9,
         present: &[],
         batches: 1,
         operations: &[
@@ -129,6 +72,7 @@ fn a_loop_from_one_array_into_another(rt: HostRuntime) -> Result<(), Fail> {
             Line::Print(b),
             Line::Two(over(0, 4, Body::Next), copyin(ALL), copyout(b)),
         ],
+        did: 11,
         present: &[],
         batches: 1,
         operations: &[
@@ -155,6 +99,7 @@ fn a_choice_by_a_comparison(rt: HostRuntime) -> Result<(), Fail> {
         arrays: &[&[3, -3], &[0, 0]],
         capacity: 4,
         lines: &[Line::Bare(over(0, 2, Body::Chosen)), Line::Print(b)],
+        did: 13,
         present: &[],
         batches: 1,
         operations: &[
@@ -187,6 +132,7 @@ fn a_loop_of_two_statements(rt: HostRuntime) -> Result<(), Fail> {
             Line::Print(a),
             Line::Print(b),
         ],
+        did: 14,
         present: &[],
         batches: 1,
         operations: &[
@@ -211,7 +157,7 @@ fn a_loop_of_two_statements(rt: HostRuntime) -> Result<(), Fail> {
 fn a_loop_in_a_data_construct(rt: HostRuntime) -> Result<(), Fail> {
     let middle = cells(1, 2);
     let case = Case {
-        arrays: &[&[1, 2, 3, 4]],
+        arrays: COUNTED,
         capacity: 4,
         lines: &[
             Line::One(Form::Data, Clause::Copy, middle),
@@ -219,6 +165,7 @@ fn a_loop_in_a_data_construct(rt: HostRuntime) -> Result<(), Fail> {
             END,
             Line::Print(ALL),
         ],
+        did: 15,
         present: &[],
         batches: 3,
         operations: &[
@@ -238,7 +185,7 @@ fn a_loop_in_a_data_construct(rt: HostRuntime) -> Result<(), Fail> {
 #[test]
 fn two_loops_in_a_data_construct(rt: HostRuntime) -> Result<(), Fail> {
     let case = Case {
-        arrays: &[&[1, 2, 3, 4]],
+        arrays: COUNTED,
         capacity: 4,
         lines: &[
             Line::One(Form::Data, Clause::Copy, ALL),
@@ -249,6 +196,7 @@ fn two_loops_in_a_data_construct(rt: HostRuntime) -> Result<(), Fail> {
             END,
             Line::Print(ALL),
         ],
+        did: 21,
         present: &[],
         batches: 4,
         operations: &[
@@ -269,13 +217,14 @@ fn two_loops_in_a_data_construct(rt: HostRuntime) -> Result<(), Fail> {
 #[test]
 fn a_partly_present_array(rt: HostRuntime) -> Result<(), Fail> {
     let case = Case {
-        arrays: &[&[0, 0, 0, 0]],
+        arrays: ZEROS,
         capacity: 4,
         lines: &[
             Line::One(Form::EnterData, Clause::Create, cells(0, 2)),
             Line::One(EXIT, Clause::Copyout, cells(2, 2)),
             Line::Bare(over(0, 2, Body::Ones)),
         ],
+        did: 5,
         present: &[(cells(0, 2), 0, 1)],
         batches: 1,
         operations: &[make(1, cells(0, 2))],
@@ -287,10 +236,10 @@ fn a_partly_present_array(rt: HostRuntime) -> Result<(), Fail> {
 
 /// The range of the first one is used, and the loop is refused where it reaches past this, though more is present.
 #[test]
-fn an_array_in_two_clauses_of_a_loop(rt: HostRuntime) -> Result<(), Fail> {
+fn a_loop_stays_in_the_range_of_its_first_item(rt: HostRuntime) -> Result<(), Fail> {
     let half = cells(0, 2);
     let case = Case {
-        arrays: &[&[1, 2, 3, 4]],
+        arrays: COUNTED,
         capacity: 4,
         lines: &[
             Line::One(Form::EnterData, Clause::Copyin, ALL),
@@ -300,6 +249,7 @@ fn an_array_in_two_clauses_of_a_loop(rt: HostRuntime) -> Result<(), Fail> {
             Line::Print(ALL),
             Line::Two(over(0, 3, Body::Doubled), present(half), present(ALL)),
         ],
+        did: 18,
         present: &[(ALL, 0, 1)],
         batches: 4,
         operations: &[
@@ -320,13 +270,14 @@ fn an_array_in_two_clauses_of_a_loop(rt: HostRuntime) -> Result<(), Fail> {
 fn a_loop_without_a_turn_places_its_whole_batch(rt: HostRuntime) -> Result<(), Fail> {
     let last = cells(3, 1);
     let case = Case {
-        arrays: &[&[1, 2, 3, 4]],
+        arrays: COUNTED,
         capacity: 4,
         lines: &[
             Line::Bare(over(2, 2, Body::Doubled)),
             Line::One(over(9, -9, Body::Doubled), Clause::Copyout, last),
             Line::Print(ALL),
         ],
+        did: 16,
         present: &[],
         batches: 2,
         operations: &[
@@ -346,59 +297,11 @@ fn a_loop_without_a_turn_places_its_whole_batch(rt: HostRuntime) -> Result<(), F
     check(&rt, rt.alloc(), &case)
 }
 
-// A loop over two arrays of four cells, the first of which is present, is refused for its reach, or finishes.
-fn check_reach(rt: &impl Abort, alloc: Global, line: Line, is_accepted: bool) -> Result<(), Fail> {
-    let lines = [Line::One(Form::EnterData, Clause::Copyin, ALL), line];
-    let mut world = world_over(alloc, &[&[1, 2, 3, 4], &[0, 0, 0, 0]], 8, &lines)?;
-    turns(&mut world, 20);
-    let wanted = if is_accepted {
-        FINISHED
-    } else {
-        refused(1, Fault::OutsideRange)
-    };
-    assert_eq!(rt; world.state(HostId::new(0)), Some(wanted), "{line:?}");
-    check_present(rt, &world, &[(ALL, 0, 1)]);
-    Ok(())
-}
-
-/// The indices that are written count, also in a part of a choice that isn't taken.
-#[test]
-fn a_loop_reaches_no_cell_outside_its_ranges(rt: HostRuntime) -> Result<(), Fail> {
-    let bare = |lo, hi, body| Line::Bare(over(lo, hi, body));
-    let middle = |lo, hi| Line::One(over(lo, hi, Body::Doubled), Clause::Present, cells(1, 2));
-    let upper = |lo| {
-        let form = over(lo, 3, Body::CountedAcross);
-        Line::One(form, Clause::Create, second_cells(1, 3))
-    };
-    let cases: [(Line, bool); 16] = [
-        (middle(1, 3), true),
-        (middle(0, 3), false),
-        (middle(1, 4), false),
-        (middle(-1, 3), false),
-        (bare(0, 4, Body::Doubled), true),
-        (bare(-1, 4, Body::Doubled), false),
-        (bare(0, 5, Body::Doubled), false),
-        (bare(1, 4, Body::Before), true),
-        (bare(0, 4, Body::Before), false),
-        (bare(0, 3, Body::Next), true),
-        (bare(-1, 3, Body::Next), false),
-        (upper(1), true),
-        (upper(0), false),
-        (bare(0, 3, Body::Either), true),
-        (bare(0, 4, Body::Either), false),
-        (bare(4, 4, Body::Either), true),
-    ];
-    for (line, is_accepted) in cases {
-        check_reach(&rt, rt.alloc(), line, is_accepted)?;
-    }
-    Ok(())
-}
-
 /// A loop in a data construct that another one surrounds uses the inner one's range.
 #[test]
 fn a_loop_in_two_data_constructs(rt: HostRuntime) -> Result<(), Fail> {
     let case = Case {
-        arrays: &[&[1, 2, 3, 4]],
+        arrays: COUNTED,
         capacity: 4,
         lines: &[
             Line::One(Form::Data, Clause::Copy, ALL),
@@ -409,6 +312,7 @@ fn a_loop_in_two_data_constructs(rt: HostRuntime) -> Result<(), Fail> {
             Line::One(Form::Data, Clause::Copyin, cells(2, 1)),
             Line::Bare(over(2, 4, Body::Doubled)),
         ],
+        did: 16,
         present: &[(ALL, 2, 0)],
         batches: 3,
         operations: &[
@@ -436,6 +340,7 @@ fn a_loop_fills_the_device(rt: HostRuntime) -> Result<(), Fail> {
         arrays: &[&[1, 2, 3, 4], &[5, 6, 7, 8]],
         capacity: 8,
         lines: &lines,
+        did: 13,
         present: &[(ALL, 0, 1)],
         batches: 2,
         operations: &[
@@ -454,6 +359,7 @@ fn a_loop_fills_the_device(rt: HostRuntime) -> Result<(), Fail> {
         arrays: &[&[1, 2, 3, 4], &[5, 6, 7, 8]],
         capacity: 7,
         lines: &lines,
+        did: 4,
         present: &[(ALL, 0, 1)],
         batches: 1,
         operations: &[make(1, ALL)],
@@ -476,6 +382,7 @@ fn sixteen_items_of_a_loop(rt: HostRuntime) -> Result<(), Fail> {
             Line::Many(over(0, 4, Body::Ones), create(ALL), 16),
             Line::Many(over(0, 4, Body::CountedAcross), create(ALL), 16),
         ],
+        did: 17,
         present: &[],
         batches: 2,
         operations: &[

@@ -125,6 +125,47 @@ fn memory_is_refused_to_a_step(rt: HostRuntime) -> Result<(), Fail> {
     Ok(())
 }
 
+/// A write and a print leave no entry then.
+#[test]
+fn memory_is_refused_to_a_write_and_a_print(rt: HostRuntime) -> Result<(), Fail> {
+    let events = [
+        (false, host(), Reply::Refused(Fault::Memory)),
+        (true, host(), Reply::Idle),
+    ];
+    for line in [Line::Write(0, 9), Line::Print(ALL)] {
+        let mut world = world_of(rt.alloc(), &[line])?;
+        check_replies(&rt, rt.alloc(), &mut world, &events)?;
+        assert_eq!(rt; world.log().len(), 0);
+        assert_eq!(rt;
+            world.state(HostId::new(0)),
+            Some(refused(0, Fault::Memory))
+        );
+    }
+    Ok(())
+}
+
+/// A loop whose host can't note that it is performed stays accepted and performed.
+#[test]
+fn memory_is_refused_to_a_host_that_waited(rt: HostRuntime) -> Result<(), Fail> {
+    let alloc = rt.alloc();
+    let events = [
+        (true, host(), Reply::Did),
+        (true, take(), Reply::Did),
+        (true, perform(), Reply::Did),
+        (true, perform(), Reply::Did),
+        (true, perform(), Reply::Did),
+        (true, perform(), Reply::Did),
+        (true, perform(), Reply::Did),
+        (false, host(), Reply::Refused(Fault::Memory)),
+        (true, host(), Reply::Idle),
+    ];
+    let mut world = world_of(alloc, &[DOUBLE, Line::Print(ALL)])?;
+    check_replies(&rt, alloc, &mut world, &events)?;
+    assert_eq!(rt; world.log().len(), 5);
+    check_outcome(&rt, alloc, world, 0)?;
+    Ok(())
+}
+
 /// The same of loops.
 #[test]
 fn memory_is_refused_to_a_loop(rt: HostRuntime) -> Result<(), Fail> {

@@ -1,6 +1,7 @@
+use crate::case::check_places;
 use crate::fixtures::{
-    ALL, FINISHED, Line, cells, host, perform, performed, place, printed, refused, reply_to,
-    statement, take, world_of, world_with,
+    ALL, COUNTED, FINISHED, Line, ZEROS, cells, host, perform, performed, place, printed, refused,
+    reply_to, statement, take, world_of, world_over, world_with,
 };
 use acc_base::{Config, DeviceId, Fault, HostId, Listed, Range};
 use acc_core::{
@@ -24,15 +25,15 @@ enum Logged<'a> {
     Item,
 }
 
-/// A program over four cells that are 1, 2, 3, 4 and a device of four, the events of a run, and what it leaves.
+/// A program over arrays and a device of eight cells, the events of a run, and what it leaves.
 #[derive(Clone, Copy)]
 struct Run<'a> {
+    arrays: &'a [&'a [i64]],
     lines: &'a [Line],
     events: &'a [(Event, Reply)],
     counters: &'a [(Range, Option<(u64, u64)>)],
     batches: u64,
     operations: u64,
-    places: usize,
     log: &'a [Logged<'a>],
     state: HostState,
 }
@@ -88,14 +89,15 @@ fn check_counters(rt: &impl Abort, world: &World, run: &Run) {
     assert_eq!(rt; world.nth(DeviceId::new(0), count).copied(), None);
 }
 
-fn check_outcome(rt: &impl Abort, outcome: &Outcome, run: &Run) {
-    assert_eq!(rt; outcome.places.len(), run.places);
+fn check_outcome(rt: &impl Abort, alloc: Global, outcome: &Outcome, run: &Run) -> Result<(), Fail> {
+    check_places(rt, alloc, outcome.places.as_slice(), run.lines, run.state)?;
     check_log(rt, outcome.works.as_slice(), run);
     assert_eq!(rt; outcome.hosts.as_slice(), [run.state].as_slice());
+    Ok(())
 }
 
 fn check(rt: &impl Abort, alloc: Global, run: &Run) -> Result<(), Fail> {
-    let mut world = world_of(alloc, run.lines)?;
+    let mut world = world_over(alloc, run.arrays, 8, run.lines)?;
     let events = events_of(alloc, run)?;
     let replies = world.run(events.as_slice())?;
     check_replies(rt, replies.as_slice(), run);
@@ -109,13 +111,13 @@ fn check(rt: &impl Abort, alloc: Global, run: &Run) -> Result<(), Fail> {
         performed: run.operations,
     };
     assert_eq!(rt; world.totals(sync()), totals);
-    check_outcome(rt, &world.outcome(), run);
-    Ok(())
+    check_outcome(rt, alloc, &world.outcome(), run)
 }
 
 #[test]
 fn entered_twice_and_left_once(rt: HostRuntime) -> Result<(), Fail> {
     let run = Run {
+        arrays: ZEROS,
         lines: &[
             Line::One(Form::EnterData, Clause::Copyin, ALL),
             Line::One(Form::EnterData, Clause::Copyin, ALL),
@@ -137,7 +139,6 @@ fn entered_twice_and_left_once(rt: HostRuntime) -> Result<(), Fail> {
         counters: &[(ALL, Some((0, 1)))],
         batches: 1,
         operations: 2,
-        places: 3,
         log: &[
             Logged::Op(make(1, ALL)),
             Logged::Op(copy_in(1, ALL)),
@@ -151,9 +152,10 @@ fn entered_twice_and_left_once(rt: HostRuntime) -> Result<(), Fail> {
 #[test]
 fn an_overlapping_range_is_refused(rt: HostRuntime) -> Result<(), Fail> {
     let run = Run {
+        arrays: &[&[0, 0, 0, 0, 0, 0, 0, 0]],
         lines: &[
-            Line::One(Form::EnterData, Clause::Copyin, cells(0, 3)),
-            Line::One(Form::EnterData, Clause::Copyin, cells(2, 2)),
+            Line::One(Form::EnterData, Clause::Copyin, ALL),
+            Line::One(Form::EnterData, Clause::Copyin, cells(2, 4)),
         ],
         events: &[
             (host(), Reply::Did),
@@ -164,13 +166,12 @@ fn an_overlapping_range_is_refused(rt: HostRuntime) -> Result<(), Fail> {
             (host(), Reply::Refused(Fault::PartlyPresent)),
             (host(), Reply::Idle),
         ],
-        counters: &[(cells(0, 3), Some((0, 1))), (cells(2, 2), None)],
+        counters: &[(ALL, Some((0, 1))), (cells(2, 4), None)],
         batches: 1,
         operations: 2,
-        places: 1,
         log: &[
-            Logged::Op(make(1, cells(0, 3))),
-            Logged::Op(copy_in(1, cells(0, 3))),
+            Logged::Op(make(1, ALL)),
+            Logged::Op(copy_in(1, ALL)),
             Logged::Item,
         ],
         state: refused(1, Fault::PartlyPresent),
@@ -181,6 +182,7 @@ fn an_overlapping_range_is_refused(rt: HostRuntime) -> Result<(), Fail> {
 #[test]
 fn a_copy_out_brings_back_what_the_device_holds(rt: HostRuntime) -> Result<(), Fail> {
     let run = Run {
+        arrays: COUNTED,
         lines: &[
             Line::One(Form::EnterData, Clause::Copyin, ALL),
             Line::Write(0, 9),
@@ -206,7 +208,6 @@ fn a_copy_out_brings_back_what_the_device_holds(rt: HostRuntime) -> Result<(), F
         counters: &[(ALL, None)],
         batches: 2,
         operations: 4,
-        places: 2,
         log: &[
             Logged::Op(make(1, ALL)),
             Logged::Op(copy_in(1, ALL)),
@@ -227,6 +228,7 @@ fn a_copy_out_brings_back_what_the_device_holds(rt: HostRuntime) -> Result<(), F
 #[test]
 fn a_loop_without_clauses(rt: HostRuntime) -> Result<(), Fail> {
     let run = Run {
+        arrays: COUNTED,
         lines: &[Line::Bare(over(1, 4, Body::Doubled)), Line::Print(ALL)],
         events: &[
             (host(), Reply::Did),
@@ -247,7 +249,6 @@ fn a_loop_without_clauses(rt: HostRuntime) -> Result<(), Fail> {
         counters: &[(ALL, None)],
         batches: 1,
         operations: 5,
-        places: 1,
         log: &[
             Logged::Op(make(1, ALL)),
             Logged::Op(copy_in(1, ALL)),
@@ -265,6 +266,7 @@ fn a_loop_without_clauses(rt: HostRuntime) -> Result<(), Fail> {
 #[test]
 fn seventeen_ranges_are_too_many(rt: HostRuntime) -> Result<(), Fail> {
     let run = Run {
+        arrays: COUNTED,
         lines: &[
             Line::Many(Form::Data, create(ALL), 16),
             Line::Many(Form::EnterData, copyin(ALL), 17),
@@ -279,7 +281,6 @@ fn seventeen_ranges_are_too_many(rt: HostRuntime) -> Result<(), Fail> {
         counters: &[(ALL, Some((16, 0)))],
         batches: 1,
         operations: 1,
-        places: 1,
         log: &[Logged::Op(make(1, ALL)), Logged::Item],
         state: refused(1, Fault::TooMany),
     };

@@ -1,6 +1,6 @@
 use crate::streams::{End, Late, Narrow, Trickle};
 use acc_base::Fault;
-use acc_driver::{DriverFault, Ended, INPUT_TURNS, Options, ReadFault, ReadKind, replay_one};
+use acc_driver::{DriverFault, Ended, Options, ReadFault, ReadKind, replay_one};
 use acc_scarce::{Hoard, Purse};
 use std::alloc::Global;
 use std::io::Read;
@@ -21,7 +21,7 @@ const STALE: Worked = Worked {
 };
 
 // A text that is replayed, and what was written.
-fn replayed<R: Read>(alloc: Global, reader: &mut R) -> (Result<Ended, DriverFault>, Vec<u8>) {
+pub fn replayed<R: Read>(alloc: Global, reader: &mut R) -> (Result<Ended, DriverFault>, Vec<u8>) {
     let mut written = Vec::new(alloc);
     let answer = replay_one(alloc, reader, Options::DEFAULT, &mut written);
     (answer, written)
@@ -203,9 +203,9 @@ fn readers_are_interrupted(rt: HostRuntime) -> Result<(), Fail> {
     let cases = [
         (0, Ok(Ended { refused: false })),
         (1, Ok(Ended { refused: false })),
-        (INPUT_TURNS - 2, Ok(Ended { refused: false })),
-        (INPUT_TURNS - 1, Err(DriverFault::Input)),
-        (INPUT_TURNS, Err(DriverFault::Input)),
+        (4_194_302, Ok(Ended { refused: false })),
+        (4_194_303, Err(DriverFault::Input)),
+        (4_194_304, Err(DriverFault::Input)),
     ];
     for (interrupts, wanted) in &cases {
         let mut late = Late {
@@ -309,37 +309,6 @@ fn options_are_refused(rt: HostRuntime) -> Result<(), Fail> {
         let answer = replay_one(rt.alloc(), &mut input, *options, &mut written);
         assert_eq!(rt; answer, Err(DriverFault::Runtime(*fault)));
         assert_eq!(rt; written.len(), 0);
-    }
-    Ok(())
-}
-
-// A script and a schedule of so many line feeds each.
-fn long_input(alloc: Global, script: usize, schedule: usize) -> Result<Vec<u8>, Fail> {
-    let mut input = Vec::new(alloc);
-    input.resize(script, b'\n')?;
-    input.extend_from_slice(b"%%\n")?;
-    let whole = input.len().saturating_add(schedule);
-    input.resize(whole, b'\n')?;
-    Ok(input)
-}
-
-/// Each text has 1,048,576 bytes at most.
-#[test]
-fn long_texts_are_told(rt: HostRuntime) -> Result<(), Fail> {
-    let long = ReadFault {
-        line: 1_048_577,
-        kind: ReadKind::Limit,
-    };
-    let inputs = [
-        (1_048_576, 1_048_576, Ok(Ended { refused: false })),
-        (1_048_577, 1_048_576, Err(DriverFault::Script(long))),
-        (1_048_576, 1_048_577, Err(DriverFault::Schedule(long))),
-        (3_000_000, 3_000_000, Err(DriverFault::Script(long))),
-    ];
-    for (script, schedule, wanted) in &inputs {
-        let input = long_input(rt.alloc(), *script, *schedule)?;
-        let (answer, _written) = replayed(rt.alloc(), &mut input.as_slice());
-        assert_eq!(rt; answer, *wanted);
     }
     Ok(())
 }

@@ -1,11 +1,13 @@
 //! Directives and operations from short tables, for tests.
 #![tactic(auto)]
 
+mod alike;
 mod form;
 mod items;
 mod operation;
 mod queues;
 
+pub use alike::are_alike;
 pub use form::{EXIT, FINALIZE, Form, UPDATE, UPDATE_IF_PRESENT, kind_of, over};
 pub use items::{copy, copyin, copyout, create, delete, item, present};
 pub use operation::{

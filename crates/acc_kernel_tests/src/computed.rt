@@ -319,7 +319,7 @@ fn assert_output(rt: &impl Abort, job: &Job, place: usize, values: &[i64]) {
 }
 
 // Runs a loop as a job over x and y, and compares each with what it has to have then.
-fn check(
+pub fn check(
     rt: &impl Abort,
     alloc: Global,
     kernel: &Kernel,

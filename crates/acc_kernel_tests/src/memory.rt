@@ -1,9 +1,11 @@
+use crate::computed::check;
 use acc_base::{BlockId, Fault, Range};
-use acc_kernel::{Assign, Expr, Job, Kernel, KernelFault, are_distinct};
+use acc_kernel::{Assign, Expr, Job, Kernel, KernelFault, Operator, are_distinct};
 use acc_parts::Part::{self, Choose, Index, Negate, Number, Read};
-use acc_parts::{Row, TIMES, expr_of, statements_of};
+use acc_parts::{Row, TIMES, statements_of};
 use acc_scarce::at_each_amount;
 use std::alloc::Global;
+use std::process::Abort;
 use std::test::Fail;
 
 /// `-(i * 5) ? y[i + 2] : y[i]`, where y is array 1
@@ -67,16 +69,54 @@ fn a_loop_is_refused_until_there_is_memory(rt: HostRuntime) -> Result<(), Fail> 
     Ok(())
 }
 
-/// Each call that makes an expression is refused at some amount.
+/// Each call that makes an expression, alone; what was refused to grow is as it was.
 #[test]
 fn expressions_are_refused_until_there_is_memory(rt: HostRuntime) -> Result<(), Fail> {
     let alloc = rt.alloc();
-    let (refusals, expr) = at_each_amount(alloc, || expr_of(alloc, &PARTS))?;
-    assert!(rt; 5 < refusals);
-    assert_eq!(rt; expr.depth(), 4);
-    let (refusals, copy) = at_each_amount(alloc, || expr.try_clone(alloc))?;
+    let (refusals, five) = at_each_amount(alloc, || Expr::number(alloc, 5))?;
+    assert!(rt; 0 < refusals, "number");
+    let (refusals, mut expr) = at_each_amount(alloc, || Expr::index(alloc))?;
+    assert!(rt; 0 < refusals, "index");
+    let (refusals, first) = at_each_amount(alloc, || Expr::read(alloc, 1, 2))?;
+    assert!(rt; 0 < refusals, "read");
+    let second = Expr::read(alloc, 1, 0)?;
+    let (refusals, ()) = at_each_amount(alloc, || expr.binary(Operator::Times, &five))?;
+    assert!(rt; 0 < refusals, "binary");
+    // it may have room for this
+    expr.negate()?;
+    let (refusals, mut copy) = at_each_amount(alloc, || expr.try_clone(alloc))?;
+    assert!(rt; 0 < refusals, "try_clone");
+    let (refusals, ()) = at_each_amount(alloc, || copy.choose(&first, &second))?;
+    assert!(rt; 0 < refusals, "choose");
+    let (refusals, whole) = at_each_amount(alloc, || copy.try_clone(alloc))?;
+    assert!(rt; 0 < refusals, "try_clone");
+    for expr in [copy, whole] {
+        assert_eq!(rt; expr.depth(), 4);
+        check_values(&rt, alloc, expr)?;
+    }
+    Ok(())
+}
+
+// `x[i] = -(i * 5) ? y[i + 2] : y[i]` from 0 to 1, where the expression is as here.
+fn check_values(rt: &impl Abort, alloc: Global, value: Expr) -> Result<(), Fail> {
+    let statements = vec![in alloc; Assign { array: 0, value }]?;
+    let Some(kernel) = kernel_of(alloc, statements)? else {
+        assert!(rt; false, "refused");
+        return Ok(());
+    };
+    let y = [10, 20, 30, 40];
+    check(rt, alloc, &kernel, (&[7, 7], &[10, 40]), (&y, &y))?;
+    Ok(())
+}
+
+/// An expression that was just made has no room for another step.
+#[test]
+fn a_minus_sign_is_refused_until_there_is_memory(rt: HostRuntime) -> Result<(), Fail> {
+    let alloc = rt.alloc();
+    let mut expr = Expr::number(alloc, 5)?;
+    let (refusals, ()) = at_each_amount(alloc, || expr.negate())?;
     assert!(rt; 0 < refusals);
-    assert_eq!(rt; copy.depth(), 4);
+    assert_eq!(rt; expr.depth(), 2);
     Ok(())
 }
 

@@ -1,8 +1,7 @@
 use acc_base::{Config, Fault};
 use acc_memory::Memory;
-use acc_scarce::{Hoard, Purse};
+use acc_scarce::{Hoard, at_each_amount};
 use std::alloc::Global;
-use std::process::Abort;
 use std::test::Fail;
 
 // Two devices, and two arrays.
@@ -16,29 +15,8 @@ fn config_of(alloc: Global) -> Result<Config, Fault> {
 fn a_memory_is_refused_until_there_is_memory(rt: HostRuntime) -> Result<(), Fail> {
     let alloc = rt.alloc();
     let config = config_of(alloc)?;
-    let mut purse = Purse::new(alloc)?;
-    let mut hoard = Hoard::new(alloc)?;
-    hoard.fill(alloc);
-    let mut refusals = 0u32;
-    let mut others = 0u32;
-    let mut made = None;
-    for _ in 0..Purse::GIFTS {
-        match Memory::new(alloc, &config) {
-            Ok(memory) => {
-                made = Some(memory);
-                break;
-            }
-            Err(Fault::Memory) => refusals = refusals.wrapping_add(1),
-            Err(_) => others = others.wrapping_add(1),
-        }
-        if !purse.give() {
-            break;
-        }
-    }
-    hoard.free();
+    let (refusals, _memory) = at_each_amount(alloc, || Memory::new(alloc, &config))?;
     assert!(rt; 1 < refusals);
-    assert_eq!(rt; others, 0);
-    assert!(rt; made.is_some());
     Ok(())
 }
 

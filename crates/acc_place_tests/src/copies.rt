@@ -1,6 +1,6 @@
 use crate::fixtures::{a, b, check_directive, check_waits};
 use acc_base::{DeviceId, Fault, Listed};
-use acc_forms::{EXIT, FINALIZE, Form, UPDATE, copyin, copyout, delete, kind_of, over};
+use acc_forms::{EXIT, Form, UPDATE, copyin, copyout, delete, kind_of, over};
 use acc_parts::Body;
 use acc_place::{ASYNC_NOVAL, Directive, Item, Target, Waits};
 use acc_scarce::at_each_amount;
@@ -53,39 +53,6 @@ fn directives_are_copied(rt: HostRuntime) -> Result<(), Fail> {
             check_waits(&rt, &copy.waits, waits);
             assert_eq!(rt; copy.items.as_slice(), items.as_slice());
             assert_eq!(rt; copy.target, target);
-        }
-    }
-    Ok(())
-}
-
-#[test]
-fn a_directive_without_clauses_is_synchronous(rt: HostRuntime) -> Result<(), Fail> {
-    let alloc = rt.alloc();
-    let all_waits = [Waits::Nothing, Waits::All, listed(alloc, &[])?];
-    let targets = [
-        Target::Plain,
-        Target::Unvalued,
-        Target::Value { value: 0 },
-        Target::Value { value: -2 },
-    ];
-    let forms = [
-        Form::Data,
-        Form::EndData,
-        Form::EnterData,
-        EXIT,
-        FINALIZE,
-        UPDATE,
-        over(0, 1, Body::Counted),
-        Form::IsPresent,
-    ];
-    for waits in &all_waits {
-        for target in targets {
-            for form in forms {
-                let waits = waits.try_clone(alloc)?;
-                let is_plain = target == Target::Plain && matches!(&waits, Waits::Nothing);
-                let directive = directive_of(alloc, form, &[copyin(a(0, 1))], target, waits)?;
-                assert_eq!(rt; directive.is_synchronous(), is_plain, "{form:?} {target:?}");
-            }
         }
     }
     Ok(())

@@ -1,9 +1,8 @@
 ghost use Rattle.std.specs.Prelude.{◌≡◌};
 
-use crate::kind::check_kind;
 use acc_base::{BlockId, Config, DeviceId, Fault, HostId, Listed, QueueAt, Range};
 use acc_batch::{Batch, Label, Op, Task};
-use acc_forms::{Form, Operation, kind_of, operation_of, performed_by, sync};
+use acc_forms::{Form, Operation, are_alike, kind_of, operation_of, performed_by, sync};
 use acc_place::{ASYNC_NOVAL, Directive, Item, Place, Placed, Plan, Target, Waits};
 use acc_present::Entry;
 use std::alloc::Global;
@@ -140,7 +139,7 @@ pub fn check_waits(rt: &impl Abort, waits: &Waits, wanted: &Waits) {
 pub fn check_directive(rt: &impl Abort, directive: &Directive, wanted: &Directive) {
     assert_eq!(rt; directive.device, wanted.device);
     assert_eq!(rt; directive.default, wanted.default);
-    check_kind(rt, &directive.kind, &wanted.kind);
+    assert!(rt; are_alike(&directive.kind, &wanted.kind));
     assert_eq!(rt; directive.items.as_slice(), wanted.items.as_slice());
     assert_eq!(rt; directive.target, wanted.target);
     check_waits(rt, &directive.waits, &wanted.waits);

@@ -10,8 +10,6 @@ mod copies;
 #[cfg(test)]
 mod fixtures;
 #[cfg(test)]
-mod kind;
-#[cfg(test)]
 mod loops;
 #[cfg(test)]
 mod memory;

@@ -81,6 +81,18 @@ fn loops_with_clauses_and_without(rt: HostRuntime) -> Result<(), Fail> {
             ],
             present: &held,
         },
+        Step {
+            host: 0,
+            form: over(1, 3, Body::Before),
+            items: &[copyin(a(0, 2)), create(b(1, 2))],
+            ops: &[
+                make(8, a(0, 2)),
+                copy_in(8, a(0, 2)),
+                run(&[used(4, b(1, 2)), used(8, a(0, 2))]),
+                release(8),
+            ],
+            present: &held,
+        },
     ];
     check_accepted(&rt, rt.alloc(), 12, &steps)
 }
@@ -286,7 +298,7 @@ fn a_loop_of_sixteen_items(rt: HostRuntime) -> Result<(), Fail> {
 #[test]
 fn loops_are_refused(rt: HostRuntime) -> Result<(), Fail> {
     let held = create(a(2, 3));
-    let cases: [Refused; 20] = [
+    let cases: [Refused; 22] = [
         (1, over(2, 5, Body::Counted), &[held], Fault::BadDevice),
         (0, over(2, 5, Body::Counted), &[held; 17], Fault::TooMany),
         (0, over(2, 5, Body::Copied), &[held; 16], Fault::TooMany),
@@ -339,6 +351,18 @@ fn loops_are_refused(rt: HostRuntime) -> Result<(), Fail> {
             0,
             over(1, 4, Body::Either),
             &[held, create(b(1, 3))],
+            Fault::OutsideRange,
+        ),
+        (
+            0,
+            over(2, 4, Body::Before),
+            &[held, create(b(2, 2))],
+            Fault::OutsideRange,
+        ),
+        (
+            0,
+            over(2, 4, Body::Next),
+            &[create(a(2, 2)), create(b(2, 2))],
             Fault::OutsideRange,
         ),
         (

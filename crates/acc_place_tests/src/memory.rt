@@ -4,11 +4,11 @@ use crate::fixtures::{
 };
 use acc_base::{Config, Fault, HostId};
 use acc_forms::{
-    EXIT, Form, copy, copy_in, copy_out, copyin, copyout, create, delete, make, over, release, run,
-    sync, used,
+    EXIT, FINALIZE, Form, UPDATE, copy, copy_in, copy_out, copyin, copyout, create, delete, item,
+    make, over, present, release, run, sync, used,
 };
 use acc_parts::Body;
-use acc_place::{Directive, Place, Placed, Plan};
+use acc_place::{Clause, Directive, Place, Placed, Plan};
 use acc_scarce::{Hoard, at_each_amount};
 use std::alloc::Global;
 use std::process::Abort;
@@ -110,6 +110,15 @@ fn plan_at_each_amount(
     Ok(plan)
 }
 
+// The answer to a step: its batch, with this number, or to a question that the range is present.
+fn answer_to(step: &Step, number: u64) -> Placed {
+    if step.ops.is_empty() {
+        answer(None, true)
+    } else {
+        answer(Some((sync(), number)), false)
+    }
+}
+
 // Accepts a step, whose batch has this number.
 fn check_accepted(
     rt: &impl Abort,
@@ -120,12 +129,13 @@ fn check_accepted(
 ) -> Result<(), Fault> {
     let directive = synchronous(alloc, 0, step.form, step.items)?;
     let placed = accepted(place, step.host, &directive)?;
-    assert_eq!(rt; placed, answer(Some((sync(), number)), false));
+    assert_eq!(rt; placed, answer_to(step, number));
     check_present(rt, place, step.present);
     Ok(())
 }
 
-// Behind the steps before it, which have so many batches, the last one is planned once there is memory, and accepted.
+// Behind the steps before it, which have so many batches, the last one is planned once there is memory, and then
+// accepted by a plan of its own.
 fn check(
     rt: &impl Abort,
     alloc: Global,
@@ -243,5 +253,47 @@ fn plans_of_loops_are_refused_until_there_is_memory(rt: HostRuntime) -> Result<(
     };
     check(&rt, rt.alloc(), &[], 0, &alone)?;
     check(&rt, rt.alloc(), &[outer], 1, &inside)?;
+    Ok(())
+}
+
+/// The same of updates, of an exit that ends all entries, and of a question, which has no batch.
+#[test]
+fn plans_of_updates_and_questions_are_refused_until_there_is_memory(
+    rt: HostRuntime,
+) -> Result<(), Fail> {
+    let enter = Step {
+        host: 0,
+        form: Form::EnterData,
+        items: &[copyin(a(0, 3)), copyin(a(1, 1))],
+        ops: &[make(1, a(0, 3)), copy_in(1, a(0, 3))],
+        present: &[entry(a(0, 3), 1, 0, 2)],
+    };
+    let update = Step {
+        host: 1,
+        form: UPDATE,
+        items: &[
+            item(Clause::UpdateSelf, a(0, 1)),
+            item(Clause::UpdateDevice, a(1, 2)),
+        ],
+        ops: &[copy_out(1, a(0, 1)), copy_in(1, a(1, 2))],
+        present: enter.present,
+    };
+    let finalize = Step {
+        host: 0,
+        form: FINALIZE,
+        items: &[copyout(a(1, 2))],
+        ops: &[copy_out(1, a(1, 2)), release(1)],
+        present: &[],
+    };
+    let question = Step {
+        host: 0,
+        form: Form::IsPresent,
+        items: &[present(a(2, 1))],
+        ops: &[],
+        present: enter.present,
+    };
+    for last in [update, finalize, question] {
+        check(&rt, rt.alloc(), &[enter], 1, &last)?;
+    }
     Ok(())
 }

@@ -132,3 +132,11 @@ fn streams_that_fail_have_status_three(rt: HostRuntime) -> std::result::Result<(
     );
     Ok(())
 }
+
+#[test]
+fn want_of_memory_is_told(rt: HostRuntime) -> std::result::Result<(), Fail> {
+    let mut errors = Vec::new(rt.alloc());
+    assert_eq!(rt; told(DriverFault::Memory, &mut errors), 3);
+    assert_eq!(rt; errors.as_slice(), b"accq: out of memory\n".as_slice());
+    Ok(())
+}
