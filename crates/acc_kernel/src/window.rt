@@ -29,7 +29,7 @@ pub trait Window {
     ghost keeps_on: { (u v w : Self) → keeps u v → keeps v w → keeps u w };
 }
 
-/// How far a cell is behind the first of a range.
+/// How far a cell is behind the first of a range, which it isn't before.
 pub fn distance(cell: i64, lo: u32) -> usize
     requires { pos lo ≤ℤ cell }
     ensures { cell -ℤ pos lo ≡ pos result }

@@ -1,15 +1,15 @@
 -- A loop is past its items exactly where it reaches a cell outside the range of its array's first item.
-use Rattle.std.proofs.Common.{◌≡◌, ◌↔◌, ℕ, ◌+◌, Bool, true, false, List, [], ◌∷◌, Option, Some, None, refl, sym, ap, subst, ◌∙◌, arith}
-use Rattle.std.specs.Prelude.{ℤ, ◌≤ℤ◌, ◌<ℤ◌, pos, int_lt, int_le, ◌||◌}
+use Rattle.std.proofs.Common.{◌≡◌, ℕ, ◌+◌, Bool, true, false, List, [], ◌∷◌, Option, Some, None, refl, sym, subst, arith}
+use Rattle.std.specs.Prelude.{◌≤ℤ◌, ◌<ℤ◌, pos, int_lt, int_le, ◌||◌}
 use Rattle.std.specs.List.{All, list_any}
 use Rattle.std.proofs.lemmas.Int.{ints}
 use Rattle.std.proofs.lemmas.List.Elements.{All-cons, All-nil}
 use Rattle.std.proofs.lemmas.List.Folds.{list_any_none}
 use Rattle.acc_kernel.specs.declared.reach.Reach.{Reach}
-use Rattle.acc_kernel.specs.Kernels.{Loop, Reaches, IsReach, arrays_of, reach_of}
+use Rattle.acc_kernel.specs.Kernels.{Loop, arrays_of, reach_of}
 use Rattle.acc_kernel.proofs.Reached.{Tells, reach_tells}
 use Rattle.acc_place.specs.declared.directive.Item.{Item}
-use Rattle.acc_place.specs.Accepting.{is_past, reaches_past}
+use Rattle.acc_place.specs.Accepting.{reaches_past}
 use Rattle.acc_place.specs.Implicit.{item_of}
 use Rattle.acc_place.specs.Loops.{IsInside, StaysInside, StaysInsideOf, ReachIsJudged}
 use Rattle.acc_place.proofs.Looping.{stays_in_all, stays_nowhere, stays_within}
