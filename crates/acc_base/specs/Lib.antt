@@ -2,3 +2,4 @@ pub mod Configurations
 pub mod Faults
 pub mod Queues
 pub mod Ranges
+pub mod Lists

@@ -1,14 +1,20 @@
 //! Names, ranges, faults and limits: what every other crate speaks of.
 #![tactic(auto)]
 
+mod boxed;
 mod config;
 mod fault;
+mod few;
 mod ids;
 mod listed;
 mod range;
+mod shared;
 
+pub use boxed::Boxed;
 pub use config::{Config, MAX_ARRAYS, MAX_CAPACITY, MAX_CELLS, MAX_DEVICES, MAX_HOSTS, MAX_ROOM};
 pub use fault::Fault;
+pub use few::Few;
 pub use ids::{BlockId, DeviceId, HostId, QUEUES, QueueAt, QueueId};
 pub use listed::Listed;
 pub use range::Range;
+pub use shared::Shared;
