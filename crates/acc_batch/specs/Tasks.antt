@@ -4,7 +4,7 @@ use Rattle.acc_batch.specs.declared.operation.Op.{Op}
 use Rattle.acc_batch.specs.declared.operation.Op.TheVariants as op
 use Rattle.acc_batch.specs.declared.task.Task.{Task}
 use Rattle.acc_batch.specs.declared.task.Task.TheVariants as task
-use Rattle.acc_kernel.specs.Jobs.{AreDistinct, HoldReached, zero_rows}
+use Rattle.acc_kernel.specs.Jobs.{AreDistinct, HoldReached}
 
 -- what a loop uses names each array at most once, and has all cells that the loop reaches
 abbrev pub HasItsCells : Op → Type 0
@@ -20,18 +20,18 @@ op_of (task.Make b) = op.Make b.block b.range
 op_of (task.CopyIn b r) = op.CopyIn b r
 op_of (task.CopyOut b r) = op.CopyOut b r
 op_of (task.Release b) = op.Release b
-op_of (task.Run j) = op.Run j.kernel j.uses
+op_of (task.Run k uses) = op.Run k uses
 
 abbrev pub ops_in : List Task → List Op
 ops_in tasks = map op_of tasks
 
--- a block that is made has the cells of its range, and a job its inputs, all zero
+-- a block that is made has the cells of its range, all zero, and a loop has its cells
 abbrev pub IsReady : Task → Type 0
 IsReady (task.Make b) = b.cells ≡ replicate b.range.len (pos 0)
 IsReady (task.CopyIn b r) = Unit {0}
 IsReady (task.CopyOut b r) = Unit {0}
 IsReady (task.Release b) = Unit {0}
-IsReady (task.Run j) = j.inputs ≡ zero_rows j.uses
+IsReady (task.Run k uses) = HasItsCells (op.Run k uses)
 
 abbrev pub AllReady : List Task → Type 0
 AllReady [] = Unit {0}

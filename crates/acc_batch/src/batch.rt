@@ -1,19 +1,18 @@
-ghost use Rattle.std.specs.Prelude.{◌≡◌, ◌<◌, ◌++◌, [], ◌∷◌, length, IfOk, IfErr, OnOk};
+ghost use Rattle.std.specs.Prelude.{◌≡◌, ◌<◌, length, IfOk, IfErr};
 ghost use Rattle.std.specs.List.{All};
 ghost use Rattle.acc_batch.specs.Tasks.{ops_in, HasItsCells, AllReady};
 
-use crate::operation::{Label, Op};
-use crate::task::Task;
+use crate::operation::Label;
+use crate::tasks::Tasks;
 use acc_base::Fault;
 use std::alloc::Global;
-use std::collections::VecDeque;
 use std::marker::Model;
 
 /// A batch in a queue: its label, with a task for each of the label's operations. Contracts see the label.
 #[derive(Drop)]
 pub struct Batch {
     label: Label,
-    tasks: VecDeque<Task>,
+    tasks: Tasks,
 }
 
 impl Model for Batch {
@@ -29,7 +28,7 @@ impl Model for Batch {
 
     ghost view = { λ b. b.label };
 
-    ghost invariant = { λ b. (ops_in b.tasks.items ≡ b.label.ops) × AllReady b.tasks.items };
+    ghost invariant = { λ b. (ops_in b.tasks ≡ b.label.ops) × AllReady b.tasks };
 }
 
 impl Batch {
@@ -47,7 +46,7 @@ impl Batch {
         ensures label { IfOk result (λ b. b ≡ label) }
         ensures fault { IfErr result (λ f. f ≡ fault.Memory) }
     {
-        let tasks = tasks_of(alloc, label.ops.as_slice())?;
+        let tasks = Tasks::new(alloc, label.ops.get().as_slice())?;
         Ok(Batch { label, tasks })
     }
 
@@ -59,47 +58,20 @@ impl Batch {
     }
 
     /// Its tasks, in their order.
-    pub fn ops(&self) -> &VecDeque<Task>
-        ensures ops { ops_in result.now.items ≡ self.now.ops }
-        ensures ready { AllReady result.now.items }
+    pub fn ops(&self) -> &Tasks
+        ensures ops { ops_in result.now ≡ self.now.ops }
+        ensures ready { AllReady result.now }
     {
         &self.tasks
     }
 
     /// Its label, and its tasks, in their order.
-    pub fn into_parts(self) -> (Label, VecDeque<Task>)
+    pub fn into_parts(self) -> (Label, Tasks)
         ensures label { result.0 ≡ self }
-        ensures ops { ops_in result.1.items ≡ self.ops }
-        ensures ready { AllReady result.1.items }
+        ensures ops { ops_in result.1 ≡ self.ops }
+        ensures ready { AllReady result.1 }
     {
         let Batch { label, tasks } = self;
         (label, tasks)
     }
-}
-
-// The tasks that perform these operations.
-fn tasks_of(alloc: Global, ops: &[Op]) -> Result<VecDeque<Task>, Fault>
-    requires { All HasItsCells ops.now }
-    ensures ops { IfOk result (λ tasks. ops_in tasks.items ≡ ops.now) }
-    ensures ready { IfOk result (λ tasks. AllReady tasks.items) }
-    ensures fault { IfErr result (λ f. f ≡ Fault.Memory) }
-{
-    let mut tasks = VecDeque::new(alloc);
-    for op in ops {
-        add_task(alloc, op, &mut tasks)?;
-    }
-    Ok(tasks)
-}
-
-// Adds the task that performs one more operation.
-fn add_task(alloc: Global, op: &Op, tasks: &mut VecDeque<Task>) -> Result<(), Fault>
-    requires cells { HasItsCells op.now }
-    requires ready { AllReady tasks.old.items }
-    ensures tasks { OnOk result (ops_in tasks.new.items ≡ ops_in tasks.old.items ++ op.now ∷ []) }
-    ensures ready { OnOk result (AllReady tasks.new.items) }
-    ensures fault { IfErr result (λ f. f ≡ Fault.Memory) }
-{
-    let task = Task::new(alloc, op)?;
-    tasks.push_back(task)?;
-    Ok(())
 }

@@ -4,7 +4,9 @@
 mod batch;
 mod operation;
 mod task;
+mod tasks;
 
 pub use batch::Batch;
 pub use operation::{Label, Op};
 pub use task::{Block, Task};
+pub use tasks::Tasks;

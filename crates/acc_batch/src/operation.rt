@@ -3,9 +3,9 @@ ghost use Rattle.std.specs.List.{All};
 ghost use Rattle.acc_base.specs.declared.fault.Fault.TheVariants as fault;
 ghost use Rattle.acc_batch.specs.Tasks.{HasItsCells};
 
-use acc_base::{BlockId, Fault, HostId, Listed, QueueAt, Range};
+use acc_base::{BlockId, Fault, Few, HostId, Listed, QueueAt, Range, Shared};
 use acc_kernel::{Kernel, are_distinct};
-use std::alloc::Global;
+use std::mem::size_of;
 
 /// What a queue performs on the blocks of its device.
 #[derive(Drop)]
@@ -31,8 +31,8 @@ pub enum Op {
     },
     /// Runs the loop; it uses each of these blocks in the range beside it.
     Run {
-        kernel: Kernel,
-        uses: Listed<(BlockId, Range)>,
+        kernel: Shared<Kernel>,
+        uses: Shared<Listed<(BlockId, Range)>>,
     },
 }
 
@@ -44,8 +44,13 @@ pub struct Label {
     pub number: u64,
     pub host: HostId,
     pub items_done: u64,
-    pub ops: Listed<Op>,
+    pub ops: Shared<Few<Op>>,
 }
+
+// The histories keep each operation and each label.
+const _: () = prove!(size_of::<Op>() == 32);
+
+const _: () = prove!(size_of::<Label>() == 40);
 
 impl Op {
     /// Whether it is no loop, or what the loop uses names each array at most once and has all cells that it reaches.
@@ -54,40 +59,10 @@ impl Op {
     {
         match self {
             Op::Run { kernel, uses } => {
-                are_distinct(uses.as_slice()) && kernel.is_held_by(uses.as_slice())
+                let uses = uses.get().as_slice();
+                are_distinct(uses) && kernel.get().is_held_by(uses)
             }
             Op::Make { .. } | Op::CopyIn { .. } | Op::CopyOut { .. } | Op::Release { .. } => true,
-        }
-    }
-
-    /// An equal operation.
-    ///
-    /// # Errors
-    ///
-    /// `Memory` where memory is refused.
-    pub fn try_clone(&self, alloc: Global) -> Result<Self, Fault>
-        ensures equal { IfOk result (λ o. o ≡ self.now) }
-        ensures fault { IfErr result (λ f. f ≡ fault.Memory) }
-    {
-        match self {
-            Op::Make { block, range } => Ok(Op::Make {
-                block: *block,
-                range: *range,
-            }),
-            Op::CopyIn { block, range } => Ok(Op::CopyIn {
-                block: *block,
-                range: *range,
-            }),
-            Op::CopyOut { block, range } => Ok(Op::CopyOut {
-                block: *block,
-                range: *range,
-            }),
-            Op::Release { block } => Ok(Op::Release { block: *block }),
-            Op::Run { kernel, uses } => {
-                let kernel = kernel.try_clone(alloc)?;
-                let uses = uses.try_clone(alloc)?;
-                Ok(Op::Run { kernel, uses })
-            }
         }
     }
 }
@@ -97,7 +72,7 @@ impl Label {
     pub fn has_its_cells(&self) -> bool
         ensures { IsTrue result ↔ All HasItsCells self.now.ops }
     {
-        let ops = self.ops.as_slice();
+        let ops = self.ops.get().as_slice();
         for op in ops {
             if !op.has_its_cells() {
                 return false;
@@ -106,33 +81,22 @@ impl Label {
         true
     }
 
-    /// An equal label.
+    /// An equal label, which shares the operations. It takes no memory.
     ///
     /// # Errors
     ///
-    /// `Memory` where memory is refused.
-    pub fn try_clone(&self, alloc: Global) -> Result<Self, Fault>
+    /// `Memory` where the count of their owners is full.
+    pub fn try_clone(&self) -> Result<Self, Fault>
         ensures equal { IfOk result (λ l. l ≡ self.now) }
         ensures fault { IfErr result (λ f. f ≡ fault.Memory) }
     {
-        let ops = copies(alloc, self.ops.as_slice())?;
+        let ops = self.ops.try_clone()?;
         Ok(Label {
             at: self.at,
             number: self.number,
             host: self.host,
             items_done: self.items_done,
-            ops: Listed::from_vec(ops),
+            ops,
         })
     }
-}
-
-fn copies(alloc: Global, ops: &[Op]) -> Result<Vec<Op>, Fault>
-    ensures equal { IfOk result (λ copies. copies.items ≡ ops.now) }
-    ensures fault { IfErr result (λ f. f ≡ fault.Memory) }
-{
-    let mut copies = Vec::with_capacity(alloc, ops.len())?;
-    for op in ops {
-        copies.push_reserved(op.try_clone(alloc)?);
-    }
-    Ok(copies)
 }

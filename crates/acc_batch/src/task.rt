@@ -2,10 +2,11 @@ ghost use Rattle.std.specs.Prelude.{◌≡◌, IfOk, IfErr};
 ghost use Rattle.acc_batch.specs.Tasks.{op_of, HasItsCells, IsReady};
 
 use crate::operation::Op;
-use acc_base::{BlockId, Fault, Listed, Range};
-use acc_kernel::Job;
+use acc_base::{BlockId, Fault, Listed, Range, Shared};
+use acc_kernel::Kernel;
 use acc_raw::Cells;
 use std::alloc::Global;
+use std::mem::size_of;
 
 /// A block of a device: its range and its cells.
 #[derive(Drop)]
@@ -19,13 +20,29 @@ pub struct Block {
 #[derive(Drop)]
 pub enum Task {
     /// The block's cells are as many as its range has, all zero.
-    Make { block: Block },
-    CopyIn { block: BlockId, range: Range },
-    CopyOut { block: BlockId, range: Range },
-    Release { block: BlockId },
-    /// The job has the loop and its uses, with room for their cells, whose inputs are all zero.
-    Run { job: Job },
+    Make {
+        block: Block,
+    },
+    CopyIn {
+        block: BlockId,
+        range: Range,
+    },
+    CopyOut {
+        block: BlockId,
+        range: Range,
+    },
+    Release {
+        block: BlockId,
+    },
+    /// What the loop uses names each array at most once, and has all cells that the loop reaches.
+    Run {
+        kernel: Shared<Kernel>,
+        uses: Shared<Listed<(BlockId, Range)>>,
+    },
 }
+
+// A batch moves with two of them.
+const _: () = prove!(size_of::<Task>() == 56);
 
 impl Task {
     ghost use Rattle.acc_base.specs.declared.fault.Fault.TheVariants as fault;
@@ -61,8 +78,9 @@ impl Task {
             }),
             Op::Release { block } => Ok(Task::Release { block: *block }),
             Op::Run { kernel, uses } => {
-                let job = Job::new(alloc, kernel, uses.as_slice())?;
-                Ok(Task::Run { job })
+                let kernel = kernel.try_clone()?;
+                let uses = uses.try_clone()?;
+                Ok(Task::Run { kernel, uses })
             }
         }
     }
@@ -79,11 +97,7 @@ impl Task {
             Task::CopyIn { block, range } => Op::CopyIn { block, range },
             Task::CopyOut { block, range } => Op::CopyOut { block, range },
             Task::Release { block } => Op::Release { block },
-            Task::Run { job } => {
-                let (kernel, uses) = job.into_parts();
-                let uses = Listed::from_vec(uses);
-                Op::Run { kernel, uses }
-            }
+            Task::Run { kernel, uses } => Op::Run { kernel, uses },
         }
     }
 }

@@ -16,7 +16,7 @@ use crate::event::Reply;
 use crate::log::WorkEntry;
 use crate::totals::Totals;
 use crate::work::{Work, sync_queue};
-use acc_base::{Config, DeviceId, Fault, HostId, QueueAt, QueueId, Range};
+use acc_base::{Config, DeviceId, Fault, HostId, QueueAt, QueueId, Range, Shared};
 use acc_batch::Batch;
 use acc_place::{Directive, Place, PlaceEntry, Placed, is_in_array};
 use acc_present::Entry;
@@ -78,7 +78,7 @@ impl Accelerator {
     /// # Errors
     ///
     /// The directive's first fault; else `Memory` for want of memory, or `QueueFull`.
-    pub fn place(&mut self, host: HostId, directive: &Directive) -> Result<Placed, Fault>
+    pub fn place(&mut self, host: HostId, directive: &Shared<Directive>) -> Result<Placed, Fault>
         requires host { host < MAX_HOSTS }
         requires synchronous { is_synchronous directive.now ≡ true }
         ensures { Places self.old host directive.now result self.new }
@@ -152,6 +152,7 @@ impl Accelerator {
         requires reached { all_done (labels_of self.old) self.old.work device 0 counts ≡ true }
         ensures { ItemAnswers self.old host true (Seen device counts) result self.new }
     {
+        let counts = self.work.counts(counts)?;
         self.work.spare_item(self.waiting)?;
         self.work.see(host, device, counts);
         Ok(())

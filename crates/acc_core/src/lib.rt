@@ -2,6 +2,7 @@
 #![tactic(auto)]
 
 mod accelerator;
+mod counts;
 mod event;
 mod laws;
 mod log;
@@ -16,6 +17,7 @@ pub use acc_place::{
     Placed, Region, Target, Waits,
 };
 pub use acc_present::Entry;
+pub use counts::Counts;
 pub use event::{Event, Reply};
 pub use laws::{each_queue_is_counted, whole_is_greatest, worked_logs, worked_programs};
 pub use log::{MAX_HOST_ITEMS, Shown, WorkEntry};

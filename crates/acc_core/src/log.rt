@@ -1,5 +1,7 @@
+use crate::counts::Counts;
 use acc_base::{DeviceId, HostId, Listed, QueueAt, Range};
 use acc_batch::Op;
+use std::mem::size_of;
 
 /// The most items of all hosts in a run.
 pub const MAX_HOST_ITEMS: u64 = 1_099_511_627_776;
@@ -10,7 +12,7 @@ pub enum Shown {
     Write { array: u8, cell: u32, value: i64 },
     Print { range: Range, values: Listed<i64> },
     /// The host saw that each queue of the device had performed so many batches.
-    Seen { device: DeviceId, counts: [u64; 8] },
+    Seen { device: DeviceId, counts: Counts },
 }
 
 /// An entry of the work history.
@@ -19,3 +21,6 @@ pub enum WorkEntry {
     Op { at: QueueAt, what: Op },
     Item { host: HostId, what: Shown },
 }
+
+// The history keeps each.
+const _: () = prove!(size_of::<WorkEntry>() == 48);

@@ -2,13 +2,14 @@ ghost use Rattle.std.specs.Prelude.{◌≡◌};
 ghost use Rattle.std.specs.List.{list_all};
 ghost use Rattle.acc_core.specs.Worlds.{gives_synchronous};
 
-use acc_base::{DeviceId, Fault, HostId, Listed, Range};
+use acc_base::{DeviceId, Fault, HostId, Listed, Range, Shared};
 use acc_place::Directive;
+use std::mem::size_of;
 
 /// What a statement does.
 #[derive(Drop)]
 pub enum Act {
-    Place { directive: Directive },
+    Place { directive: Shared<Directive> },
     Write { array: u8, cell: u32, value: i64 },
     Print { range: Range },
 }
@@ -19,7 +20,7 @@ impl Act {
         ensures { result ≡ gives_synchronous self.now }
     {
         match self {
-            Act::Place { directive } => directive.is_synchronous(),
+            Act::Place { directive } => directive.get().is_synchronous(),
             Act::Write { .. } | Act::Print { .. } => true,
         }
     }
@@ -31,6 +32,9 @@ pub struct Statement {
     pub line: u32,
     pub act: Act,
 }
+
+// A program has up to some tens of thousands.
+const _: () = prove!(size_of::<Statement>() == 24);
 
 /// What a host does, statement by statement.
 #[derive(Drop)]

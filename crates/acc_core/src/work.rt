@@ -9,12 +9,12 @@ ghost use Rattle.acc_memory.specs.Memories.{Shows, IsAllowed, PerformsOn, has_ar
 ghost use Rattle.acc_memory.specs.Values.{Cell, values_of};
 ghost use Rattle.acc_core.specs.Works.{Performs, NextMayFollow, HasShown, HasMadeRoom, sync};
 
+use crate::counts::Counts;
 use crate::log::{MAX_HOST_ITEMS, Shown, WorkEntry};
 use acc_base::{Config, DeviceId, Fault, HostId, Listed, QueueAt, QueueId, Range};
-use acc_batch::{Op, Task};
+use acc_batch::{Op, Task, Tasks};
 use acc_memory::Memory;
 use std::alloc::Global;
-use std::collections::VecDeque;
 use std::marker::Model;
 
 /// The work side: the memory, the batch that is being performed, and the log of what was done.
@@ -23,7 +23,7 @@ pub struct Work {
     alloc: Global,
     memory: Memory,
     log: Vec<WorkEntry>,
-    lane: VecDeque<Task>,
+    lane: Tasks,
     lane_host: HostId,
     lane_items: u64,
     items: [u64; 8],
@@ -41,9 +41,9 @@ impl Model for Work {
 
     ghost coded = { Prim.hlevel (codes, expr.the_row.coded) };
 
-    ghost view = { λ w. record { memory = w.memory; work = reverse w.log.items; room = vec_capacity w.log; lane = ops_in w.lane.items; lane_host = w.lane_host; lane_items = w.lane_items } };
+    ghost view = { λ w. record { memory = w.memory; work = reverse w.log.items; room = vec_capacity w.log; lane = ops_in w.lane; lane_host = w.lane_host; lane_items = w.lane_items } };
 
-    ghost invariant = { λ w. IsWork (reverse w.log.items) w.items w.all_items × AllReady w.lane.items × (0 < length w.memory.devices) };
+    ghost invariant = { λ w. IsWork (reverse w.log.items) w.items w.all_items × AllReady w.lane × (0 < length w.memory.devices) };
 }
 
 /// The queue that synchronous directives use.
@@ -77,7 +77,7 @@ impl Work {
             alloc,
             memory,
             log: Vec::new(alloc),
-            lane: VecDeque::new(alloc),
+            lane: Tasks::none(alloc),
             lane_host: HostId::new(0),
             lane_items: 0,
             items: [0; 8],
@@ -152,9 +152,9 @@ impl Work {
     }
 
     /// Fills the empty lane.
-    pub fn offer(&mut self, host: HostId, items_done: u64, tasks: VecDeque<Task>)
-        requires { AllReady tasks.items }
-        ensures { self.new ≡ record self.old { lane = ops_in tasks.items; lane_host = host; lane_items = items_done } }
+    pub fn offer(&mut self, host: HostId, items_done: u64, tasks: Tasks)
+        requires { AllReady tasks }
+        ensures { self.new ≡ record self.old { lane = ops_in tasks; lane_host = host; lane_items = items_done } }
     {
         self.lane = tasks;
         self.lane_host = host;
@@ -170,7 +170,7 @@ impl Work {
         if self.items[usize::from(self.lane_host.number())] < self.lane_items {
             return false;
         }
-        match self.lane.pop_front() {
+        match self.lane.take_next() {
             None => false,
             Some(task) => {
                 let what = perform_first(&mut self.memory, task);
@@ -210,8 +210,16 @@ impl Work {
         Ok(())
     }
 
+    /// The counts of a device's queues, to be seen.
+    pub fn counts(&self, counts: [u64; 8]) -> Result<Counts, Fault>
+        ensures counts { IfOk result (λ c. c ≡ counts) }
+        ensures fault { IfErr result (λ f. f ≡ no_memory) }
+    {
+        Counts::new(self.alloc, counts)
+    }
+
     /// A host has seen that the queues of a device performed so many batches.
-    pub fn see(&mut self, host: HostId, device: DeviceId, counts: [u64; 8])
+    pub fn see(&mut self, host: HostId, device: DeviceId, counts: Counts)
         requires host { host < MAX_HOSTS }
         requires room { length self.old.work < self.old.room }
         requires few { all_items self.old.work < 2 ^ 63 }

@@ -1,10 +1,11 @@
-ghost use Rattle.std.specs.Prelude.{◌≡◌, ◌+◌, ◌<◌, ◌≤◌, length, map, All, reverse, slice_get, IfOk, IfErr, OnOk, OnErr, OnSome, None, Some, true, false, Bool, ◌^◌};
+ghost use Rattle.std.specs.Prelude.{List, ◌≡◌, ◌+◌, ◌<◌, ◌≤◌, length, map, All, reverse, slice_get, IfOk, IfErr, OnOk, OnErr, OnSome, None, Some, true, false, Bool, ◌^◌};
 ghost use Rattle.std.specs.Option.{option_map};
 ghost use Rattle.acc_present.specs.Presences.{presences, holder};
 ghost use Rattle.acc_present.specs.Tables.{entry_presence};
 ghost use Rattle.acc_base.specs.declared.config.TheConstants.{MAX_HOSTS};
 ghost use Rattle.acc_core.specs.Legality.{AllFollow, Legal};
 ghost use Rattle.acc_core.specs.Machine.{Step, standing_of};
+ghost use Rattle.acc_core.specs.declared.event.Reply.{Reply};
 ghost use Rattle.acc_batch.specs.Labels.{on_queue, ops_of};
 ghost use Rattle.acc_core.specs.Logs.{all_done, performed};
 ghost use Rattle.acc_core.specs.Ties.{labels_of};
@@ -142,6 +143,16 @@ impl World {
         Ok(replies)
     }
 
+    /// One step for each event, in order, whose replies are dropped. It takes no memory.
+    pub fn advance(&mut self, events: &[Event])
+        ensures ran { (replies : List Reply) × Ran self.old events.now replies self.new }
+    {
+        let _ = &self.hosts;
+        for event in events {
+            let _ = self.step(*event);
+        }
+    }
+
     /// The structured and the dynamic counter of the present range that contains a range with a cell, on a device that
     /// `Config::has_device` knows.
     pub fn counters(&self, device: DeviceId, range: Range) -> Option<(u64, u64)>
@@ -261,6 +272,7 @@ fn ready_hosts(alloc: Global, programs: Vec<HostProgram>) -> Result<Vec<Host>, F
 }
 
 // The next step of a host.
+#[inline(never)]
 fn host_step(accelerator: &mut Accelerator, number: HostId, host: &mut Host) -> Reply
     requires number { number < MAX_HOSTS }
     requires host { IsHost host.old }

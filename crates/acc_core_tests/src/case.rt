@@ -107,7 +107,7 @@ pub fn check_places(
     let mut count = 0usize;
     for line in lines.iter().take(ended) {
         if let Act::Place { directive } = act_of(alloc, *line)? {
-            check_accepted(rt, places.get(count), &directive);
+            check_accepted(rt, places.get(count), directive.get());
             count = count.wrapping_add(1);
         }
     }
@@ -119,6 +119,7 @@ pub fn check_places(
 fn check_accepted(rt: &impl Abort, entry: Option<&PlaceEntry>, wanted: &Directive) {
     match entry {
         Some(PlaceEntry::Accepted { host, directive }) => {
+            let directive = directive.get();
             assert_eq!(rt; *host, HostId::new(0));
             assert_eq!(rt; directive.device, DeviceId::new(0));
             assert_eq!(rt; directive.default, ASYNC_NOVAL);

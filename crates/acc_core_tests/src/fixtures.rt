@@ -1,4 +1,4 @@
-use acc_base::{Config, DeviceId, Fault, HostId, Listed, Range};
+use acc_base::{Config, DeviceId, Fault, Few, HostId, Listed, Range, Shared};
 use acc_core::{
     ASYNC_NOVAL, Act, Clause, Directive, Event, HostProgram, HostState, Item, Kind, Reply, Shown,
     Statement, Target, Waits, WorkEntry, World,
@@ -81,17 +81,17 @@ fn items_of(alloc: Global, line: Line) -> Result<Vec<Item>, AllocError> {
 }
 
 // A directive without an async clause and a wait clause.
-pub fn place(kind: Kind, items: Vec<Item>) -> Act {
-    Act::Place {
-        directive: Directive {
-            device: DeviceId::new(0),
-            default: ASYNC_NOVAL,
-            kind,
-            items: Listed::from_vec(items),
-            target: Target::Plain,
-            waits: Waits::Nothing,
-        },
-    }
+pub fn place(alloc: Global, kind: Kind, items: &[Item]) -> Result<Act, Fault> {
+    let directive = Directive {
+        device: DeviceId::new(0),
+        default: ASYNC_NOVAL,
+        kind,
+        items: Few::from_slice(alloc, items)?,
+        target: Target::Plain,
+        waits: Waits::Nothing,
+    };
+    let directive = Shared::new(alloc, directive)?;
+    Ok(Act::Place { directive })
 }
 
 pub fn act_of(alloc: Global, line: Line) -> Result<Act, Fault> {
@@ -106,7 +106,8 @@ pub fn act_of(alloc: Global, line: Line) -> Result<Act, Fault> {
         }
         Line::Print(range) => return Ok(Act::Print { range }),
     };
-    Ok(place(kind_of(alloc, form)?, items_of(alloc, line)?))
+    let items = items_of(alloc, line)?;
+    place(alloc, kind_of(alloc, form)?, items.as_slice())
 }
 
 pub fn statement(line: u32, act: Act) -> Statement {
@@ -185,6 +186,19 @@ pub fn printed(entry: Option<&WorkEntry>) -> Option<&[i64]> {
                 ..
             },
         ) => Some(values.as_slice()),
+        _ => None,
+    }
+}
+
+// What a host saw: how many batches each queue of a device had performed.
+pub fn seen(entry: Option<&WorkEntry>) -> Option<(DeviceId, [u64; 8])> {
+    match entry {
+        Some(
+            WorkEntry::Item {
+                what: Shown::Seen { device, counts },
+                ..
+            },
+        ) => Some((*device, counts.numbers())),
         _ => None,
     }
 }

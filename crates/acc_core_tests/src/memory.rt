@@ -2,7 +2,7 @@ use crate::fixtures::{
     ALL, FINISHED, Line, host, perform, printed, refused, reply_to, take, turns, world_of,
 };
 use acc_base::{Config, DeviceId, Fault, HostId};
-use acc_core::{Clause, Event, Outcome, Reply, World};
+use acc_core::{Clause, Counts, Event, Outcome, Reply, World};
 use acc_forms::{EXIT, Form};
 use acc_parts::{Body, Loop};
 use acc_scarce::{Hoard, at_each_amount};
@@ -204,6 +204,25 @@ fn memory_is_refused_to_a_new_world(rt: HostRuntime) -> Result<(), Fail> {
     let refused = World::new(alloc, config, programs);
     hoard.free();
     assert_eq!(rt; refused.err(), Some(Fault::Memory));
+    Ok(())
+}
+
+/// The first queue's number takes no memory.
+#[test]
+fn counts_are_refused_until_there_is_memory(rt: HostRuntime) -> Result<(), Fail> {
+    let alloc = rt.alloc();
+    let cases = [
+        ([0; 8], false),
+        ([u64::MAX, 0, 0, 0, 0, 0, 0, 0], false),
+        ([0, 1, 0, 0, 0, 0, 0, 0], true),
+        ([0, 0, 0, 0, 0, 0, 0, 1], true),
+        ([1, 2, 3, 4, 5, 6, 7, u64::MAX], true),
+    ];
+    for (numbers, is_refused) in &cases {
+        let (refusals, counts) = at_each_amount(alloc, || Counts::new(alloc, *numbers))?;
+        assert_eq!(rt; 0 < refusals, *is_refused, "{numbers:?}");
+        assert_eq!(rt; counts.numbers(), *numbers);
+    }
     Ok(())
 }
 

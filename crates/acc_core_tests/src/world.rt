@@ -1,7 +1,7 @@
 use crate::case::check_places;
 use crate::fixtures::{
     ALL, COUNTED, FINISHED, Line, ZEROS, cells, host, perform, performed, place, printed, refused,
-    reply_to, statement, take, world_of, world_over, world_with,
+    reply_to, seen, statement, take, world_of, world_over, world_with,
 };
 use acc_base::{Config, DeviceId, Fault, HostId, Listed, Range};
 use acc_core::{
@@ -17,11 +17,13 @@ use std::alloc::{AllocError, Global};
 use std::process::Abort;
 use std::test::Fail;
 
-/// An entry of the log: an operation, what a print showed, or another item.
+/// An entry of the log: an operation, what a print showed, how many batches of queue sync a host saw performed, or
+/// another item.
 #[derive(Clone, Copy)]
 enum Logged<'a> {
     Op(Operation),
     Print(&'a [i64]),
+    Seen(u64),
     Item,
 }
 
@@ -57,13 +59,16 @@ fn check_replies(rt: &impl Abort, replies: &[Reply], run: &Run) {
 fn check_log(rt: &impl Abort, log: &[WorkEntry], run: &Run) {
     assert_eq!(rt; log.len(), run.log.len());
     for (entry, wanted) in log.iter().zip(run.log) {
-        let (op, print) = match wanted {
-            Logged::Op(op) => (Some(*op), None),
-            Logged::Print(values) => (None, Some(*values)),
-            Logged::Item => (None, None),
+        let (op, print, count) = match wanted {
+            Logged::Op(op) => (Some(*op), None, None),
+            Logged::Print(values) => (None, Some(*values), None),
+            Logged::Seen(count) => (None, None, Some(*count)),
+            Logged::Item => (None, None, None),
         };
         assert_eq!(rt; performed(Some(entry)), op);
         assert_eq!(rt; printed(Some(entry)), print);
+        let on_sync = |count| (DeviceId::new(0), [count, 0, 0, 0, 0, 0, 0, 0]);
+        assert_eq!(rt; seen(Some(entry)), count.map(on_sync));
     }
 }
 
@@ -96,11 +101,8 @@ fn check_outcome(rt: &impl Abort, alloc: Global, outcome: &Outcome, run: &Run) -
     Ok(())
 }
 
-fn check(rt: &impl Abort, alloc: Global, run: &Run) -> Result<(), Fail> {
-    let mut world = world_over(alloc, run.arrays, 8, run.lines)?;
-    let events = events_of(alloc, run)?;
-    let replies = world.run(events.as_slice())?;
-    check_replies(rt, replies.as_slice(), run);
+// What a world shows that had the events of a run, and what it leaves.
+fn check_world(rt: &impl Abort, alloc: Global, world: World, run: &Run) -> Result<(), Fail> {
     check_counters(rt, &world, run);
     check_log(rt, world.log(), run);
     assert_eq!(rt; world.state(HostId::new(0)), Some(run.state));
@@ -112,6 +114,18 @@ fn check(rt: &impl Abort, alloc: Global, run: &Run) -> Result<(), Fail> {
     };
     assert_eq!(rt; world.totals(sync()), totals);
     check_outcome(rt, alloc, &world.outcome(), run)
+}
+
+// With replies and without.
+fn check(rt: &impl Abort, alloc: Global, run: &Run) -> Result<(), Fail> {
+    let events = events_of(alloc, run)?;
+    let mut world = world_over(alloc, run.arrays, 8, run.lines)?;
+    let replies = world.run(events.as_slice())?;
+    check_replies(rt, replies.as_slice(), run);
+    check_world(rt, alloc, world, run)?;
+    let mut world = world_over(alloc, run.arrays, 8, run.lines)?;
+    world.advance(events.as_slice());
+    check_world(rt, alloc, world, run)
 }
 
 #[test]
@@ -142,7 +156,7 @@ fn entered_twice_and_left_once(rt: HostRuntime) -> Result<(), Fail> {
         log: &[
             Logged::Op(make(1, ALL)),
             Logged::Op(copy_in(1, ALL)),
-            Logged::Item,
+            Logged::Seen(1),
         ],
         state: FINISHED,
     };
@@ -172,7 +186,7 @@ fn an_overlapping_range_is_refused(rt: HostRuntime) -> Result<(), Fail> {
         log: &[
             Logged::Op(make(1, ALL)),
             Logged::Op(copy_in(1, ALL)),
-            Logged::Item,
+            Logged::Seen(1),
         ],
         state: refused(1, Fault::PartlyPresent),
     };
@@ -211,12 +225,12 @@ fn a_copy_out_brings_back_what_the_device_holds(rt: HostRuntime) -> Result<(), F
         log: &[
             Logged::Op(make(1, ALL)),
             Logged::Op(copy_in(1, ALL)),
-            Logged::Item,
+            Logged::Seen(1),
             Logged::Item,
             Logged::Print(&[9, 2, 3, 4]),
             Logged::Op(copy_out(1, ALL)),
             Logged::Op(release(1)),
-            Logged::Item,
+            Logged::Seen(2),
             Logged::Print(&[1, 2, 3, 4]),
         ],
         state: FINISHED,
@@ -255,7 +269,7 @@ fn a_loop_without_clauses(rt: HostRuntime) -> Result<(), Fail> {
             Logged::Op(run(&[used(1, ALL)])),
             Logged::Op(copy_out(1, ALL)),
             Logged::Op(release(1)),
-            Logged::Item,
+            Logged::Seen(1),
             Logged::Print(&[1, 4, 6, 8]),
         ],
         state: FINISHED,
@@ -281,7 +295,7 @@ fn seventeen_ranges_are_too_many(rt: HostRuntime) -> Result<(), Fail> {
         counters: &[(ALL, Some((16, 0)))],
         batches: 1,
         operations: 1,
-        log: &[Logged::Op(make(1, ALL)), Logged::Item],
+        log: &[Logged::Op(make(1, ALL)), Logged::Seen(1)],
         state: refused(1, Fault::TooMany),
     };
     check(&rt, rt.alloc(), &run)
@@ -351,9 +365,12 @@ fn rounds_of(alloc: Global, count: u32) -> Result<Vec<Statement>, Fault> {
     let mut statements = Vec::new(alloc);
     for _ in 0..count {
         let entered = sixteen_ranges(alloc, Clause::Copyin)?;
-        statements.push(statement(0, place(kind_of(alloc, Form::EnterData)?, entered)))?;
+        statements.push(statement(
+            0,
+            place(alloc, kind_of(alloc, Form::EnterData)?, entered.as_slice())?,
+        ))?;
         let left = sixteen_ranges(alloc, Clause::Copyout)?;
-        statements.push(statement(0, place(kind_of(alloc, EXIT)?, left)))?;
+        statements.push(statement(0, place(alloc, kind_of(alloc, EXIT)?, left.as_slice())?))?;
     }
     Ok(statements)
 }

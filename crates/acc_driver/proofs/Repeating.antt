@@ -1,6 +1,9 @@
 -- Events that loops put behind one another.
-use Rattle.std.proofs.Common.{◌≡◌, ℕ, zero, suc, ◌+◌, ◌-◌, ◌*◌, ◌<◌, List, [], ◌∷◌, ◌++◌, length, map, append_assoc, length-append, Result, Ok, refl, sym, ap, ◌∙◌, arith}
-use Rattle.std.proofs.lemmas.List.{flat_map_more, length-map, map-id}
+use Rattle.std.proofs.Common.{◌≡◌, ℕ, zero, suc, ◌+◌, ◌*◌, List, [], ◌∷◌, ◌++◌, length, map, append_assoc, length-append, Result, Ok, refl, sym, ap, ◌∙◌, arith}
+use Rattle.std.proofs.lemmas.List.{append-nil, flat_map_more, length-map, map-id}
+use Rattle.std.proofs.Math.Nat.{add-mul}
+use Rattle.acc_core.specs.declared.event.Reply.{Reply}
+use Rattle.acc_core.specs.Machine.{State, Runs}
 use native.Mathlib.Nat.{mul-suc, mul_comm}
 use Rattle.std.proofs.lemmas.List.FromFn.{map-range_with_len_more, length-range_with_len}
 use Rattle.std.specs.List.{flat_map, range_with_len}
@@ -27,11 +30,28 @@ flat_map-more f old n =
     ap (λ is. old ++ flat_map f is) (range-more n)
     ∙ sym (flat_map_more f old (range_with_len 0 n) n)
 
--- one turn less to come
-pub repeated-less : (turn old : List Event) (n i : ℕ) → i < n → old ++ repeated (n - i) turn ≡ (old ++ turn) ++ repeated (n - (i + 1)) turn
-repeated-less turn old n i less =
-    let one : n - i ≡ suc (n - (i + 1)) = omega arith in
-    ap (λ k. old ++ repeated k turn) one ∙ sym (append_assoc old turn (repeated (n - (i + 1)) turn))
+-- so many turns, and so many more
+repeated-more : (turn : List Event) (n m : ℕ) → repeated (n + m) turn ≡ repeated n turn ++ repeated m turn
+repeated-more turn zero m =
+    let none : zero + m ≡ m = omega arith in
+    ap (λ k. repeated k turn) none
+repeated-more turn (suc n) m =
+    let one : suc n + m ≡ suc (n + m) = omega arith in
+    ap (λ k. repeated k turn) one ∙ (ap (λ es. turn ++ es) (repeated-more turn n m) ∙ sym (append_assoc turn (repeated n turn) (repeated m turn)))
+
+pub ok_more : (turn : List Event) (n m k : ℕ) → k ≡ m → ◌≡◌ {A = Result (List Event) ReadFault} (Ok (repeated n turn ++ repeated m turn)) (Ok (repeated (n + k) turn))
+ok_more turn n m k e = rw e (ap (λ es. Ok es) (sym (repeated-more turn n m)))
+
+-- one turn more
+pub repeated-next : (turn : List Event) (n : ℕ) → repeated (n + 1) turn ≡ repeated n turn ++ turn
+repeated-next turn n = repeated-more turn n 1 ∙ ap (λ es. repeated n turn ++ es) (append-nil turn)
+
+-- a run, and one behind it
+pub Runs-append : (first second : List Event) (r s : List Reply) (old mid new : State) → Runs old first r mid → Runs mid second s new → Runs old (first ++ second) (r ++ s) new
+Runs-append [] second [] s old mid new h k = rw (sym h) k
+Runs-append [] second (x ∷ r) s old mid new h k = absurd h
+Runs-append (e ∷ first) second [] s old mid new h k = absurd h
+Runs-append (e ∷ first) second (x ∷ r) s old mid new h k = (h.0, h.1, Runs-append first second r s h.0 mid new h.2 k)
 
 -- ## How many
 
@@ -57,6 +77,11 @@ length-repeated turn (suc n) =
 
 pub repeated_turns : (hosts devices times : ℕ) → length (repeated times (turn_of hosts devices)) ≡ times * (hosts + 16 * devices)
 repeated_turns hosts devices times = length-repeated (turn_of hosts devices) times ∙ ap (λ n. times * n) (length-turn_of hosts devices)
+
+pub both_turns : (hosts devices n m : ℕ) → length (repeated n (turn_of hosts devices)) + length (repeated m (turn_of hosts devices)) ≡ (n + m) * (hosts + 16 * devices)
+both_turns hosts devices n m =
+    let size = hosts + 16 * devices in
+    omega (arith, repeated_turns hosts devices n, repeated_turns hosts devices m, add-mul n m size)
 
 -- what a definition gives where nothing failed
 pub same_from_ok : (items defined : List Event) → ◌≡◌ {A = Result (List Event) ReadFault} (Ok defined) (Ok items) → items ≡ defined

@@ -15,8 +15,9 @@ use Rattle.acc_driver.specs.declared.input.TheConstants.{MAX_TEXT}
 use Rattle.acc_driver.specs.declared.options.Ended.{Ended}
 use Rattle.acc_driver.specs.declared.options.Options.{Options}
 use Rattle.acc_driver.specs.declared.replay.TheConstants.{INPUT_LIMIT}
-use Rattle.acc_driver.specs.Inputs.{parts, within}
-use Rattle.acc_driver.specs.Replays.{events_in, configured, runtime_fault, IsOpeningFault, AnswersRun, Answers, AreUsable, IsRun}
+use Rattle.acc_core.specs.declared.event.Event.{Event}
+use Rattle.acc_driver.specs.Inputs.{Parts, parts, within}
+use Rattle.acc_driver.specs.Replays.{events_in, configured, runtime_fault, IsOpeningFault, Says, RunAnswers, AnswersRun, Answers, AreUsable, IsRun}
 use Rattle.acc_driver.specs.Schedules.{events_from, lines, schedule_of}
 use Rattle.acc_driver.specs.Scripts.{Program, program_at, script_of}
 use Rattle.acc_driver.proofs.Splitting.{capped, cut_is_enough, capped_is_enough}
@@ -118,3 +119,14 @@ usable_runs options program fault.Input declared few opening usable = tt
 usable_runs options program fault.Output declared few opening usable = tt
 usable_runs options program (fault.Script f) declared few opening usable = tt
 usable_runs options program (fault.Schedule f) declared few opening usable = tt
+
+-- what is answered to a program and events that the texts say
+pub run_answered : (options : Options) (texts : Parts) (program : Program) (events : List Event) (old new : Option (List ℕ)) (result : Result Ended DriverFault)
+    → Says options texts program events → RunAnswers options program events old new result → Answers options texts old new result
+run_answered options texts program events old new (Ok ended) says run = (program, events, says, run)
+run_answered options texts program events old new (Err fault.Output) says run = (program, events, says, run)
+run_answered options texts program events old new (Err (fault.Runtime f)) says run = (program, events, says, run)
+run_answered options texts program events old new (Err (fault.Script f)) says run = absurd run
+run_answered options texts program events old new (Err (fault.Schedule f)) says run = absurd run
+run_answered options texts program events old new (Err fault.Input) says run = absurd run
+run_answered options texts program events old new (Err fault.Memory) says run = run

@@ -10,10 +10,10 @@ use crate::fault::{DriverFault, ReadError};
 use crate::input::{InputFault, read_text, split};
 use crate::options::{Ended, Options};
 use crate::report::report;
-use crate::schedule::read_schedule;
+use crate::schedule::{Schedule, read_schedule};
 use crate::script::{Script, read};
 use acc_base::{Config, Fault, HostId};
-use acc_core::{Event, HostProgram, HostState, World};
+use acc_core::{HostProgram, HostState, World};
 use std::alloc::Global;
 use std::io::{Read, Write};
 
@@ -67,20 +67,20 @@ fn replay_texts<W: Write>(
         Err(ReadError::Memory) => return Err(DriverFault::Memory),
         Err(ReadError::Fault(fault)) => return Err(DriverFault::Script(fault)),
     };
-    let hosts = script.programs.len() as u8;
-    let events = match read_schedule(alloc, schedule, hosts, options.devices) {
-        Ok(events) => events,
+    let hosts = hosts_of(&script.programs);
+    let schedule = match read_schedule(alloc, schedule, hosts, options.devices) {
+        Ok(schedule) => schedule,
         Err(ReadError::Memory) => return Err(DriverFault::Memory),
         Err(ReadError::Fault(fault)) => return Err(DriverFault::Schedule(fault)),
     };
-    run(alloc, script, events.as_slice(), options, writer)
+    run(alloc, script, &schedule, options, writer)
 }
 
-// Runs the events on what a script says, and writes the report.
+// Runs a schedule on what a script says, and writes the report.
 fn run<W: Write>(
     alloc: Global,
     script: Script,
-    events: &[Event],
+    schedule: &Schedule,
     options: Options,
     writer: &mut W,
 ) -> Result<Ended, DriverFault>
@@ -88,7 +88,7 @@ fn run<W: Write>(
     requires numbered { AreNumbered 0 script.programs.items }
     requires few { length script.programs.items ≤ 1 }
     requires synchronous { All (λ p. AllSynchronous p.statements) script.programs.items }
-    ensures answers { RunAnswers options (seen script.entry) events.now (W.contents writer.old) (W.contents writer.new) result }
+    ensures answers { RunAnswers options (seen script.entry) schedule.now (W.contents writer.old) (W.contents writer.new) result }
     ensures run { AreUsable options → IsRun result }
 {
     let Script {
@@ -100,10 +100,7 @@ fn run<W: Write>(
         Ok(world) => world,
         Err(fault) => return Err(fault),
     };
-    match world.run(events) {
-        Ok(_) => {}
-        Err(_) => return Err(DriverFault::Memory),
-    }
+    schedule.run(&mut world);
     match report(names.as_slice(), &world, writer) {
         Ok(()) => {
             let refused = has_refused(&world);
@@ -111,6 +108,14 @@ fn run<W: Write>(
         }
         Err(_) => Err(DriverFault::Output),
     }
+}
+
+// How many hosts there are.
+fn hosts_of(programs: &Vec<HostProgram>) -> u8
+    requires few { length programs.now.items ≤ 1 }
+    ensures { result ≡ length programs.now.items }
+{
+    programs.len() as u8
 }
 
 // The world of these arrays and programs, before the first event.

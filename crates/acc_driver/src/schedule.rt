@@ -1,4 +1,4 @@
-ghost use Rattle.std.specs.Prelude.{◌≡◌, ℕ, ◌+◌, ◌<◌, ◌≤◌, ◌==◌, not, nat_lt, [], ◌∷◌, ◌++◌, length, map, Ok, IfOk, OnOk, IfSome, MatchOption, vec_len};
+ghost use Rattle.std.specs.Prelude.{◌≡◌, ℕ, ◌+◌, ◌*◌, ◌^◌, ◌<◌, ◌≤◌, ◌==◌, not, nat_lt, [], ◌∷◌, ◌++◌, length, map, Ok, IfOk, OnOk, IfSome, MatchOption};
 ghost use Rattle.std.specs.List.{flat_map, list_all, prefix_len, range_with_len};
 ghost use Rattle.acc_core.specs.declared.event.Event.TheVariants.{Host};
 ghost use Rattle.acc_driver.specs.Faults.{Gives};
@@ -10,14 +10,48 @@ use crate::input::{check_length, line_len};
 use crate::token::is;
 use crate::word::value_of;
 use acc_base::{DeviceId, HostId, QUEUES, QueueAt, QueueId};
-use acc_core::Event;
+use acc_core::{Event, World};
 use std::alloc::Global;
+use std::marker::Model;
 
 /// How many events a schedule can have.
 pub const MAX_EVENTS: usize = 1_000_000;
 
 /// How often one line's events can come.
 pub const MAX_TIMES: u32 = 10_000;
+
+/// The events of a schedule: a turn, and how often it comes. A contract sees the list of them.
+#[derive(Drop)]
+pub struct Schedule {
+    turn: Vec<Event>,
+    times: u64,
+}
+
+impl Model for Schedule {
+    ghost use Rattle.std.specs.Prelude.{List};
+    ghost use Rattle.acc_core.specs.declared.event.Event.{Event};
+    ghost use Rattle.acc_driver.specs.Schedules.{repeated};
+
+    ghost Value = { List Event };
+
+    ghost view = { λ s. repeated s.times s.turn.items };
+}
+
+impl Schedule {
+    ghost use Rattle.std.specs.Prelude.{List};
+    ghost use Rattle.acc_core.specs.Machine.{Runs};
+    ghost use Rattle.acc_core.specs.declared.event.Reply.{Reply};
+
+    /// A world takes a step for each event, in order. It takes no memory.
+    pub fn run(&self, world: &mut World)
+        ensures { (replies : List Reply) × Runs world.old self.now replies world.new }
+    {
+        let turn = self.turn.as_slice();
+        for _ in 0..self.times {
+            world.advance(turn);
+        }
+    }
+}
 
 // The first line, and what is left behind its line feed, if it has one.
 fn next_line(text: &[u8]) -> (&[u8], Option<&[u8]>)
@@ -198,38 +232,38 @@ fn push_turn(events: &mut Vec<Event>, hosts: u8, devices: u8) -> Result<(), Read
     push_devices(events, devices)
 }
 
-fn push_turns(events: &mut Vec<Event>, hosts: u8, devices: u8, times: u32) -> Result<(), ReadError>
-    ensures { Gives (λ _. events.new.items) result (Ok (events.old.items ++ repeated times (turn_of hosts devices))) }
+// One turn: first the hosts, then the queues.
+fn turn_events(alloc: Global, hosts: u8, devices: u8) -> Result<Vec<Event>, ReadError>
+    ensures { Gives (λ turn. turn.items) result (Ok (turn_of hosts devices)) }
 {
-    for _ in 0..times {
-        push_turn(events, hosts, devices)?;
-    }
-    Ok(())
+    let mut turn = Vec::new(alloc);
+    push_turn(&mut turn, hosts, devices)?;
+    Ok(turn)
 }
 
-// Whether turns behind so many events pass the limit.
-#[tactic(auto, using(crate::proofs::Repeating::repeated_turns))]
-fn are_too_many(count: usize, hosts: u8, devices: u8, times: u32) -> bool
-    requires count { count ≤ MAX_EVENTS }
+// Whether so many more turns behind those before them pass the limit.
+#[tactic(auto, using(crate::proofs::Repeating::both_turns))]
+fn are_too_many(before: u64, hosts: u8, devices: u8, times: u32) -> bool
+    requires before { before < 2 ^ 48 }
     requires times { times ≤ MAX_TIMES }
-    ensures { result ≡ nat_lt MAX_EVENTS (count + length (repeated times (turn_of hosts devices))) }
+    ensures { result ≡ nat_lt MAX_EVENTS (length (repeated before (turn_of hosts devices)) + length (repeated times (turn_of hosts devices))) }
 {
-    let turn = usize::from(hosts) + 2 * usize::from(QUEUES) * usize::from(devices);
-    count + times as usize * turn > MAX_EVENTS
+    let turn = u64::from(hosts) + 2 * u64::from(QUEUES) * u64::from(devices);
+    (before + u64::from(times)) * turn > MAX_EVENTS as u64
 }
 
-// Puts the events of one line behind those of the lines before it.
+// Adds the turns of one line to those of the lines before it.
 #[tactic(auto, unfolding(crate::specs::Schedules::events_behind))]
 fn read_line(
-    events: &mut Vec<Event>,
+    turns: &mut u64,
     hosts: u8,
     devices: u8,
     number: u32,
     line: &[u8],
 ) -> Result<(), ReadError>
-    requires room { vec_len events.old ≤ MAX_EVENTS }
-    ensures found { Gives (λ _. events.new.items) result (events_behind hosts devices number events.old.items line.now) }
-    ensures within { OnOk result (vec_len events.new ≤ MAX_EVENTS) }
+    requires few { turns.old ≤ MAX_TIMES * number }
+    ensures found { Gives (λ _. repeated turns.new (turn_of hosts devices)) result (events_behind hosts devices number (repeated turns.old (turn_of hosts devices)) line.now) }
+    ensures few { OnOk result (turns.new ≤ MAX_TIMES * (number + 1)) }
 {
     if is_skipped(line) {
         return Ok(());
@@ -237,44 +271,54 @@ fn read_line(
     match line_times(line) {
         Err(kind) => Err(ReadError::Fault(ReadFault { line: number, kind })),
         Ok(times) => {
-            if are_too_many(events.len(), hosts, devices, times) {
+            if are_too_many(*turns, hosts, devices, times) {
                 let kind = ReadKind::Limit;
                 return Err(ReadError::Fault(ReadFault { line: number, kind }));
             }
-            push_turns(events, hosts, devices, times)
+            *turns += u64::from(times);
+            Ok(())
         }
     }
 }
 
-/// The events of a schedule, for hosts and devices by number.
+// How many turns a schedule has.
+#[tactic(auto, unfolding(crate::specs::Schedules::schedule_of))]
+fn turns_of(text: &[u8], hosts: u8, devices: u8) -> Result<u64, ReadError>
+    ensures { Gives (λ turns. repeated turns (turn_of hosts devices)) result (schedule_of hosts devices text.now) }
+{
+    if let Err(fault) = check_length(text) {
+        return Err(ReadError::Fault(fault));
+    }
+    let mut turns = 0;
+    let mut rest = text;
+    let last = text.len() as u32 + 1;
+    for number in 1..last + 1 {
+        let (line, others) = next_line(rest);
+        read_line(&mut turns, hosts, devices, number, line)?;
+        match others {
+            None => return Ok(turns),
+            Some(others) => rest = others,
+        }
+    }
+    unreachable!()
+}
+
+/// The schedule that a text is, for hosts and devices by number.
 ///
 /// # Errors
 ///
-/// The first fault of the text, or `Memory`. A text of more than `MAX_TEXT` bytes, more than `MAX_EVENTS` events in
-/// all and a number that is not 1 to `MAX_TIMES` are `Limit`; a byte that is no tab and no printed character is
-/// `Text`; another word, count or form of number is `Form`.
-#[tactic(auto, unfolding(crate::specs::Schedules::schedule_of))]
+/// The first fault of the text, or `Memory` for want of memory. A text of more than `MAX_TEXT` bytes, more than
+/// `MAX_EVENTS` events in all and a number that is not 1 to `MAX_TIMES` are `Limit`; a byte that is no tab and no printed
+/// character is `Text`; another word, count or form of number is `Form`.
 pub fn read_schedule(
     alloc: Global,
     text: &[u8],
     hosts: u8,
     devices: u8,
-) -> Result<Vec<Event>, ReadError>
-    ensures { Gives (λ events. events.items) result (schedule_of hosts devices text.now) }
+) -> Result<Schedule, ReadError>
+    ensures { Gives (λ schedule. schedule) result (schedule_of hosts devices text.now) }
 {
-    if let Err(fault) = check_length(text) {
-        return Err(ReadError::Fault(fault));
-    }
-    let mut events = Vec::new(alloc);
-    let mut rest = text;
-    let last = text.len() as u32 + 1;
-    for number in 1..last + 1 {
-        let (line, others) = next_line(rest);
-        read_line(&mut events, hosts, devices, number, line)?;
-        match others {
-            None => return Ok(events),
-            Some(others) => rest = others,
-        }
-    }
-    unreachable!()
+    let times = turns_of(text, hosts, devices)?;
+    let turn = turn_events(alloc, hosts, devices)?;
+    Ok(Schedule { turn, times })
 }

@@ -11,7 +11,7 @@ use crate::declaration::{array_of, value_of};
 use crate::fault::{ReadError, ReadFault, ReadKind};
 use crate::token::{Token, fault, front, is, is_digit, token_of};
 use crate::word::{exactly, expect, number_of, unwanted};
-use acc_base::{DeviceId, Listed, Range};
+use acc_base::{DeviceId, Few, Range, Shared};
 use acc_core::{ASYNC_NOVAL, Act, Clause, Directive, Item, Kind, Statement, Target, Waits};
 use std::alloc::Global;
 
@@ -102,13 +102,13 @@ fn range_of<'a>(
 #[tactic(auto, unfolding(crate::specs::Statements::item_behind))]
 fn item_behind<'a>(
     clause: Clause,
-    items: &mut Vec<Item>,
+    items: &mut Few<Item>,
     array: u8,
     size: u32,
     at: At<'a>,
 ) -> Result<(bool, At<'a>), ReadError>
-    ensures found { Gives (λ x. turn x.0 items.new.items (spot x.1)) result (item_behind clause items.old.items array size (spot at.entry)) }
-    ensures count { OnOk result (length items.new.items ≡ length items.old.items + 1) }
+    ensures found { Gives (λ x. turn x.0 items.new (spot x.1)) result (item_behind clause items.old array size (spot at.entry)) }
+    ensures count { OnOk result (length items.new ≡ length items.old + 1) }
     ensures shorter { IfOk result (λ x. length x.1.bytes.now ≤ length at.entry.bytes.now) }
 {
     let (range, at) = range_behind(array, size, at, true)?;
@@ -126,16 +126,16 @@ fn item_behind<'a>(
 fn item_turn<'a>(
     arrays: &Arrays,
     clause: Clause,
-    items: &mut Vec<Item>,
+    items: &mut Few<Item>,
     at: At<'a>,
 ) -> Result<(bool, At<'a>), ReadError>
-    ensures found { Gives (λ x. turn x.0 items.new.items (spot x.1)) result (item_turn arrays.now clause items.old.items (spot at.entry)) }
-    ensures count { OnOk result (0 < length items.new.items) }
+    ensures found { Gives (λ x. turn x.0 items.new (spot x.1)) result (item_turn arrays.now clause items.old (spot at.entry)) }
+    ensures count { OnOk result (0 < length items.new) }
     ensures shorter { IfOk result (λ x. length x.1.bytes.now < length at.entry.bytes.now) }
 {
     let t = token_of(at, true)?;
     let array = array_of(arrays, t)?;
-    if RANGE_LIMIT <= items.len() {
+    if RANGE_LIMIT <= items.as_slice().len() {
         Err(fault(t.line, ReadKind::Limit).into())
     } else {
         item_behind(clause, items, array, arrays.size(array), t.after)
@@ -147,10 +147,10 @@ fn item_turn<'a>(
 fn items_of<'a>(
     arrays: &Arrays,
     clause: Clause,
-    items: &mut Vec<Item>,
+    items: &mut Few<Item>,
     at: At<'a>,
 ) -> Result<At<'a>, ReadError>
-    ensures found { Gives (λ a. turn false items.new.items (spot a)) result (all_turns (item_turn arrays.now clause) items.old.items (spot at.entry)) }
+    ensures found { Gives (λ a. turn false items.new (spot a)) result (all_turns (item_turn arrays.now clause) items.old (spot at.entry)) }
     ensures shorter { IfOk result (λ a. length a.bytes.now ≤ length at.entry.bytes.now) }
 {
     let turns = at.bytes.len() + 1;
@@ -196,10 +196,10 @@ fn clause_named(kind: &Kind, word: &[u8]) -> Option<Clause>
 fn ranges_of<'a>(
     arrays: &Arrays,
     clause: Clause,
-    items: &mut Vec<Item>,
+    items: &mut Few<Item>,
     at: At<'a>,
 ) -> Result<(bool, At<'a>), ReadError>
-    ensures found { Gives (λ x. turn x.0 items.new.items (spot x.1)) result (ranges_at arrays.now clause items.old.items (spot at.entry)) }
+    ensures found { Gives (λ x. turn x.0 items.new (spot x.1)) result (ranges_at arrays.now clause items.old (spot at.entry)) }
     ensures shorter { IfOk result (λ x. length x.1.bytes.now < length at.entry.bytes.now) }
 {
     let at = expect(at, true, b"(")?;
@@ -212,10 +212,10 @@ fn ranges_of<'a>(
 fn clause_of<'a>(
     arrays: &Arrays,
     kind: &Kind,
-    items: &mut Vec<Item>,
+    items: &mut Few<Item>,
     t: Token<'a>,
 ) -> Result<(bool, At<'a>), ReadError>
-    ensures found { Gives (λ x. turn x.0 items.new.items (spot x.1)) result (clause_of arrays.now kind.now items.old.items (lexeme t.entry)) }
+    ensures found { Gives (λ x. turn x.0 items.new (spot x.1)) result (clause_of arrays.now kind.now items.old (lexeme t.entry)) }
     ensures shorter { IfOk result (λ x. length x.1.bytes.now < length t.entry.after.bytes.now) }
 {
     match clause_named(kind, t.text) {
@@ -236,14 +236,14 @@ fn ends_line(text: &[u8]) -> bool
 fn clause_turn<'a>(
     arrays: &Arrays,
     kind: &Kind,
-    items: &mut Vec<Item>,
+    items: &mut Few<Item>,
     at: At<'a>,
 ) -> Result<(bool, At<'a>), ReadError>
-    ensures found { Gives (λ x. turn x.0 items.new.items (spot x.1)) result (clause_turn arrays.now kind.now items.old.items (spot at.entry)) }
+    ensures found { Gives (λ x. turn x.0 items.new (spot x.1)) result (clause_turn arrays.now kind.now items.old (spot at.entry)) }
     ensures shorter { IfOk result (λ x. (if x.0 then 1 else 0) + length x.1.bytes.now ≤ length at.entry.bytes.now) }
 {
     let t = token_of(at, true)?;
-    let first = items.len() == 0;
+    let first = items.as_slice().is_empty();
     if !first && ends_line(t.text) {
         return Ok((false, t.after));
     }
@@ -260,10 +260,10 @@ fn clause_turn<'a>(
 fn clauses_of<'a>(
     arrays: &Arrays,
     kind: &Kind,
-    items: &mut Vec<Item>,
+    items: &mut Few<Item>,
     at: At<'a>,
 ) -> Result<At<'a>, ReadError>
-    ensures found { Gives (λ a. turn false items.new.items (spot a)) result (all_turns (clause_turn arrays.now kind.now) items.old.items (spot at.entry)) }
+    ensures found { Gives (λ a. turn false items.new (spot a)) result (all_turns (clause_turn arrays.now kind.now) items.old (spot at.entry)) }
     ensures shorter { IfOk result (λ a. length a.bytes.now ≤ length at.entry.bytes.now) }
 {
     let turns = at.bytes.len() + 1;
@@ -309,18 +309,24 @@ fn directive_of<'a>(
     let t = token_of(at, true)?;
     let kind = kind_of(t)?;
     let at = expect(t.after, true, b"data")?;
-    let mut items = Vec::new(alloc);
+    let mut items = Few::new(alloc);
     let at = clauses_of(arrays, &kind, &mut items, at)?;
+    items.shrink_to_fit();
     let directive = Directive {
         device: DeviceId::new(0),
         default: ASYNC_NOVAL,
         kind,
-        items: Listed::from_vec(items),
+        items,
         target: Target::Plain,
         waits: Waits::Nothing,
     };
-    let act = Act::Place { directive };
-    Ok((Statement { line, act }, at))
+    match Shared::new(alloc, directive) {
+        Ok(directive) => {
+            let act = Act::Place { directive };
+            Ok((Statement { line, act }, at))
+        }
+        Err(_) => Err(ReadError::Memory),
+    }
 }
 
 // A print behind its word.

@@ -13,7 +13,10 @@ pub fn are_alike(kind: &Kind, other: &Kind) -> bool {
         (Kind::Update { if_present }, Kind::Update { if_present: other }) => {
             *if_present == *other
         }
-        (Kind::Loop { kernel }, Kind::Loop { kernel: other }) => are_alike_loops(kernel, other),
+        (Kind::Loop { kernel }, Kind::Loop { kernel: other }) => are_alike_loops(
+            kernel.get(),
+            other.get(),
+        ),
         _ => false,
     }
 }

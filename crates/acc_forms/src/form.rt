@@ -1,4 +1,4 @@
-use acc_base::Fault;
+use acc_base::{Fault, Shared};
 use acc_parts::{Body, Loop, kernel_of};
 use acc_place::Kind;
 use std::alloc::Global;
@@ -41,7 +41,7 @@ pub fn kind_of(alloc: Global, form: Form) -> Result<Kind, Fault> {
         Form::ExitData { finalize } => Ok(Kind::ExitData { finalize }),
         Form::Update { if_present } => Ok(Kind::Update { if_present }),
         Form::Loop(table) => {
-            let kernel = kernel_of(alloc, table)?;
+            let kernel = Shared::new(alloc, kernel_of(alloc, table)?)?;
             Ok(Kind::Loop { kernel })
         }
         Form::IsPresent => Ok(Kind::IsPresent),

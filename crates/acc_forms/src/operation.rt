@@ -83,7 +83,7 @@ pub fn operation_of(op: &Op) -> Operation {
             range: *range,
         },
         Op::Release { block } => Operation::Release { block: *block },
-        Op::Run { uses, .. } => run(uses.as_slice()),
+        Op::Run { uses, .. } => run(uses.get().as_slice()),
     }
 }
 
@@ -103,6 +103,6 @@ pub fn performed_by(task: &Task) -> Operation {
             range: *range,
         },
         Task::Release { block } => Operation::Release { block: *block },
-        Task::Run { job } => run(job.uses()),
+        Task::Run { uses, .. } => run(uses.get().as_slice()),
     }
 }

@@ -4,14 +4,15 @@ ghost use Rattle.acc_kernel.specs.Jobs.{AreDistinct, AreRows, HoldReached, IsJob
 
 use crate::kernel::Kernel;
 use crate::rows::Rows;
-use acc_base::{BlockId, Fault, Range};
+use acc_base::{BlockId, Fault, Listed, Range, Shared};
 use std::alloc::Global;
 use std::marker::Model;
 
 /// A loop with room for the cells that it uses: the inputs, which are the values before the loop, and the outputs.
 #[derive(Drop)]
 pub struct Job {
-    kernel: Kernel,
+    kernel: Shared<Kernel>,
+    uses: Shared<Listed<(BlockId, Range)>>,
     inputs: Rows,
     outputs: Rows,
 }
@@ -28,17 +29,21 @@ impl Model for Job {
 
     ghost view = { λ j. record { kernel = j.kernel; uses = j.outputs.uses; inputs = j.inputs.rows; outputs = j.outputs.rows } };
 
-    ghost invariant = { λ j. (j.inputs.uses ≡ j.outputs.uses) × AreDistinct j.outputs.uses × HoldReached j.kernel j.outputs.uses };
+    ghost invariant = { λ j. (j.inputs.uses ≡ j.outputs.uses) × AreDistinct j.outputs.uses × HoldReached j.kernel j.outputs.uses × (j.uses ≡ j.outputs.uses) };
 }
 
 impl Job {
-    /// Copies the loop and its uses, with room for their cells, all zero at first. The uses name each array at most
+    /// Shares the loop and its uses, with room for their cells, all zero at first. The uses name each array at most
     /// once, by `are_distinct`, and have all cells that the loop reaches, by `Kernel::is_held_by`.
     ///
     /// # Errors
     ///
     /// `Memory` where memory is refused.
-    pub fn new(alloc: Global, kernel: &Kernel, uses: &[(BlockId, Range)]) -> Result<Self, Fault>
+    pub fn new(
+        alloc: Global,
+        kernel: &Shared<Kernel>,
+        uses: &Shared<Listed<(BlockId, Range)>>,
+    ) -> Result<Self, Fault>
         requires distinct { AreDistinct uses.now }
         requires reached { HoldReached kernel.now uses.now }
         ensures kernel { IfOk result (λ j. j.kernel ≡ kernel.now) }
@@ -47,11 +52,14 @@ impl Job {
         ensures outputs { IfOk result (λ j. j.outputs ≡ zero_rows uses.now) }
         ensures fault { IfErr result (λ f. f ≡ fault.Memory) }
     {
-        let kernel = kernel.try_clone(alloc)?;
-        let inputs = Rows::zeroed(alloc, uses)?;
-        let outputs = Rows::zeroed(alloc, uses)?;
+        let kernel = kernel.try_clone()?;
+        let listed = uses.get().as_slice();
+        let inputs = Rows::zeroed(alloc, listed)?;
+        let outputs = Rows::zeroed(alloc, listed)?;
+        let uses = uses.try_clone()?;
         Ok(Job {
             kernel,
+            uses,
             inputs,
             outputs,
         })
@@ -69,7 +77,7 @@ impl Job {
     pub fn kernel(&self) -> &Kernel
         ensures { result.now ≡ self.now.kernel }
     {
-        &self.kernel
+        self.kernel.get()
     }
 
     /// The blocks with the ranges that it uses of them.
@@ -111,21 +119,17 @@ impl Job {
         self.inputs.keeps_shape();
         self.outputs.keeps_shape();
         copy_rows(&self.inputs, &mut self.outputs);
-        self.kernel.run(&mut self.outputs);
+        self.kernel.get().run(&mut self.outputs);
         self.outputs.keeps_shape();
     }
 
     /// The loop and its uses, without the room for their cells. It takes no memory.
-    pub fn into_parts(self) -> (Kernel, Vec<(BlockId, Range)>)
+    pub fn into_parts(self) -> (Shared<Kernel>, Shared<Listed<(BlockId, Range)>>)
         ensures kernel { result.0 ≡ self.kernel }
-        ensures uses { result.1.items ≡ self.uses }
+        ensures uses { result.1 ≡ self.uses }
     {
-        let Job {
-            kernel,
-            outputs,
-            ..
-        } = self;
-        (kernel, outputs.into_uses())
+        let Job { kernel, uses, .. } = self;
+        (kernel, uses)
     }
 }
 

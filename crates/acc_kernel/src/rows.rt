@@ -74,14 +74,6 @@ impl Rows {
         let row = &mut self.rows[place];
         row.copy_from(0, source);
     }
-
-    /// The uses, without their rows.
-    pub fn into_uses(self) -> Vec<(BlockId, Range)>
-        ensures { result.items ≡ self.uses }
-    {
-        let Rows { uses, .. } = self;
-        uses
-    }
 }
 
 impl Window for Rows {

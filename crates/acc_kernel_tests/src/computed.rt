@@ -1,9 +1,9 @@
-use acc_base::{BlockId, Fault, Range};
-use acc_kernel::{Job, Kernel, are_distinct};
+use acc_base::{BlockId, Fault, Listed, Range, Shared};
+use acc_kernel::{Job, Kernel};
 use acc_parts::Part::{self, Choose, Index, Negate, Number, Read};
 use acc_parts::{
-    AT_LEAST, AT_MOST, Body, DIFFERS, EQUAL, LESS, Loop, MINUS, MORE, PLUS, TIMES, kernel_of,
-    statements_of,
+    AT_LEAST, AT_MOST, Body, DIFFERS, EQUAL, LESS, Loop, MINUS, MORE, PLUS, TIMES, job_of,
+    kernel_of, statements_of,
 };
 use std::alloc::Global;
 use std::process::Abort;
@@ -322,15 +322,19 @@ fn assert_output(rt: &impl Abort, job: &Job, place: usize, values: &[i64]) {
 pub fn check(
     rt: &impl Abort,
     alloc: Global,
-    kernel: &Kernel,
+    kernel: Kernel,
     (x, x_after): (&[i64], &[i64]),
     (y, y_after): (&[i64], &[i64]),
 ) -> Result<(), Fault> {
-    let uses = [whole(0, x), whole(1, y)];
-    assert!(rt; are_distinct(&uses));
-    assert!(rt; kernel.is_held_by(&uses));
-    let mut job = Job::new(alloc, kernel, &uses)?;
-    assert!(rt; job.kernel().lo() == kernel.lo() && job.kernel().hi() == kernel.hi());
+    let kernel = Shared::new(alloc, kernel)?;
+    let uses = vec![in alloc; whole(0, x), whole(1, y)]?;
+    let uses = Shared::new(alloc, Listed::from_vec(uses))?;
+    let Some(mut job) = job_of(alloc, &kernel, &uses)? else {
+        assert!(rt; false, "not held");
+        return Ok(());
+    };
+    let (lo, hi) = (kernel.get().lo(), kernel.get().hi());
+    assert!(rt; job.kernel().lo() == lo && job.kernel().hi() == hi);
     set_input(rt, &mut job, 0, x);
     set_input(rt, &mut job, 1, y);
     job.compute();
@@ -346,7 +350,7 @@ fn loops_give_their_values(rt: HostRuntime) -> Result<(), Fail> {
         let kernel = kernel_of(rt.alloc(), Loop { lo, hi, body })?;
         let x = (case.before[0], case.after[0]);
         let y = (case.before[1], case.after[1]);
-        check(&rt, rt.alloc(), &kernel, x, y)?;
+        check(&rt, rt.alloc(), kernel, x, y)?;
     }
     Ok(())
 }
@@ -362,7 +366,7 @@ fn check_value(
     match Kernel::new(alloc, 1, 3, statements) {
         Ok(kernel) => {
             let y = [0, values[0], values[1], 0];
-            check(rt, alloc, &kernel, (x, x), (&[0; 4], &y))
+            check(rt, alloc, kernel, (x, x), (&[0; 4], &y))
         }
         Err(_) => {
             assert!(rt; false, "refused");

@@ -1,8 +1,8 @@
 use crate::computed::check;
-use acc_base::{BlockId, Fault, Range};
-use acc_kernel::{Assign, Expr, Job, Kernel, KernelFault, Operator, are_distinct};
+use acc_base::{BlockId, Fault, Listed, Range, Shared};
+use acc_kernel::{Assign, Expr, Kernel, KernelFault, Operator};
 use acc_parts::Part::{self, Choose, Index, Negate, Number, Read};
-use acc_parts::{Row, TIMES, statements_of};
+use acc_parts::{Row, TIMES, job_of, statements_of};
 use acc_scarce::at_each_amount;
 use std::alloc::Global;
 use std::process::Abort;
@@ -105,7 +105,7 @@ fn check_values(rt: &impl Abort, alloc: Global, value: Expr) -> Result<(), Fail>
         return Ok(());
     };
     let y = [10, 20, 30, 40];
-    check(rt, alloc, &kernel, (&[7, 7], &[10, 40]), (&y, &y))?;
+    check(rt, alloc, kernel, (&[7, 7], &[10, 40]), (&y, &y))?;
     Ok(())
 }
 
@@ -134,30 +134,11 @@ fn copies_of_a_loop_are_refused_until_there_is_memory(rt: HostRuntime) -> Result
     Ok(())
 }
 
-// A job that has as many cells of two arrays, where that is what it needs.
-fn job_of(alloc: Global, kernel: &Kernel, len: u32) -> Result<Option<Job>, Fault> {
-    let uses = [
-        (
-            BlockId::new(1),
-            Range {
-                array: 0,
-                lo: 0,
-                len,
-            },
-        ),
-        (
-            BlockId::new(2),
-            Range {
-                array: 1,
-                lo: 0,
-                len,
-            },
-        ),
-    ];
-    if !are_distinct(&uses) || !kernel.is_held_by(&uses) {
-        return Ok(None);
-    }
-    Ok(Some(Job::new(alloc, kernel, &uses)?))
+// As many cells of two arrays.
+fn uses_of(alloc: Global, len: u32) -> Result<Shared<Listed<(BlockId, Range)>>, Fault> {
+    let range = |array| Range { array, lo: 0, len };
+    let uses = vec![in alloc; (BlockId::new(1), range(0)), (BlockId::new(2), range(1))]?;
+    Shared::new(alloc, Listed::from_vec(uses))
 }
 
 #[test]
@@ -167,12 +148,18 @@ fn a_job_is_refused_until_there_is_memory(rt: HostRuntime) -> Result<(), Fail> {
         assert!(rt; false, "refused");
         return Ok(());
     };
-    let (refusals, job) = at_each_amount(alloc, || job_of(alloc, &kernel, 4))?;
-    assert!(rt; 5 < refusals);
-    match job {
-        Some(job) => assert_eq!(rt; job.uses().len(), 2),
-        None => assert!(rt; false, "not held"),
-    }
-    assert!(rt; job_of(alloc, &kernel, 3)?.is_none());
+    let kernel = Shared::new(alloc, kernel)?;
+    let uses = uses_of(alloc, 4)?;
+    let (refusals, job) = at_each_amount(alloc, || job_of(alloc, &kernel, &uses))?;
+    assert!(rt; 5 < refusals, "{refusals} refusals");
+    let Some(job) = job else {
+        assert!(rt; false, "not held");
+        return Ok(());
+    };
+    assert_eq!(rt; job.uses().len(), 2);
+    let (loop_of_job, uses_of_job) = job.into_parts();
+    assert_eq!(rt; loop_of_job.get().arrays(), [0, 1].as_slice());
+    assert_eq!(rt; uses_of_job.get().as_slice(), uses.get().as_slice());
+    assert!(rt; job_of(alloc, &kernel, &uses_of(alloc, 3)?)?.is_none());
     Ok(())
 }

@@ -1,6 +1,6 @@
-use acc_base::{BlockId, Fault, Range};
-use acc_kernel::{Job, Kernel, are_distinct};
-use acc_parts::{LESS, PLUS, Part, TIMES, statements_of};
+use acc_base::{BlockId, Fault, Listed, Range, Shared};
+use acc_kernel::{Job, Kernel};
+use acc_parts::{LESS, PLUS, Part, TIMES, job_of, statements_of};
 use std::alloc::Global;
 
 /// How many cells a loop assigns.
@@ -72,16 +72,17 @@ pub fn parts_of(name: &str) -> &'static [Part] {
 }
 
 /// A job that computes it for i from 1 to `CELLS`, where x has some values.
-pub fn job_of(alloc: Global, parts: &'static [Part]) -> Result<Option<Job>, Fault> {
+pub fn job_for(alloc: Global, parts: &'static [Part]) -> Result<Option<Job>, Fault> {
     let statements = statements_of(alloc, &[(1, parts)])?;
     let Ok(kernel) = Kernel::new(alloc, 1, i64::from(CELLS) + 1, statements) else {
         return Ok(None);
     };
-    let uses = [whole(1, 0), whole(2, 1)];
-    if !are_distinct(&uses) || !kernel.is_held_by(&uses) {
+    let kernel = Shared::new(alloc, kernel)?;
+    let uses = vec![in alloc; whole(1, 0), whole(2, 1)]?;
+    let uses = Shared::new(alloc, Listed::from_vec(uses))?;
+    let Some(mut job) = job_of(alloc, &kernel, &uses)? else {
         return Ok(None);
-    }
-    let mut job = Job::new(alloc, &kernel, &uses)?;
+    };
     fill(alloc, &mut job)?;
     Ok(Some(job))
 }

@@ -5,7 +5,7 @@ mod loops;
 
 use acc_base::Fault;
 use acc_kernel::Job;
-use loops::{NAMES, job_of, parts_of};
+use loops::{NAMES, job_for, parts_of};
 use std::alloc::Global;
 use std::{env, io};
 
@@ -22,7 +22,7 @@ fn sum_of(job: &Job) -> i64 {
 
 // What the loop of that name gives, after so many times.
 fn answer(alloc: Global, name: &str, times: u32) -> Result<i64, Fault> {
-    match job_of(alloc, parts_of(name))? {
+    match job_for(alloc, parts_of(name))? {
         Some(mut job) => {
             for _ in 0..times {
                 job.compute();

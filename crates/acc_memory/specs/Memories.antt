@@ -1,13 +1,12 @@
 -- What a memory shows, cell by cell.
-use Rattle.std.specs.Prelude.{◌≡◌, ℕ, ◌+◌, ◌-◌, ◌<◌, Bool, true, false, ◌&&◌, ◌==◌, not, nat_lt, nat_le, IsTrue, List, [], ◌∷◌, ◌++◌, length, map, filter, find, replicate, slice_get, Option, Some, None, is_some, All, ℤ, pos, if◌then◌else◌}
+use Rattle.std.specs.Prelude.{◌≡◌, ℕ, ◌+◌, ◌-◌, ◌<◌, Bool, true, false, ◌&&◌, ◌==◌, not, nat_lt, nat_le, IsTrue, List, [], ◌∷◌, ◌++◌, length, map, filter, find, slice_get, Option, Some, None, is_some, All, ℤ, pos, if◌then◌else◌}
 use Rattle.std.specs.List.{list_all, position_or_len}
 use Rattle.acc_base.specs.declared.range.Range.{Range}
 use Rattle.acc_base.specs.Ranges.{Includes}
 use Rattle.acc_batch.specs.declared.operation.Op.{Op}
 use Rattle.acc_batch.specs.declared.operation.Op.TheVariants.{Make, CopyIn, CopyOut, Release, Run}
 use Rattle.acc_batch.specs.declared.task.Task.{Task}
-use Rattle.acc_batch.specs.declared.task.Task.TheVariants as task
-use Rattle.acc_batch.specs.Tasks.{op_of}
+use Rattle.acc_batch.specs.Tasks.{op_of, IsReady}
 use Rattle.acc_kernel.specs.Jobs.{Use}
 use Rattle.acc_memory.specs.Values.{Cell, Host_cell, Block_cell, is_in, after_op, or_empty, or_zero}
 
@@ -163,16 +162,9 @@ MayPerform m device (CopyOut b r) = HasRange (held_blocks m device) b r
 MayPerform m device (Release b) = is_some (find_block (held_blocks m device) b) ≡ true
 MayPerform m device (Run k uses) = HasRanges (held_blocks m device) uses
 
--- a block that is made has its cells, all zero
-abbrev pub HasZeros : Task → Type 0
-HasZeros (task.Make b) = b.cells ≡ replicate b.range.len (pos 0)
-HasZeros (task.CopyIn b r) = Unit {0}
-HasZeros (task.CopyOut b r) = Unit {0}
-HasZeros (task.Release b) = Unit {0}
-HasZeros (task.Run j) = Unit {0}
-
+-- So a task may be: a block that is made has its cells, all zero, and a loop has its cells.
 abbrev pub IsAllowed : MemoryView → ℕ → Task → Type 0
-IsAllowed m device t = MayPerform m device (op_of t) × HasZeros t
+IsAllowed m device t = MayPerform m device (op_of t) × IsReady t
 
 -- An operation was performed on a device: the memory shows its effect, and nothing else changed.
 pub record PerformsOn (device : ℕ) (op : Op) (old new : MemoryView) : Type 0 where

@@ -1,6 +1,6 @@
 ghost use Rattle.std.specs.Prelude.{◌≡◌, ◌+◌, ◌<◌, ◌≤◌, ℕ, ℤ, pos, [], length, map, replicate, slice_get, true, Some, IfOk, IfErr, OnOk, OnErr};
 ghost use Rattle.std.specs.Option.{option_map};
-ghost use Rattle.acc_batch.specs.Tasks.{op_of};
+ghost use Rattle.acc_batch.specs.Tasks.{op_of, HasItsCells};
 ghost use Rattle.acc_memory.specs.Blocks.{row_with};
 ghost use Rattle.acc_memory.specs.Memories.{Shows, MayPerform, IsAllowed, PerformsOn, rows_in, room_in, rows_on, room_on, cell_of, find_row, lengths_of, has_array};
 ghost use Rattle.acc_memory.specs.Values.{Cell, Host_cell, after_write, values_of};
@@ -8,7 +8,7 @@ ghost use Rattle.acc_memory.specs.Values.{Cell, Host_cell, after_write, values_o
 use crate::blocks::Blocks;
 use acc_base::{BlockId, Config, DeviceId, Fault, Range};
 use acc_batch::{Block, Op, Task};
-use acc_kernel::Job;
+use acc_kernel::Kernel;
 use acc_raw::Cells;
 use std::alloc::Global;
 use std::marker::Model;
@@ -70,9 +70,10 @@ impl Memory {
 
     /// Performs a task on a device, one that `Config::has_device` knows, and gives its operation back. Takes no memory.
     ///
-    /// A block that is made has its cells, all zero, as `Task::new` gives them; it isn't there, its range ends in its
-    /// array, and there is room for it, as `spare` makes. A block that is copied, released or used by a loop is there, as
-    /// `block` tells, and its range contains the one that is copied or used.
+    /// A block that is made has its cells, all zero, and a loop has all cells that it reaches, as `Task::new` gives them. A
+    /// block that is made isn't there, its range ends in its array, and there is room for it, as `spare` makes. A block that
+    /// is copied, released or used by a loop is there, as `block` tells, and its range contains the one that is copied or
+    /// used.
     pub fn do_op(&mut self, device: DeviceId, task: Task) -> Op
         requires device { device < length self.old.devices }
         requires allowed { IsAllowed self.old device task }
@@ -97,9 +98,9 @@ impl Memory {
                 self.release(device, block);
                 Op::Release { block }
             }
-            Task::Run { job } => {
-                self.run(device, &job);
-                Task::Run { job }.into_op()
+            Task::Run { kernel, uses } => {
+                self.run(device, kernel.get(), uses.get().as_slice());
+                Op::Run { kernel, uses }
             }
         }
     }
@@ -189,14 +190,14 @@ impl Memory {
         blocks.release(block);
     }
 
-    fn run(&mut self, device: DeviceId, job: &Job)
+    fn run(&mut self, device: DeviceId, kernel: &Kernel, uses: &[(BlockId, Range)])
         requires device { device < length self.old.devices }
-        requires allowed { MayPerform self.old device (op.Run job.now.kernel job.now.uses) }
-        ensures { PerformsOn device (op.Run job.now.kernel job.now.uses) self.old self.new }
+        requires allowed { MayPerform self.old device (op.Run kernel.now uses.now) }
+        requires cells { HasItsCells (op.Run kernel.now uses.now) }
+        ensures { PerformsOn device (op.Run kernel.now uses.now) self.old self.new }
     {
-        job.keeps();
         let blocks = &mut self.devices[usize::from(device.number())];
-        blocks.run(job.kernel(), job.uses());
+        blocks.run(kernel, uses);
     }
 }
 

@@ -28,7 +28,7 @@ pub fn is_allowed(config: &Config, memory: &Memory, op: &Op) -> bool
             holds_range(memory, *block, *range)
         }
         Op::Release { block } => is_there(memory, *block),
-        Op::Run { uses, .. } => holds_ranges(memory, uses.as_slice()),
+        Op::Run { uses, .. } => holds_ranges(memory, uses.get().as_slice()),
     }
 }
 

@@ -2,7 +2,7 @@ ghost use Rattle.std.specs.Prelude.{◌≡◌, ◌<◌, length};
 ghost use Rattle.acc_memory.specs.Memories.{lengths_of};
 
 use crate::allowed::{is_allowed, is_in_array};
-use acc_base::{BlockId, Config, DeviceId, Fault, Listed, Range};
+use acc_base::{BlockId, Config, DeviceId, Fault, Listed, Range, Shared};
 use acc_batch::{Op, Task};
 use acc_kernel::Kernel;
 use acc_memory::Memory;
@@ -72,7 +72,8 @@ fn doubles(rt: &impl Abort, alloc: Global) -> Result<Op, Fault> {
         (BlockId::new(3), range(0, 2, 3)),
         (BlockId::new(5), range(1, 1, 3)),
     ]?;
-    let uses = Listed::from_vec(uses);
+    let kernel = Shared::new(alloc, kernel)?;
+    let uses = Shared::new(alloc, Listed::from_vec(uses))?;
     Ok(Op::Run { kernel, uses })
 }
 

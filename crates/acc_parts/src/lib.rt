@@ -1,10 +1,12 @@
-//! Expressions and loops from short tables, for tests and measurements.
+//! Expressions, loops and jobs from short tables, for tests and measurements.
 #![tactic(auto)]
 
 mod body;
+mod job;
 mod part;
 mod row;
 
 pub use body::{Body, Loop, kernel_of};
+pub use job::job_of;
 pub use part::{AT_LEAST, AT_MOST, DIFFERS, EQUAL, LESS, MINUS, MORE, PLUS, Part, TIMES, expr_of};
 pub use row::{Row, statements_of};

@@ -1,9 +1,10 @@
 ghost use Rattle.std.specs.Prelude.{◌≡◌, IfOk, IfErr};
 
-use acc_base::{DeviceId, Fault, HostId, Listed, QueueAt, Range};
+use acc_base::{DeviceId, Fault, Few, HostId, Listed, QueueAt, Range, Shared};
 use acc_kernel::Kernel;
 use acc_present::Change;
 use std::alloc::Global;
+use std::mem::size_of;
 
 /// The most items of a directive.
 pub const MAX_ITEMS: usize = 16;
@@ -56,7 +57,7 @@ pub enum Kind {
     Update { if_present: bool },
     /// `parallel loop` (2.11, Combined Constructs). It has its own items and an implicit one for each other array that
     /// the loop refers to.
-    Loop { kernel: Kernel },
+    Loop { kernel: Shared<Kernel> },
     /// The question `acc_is_present`.
     IsPresent,
 }
@@ -87,7 +88,7 @@ pub struct Directive {
     pub device: DeviceId,
     pub default: i64,
     pub kind: Kind,
-    pub items: Listed<Item>,
+    pub items: Few<Item>,
     pub target: Target,
     pub waits: Waits,
 }
@@ -110,12 +111,12 @@ impl Kind {
         }
     }
 
-    /// An equal kind.
+    /// An equal kind, which shares a loop. It takes no memory.
     ///
     /// # Errors
     ///
-    /// `Memory` where memory is refused.
-    pub fn try_clone(&self, alloc: Global) -> Result<Self, Fault>
+    /// `Memory` where the count of the loop's owners is full.
+    pub fn try_clone(&self) -> Result<Self, Fault>
         ensures equal { IfOk result (λ k. k ≡ self.now) }
         ensures fault { IfErr result (λ f. f ≡ fault.Memory) }
     {
@@ -130,7 +131,7 @@ impl Kind {
                 if_present: *if_present,
             }),
             Kind::Loop { kernel } => {
-                let kernel = kernel.try_clone(alloc)?;
+                let kernel = kernel.try_clone()?;
                 Ok(Kind::Loop { kernel })
             }
             Kind::IsPresent => Ok(Kind::IsPresent),
@@ -176,7 +177,7 @@ impl Directive {
         self.target == Target::Plain && has_no_wait
     }
 
-    /// An equal directive.
+    /// An equal directive, which shares a loop.
     ///
     /// # Errors
     ///
@@ -185,8 +186,8 @@ impl Directive {
         ensures equal { IfOk result (λ d. d ≡ self.now) }
         ensures fault { IfErr result (λ f. f ≡ fault.Memory) }
     {
-        let kind = self.kind.try_clone(alloc)?;
-        let items = self.items.try_clone(alloc)?;
+        let kind = self.kind.try_clone()?;
+        let items = self.items.try_clone()?;
         let waits = self.waits.try_clone(alloc)?;
         Ok(Directive {
             device: self.device,
@@ -204,7 +205,7 @@ impl Directive {
 pub struct Region {
     pub host: HostId,
     pub device: DeviceId,
-    pub items: Listed<Item>,
+    pub items: Few<Item>,
 }
 
 /// The answer to a directive that was accepted.
@@ -221,5 +222,11 @@ pub struct Placed {
 /// An entry of the place history.
 #[derive(Drop)]
 pub enum PlaceEntry {
-    Accepted { host: HostId, directive: Directive },
+    Accepted {
+        host: HostId,
+        directive: Shared<Directive>,
+    },
 }
+
+// The history keeps each.
+const _: () = prove!(size_of::<PlaceEntry>() == 16);

@@ -3,7 +3,7 @@ ghost use Rattle.acc_present.specs.Drafts.{drafted, IsDraft};
 ghost use Rattle.acc_present.specs.Presences.{holder, is_present};
 ghost use Rattle.acc_present.specs.declared.change.Change.TheVariants.{StructuredDown};
 ghost use Rattle.acc_present.specs.declared.table.TheConstants.{COUNTER_LIMIT};
-ghost use Rattle.acc_present.specs.Tables.{entry_mark, presences_after};
+ghost use Rattle.acc_present.specs.Tables.{IsLook, entry_mark, presences_after};
 ghost use Rattle.acc_place.specs.Accepting.{is_in_array, is_deep, is_outside, wants_presence};
 ghost use Rattle.acc_place.specs.Regions.{open_region};
 ghost use Rattle.acc_place.specs.Standings.{change_by};
@@ -139,14 +139,7 @@ fn visit(
     let free = known.config.capacity() - draft.used_cells();
     match fault_of(kind, item, &found, free) {
         Some(fault) => Err(fault),
-        None => Ok(mark(
-            known.table,
-            draft,
-            kind.change(),
-            item,
-            held_by(&found),
-            opened,
-        )),
+        None => Ok(mark(known.table, draft, kind.change(), item, &found, opened)),
     }
 }
 
@@ -165,9 +158,9 @@ pub fn leave_all(table: &Table, draft: &mut Draft, items: &[Item], steps: &mut V
     match items {
         [] => {}
         [first, rest @ ..] => {
-            let held = held_by(&draft.look(table, first.range));
+            let found = draft.look(table, first.range);
             let change = Some(Change::StructuredDown);
-            steps.push_reserved(mark(table, draft, change, first, held, 0));
+            steps.push_reserved(mark(table, draft, change, first, &found, 0));
             leave_all(table, draft, rest, steps);
         }
     }
@@ -239,21 +232,21 @@ fn held_by(found: &Look) -> Option<u64>
     }
 }
 
-// Leaves an item's mark in the draft.
-#[tactic(auto, unfolding(crate::specs::Walks::marked_in))]
+// Leaves the mark of an item, whose range was found so, in the draft.
+#[tactic(auto, using(crate::proofs::Judging::block_is), unfolding(crate::specs::Walks::marked_in))]
 fn mark(
     table: &Table,
     draft: &mut Draft,
     change: Option<Change>,
     item: &Item,
-    held: Option<u64>,
+    found: &Look,
     opened: u64,
 ) -> Marked
     requires draft { IsDraft table.now draft.old }
     requires draft_room { length draft.old.changed < draft.old.room }
     requires can { CanMark change item.now.range (drafted table.now draft.old) table.now.capacity }
     requires few { opened < COUNTER_LIMIT }
-    requires held { held ≡ block_held (holder (drafted table.now draft.old) item.now.range) }
+    requires found { IsLook (drafted table.now draft.old) item.now.range found.now }
     ensures draft { IsDraft table.now draft.new }
     ensures drafted { drafted table.now draft.new ≡ presences_by change item.now.range (opened + 1) (drafted table.now draft.old) }
     ensures changed { length draft.new.changed ≤ length draft.old.changed + 1 }
@@ -263,39 +256,47 @@ fn mark(
     let range = item.range;
     let (entered, ended) = match change {
         Some(Change::StructuredUp) => (
-            enter(table, draft, range, Counter::Structured, opened),
+            enter(table, draft, range, found, Counter::Structured, opened),
             None,
         ),
         Some(Change::StructuredDown) => (
             None,
-            ended_by(draft.leave(table, range, Counter::Structured)),
+            ended_by(draft.leave(table, range, found, Counter::Structured)),
         ),
-        Some(Change::DynamicUp) => (enter(table, draft, range, Counter::Dynamic, opened), None),
+        Some(Change::DynamicUp) => (
+            enter(table, draft, range, found, Counter::Dynamic, opened),
+            None,
+        ),
         Some(Change::DynamicDown) => {
-            (None, ended_by(draft.leave(table, range, Counter::Dynamic)))
+            (
+                None,
+                ended_by(draft.leave(table, range, found, Counter::Dynamic)),
+            )
         }
-        Some(Change::DynamicZero) => (None, ended_by(draft.finalize(table, range))),
+        Some(Change::DynamicZero) => (None, ended_by(draft.finalize(table, range, found))),
         None => (None, None),
     };
     Marked {
         item: *item,
-        held,
+        held: held_by(found),
         opened: entered,
         ended,
     }
 }
 
-// Enters a range in the draft, and gives the block of the lifetime that this opened.
+// Enters a range, which was found so, in the draft, and gives the block of the lifetime that this opened.
 fn enter(
     table: &Table,
     draft: &mut Draft,
     range: Range,
+    found: &Look,
     counter: Counter,
     opened: u64,
 ) -> Option<u64>
     requires draft { IsDraft table.now draft.old }
     requires draft_room { length draft.old.changed < draft.old.room }
     requires can { CanEnter counter range (drafted table.now draft.old) table.now.capacity }
+    requires found { IsLook (drafted table.now draft.old) range found.now }
     requires few { opened < COUNTER_LIMIT }
     ensures draft { IsDraft table.now draft.new }
     ensures drafted { drafted table.now draft.new ≡ presences_after (entry_mark counter range) (opened + 1) (drafted table.now draft.old) }
@@ -304,7 +305,7 @@ fn enter(
     ensures result { result ≡ block_opened (not (is_present (drafted table.now draft.old) range)) opened }
 {
     let block = opened + 1;
-    match draft.enter(table, range, counter, BlockId::new(block)) {
+    match draft.enter(table, range, found, counter, BlockId::new(block)) {
         Entered::Counted => None,
         Entered::Opened => Some(block),
     }

@@ -19,7 +19,7 @@ use crate::plan::{Plan, sync_queue};
 use crate::regions::settle;
 use crate::subject::ends_of;
 use crate::trial::Trial;
-use acc_base::{BlockId, Config, DeviceId, Fault, HostId, QueueAt, Range};
+use acc_base::{BlockId, Config, DeviceId, Fault, HostId, QueueAt, Range, Shared};
 use acc_batch::Label;
 use acc_present::{Change, Counter, Entered, Entry, Table};
 use std::alloc::Global;
@@ -102,7 +102,7 @@ impl Place {
         &mut self,
         host: HostId,
         items_done: u64,
-        directive: &Directive,
+        directive: &Shared<Directive>,
     ) -> Result<Plan, Fault>
         requires synchronous { is_synchronous directive.now ≡ true }
         ensures config { self.new.config ≡ self.old.config }
@@ -123,7 +123,7 @@ impl Place {
             opened: self.opened,
             next_batch: self.labels.len() as u64 + 1,
         };
-        if let Some(fault) = self.trial.judge(&known, host, directive) {
+        if let Some(fault) = self.trial.judge(&known, host, directive.get()) {
             return Err(fault);
         }
         let plan = self
@@ -165,16 +165,17 @@ impl Place {
             label,
             ..
         } = plan;
+        let given = directive.get();
         self.trial
-            .put_items(&self.config, self.regions.as_slice(), host, &directive);
+            .put_items(&self.config, self.regions.as_slice(), host, given);
         let items = self.trial.items();
-        let present = is_answered(&self.table, &directive.kind, items);
+        let present = is_answered(&self.table, &given.kind, items);
         let opened = self.opened;
-        let between = mark_all(&mut self.table, directive.kind.change(), items, opened);
-        let ends = ends_of(&directive.kind, items);
+        let between = mark_all(&mut self.table, given.kind.change(), items, opened);
+        let ends = ends_of(&given.kind, items);
         let down = Some(Change::StructuredDown);
         self.opened = mark_all(&mut self.table, down, ends, between);
-        settle(&mut self.regions, host, &directive, region);
+        settle(&mut self.regions, host, given, region);
         self.history
             .push_reserved(PlaceEntry::Accepted { host, directive });
         self.counts.push_reserved(items_done);

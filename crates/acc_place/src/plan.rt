@@ -12,7 +12,7 @@ use crate::directive::{Clause, Directive, Region};
 use crate::judge::{Known, Marked};
 use crate::place::Place;
 use crate::regions::opened_by;
-use acc_base::{BlockId, DeviceId, Fault, HostId, Listed, QueueAt, QueueId, Range};
+use acc_base::{BlockId, DeviceId, Fault, Few, HostId, QueueAt, QueueId, Range, Shared};
 use acc_batch::{Batch, Label, Op};
 use std::alloc::Global;
 use std::marker::Model;
@@ -32,7 +32,7 @@ pub enum Group {
 pub struct Plan {
     pub(crate) host: HostId,
     pub(crate) items_done: u64,
-    pub(crate) directive: Directive,
+    pub(crate) directive: Shared<Directive>,
     // the data construct that it enters, if it enters one
     pub(crate) region: Option<Region>,
     // the label of its batch, if it has one
@@ -82,7 +82,7 @@ pub fn plan_of(
     known: &Known,
     host: HostId,
     items_done: u64,
-    directive: &Directive,
+    directive: &Shared<Directive>,
     steps: &[Marked],
     run: Option<Op>,
 ) -> Result<Plan, Fault>
@@ -94,10 +94,10 @@ pub fn plan_of(
     ensures batch { IfOk result (λ q. q.batch ≡ q.label) }
     ensures fault { IfErr result (λ fault. fault ≡ Fault.Memory) }
 {
-    let region = opened_by(alloc, host, directive)?;
-    let directive = directive.try_clone(alloc)?;
+    let region = opened_by(host, directive.get())?;
+    let directive = directive.try_clone()?;
     let ops = ops_of(alloc, steps, run)?;
-    let label = label_of(known, host, items_done, ops);
+    let label = label_of(alloc, known, host, items_done, ops)?;
     let batch = batch_of(alloc, &label)?;
     Ok(Plan {
         host,
@@ -111,19 +111,27 @@ pub fn plan_of(
 }
 
 // The label of a batch of these operations, if there are any.
-fn label_of(known: &Known, host: HostId, items_done: u64, ops: Vec<Op>) -> Option<Label>
-    ensures { result ≡ label_for sync known.now.next_batch host items_done ops.items }
+fn label_of(
+    alloc: Global,
+    known: &Known,
+    host: HostId,
+    items_done: u64,
+    ops: Few<Op>,
+) -> Result<Option<Label>, Fault>
+    ensures label { IfOk result (λ label. label ≡ label_for sync known.now.next_batch host items_done ops) }
+    ensures fault { IfErr result (λ fault. fault ≡ Fault.Memory) }
 {
-    if ops.is_empty() {
-        return None;
+    if ops.as_slice().is_empty() {
+        return Ok(None);
     }
-    Some(Label {
+    let ops = Shared::new(alloc, ops)?;
+    Ok(Some(Label {
         at: sync_queue(),
         number: known.next_batch,
         host,
         items_done,
-        ops: Listed::from_vec(ops),
-    })
+        ops,
+    }))
 }
 
 // The batch with this label, if there is one.
@@ -135,7 +143,7 @@ fn batch_of(alloc: Global, label: &Option<Label>) -> Result<Option<Batch>, Fault
     match label {
         None => Ok(None),
         Some(label) => {
-            let copy = label.try_clone(alloc)?;
+            let copy = label.try_clone()?;
             let batch = Batch::new(alloc, copy)?;
             Ok(Some(batch))
         }
@@ -154,23 +162,24 @@ pub fn sync_queue() -> QueueAt
 
 // The operations of a batch; a loop runs behind the copies in.
 #[tactic(auto, unfolding(crate::specs::Walks::marked_ops))]
-fn ops_of(alloc: Global, steps: &[Marked], run: Option<Op>) -> Result<Vec<Op>, Fault>
-    ensures ops { IfOk result (λ ops. ops.items ≡ marked_ops (option_to_list run) steps.now) }
+fn ops_of(alloc: Global, steps: &[Marked], run: Option<Op>) -> Result<Few<Op>, Fault>
+    ensures ops { IfOk result (λ ops. ops ≡ marked_ops (option_to_list run) steps.now) }
     ensures fault { IfErr result (λ fault. fault ≡ Fault.Memory) }
 {
-    let mut ops = Vec::new(alloc);
+    let mut ops = Few::new(alloc);
     add_group(Group::Makes, steps, &mut ops)?;
     add_group(Group::CopyIns, steps, &mut ops)?;
     add_run(run, &mut ops)?;
     add_group(Group::Updates, steps, &mut ops)?;
     add_group(Group::CopyOuts, steps, &mut ops)?;
     add_group(Group::Releases, steps, &mut ops)?;
+    ops.shrink_to_fit();
     Ok(ops)
 }
 
 // Adds the operation that runs the loop, if there is one.
-fn add_run(run: Option<Op>, ops: &mut Vec<Op>) -> Result<(), Fault>
-    ensures ops { OnOk result (ops.new.items ≡ ops.old.items ++ option_to_list run) }
+fn add_run(run: Option<Op>, ops: &mut Few<Op>) -> Result<(), Fault>
+    ensures ops { OnOk result (ops.new ≡ ops.old ++ option_to_list run) }
     ensures fault { IfErr result (λ fault. fault ≡ Fault.Memory) }
 {
     match run {
@@ -183,8 +192,8 @@ fn add_run(run: Option<Op>, ops: &mut Vec<Op>) -> Result<(), Fault>
 }
 
 // Adds the operations of one group, step by step.
-fn add_group(group: Group, steps: &[Marked], ops: &mut Vec<Op>) -> Result<(), Fault>
-    ensures ops { OnOk result (ops.new.items ≡ ops.old.items ++ flat_map (group_ops group) steps.now) }
+fn add_group(group: Group, steps: &[Marked], ops: &mut Few<Op>) -> Result<(), Fault>
+    ensures ops { OnOk result (ops.new ≡ ops.old ++ flat_map (group_ops group) steps.now) }
     ensures fault { IfErr result (λ fault. fault ≡ Fault.Memory) }
 {
     for step in steps {
@@ -194,8 +203,8 @@ fn add_group(group: Group, steps: &[Marked], ops: &mut Vec<Op>) -> Result<(), Fa
 }
 
 // Adds the step's operation of this group, if it has one.
-fn add_op(group: Group, step: Marked, ops: &mut Vec<Op>) -> Result<(), Fault>
-    ensures ops { OnOk result (ops.new.items ≡ ops.old.items ++ group_ops group step) }
+fn add_op(group: Group, step: Marked, ops: &mut Few<Op>) -> Result<(), Fault>
+    ensures ops { OnOk result (ops.new ≡ ops.old ++ group_ops group step) }
     ensures fault { IfErr result (λ fault. fault ≡ Fault.Memory) }
 {
     match op_of(group, step) {

@@ -6,7 +6,6 @@ ghost use Rattle.acc_place.specs.Walks.{written_by};
 
 use crate::directive::{Directive, Item, Kind, Region};
 use acc_base::{Fault, HostId};
-use std::alloc::Global;
 
 /// How many data constructs a host is inside.
 pub fn depth(regions: &[Region], host: HostId) -> usize
@@ -38,18 +37,14 @@ pub fn items_of<'a>(regions: &'a [Region], host: HostId, directive: &'a Directiv
 }
 
 /// The data construct that a host's directive enters, if it enters one.
-pub fn opened_by(
-    alloc: Global,
-    host: HostId,
-    directive: &Directive,
-) -> Result<Option<Region>, Fault>
+pub fn opened_by(host: HostId, directive: &Directive) -> Result<Option<Region>, Fault>
     ensures region { IfOk result (λ region. region ≡ opened_region host directive.now directive.now.kind) }
     ensures fault { IfErr result (λ fault. fault ≡ Fault.Memory) }
 {
     if !matches!(&directive.kind, Kind::Data) {
         return Ok(None);
     }
-    let items = directive.items.try_clone(alloc)?;
+    let items = directive.items.try_clone()?;
     Ok(Some(Region {
         host,
         device: directive.device,

@@ -12,7 +12,7 @@ ghost use Rattle.acc_place.specs.Walks.{ends_of, past_fault, run_in, AllHeldFor,
 use crate::directive::{Directive, Item, Kind, Region};
 use crate::loops::{add_items, fill_items, reaches_past, uses_of};
 use crate::regions::items_of;
-use acc_base::{Config, Fault, HostId, Listed};
+use acc_base::{Config, Fault, HostId, Listed, Shared};
 use acc_batch::Op;
 use acc_present::{Draft, Table};
 use std::alloc::Global;
@@ -31,7 +31,7 @@ pub fn put_items(
     ensures room { vec_capacity into.new ≡ vec_capacity into.old }
 {
     if let Kind::Loop { kernel } = &directive.kind {
-        fill_items(config, regions, host, directive, kernel, into);
+        fill_items(config, regions, host, directive, kernel.get(), into);
         return;
     }
     into.clear();
@@ -56,7 +56,7 @@ pub fn past_fault(kind: &Kind, items: &[Item]) -> Option<Fault>
 {
     match kind {
         Kind::Loop { kernel } => {
-            if reaches_past(kernel, items) {
+            if reaches_past(kernel.get(), items) {
                 Some(Fault::OutsideRange)
             } else {
                 None
@@ -89,12 +89,10 @@ pub fn run_of(
 {
     match kind {
         Kind::Loop { kernel } => {
-            let uses = uses_of(alloc, table, draft, kernel, items)?;
-            let kernel = kernel.try_clone(alloc)?;
-            Ok(Some(Op::Run {
-                kernel,
-                uses: Listed::from_vec(uses),
-            }))
+            let listed = uses_of(alloc, table, draft, kernel.get(), items)?;
+            let uses = Shared::new(alloc, Listed::from_vec(listed))?;
+            let kernel = kernel.try_clone()?;
+            Ok(Some(Op::Run { kernel, uses }))
         }
         Kind::Data | Kind::EndData | Kind::EnterData => Ok(None),
         Kind::ExitData { .. } | Kind::Update { .. } | Kind::IsPresent => Ok(None),

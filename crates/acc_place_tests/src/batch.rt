@@ -1,12 +1,10 @@
 use crate::fixtures::{a, b, check_ops, check_tasks};
-use acc_base::{BlockId, DeviceId, Fault, HostId, Listed, QueueId};
-use acc_batch::{Batch, Label, Op, Task};
+use acc_base::{BlockId, DeviceId, Fault, Few, HostId, Listed, QueueId, Shared};
+use acc_batch::{Batch, Label, Op};
 use acc_forms::{Operation, make, queue, run, used};
 use acc_parts::{Body, Loop, kernel_of};
-use acc_raw::Cells;
 use acc_scarce::at_each_amount;
 use std::alloc::Global;
-use std::collections::VecDeque;
 use std::process::Abort;
 use std::test::Fail;
 
@@ -41,14 +39,14 @@ fn op_of(alloc: Global, operation: Operation) -> Result<Op, Fault> {
                 hi: 6,
                 body: Body::NextBack,
             };
-            let kernel = kernel_of(alloc, table)?;
+            let kernel = Shared::new(alloc, kernel_of(alloc, table)?)?;
             let mut uses = Vec::new(alloc);
             for part in [first, second] {
                 if let Some(part) = part {
                     uses.push(part)?;
                 }
             }
-            let uses = Listed::from_vec(uses);
+            let uses = Shared::new(alloc, Listed::from_vec(uses))?;
             Ok(Op::Run { kernel, uses })
         }
     }
@@ -56,7 +54,7 @@ fn op_of(alloc: Global, operation: Operation) -> Result<Op, Fault> {
 
 // A label with these operations, and else with numbers that differ.
 fn label_of(alloc: Global, operations: &[Operation]) -> Result<Label, Fault> {
-    let mut ops = Vec::new(alloc);
+    let mut ops = Few::new(alloc);
     for operation in operations {
         ops.push(op_of(alloc, *operation)?)?;
     }
@@ -65,13 +63,13 @@ fn label_of(alloc: Global, operations: &[Operation]) -> Result<Label, Fault> {
         number: 9,
         host: HostId::new(5),
         items_done: 1_099_511_627_775,
-        ops: Listed::from_vec(ops),
+        ops: Shared::new(alloc, ops)?,
     })
 }
 
 // The batch of a label, or a bad range where it can have none.
 fn batch_of(alloc: Global, label: Label) -> Result<Batch, Fault> {
-    if label.ops.as_slice().is_empty() || !label.has_its_cells() {
+    if label.ops.get().as_slice().is_empty() || !label.has_its_cells() {
         return Err(Fault::BadRange);
     }
     Batch::new(alloc, label)
@@ -84,32 +82,15 @@ fn check_label(rt: &impl Abort, label: &Label, operations: &[Operation]) {
     assert_eq!(rt; label.number, 9);
     assert_eq!(rt; label.host, HostId::new(5));
     assert_eq!(rt; label.items_done, 1_099_511_627_775);
-    check_ops(rt, label.ops.as_slice(), operations);
-}
-
-// A block that is made has the cells of its range, all zero.
-fn check_blocks(rt: &impl Abort, tasks: &VecDeque<Task>) {
-    for task in tasks {
-        if let Task::Make { block } = task {
-            assert_eq!(rt; block.cells.len(), block.range.len as usize);
-            check_zeros(rt, &block.cells);
-        }
-    }
-}
-
-fn check_zeros(rt: &impl Abort, cells: &Cells) {
-    for at in 0..cells.len() {
-        assert_eq!(rt; cells.get(at), 0);
-    }
+    check_ops(rt, label.ops.get().as_slice(), operations);
 }
 
 fn check_batch(rt: &impl Abort, batch: Batch, operations: &[Operation]) {
     check_label(rt, batch.label(), operations);
-    check_tasks(rt, batch.ops(), operations);
+    assert_eq!(rt; batch.ops().len(), operations.len());
     let (label, tasks) = batch.into_parts();
     check_label(rt, &label, operations);
-    check_tasks(rt, &tasks, operations);
-    check_blocks(rt, &tasks);
+    check_tasks(rt, tasks, operations);
 }
 
 /// Each kind of operation, and a block of the most cells of an array.
@@ -121,7 +102,7 @@ fn a_batch_is_its_label_with_memory(rt: HostRuntime) -> Result<(), Fail> {
     let cases: [&[Operation]; 2] = [&kinds, &most];
     for operations in cases {
         let label = label_of(alloc, operations)?;
-        check_label(&rt, &label.try_clone(alloc)?, operations);
+        check_label(&rt, &label.try_clone()?, operations);
         check_label(&rt, &label, operations);
         check_batch(&rt, batch_of(alloc, label)?, operations);
     }
@@ -129,31 +110,30 @@ fn a_batch_is_its_label_with_memory(rt: HostRuntime) -> Result<(), Fail> {
 }
 
 #[test]
-fn a_label_is_refused_until_there_is_memory(rt: HostRuntime) -> Result<(), Fail> {
+fn a_copy_of_a_label_takes_no_memory(rt: HostRuntime) -> Result<(), Fail> {
     let alloc = rt.alloc();
     let operations = each_kind();
     let label = label_of(alloc, &operations)?;
-    let (refusals, copy) = at_each_amount(alloc, || label.try_clone(alloc))?;
-    assert!(rt; 1 < refusals);
+    let (refusals, copy) = at_each_amount(alloc, || label.try_clone())?;
+    assert_eq!(rt; refusals, 0);
     check_label(&rt, &copy, &operations);
     check_label(&rt, &label, &operations);
     Ok(())
 }
 
-/// Each batch is of a label that is copied for it, and the copy may be refused, too.
+/// Of each kind of operation, and of a block alone.
 #[test]
 fn a_batch_is_refused_until_there_is_memory(rt: HostRuntime) -> Result<(), Fail> {
     let alloc = rt.alloc();
-    let operations = each_kind();
-    let label = label_of(alloc, &operations)?;
-    let mut copies = 0u32;
-    let (refusals, batch) = at_each_amount(alloc, || {
-        let copy = label.try_clone(alloc)?;
-        copies = copies.wrapping_add(1);
-        batch_of(alloc, copy)
-    })?;
-    assert!(rt; 2 < copies && copies < refusals, "{copies} labels");
-    check_batch(&rt, batch, &operations);
-    check_label(&rt, &label, &operations);
+    let kinds = each_kind();
+    let block = [make(1, a(0, 100))];
+    let cases: [&[Operation]; 2] = [&kinds, &block];
+    for operations in cases {
+        let label = label_of(alloc, operations)?;
+        let (refusals, batch) = at_each_amount(alloc, || batch_of(alloc, label.try_clone()?))?;
+        assert!(rt; 2 < refusals, "{refusals} refusals");
+        check_batch(&rt, batch, operations);
+        check_label(&rt, &label, operations);
+    }
     Ok(())
 }

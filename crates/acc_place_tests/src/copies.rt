@@ -1,10 +1,11 @@
 use crate::fixtures::{a, b, check_directive, check_waits};
-use acc_base::{DeviceId, Fault, Listed};
-use acc_forms::{EXIT, Form, UPDATE, copyin, copyout, delete, kind_of, over};
+use acc_base::{DeviceId, Fault, Few, Listed};
+use acc_forms::{EXIT, Form, UPDATE, are_alike, copyin, copyout, delete, kind_of, over};
 use acc_parts::Body;
 use acc_place::{ASYNC_NOVAL, Directive, Item, Target, Waits};
 use acc_scarce::at_each_amount;
 use std::alloc::{AllocError, Global};
+use std::process::Abort;
 use std::test::Fail;
 
 fn directive_of(
@@ -18,7 +19,7 @@ fn directive_of(
         device: DeviceId::new(3),
         default: 7,
         kind: kind_of(alloc, form)?,
-        items: Listed::from_vec(Vec::from_slice(alloc, items)?),
+        items: Few::from_slice(alloc, items)?,
         target,
         waits,
     })
@@ -58,7 +59,27 @@ fn directives_are_copied(rt: HostRuntime) -> Result<(), Fail> {
     Ok(())
 }
 
-/// The copies of a list and of a loop take memory, and others don't.
+// Copies a directive of these items, and its kind alone, which takes no memory, with each amount of memory.
+fn check_copies(
+    rt: &impl Abort,
+    alloc: Global,
+    form: Form,
+    items: &[Item],
+    waits: &Waits,
+    is_refused: bool,
+) -> Result<(), Fault> {
+    let waits = waits.try_clone(alloc)?;
+    let directive = directive_of(alloc, form, items, Target::Unvalued, waits)?;
+    let (refusals, copy) = at_each_amount(alloc, || directive.try_clone(alloc))?;
+    check_directive(rt, &copy, &directive);
+    assert_eq!(rt; 1 < refusals, is_refused);
+    let (refusals, kind) = at_each_amount(alloc, || directive.kind.try_clone())?;
+    assert!(rt; are_alike(&kind, &directive.kind));
+    assert_eq!(rt; refusals, 0);
+    Ok(())
+}
+
+/// The copies of a list take memory, and others don't. Up to two items of a directive are no list.
 #[test]
 fn copies_are_refused_until_there_is_memory(rt: HostRuntime) -> Result<(), Fail> {
     let alloc = rt.alloc();
@@ -67,16 +88,12 @@ fn copies_are_refused_until_there_is_memory(rt: HostRuntime) -> Result<(), Fail>
         (Waits::All, over(0, 1, Body::Counted), false),
         (listed(alloc, &[7; 30])?, Form::EnterData, true),
     ];
-    let items = [copyin(a(1, 2)); 16];
     for (waits, form, is_refused) in &cases {
         let (refusals, copy) = at_each_amount(alloc, || waits.try_clone(alloc))?;
         check_waits(&rt, &copy, waits);
         assert_eq!(rt; 0 < refusals, *is_refused);
-        let directive = directive_of(alloc, *form, &items, Target::Unvalued, copy)?;
-        let (refusals, copy) = at_each_amount(alloc, || directive.try_clone(alloc))?;
-        check_directive(&rt, &copy, &directive);
-        check_waits(&rt, &directive.waits, waits);
-        assert!(rt; 1 < refusals);
+        check_copies(&rt, alloc, *form, &[copyin(a(1, 2)); 2], waits, *is_refused)?;
+        check_copies(&rt, alloc, *form, &[copyin(a(1, 2)); 16], waits, true)?;
     }
     Ok(())
 }

@@ -1,12 +1,12 @@
 ghost use Rattle.std.specs.Prelude.{◌≡◌};
 
-use acc_base::{BlockId, Config, DeviceId, Fault, HostId, Listed, QueueAt, Range};
-use acc_batch::{Batch, Label, Op, Task};
+use acc_base::{BlockId, Config, DeviceId, Fault, Few, HostId, QueueAt, Range, Shared};
+use acc_batch::{Batch, Label, Op, Task, Tasks};
 use acc_forms::{Form, Operation, are_alike, kind_of, operation_of, performed_by, sync};
 use acc_place::{ASYNC_NOVAL, Directive, Item, Place, Placed, Plan, Target, Waits};
 use acc_present::Entry;
+use acc_raw::Cells;
 use std::alloc::Global;
-use std::collections::VecDeque;
 use std::process::Abort;
 
 fn device() -> DeviceId
@@ -62,15 +62,16 @@ pub fn synchronous(
     device: u8,
     form: Form,
     items: &[Item],
-) -> Result<Directive, Fault> {
-    Ok(Directive {
+) -> Result<Shared<Directive>, Fault> {
+    let directive = Directive {
         device: DeviceId::new(device),
         default: ASYNC_NOVAL,
         kind: kind_of(alloc, form)?,
-        items: Listed::from_vec(Vec::from_slice(alloc, items)?),
+        items: Few::from_slice(alloc, items)?,
         target: Target::Plain,
         waits: Waits::Nothing,
-    })
+    };
+    Shared::new(alloc, directive)
 }
 
 // A place without directives, with eight cells in the first array and four in the second, and two hosts.
@@ -82,8 +83,8 @@ pub fn place_of(alloc: Global, capacity: u64) -> Result<Place, Fault> {
 }
 
 // The plan of a host's directive, which has three items more than its number among the accepted ones.
-pub fn planned(place: &mut Place, host: u8, directive: &Directive) -> Result<Plan, Fault> {
-    if !directive.is_synchronous() {
+pub fn planned(place: &mut Place, host: u8, directive: &Shared<Directive>) -> Result<Plan, Fault> {
+    if !directive.get().is_synchronous() {
         return Err(Fault::BadAsync);
     }
     let count = place.history().len() as u64;
@@ -91,8 +92,12 @@ pub fn planned(place: &mut Place, host: u8, directive: &Directive) -> Result<Pla
 }
 
 // Accepts a host's directive.
-pub fn accepted(place: &mut Place, host: u8, directive: &Directive) -> Result<Placed, Fault> {
-    if !directive.is_synchronous() {
+pub fn accepted(
+    place: &mut Place,
+    host: u8,
+    directive: &Shared<Directive>,
+) -> Result<Placed, Fault> {
+    if !directive.get().is_synchronous() {
         return Err(Fault::BadAsync);
     }
     let count = place.history().len() as u64;
@@ -151,7 +156,7 @@ pub fn check_label(rt: &impl Abort, label: &Label, step: &Step, number: u64, bef
     assert_eq!(rt; label.number, number);
     assert_eq!(rt; label.host, HostId::new(step.host));
     assert_eq!(rt; label.items_done, before.wrapping_add(3));
-    check_ops(rt, label.ops.as_slice(), step.ops);
+    check_ops(rt, label.ops.get().as_slice(), step.ops);
 }
 
 pub fn check_ops(rt: &impl Abort, ops: &[Op], wanted: &[Operation]) {
@@ -161,12 +166,37 @@ pub fn check_ops(rt: &impl Abort, ops: &[Op], wanted: &[Operation]) {
     }
 }
 
-// The tasks perform these operations.
-pub fn check_tasks(rt: &impl Abort, tasks: &VecDeque<Task>, wanted: &[Operation]) {
-    assert_eq!(rt; tasks.len(), wanted.len());
-    for (task, wanted) in tasks.iter().zip(wanted) {
-        assert_eq!(rt; performed_by(task), *wanted);
+fn check_zeros(rt: &impl Abort, cells: &Cells) {
+    for at in 0..cells.len() {
+        assert_eq!(rt; cells.get(at), 0);
     }
+}
+
+// The task performs this operation; a block that it makes has the cells of its range, all zero.
+fn check_task(rt: &impl Abort, task: &Task, wanted: Operation) {
+    assert_eq!(rt; performed_by(task), wanted);
+    if let Task::Make { block } = task {
+        assert_eq!(rt; block.cells.len(), block.range.len as usize);
+        check_zeros(rt, &block.cells);
+    }
+}
+
+// The next task performs this operation.
+fn check_next(rt: &impl Abort, tasks: &mut Tasks, wanted: Operation) {
+    match tasks.take_next() {
+        Some(task) => check_task(rt, &task, wanted),
+        None => panic!(rt; "a task is missing"),
+    }
+}
+
+// The tasks perform these operations.
+pub fn check_tasks(rt: &impl Abort, tasks: Tasks, wanted: &[Operation]) {
+    let mut tasks = tasks;
+    assert_eq!(rt; tasks.len(), wanted.len());
+    for wanted in wanted {
+        check_next(rt, &mut tasks, *wanted);
+    }
+    assert!(rt; tasks.take_next().is_none());
 }
 
 // The batch that the plan of a step handed out, if the step has one.
@@ -176,7 +206,10 @@ pub fn check_batch(rt: &impl Abort, batch: Option<Batch>, step: &Step, number: u
         Some(batch) => {
             assert!(rt; !step.ops.is_empty());
             check_label(rt, batch.label(), step, number, before);
-            check_tasks(rt, batch.ops(), step.ops);
+            assert_eq!(rt; batch.ops().len(), step.ops.len());
+            let (label, tasks) = batch.into_parts();
+            check_label(rt, &label, step, number, before);
+            check_tasks(rt, tasks, step.ops);
         }
     }
 }

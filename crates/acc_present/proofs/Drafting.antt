@@ -1,9 +1,10 @@
 -- What a draft shows: the changed presences that have a count, and those beside them in the table.
 use Rattle.std.proofs.Common.{◌≡◌, ℕ, ◌+◌, ◌<◌, Bool, true, false, cond, List, [], ◌∷◌, ◌++◌, length, map, get_or, Option, Some, None, refl, sym, ap, ◌∙◌, arith, inl, inr, ◌≤◌}
-use Rattle.std.specs.Prelude.{◌&&◌, ◌||◌, not, filter, remove, slice_get, sum_by, nat_lt, find, ◌⊎◌}
+use Rattle.std.specs.Prelude.{◌&&◌, ◌||◌, not, filter, remove, slice_get, sum_by, nat_lt, find, ◌⊎◌, if◌then◌else◌}
 use Rattle.std.specs.List.{list_any, position_or_len}
 use Rattle.std.specs.Option.{option_map, option_and_then, option_or}
-use Rattle.std.proofs.lemmas.Bool.{cases_Bool, ltb-false}
+use Rattle.std.proofs.Math.Bool.{and-true, or-false}
+use Rattle.std.proofs.lemmas.Bool.{cases_Bool, ltb-false, and_parts, not-true, or_parts}
 use Rattle.std.proofs.lemmas.List.Filters.{sum_by-filter_both}
 use Rattle.std.proofs.lemmas.List.{length-map}
 use Rattle.std.proofs.lemmas.List.Folds.{find_at, list_any-append, find-append}
@@ -13,8 +14,10 @@ use Rattle.acc_base.specs.declared.range.Range.{Range}
 use Rattle.acc_base.specs.Ranges.{range_contains, range_overlaps}
 use Rattle.acc_present.specs.declared.table.Entry.{Entry}
 use Rattle.acc_present.specs.Lifetimes.{is_before}
-use Rattle.acc_present.specs.Presences.{Presence, holder, overlaps_any}
-use Rattle.acc_present.specs.Tables.{entry_presence, has_count, is_table, presence_placed_in}
+use Rattle.acc_present.specs.declared.table.Look.{Look}
+use Rattle.acc_present.specs.declared.table.Look.TheVariants.{Absent, Partly}
+use Rattle.acc_present.specs.Presences.{Presence, holder, is_present, is_partly_present, overlaps_any}
+use Rattle.acc_present.specs.Tables.{IsLook, entry_presence, has_count, is_table, presence_placed_in}
 use Rattle.acc_present.specs.Drafts.{beside, counted_placed_in, with_changed}
 use Rattle.acc_present.proofs.Alike.{Alike, stands_in, one_at, one_at-self, any_alike, tables_alike}
 use Rattle.acc_present.proofs.Marking.{found_in}
@@ -100,6 +103,12 @@ pub held_beside : (cs ps : List Presence) (r : Range) (o : Option Presence) → 
 held_beside cs ps r o t cells none is =
     sym (holder_drafted cs ps r t cells ∙ (ap (λ v. option_or v (holder (beside cs ps) r)) (sym none) ∙ sym is))
 
+-- so where it is part of no changed one, what holds it stands beside them
+pub beside_found : (cs ps : List Presence) (r : Range) (o : Option Presence) → is_table (with_changed cs ps) ≡ true → 0 < r.len → None ≡ holder (filter has_count cs) r → holder (with_changed cs ps) r ≡ o
+    → o ≡ holder (beside cs ps) r
+beside_found cs ps r o t cells none found =
+    sym found ∙ (holder_drafted cs ps r t cells ∙ ap (λ v. option_or v (holder (beside cs ps) r)) (sym none))
+
 -- ## Beside the changed ones
 
 pub beside_all : (ps : List Presence) → with_changed [] ps ≡ ps
@@ -116,6 +125,35 @@ beside_hidden cs ps r x t cells some met =
 pub beside_seen : (cs ps : List Presence) (r : Range) (x : Presence) → is_table ps ≡ true → 0 < r.len → holder ps r ≡ Some x → overlaps_any cs x.range ≡ false → holder (beside cs ps) r ≡ Some x
 beside_seen cs ps r x t cells some apart =
     holder-filter_some (λ (p : Presence). not (overlaps_any cs p.range)) ps r x t cells some ∙ ap (λ b. cond (not b) (Some x) None) apart
+
+any-filter_none : (t p : Presence → Bool) (ps : List Presence) → list_any t ps ≡ false → list_any t (filter p ps) ≡ false
+any-filter_none t p [] none = refl
+any-filter_none t p (x ∷ ps) none =
+    let parts = or_parts (t x) (list_any t ps) none in
+    let ih = any-filter_none t p ps parts.1 in
+    elim (cases_Bool (p x)) [
+      | inl kept ↦ rw (kept, parts.0) ih
+      | inr gone ↦ rw gone ih
+    ]
+
+-- a range that overlaps nothing in the table overlaps only what was changed
+pub overlaps_changed : (cs ps : List Presence) (r : Range) → overlaps_any ps r ≡ false → overlaps_any (with_changed cs ps) r ≡ overlaps_any (filter has_count cs) r
+overlaps_changed cs ps r apart =
+    let met : Presence → Bool = λ p. range_overlaps p.range r in
+    any_drafted met cs ps
+    ∙ (ap (λ b. overlaps_any (filter has_count cs) r || b) (any-filter_none met (λ p. not (overlaps_any cs p.range)) ps apart) ∙ or-false (overlaps_any (filter has_count cs) r))
+
+-- ## A range that none contains
+
+pub none_seen : (ps : List Presence) (r : Range) → is_partly_present ps r ≡ true → holder ps r ≡ None
+none_seen ps r partly = none_from_absent ps r (not-true (is_present ps r) (and_parts (overlaps_any ps r) (not (is_present ps r)) partly).1)
+
+pub apart_seen : (ps : List Presence) (r : Range) → holder ps r ≡ None → is_partly_present ps r ≡ false → overlaps_any ps r ≡ false
+apart_seen ps r none whole = sym (rw (is_present-none ps r none) (and-true (overlaps_any ps r))) ∙ whole
+
+pub none_looked : (ps : List Presence) (r : Range) (overlaps : Bool) (l : Look) → holder ps r ≡ None → overlaps ≡ overlaps_any ps r → l ≡ (if overlaps then Partly else Absent) → IsLook ps r l
+none_looked ps r true l none overlaps is = rw (is, is_present-none ps r none, ← overlaps) refl
+none_looked ps r false l none overlaps is = rw is (none, rw (is_present-none ps r none, ← overlaps) refl)
 
 -- ## Over the changed entries
 

@@ -4,6 +4,7 @@ ghost use Rattle.acc_base.specs.declared.fault.Fault.TheVariants.{Memory};
 ghost use Rattle.acc_present.specs.Legality.{MeetsCondition};
 ghost use Rattle.acc_present.specs.Lifetimes.{can_open};
 ghost use Rattle.acc_present.specs.declared.change.Change.TheVariants.{DynamicZero};
+ghost use Rattle.acc_present.specs.declared.table.Look.TheVariants.{Absent, Partly};
 ghost use Rattle.acc_present.specs.Presences.{holder, is_present, is_partly_present, overlaps_any, used_cells};
 ghost use Rattle.acc_present.specs.Tables.{entry_mark, exit_mark, finalize_mark, exit_change, counter_of, presences_after, kept_after, has_count, entry_presence, is_table, IsLook, left_of};
 ghost use Rattle.acc_present.specs.Drafts.{beside, with_changed, drafted, IsDraft};
@@ -71,30 +72,24 @@ impl Draft {
         let changed = self.changed.as_slice();
         match counted_place(changed, range) {
             Some(i) => Look::Present(changed[i]),
-            None => match unchanged(changed, table, range) {
-                Some(entry) => Look::Present(entry),
-                None => {
-                    if overlaps_drafted(changed, table, range) {
-                        Look::Partly
-                    } else {
-                        Look::Absent
-                    }
-                }
-            },
+            None => look_beside(changed, table, range),
         }
     }
 
-    /// Counts an entry to a range, and opens its data lifetime where it was absent. It asks of the range what
-    /// `Table::enter` asks, as the draft shows it, but for room: the draft has room for one more entry that changes.
+    /// Counts an entry to a range that was found so, by `look`, and opens its data lifetime where it was absent. It asks of
+    /// the range what `Table::enter` asks, as the draft shows it, but for room: the draft has room for one more entry that
+    /// changes.
     pub fn enter(
         &mut self,
         table: &Table,
         range: Range,
+        found: &Look,
         counter: Counter,
         block: BlockId,
     ) -> Entered
         requires draft { IsDraft table.now self.old }
         requires cells { 0 < range.len }
+        requires found { IsLook (drafted table.now self.old) range found.now }
         requires whole { is_partly_present (drafted table.now self.old) range ≡ false }
         requires low { IfSome (holder (drafted table.now self.old) range) (λ p. counter_of counter p < COUNTER_LIMIT) }
         requires capacity { holder (drafted table.now self.old) range ≡ None → used_cells (drafted table.now self.old) + range.len ≤ table.now.capacity }
@@ -106,7 +101,7 @@ impl Draft {
         ensures result { result ≡ (if is_present (drafted table.now self.old) range then Entered.Counted else Entered.Opened) }
     {
         table.keeps_order();
-        match place_for(&mut self.changed, table, range) {
+        match place_for(&mut self.changed, table, range, found) {
             Some(i) => {
                 self.changed[i] = counted_up(&self.changed[i], counter);
                 Entered::Counted
@@ -119,11 +114,12 @@ impl Draft {
         }
     }
 
-    /// Counts an exit from a range, and ends its data lifetime where both counters are zero. It asks what `Table::leave`
-    /// asks, as the draft shows it, and room likewise.
-    pub fn leave(&mut self, table: &Table, range: Range, counter: Counter) -> Left
+    /// Counts an exit from a range that was found so, by `look`, and ends its data lifetime where both counters are zero. It
+    /// asks what `Table::leave` asks, as the draft shows it, and room likewise.
+    pub fn leave(&mut self, table: &Table, range: Range, found: &Look, counter: Counter) -> Left
         requires draft { IsDraft table.now self.old }
         requires cells { 0 < range.len }
+        requires found { IsLook (drafted table.now self.old) range found.now }
         requires condition { MeetsCondition (exit_change counter) range (drafted table.now self.old) }
         requires room { length self.old.changed < self.old.room }
         ensures draft { IsDraft table.now self.new }
@@ -132,14 +128,15 @@ impl Draft {
         ensures room { self.new.room ≡ self.old.room }
         ensures result { result ≡ left_of (holder (drafted table.now self.old) range) (exit_change counter) }
     {
-        self.exit(table, range, exit_change(counter))
+        self.exit(table, range, found, exit_change(counter))
     }
 
-    /// Sets the dynamic counter of a range to zero, and ends its data lifetime where the structured one is zero too
-    /// (OpenACC API 3.0, 2.6.6, Enter Data and Exit Data Directives: the `finalize` clause).
-    pub fn finalize(&mut self, table: &Table, range: Range) -> Left
+    /// Sets the dynamic counter of a range that was found so, by `look`, to zero, and ends its data lifetime where the
+    /// structured one is zero too (OpenACC API 3.0, 2.6.6, Enter Data and Exit Data Directives: the `finalize` clause).
+    pub fn finalize(&mut self, table: &Table, range: Range, found: &Look) -> Left
         requires draft { IsDraft table.now self.old }
         requires cells { 0 < range.len }
+        requires found { IsLook (drafted table.now self.old) range found.now }
         requires room { length self.old.changed < self.old.room }
         ensures draft { IsDraft table.now self.new }
         ensures drafted { drafted table.now self.new ≡ kept_after (finalize_mark range) (drafted table.now self.old) }
@@ -147,13 +144,14 @@ impl Draft {
         ensures room { self.new.room ≡ self.old.room }
         ensures result { result ≡ left_of (holder (drafted table.now self.old) range) DynamicZero }
     {
-        self.exit(table, range, Change::DynamicZero)
+        self.exit(table, range, found, Change::DynamicZero)
     }
 
     // Makes an exit's change to the range's counter, and ends the data lifetime where both counters are zero.
-    fn exit(&mut self, table: &Table, range: Range, change: Change) -> Left
+    fn exit(&mut self, table: &Table, range: Range, found: &Look, change: Change) -> Left
         requires draft { IsDraft table.now self.old }
         requires cells { 0 < range.len }
+        requires found { IsLook (drafted table.now self.old) range found.now }
         requires exit { can_open change ≡ false }
         requires room { length self.old.changed < self.old.room }
         ensures draft { IsDraft table.now self.new }
@@ -162,7 +160,7 @@ impl Draft {
         ensures room { self.new.room ≡ self.old.room }
         ensures result { result ≡ left_of (holder (drafted table.now self.old) range) change }
     {
-        match place_for(&mut self.changed, table, range) {
+        match place_for(&mut self.changed, table, range, found) {
             None => Left::Nothing,
             Some(i) => {
                 let entry = self.changed[i];
@@ -209,22 +207,32 @@ fn counted_place(changed: &[Entry], range: Range) -> Option<usize>
         .position(|entry| has_count(entry) && entry.range.contains(&range))
 }
 
-// The table's entry that contains the range, if no changed one overlaps it.
-fn unchanged(changed: &[Entry], table: &Table, range: Range) -> Option<Entry>
+// What the table would have of a range that no changed entry with a count contains.
+fn look_beside(changed: &[Entry], table: &Table, range: Range) -> Look
     requires cells { 0 < range.len }
-    ensures { option_map entry_presence result ≡ holder (beside (map entry_presence changed.now) table.now.presences) range }
+    requires after { is_table (with_changed (map entry_presence changed.now) table.now.presences) ≡ true }
+    requires none { holder (filter has_count (map entry_presence changed.now)) range ≡ None }
+    ensures { IsLook (with_changed (map entry_presence changed.now) table.now.presences) range result }
 {
     table.keeps_order();
     match table.look(range) {
-        Look::Absent | Look::Partly => None,
         Look::Present(entry) => {
             if overlaps_one(changed, entry.range) {
-                None
+                partly_or_absent(overlaps_drafted(changed, table, range))
             } else {
-                Some(entry)
+                Look::Present(entry)
             }
         }
+        Look::Partly => partly_or_absent(overlaps_drafted(changed, table, range)),
+        Look::Absent => partly_or_absent(overlaps_counted(changed, range)),
     }
+}
+
+// What is said of a range that no present one contains.
+fn partly_or_absent(overlaps: bool) -> Look
+    ensures { result ≡ (if overlaps then Partly else Absent) }
+{
+    if overlaps { Look::Partly } else { Look::Absent }
 }
 
 // Whether a changed entry that has a count overlaps the range.
@@ -243,10 +251,11 @@ fn overlaps_drafted(changed: &[Entry], table: &Table, range: Range) -> bool
     overlaps_counted(changed, range) || table.overlaps_beside(range, changed)
 }
 
-// The place among the changed entries of the one that would contain the range, which is put there where only
-// the table has it.
-fn place_for(changed: &mut Vec<Entry>, table: &Table, range: Range) -> Option<usize>
+// The place among the changed entries of the one that contains the range, which is put there where only the table has
+// it, as was found.
+fn place_for(changed: &mut Vec<Entry>, table: &Table, range: Range, found: &Look) -> Option<usize>
     requires cells { 0 < range.len }
+    requires found { IsLook (with_changed (map entry_presence changed.old.items) table.now.presences) range found.now }
     requires after { is_table (with_changed (map entry_presence changed.old.items) table.now.presences) ≡ true }
     requires room { vec_len changed.old < vec_capacity changed.old }
     ensures same { with_changed (map entry_presence changed.new.items) table.now.presences ≡ with_changed (map entry_presence changed.old.items) table.now.presences }
@@ -259,11 +268,12 @@ fn place_for(changed: &mut Vec<Entry>, table: &Table, range: Range) -> Option<us
     table.keeps_order();
     match counted_place(changed.as_slice(), range) {
         Some(i) => Some(i),
-        None => match unchanged(changed.as_slice(), table, range) {
-            None => None,
-            Some(entry) => {
+        None => match found {
+            Look::Absent => None,
+            Look::Partly => None,
+            Look::Present(entry) => {
                 let place = changed.len();
-                changed.push_reserved(entry);
+                changed.push_reserved(*entry);
                 Some(place)
             }
         },

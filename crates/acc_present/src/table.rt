@@ -121,10 +121,12 @@ impl Table {
         requires { 0 < range.len }
         ensures { IsLook self.now.presences range result }
     {
-        match place_of(self.entries.as_slice(), range) {
-            Some(i) => Look::Present(self.entries[i]),
+        let entries = self.entries.as_slice();
+        let behind = place_behind(entries, range);
+        match held_before(entries, behind, range) {
+            Some(i) => Look::Present(entries[i]),
             None => {
-                if overlaps_any(self.entries.as_slice(), range) {
+                if overlaps_around(entries, behind, range) {
                     Look::Partly
                 } else {
                     Look::Absent
@@ -148,15 +150,18 @@ impl Table {
         ensures room { self.new.room ≡ self.old.room }
         ensures result { result ≡ (if is_present self.old.presences range then Entered.Counted else Entered.Opened) }
     {
-        match place_of(self.entries.as_slice(), range) {
+        let entries = self.entries.as_slice();
+        let behind = place_behind(entries, range);
+        match held_before(entries, behind, range) {
             Some(i) => {
                 self.entries[i] = counted_up(&self.entries[i], counter);
                 Entered::Counted
             }
             None => {
-                let at = place_behind(self.entries.as_slice(), range);
                 // there is room, so this isn't refused
-                let _ = self.entries.insert(at, new_entry(range, counter, block));
+                let _ = self
+                    .entries
+                    .insert(behind, new_entry(range, counter, block));
                 self.used += u64::from(range.len);
                 Entered::Opened
             }
@@ -291,14 +296,26 @@ fn place_behind(entries: &[Entry], range: Range) -> usize
     entries.partition_point(|e| !stands_before(range, e.range))
 }
 
-// The place of the entry that contains the range: no other than the last that does not begin behind it.
+// The place of the entry that contains the range.
 fn place_of(entries: &[Entry], range: Range) -> Option<usize>
     requires table { is_table (map entry_presence entries.now) ≡ true }
     requires cells { 0 < range.len }
     ensures held { holder (map entry_presence entries.now) range ≡ option_and_then (slice_get (map entry_presence entries.now)) result }
     ensures within { IfSome result (λ i. i < length entries.now) }
 {
-    let behind = place_behind(entries, range);
+    held_before(entries, place_behind(entries, range), range)
+}
+
+// The same, where the first entry that begins behind the range's first cell stands at this place: no other entry contains
+// the range than the one before.
+fn held_before(entries: &[Entry], behind: usize, range: Range) -> Option<usize>
+    requires table { is_table (map entry_presence entries.now) ≡ true }
+    requires cells { 0 < range.len }
+    requires place { behind ≡ position_or_len (λ p. is_before range p.range) (map entry_presence entries.now) }
+    requires within { behind ≤ length entries.now }
+    ensures held { holder (map entry_presence entries.now) range ≡ option_and_then (slice_get (map entry_presence entries.now)) result }
+    ensures within { IfSome result (λ i. i < length entries.now) }
+{
     if behind == 0 {
         return None;
     }
@@ -310,11 +327,11 @@ fn place_of(entries: &[Entry], range: Range) -> Option<usize>
 }
 
 // If any entry overlaps the range, one of the two on both sides of its first cell does.
-fn overlaps_any(entries: &[Entry], range: Range) -> bool
-    requires { is_table (map entry_presence entries.now) ≡ true }
+fn overlaps_around(entries: &[Entry], behind: usize, range: Range) -> bool
+    requires table { is_table (map entry_presence entries.now) ≡ true }
+    requires place { behind ≡ position_or_len (λ p. is_before range p.range) (map entry_presence entries.now) }
     ensures { result ≡ overlaps_any (map entry_presence entries.now) range }
 {
-    let behind = place_behind(entries, range);
     if behind == 0 {
         return overlaps_at(entries, 0, range);
     }

@@ -27,17 +27,31 @@ fn drafted_into(
     let used = draft.used_cells();
     assert!(rt; used < CELLS - 1_000);
     assert!(rt; range.len < 1_000);
-    match draft.look(table, range) {
-        Look::Absent => draft.enter(table, range, Counter::Dynamic, BlockId::new(block)),
+    let found = draft.look(table, range);
+    match &found {
+        Look::Absent => draft.enter(table, range, &found, Counter::Dynamic, BlockId::new(block)),
         Look::Present(entry) => {
             assert!(rt; entry.d < 1_000);
-            draft.enter(table, range, Counter::Dynamic, BlockId::new(block))
+            draft.enter(table, range, &found, Counter::Dynamic, BlockId::new(block))
         }
         Look::Partly => {
             assert!(rt; false, "partly present");
             Entered::Counted
         }
     }
+}
+
+// Leaves a range in a draft, as it is found there.
+fn drafted_out_of(table: &Table, draft: &mut Draft, range: Range) -> Left
+    requires draft { IsDraft table.now draft.old }
+    requires cells { 0 < range.len }
+    requires room { length draft.old.changed < draft.old.room }
+    ensures draft { IsDraft table.now draft.new }
+    ensures changed { length draft.new.changed ≤ length draft.old.changed + 1 }
+    ensures room { draft.new.room ≡ draft.old.room }
+{
+    let found = draft.look(table, range);
+    draft.leave(table, range, &found, Counter::Dynamic)
 }
 
 fn entry(range: Range, block: u64, d: u64) -> Look {
@@ -51,7 +65,6 @@ fn entry(range: Range, block: u64, d: u64) -> Look {
 
 #[test]
 fn a_draft_shows_what_its_marks_make(rt: HostRuntime) -> Result<(), Fail> {
-    let by = Counter::Dynamic;
     let mut table = Table::new(rt.alloc(), CELLS);
     let _ = entered_into(&rt, &mut table, cells(0, 2), 1);
     let _ = entered_into(&rt, &mut table, cells(2, 2), 2);
@@ -61,26 +74,32 @@ fn a_draft_shows_what_its_marks_make(rt: HostRuntime) -> Result<(), Fail> {
     draft.begin(&table);
     assert_eq!(rt; draft.look(&table, cells(0, 4)), Look::Partly);
     assert_eq!(rt;
-        draft.leave(&table, cells(0, 2), by),
+        drafted_out_of(&table, &mut draft, cells(0, 2)),
         Left::Ended(BlockId::new(1))
     );
     assert_eq!(rt; draft.look(&table, cells(0, 4)), Look::Partly);
     assert_eq!(rt;
-        draft.leave(&table, cells(2, 2), by),
+        drafted_out_of(&table, &mut draft, cells(2, 2)),
         Left::Ended(BlockId::new(2))
     );
     assert_eq!(rt; draft.look(&table, cells(0, 4)), Look::Absent);
-    assert_eq!(rt; draft.leave(&table, cells(0, 4), by), Left::Nothing);
+    assert_eq!(rt;
+        drafted_out_of(&table, &mut draft, cells(0, 4)),
+        Left::Nothing
+    );
     assert_eq!(rt;
         drafted_into(&rt, &table, &mut draft, cells(1, 5), 4),
         Entered::Opened
     );
     assert_eq!(rt; draft.look(&table, cells(2, 3)), entry(cells(1, 5), 4, 1));
     assert_eq!(rt; draft.look(&table, cells(0, 2)), Look::Partly);
-    assert_eq!(rt; draft.leave(&table, cells(9, 1), by), Left::Counted);
+    assert_eq!(rt;
+        drafted_out_of(&table, &mut draft, cells(9, 1)),
+        Left::Counted
+    );
     assert_eq!(rt; draft.look(&table, cells(8, 4)), entry(cells(8, 4), 3, 1));
     assert_eq!(rt;
-        draft.leave(&table, cells(8, 4), by),
+        drafted_out_of(&table, &mut draft, cells(8, 4)),
         Left::Ended(BlockId::new(3))
     );
     assert_eq!(rt; draft.look(&table, cells(6, 3)), Look::Absent);

@@ -1,4 +1,4 @@
-//! Tests of configurations, faults, rows of cells and present tables: what no contract says.
+//! Tests of configurations, faults, short lists, owned values, rows of cells and present tables: what no contract says.
 #![tactic(auto)]
 
 #[cfg(test)]
@@ -10,6 +10,10 @@ mod draft;
 #[cfg(test)]
 mod fault;
 #[cfg(test)]
+mod few;
+#[cfg(test)]
 mod fixtures;
+#[cfg(test)]
+mod owned;
 #[cfg(test)]
 mod table;

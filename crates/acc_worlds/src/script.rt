@@ -1,4 +1,4 @@
-use acc_base::{DeviceId, Fault, HostId, Listed, QueueAt, QueueId, Range};
+use acc_base::{DeviceId, Fault, Few, HostId, QueueAt, QueueId, Range, Shared};
 use acc_core::{ASYNC_NOVAL, Act, Directive, Event, Item, Kind, Statement, Target, Waits};
 use std::alloc::Global;
 
@@ -13,6 +13,7 @@ pub fn sync() -> QueueAt {
 /// A host's statements, with the events that run them, each of which does something.
 #[derive(Drop)]
 pub struct Script {
+    alloc: Global,
     pub statements: Vec<Statement>,
     /// How many of the events come before what is timed.
     pub opening: usize,
@@ -22,6 +23,7 @@ pub struct Script {
 impl Script {
     pub fn new(alloc: Global) -> Script {
         Script {
+            alloc,
             statements: Vec::new(alloc),
             opening: 0,
             events: Vec::new(alloc),
@@ -30,15 +32,16 @@ impl Script {
 
     /// Adds a directive whose batch has so many operations: the host places it, the queue takes and performs it, and
     /// the host sees that.
-    pub fn place(&mut self, kind: Kind, items: Vec<Item>, operations: u32) -> Result<(), Fault> {
+    pub fn place(&mut self, kind: Kind, items: &[Item], operations: u32) -> Result<(), Fault> {
         let directive = Directive {
             device: DeviceId::new(0),
             default: ASYNC_NOVAL,
             kind,
-            items: Listed::from_vec(items),
+            items: Few::from_slice(self.alloc, items)?,
             target: Target::Plain,
             waits: Waits::Nothing,
         };
+        let directive = Shared::new(self.alloc, directive)?;
         self.add(Act::Place { directive })?;
         self.events.push(Event::Take(sync()))?;
         for _ in 0..operations {

@@ -40,6 +40,7 @@ pub fn tally_of(
         statements,
         opening,
         events,
+        ..
     } = workload.script(alloc, turns)?;
     let mut world = world_of(alloc, workload, statements)?;
     let events = events.as_slice();

@@ -1,5 +1,5 @@
 use crate::script::Script;
-use acc_base::{Fault, Range};
+use acc_base::{Fault, Range, Shared};
 use acc_core::{Clause, Item, Kind};
 use acc_kernel::{Kernel, KernelFault};
 use acc_parts::{PLUS, Part, TIMES, statements_of};
@@ -100,16 +100,16 @@ impl Workload {
             enter_others(alloc, &mut script)?;
         }
         if self.has_region {
-            let both = vec![in alloc; self.whole(0, Clause::Copy), self.whole(1, Clause::Copy)]?;
-            script.place(Kind::Data, both, 4)?;
+            let both = [self.whole(0, Clause::Copy), self.whole(1, Clause::Copy)];
+            script.place(Kind::Data, both.as_slice(), 4)?;
         }
         script.opening = script.events.len();
-        let kernel = kernel_of(alloc, self.cells)?;
+        let kernel = Shared::new(alloc, kernel_of(alloc, self.cells)?)?;
         for number in 0..turns {
-            self.add_turn(alloc, &kernel, number, &mut script)?;
+            self.add_turn(&kernel, number, &mut script)?;
         }
         if self.has_region {
-            script.place(Kind::EndData, Vec::new(alloc), 4)?;
+            script.place(Kind::EndData, &[], 4)?;
         }
         script.print(self.range(1))?;
         Ok(script)
@@ -117,8 +117,7 @@ impl Workload {
 
     fn add_turn(
         &self,
-        alloc: Global,
-        kernel: &Kernel,
+        kernel: &Shared<Kernel>,
         number: u32,
         script: &mut Script,
     ) -> Result<(), Fault> {
@@ -126,14 +125,14 @@ impl Workload {
             Turn::Loop => {
                 // alone, it makes, copies in, copies out and releases both arrays
                 let operations = if self.has_region { 1 } else { 9 };
-                let kernel = kernel.try_clone(alloc)?;
-                script.place(Kind::Loop { kernel }, Vec::new(alloc), operations)
+                let kernel = kernel.try_clone()?;
+                script.place(Kind::Loop { kernel }, &[], operations)
             }
             Turn::Copies => {
-                let entered = vec![in alloc; self.whole(1, Clause::Copyin)]?;
-                script.place(Kind::EnterData, entered, 2)?;
-                let left = vec![in alloc; self.whole(1, Clause::Copyout)]?;
-                script.place(Kind::ExitData { finalize: false }, left, 2)
+                let entered = [self.whole(1, Clause::Copyin)];
+                script.place(Kind::EnterData, entered.as_slice(), 2)?;
+                let left = [self.whole(1, Clause::Copyout)];
+                script.place(Kind::ExitData { finalize: false }, left.as_slice(), 2)
             }
             Turn::Update => {
                 let clause = if number % 2 == 0 {
@@ -141,8 +140,8 @@ impl Workload {
                 } else {
                     Clause::UpdateDevice
                 };
-                let updated = vec![in alloc; self.whole(1, clause)]?;
-                script.place(Kind::Update { if_present: false }, updated, 1)
+                let updated = [self.whole(1, clause)];
+                script.place(Kind::Update { if_present: false }, updated.as_slice(), 1)
             }
         }
     }
@@ -184,7 +183,7 @@ fn enter_others(alloc: Global, script: &mut Script) -> Result<(), Failure> {
                 range,
             })?;
         }
-        script.place(Kind::EnterData, items, 2 * RANGES)?;
+        script.place(Kind::EnterData, items.as_slice(), 2 * RANGES)?;
     }
     Ok(())
 }

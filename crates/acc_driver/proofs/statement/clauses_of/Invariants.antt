@@ -7,6 +7,6 @@ use Rattle.acc_driver.proofs.statement.clauses_of.Given as goal
 
 abbrev pub invariant-loop : goal.invariant-loop
 invariant-loop l = record {
-  turns : TurnsLeft (clause_turn l.arrays l.kind) l.turns l.counter l.items.items (spot l.here) (all_turns (clause_turn l.fn.arrays l.fn.kind) l.fn.items.items (spot l.fn.at));
+  turns : TurnsLeft (clause_turn l.arrays l.kind) l.turns l.counter l.items (spot l.here) (all_turns (clause_turn l.fn.arrays l.fn.kind) l.fn.items (spot l.fn.at));
   shorter : length l.here.bytes.now ≤ length l.fn.at.bytes.now;
 }

@@ -7,6 +7,6 @@ use Rattle.acc_driver.proofs.statement.items_of.Given as goal
 
 abbrev pub invariant-loop : goal.invariant-loop
 invariant-loop l = record {
-  turns : TurnsLeft (item_turn l.arrays l.clause) l.turns l.counter l.items.items (spot l.here) (all_turns (item_turn l.fn.arrays l.fn.clause) l.fn.items.items (spot l.fn.at));
+  turns : TurnsLeft (item_turn l.arrays l.clause) l.turns l.counter l.items (spot l.here) (all_turns (item_turn l.fn.arrays l.fn.clause) l.fn.items (spot l.fn.at));
   shorter : length l.here.bytes.now ≤ length l.fn.at.bytes.now;
 }

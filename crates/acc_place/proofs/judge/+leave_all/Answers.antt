@@ -5,16 +5,11 @@ use Rattle.acc_place.specs.declared.directive.Clause.TheVariants.{Copy}
 use Rattle.acc_place.specs.declared.directive.Item.{Item}
 use Rattle.acc_place.specs.declared.judge.Marked.{Marked}
 use Rattle.acc_place.specs.Walks.{holding, holding_after, marked_in, all_marked, AllEntered}
-use Rattle.acc_place.proofs.Judging.{block_is}
 use Rattle.acc_place.proofs.Walking.{rest_of, rest_is, length-rest, left_is, all_rest, all_marked-next, entered-next}
 use Rattle.acc_place.proofs.judge.+leave_all.Goals as goal
 
 abbrev no_item : Item
 no_item = record { clause = Copy; range = record { array = 0; lo = 0; len = 0 } }
-
-pub mark-requires-clause-held : goal.mark-requires-clause-held
-mark-requires-clause-held t c =
-    c.held_by-held.ensures ∙ block_is (drafted c.args.table.now c.args.draft.now) (get_or c.args.items.now 0 no_item).range c.look.result c.look.ensures
 
 pub leave_all-requires : goal.leave_all-requires
 leave_all-requires t c =

@@ -2,7 +2,7 @@ use Rattle.std.proofs.Common.{◌≡◌, true, false, ◌∙◌, arith}
 use Rattle.acc_present.specs.Drafts.{drafted}
 use Rattle.acc_place.specs.Accepting.{is_in_array}
 use Rattle.acc_place.specs.Standings.{change_by}
-use Rattle.acc_place.proofs.Judging.{fault-outside, found_is, fine_item, block_is}
+use Rattle.acc_place.proofs.Judging.{fault-outside, found_is, fine_item}
 use Rattle.acc_place.proofs.Walking.{can_mark}
 use Rattle.acc_place.proofs.judge.visit.Goals as goal
 
@@ -24,9 +24,6 @@ mark-requires-clause-can c =
     c.requires.draft c.requires.capacity c.capacity.ensures c.used_cells.ensures c.fault_of.ensures in
     let fine = fine_item config k (drafted t d) item (fault ∙ c.in-None.is) in
     rw (c.requires.capacity, c.change.ensures) (can_mark (change_by k) (drafted t d) item.range config.capacity 1 fine c.requires.entered c.requires.low (omega arith))
-
-pub mark-requires-clause-held : goal.mark-requires-clause-held
-mark-requires-clause-held c = c.held_by.ensures ∙ block_is (drafted c.args.known.now.table.now c.args.draft.now) c.args.item.now.range c.look-found.result c.look-found.ensures
 
 pub returns-in-Some-clause-refused : goal.returns-in-Some-clause-refused
 returns-in-Some-clause-refused c =

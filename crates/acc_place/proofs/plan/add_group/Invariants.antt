@@ -4,4 +4,4 @@ use Rattle.acc_place.specs.Walks.{group_ops}
 use Rattle.acc_place.proofs.plan.add_group.Given as goal
 
 abbrev pub invariant-loop-step : goal.invariant-loop-step
-invariant-loop-step l = l.ops.items ≡ l.initial.ops.items ++ flat_map (group_ops l.group) (take l.step-index l.steps)
+invariant-loop-step l = l.ops ≡ l.initial.ops ++ flat_map (group_ops l.group) (take l.step-index l.steps)

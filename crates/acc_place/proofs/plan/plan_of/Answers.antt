@@ -8,4 +8,4 @@ pub batch_of-requires : goal.batch_of-requires
 batch_of-requires c =
     let run = option_to_list c.args.run in
     let ops = have_their_cells run c.args.steps.now (listed c.args.run c.requires) in
-    rw (c.label_of-label.ensures, c.in_ok-ops.ensures.ops) (labelled_cells sync c.args.known.now.next_batch c.args.host c.args.items_done (marked_ops run c.args.steps.now) ops)
+    rw (c.in_ok-label.ensures.label, c.in_ok-ops.ensures.ops) (labelled_cells sync c.args.known.now.next_batch c.args.host c.args.items_done (marked_ops run c.args.steps.now) ops)

@@ -14,5 +14,6 @@ returns-in_ok-kernel-in-Loop-clause-cells c =
     let ps = drafted c.args.table.now c.args.draft.now in
     let stays : StaysInside k items = rw c.in-Loop.is at c.requires.stays in
     let held : All (λ (i : Item). is_present ps i.range ≡ true) items = rw c.in-Loop.is at c.requires.held in
-    let uses : c.from_vec.result ≡ uses_in k items ps = c.from_vec.ensures ∙ c.in_ok-uses-in-Loop.ensures.uses in
+    let found : c.in_ok-listed-in-Loop.listed.items ≡ uses_in k items ps = rw c.get.ensures at c.in_ok-listed-in-Loop.ensures.uses in
+    let uses : c.in_ok-uses-in-Loop.uses ≡ uses_in k items ps = c.in_ok-uses-in-Loop.ensures.held ∙ (c.from_vec.ensures ∙ found) in
     rw (c.in_ok-kernel-in-Loop.ensures.equal, uses) (run_has_its_cells items ps k stays held)

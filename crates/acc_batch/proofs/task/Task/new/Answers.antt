@@ -1,9 +1,7 @@
-use Rattle.std.proofs.Common.{List, sym, subst}
+use Rattle.std.proofs.Common.{subst}
 use Rattle.acc_batch.specs.Tasks.{HasItsCells}
-use Rattle.acc_kernel.specs.Jobs.{Use, HoldReached}
 use Rattle.acc_batch.proofs.task.Task.new.Goals as goal
 
-pub new-requires-clause-reached : goal.new-requires-clause-reached
-new-requires-clause-reached c =
-    let cells = subst HasItsCells c.in-Run.is c.requires.cells in
-    subst (λ (uses : List Use). HoldReached c.in-Run.kernel uses) (sym c.as_slice.ensures) cells.1
+pub returns-in_ok-uses-in-Run-clause-ready : goal.returns-in_ok-uses-in-Run-clause-ready
+returns-in_ok-uses-in-Run-clause-ready c =
+    rw (c.in_ok-kernel-in-Run.ensures.equal, c.in_ok-uses-in-Run.ensures.equal) (subst HasItsCells c.in-Run.is c.requires.cells)

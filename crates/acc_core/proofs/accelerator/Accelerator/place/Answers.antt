@@ -64,7 +64,7 @@ invariant_of-self-in-Some c =
     let facts = planned i.place c.plan.new.self c.in_ok-plan.plan c.args.host c.items_of-items_done.result d e.config e.history e.counts e.fits.0 e.plan.0 e.plan.1 e.plan.2 in
     let named = c.in-Some.ensures.batch ∙ (e.batch ∙ (facts.labelled ∙ ap (λ n. label_in (standing_of (the_view i)) c.args.host n (walk_of (standing_of (the_view i)) c.args.host d)) c.items_of-items_done.ensures)) in
     let more : c.in-Some-checked_add.waiting ≡ i.waiting + length c.in-Some.batch.ops =
-    omega (arith, c.in-Some-checked_add.ensures, c.len-in-Some.ensures, c.ops.result.now.ok.0, ap length c.ops.ensures.ops, length-map c.ops.result.now.items op_of) in
+    omega (arith, c.in-Some-checked_add.ensures, c.len-in-Some.ensures, ap length c.ops.ensures.ops, length-map c.ops.result.now op_of) in
     let log : length i.work.work + c.in-Some-checked_add.waiting ≤ c.spare.new.self.room = rw (← s.kept.work) s.log in
     let room = c.room.ensures ∙ (ap (λ x. x.room) c.config.ensures ∙ ap (λ x. x.room) e.config) in
     let low : length i.queue.items < i.place.config.room = omega (arith, i.queue.ok.0, c.len.ensures, c.if-len-room.false, room) in

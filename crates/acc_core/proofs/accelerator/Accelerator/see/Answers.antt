@@ -6,4 +6,4 @@ pub invariant_of-self-2 : goal.invariant_of-self-2
 invariant_of-self-2 c =
     let spared = c.in_ok-spare_item.ensures in
     shown (state_of_parts c.self.inside.place c.self.inside.work c.self.inside.taken) c.spare_item.new.self c.see.new.self c.self.inside.queue.items c.self.inside.taken c.self.inside.waiting _ c.args.host
-    _ (roomier c.self.invariant spared.kept) spared.kept.work c.see.ensures spared.room spared.few (rw (← c.self.view_is) at c.requires.reached)
+    _ (roomier c.self.invariant spared.kept) spared.kept.work c.see.ensures spared.room spared.few (rw c.in_ok-counts.ensures.counts (rw (← c.self.view_is) at c.requires.reached))

@@ -9,21 +9,15 @@ use Rattle.acc_memory.proofs.Devices.{memory, device_at, shows_rows, performs_on
 use Rattle.acc_memory.proofs.Fitting.{fits_after}
 use Rattle.acc_memory.proofs.memory.Memory.run.Goals as goal
 
-at_device : (c : goal.After-uses) → slice_get c.self.inside.devices.items c.args.device ≡ Some c.index_mut-blocks.result.now
+at_device : (c : goal.After-index_mut-blocks) → slice_get c.self.inside.devices.items c.args.device ≡ Some c.index_mut-blocks.result.now
 at_device c =
     device_at c.self.inside.devices.items c.args.device c.from.result c.index_mut-blocks.result.now (rw (← c.self.view_is) at c.requires.device)
     (c.from.ensures ∙ c.number.ensures) c.index_mut-blocks.ensures.value
 
 pub run-requires-clause-held : goal.run-requires-clause-held
-run-requires-clause-held c = rw c.uses.ensures (rw (at_device c) at (rw (← c.self.view_is) at c.requires.allowed))
+run-requires-clause-held c = rw (at_device c) at (rw (← c.self.view_is) at c.requires.allowed)
 
-pub run-requires-clause-distinct : goal.run-requires-clause-distinct
-run-requires-clause-distinct c = rw c.uses.ensures c.keeps.ensures.distinct
-
-pub run-requires-clause-reached : goal.run-requires-clause-reached
-run-requires-clause-reached c = rw (c.kernel.ensures, c.uses.ensures) c.keeps.ensures.reached
-
-performed : (c : goal.After-self-1) → PerformsOn c.args.device (Run c.args.job.now.kernel c.args.job.now.uses)
+performed : (c : goal.After-self-1) → PerformsOn c.args.device (Run c.args.kernel.now c.args.uses.now)
     (memory (map (λ v. v.items) c.self.inside.arrays.items) c.self.inside.devices.items)
     (memory (map (λ v. v.items) c.self.inside.arrays.items) (set c.self.inside.devices.items c.args.device c.run.new.self))
 performed c =
@@ -33,15 +27,15 @@ performed c =
     let x = c.index_mut-blocks.result.now in
     let y = c.run.new.self in
     let at = device_at ds device c.from.result x (rw (← c.self.view_is) at c.requires.device) (c.from.ensures ∙ c.number.ensures) c.index_mut-blocks.ensures.value in
-    let ran = rw (c.kernel.ensures, c.uses.ensures) at c.run.ensures.shows in
-    performs_on device (Run c.args.job.now.kernel c.args.job.now.uses) arrays arrays ds (set ds device y) x y
+    let ran = c.run.ensures.shows in
+    performs_on device (Run c.args.kernel.now c.args.uses.now) arrays arrays ds (set ds device y) x y
     (replace_at ds device x y at) (length-set ds device y) c.run.ensures.blocks c.run.ensures.room refl
     (λ was shows a i. shows (Host_cell a i) refl)
     (λ was shows. ran device was (shows_rows arrays ds device x was at shows))
 
 pub invariant_of-self : goal.invariant_of-self
 invariant_of-self c =
-    rw (c.from.ensures, c.number.ensures) (fits_after c.args.device (Run c.args.job.now.kernel c.args.job.now.uses) _ _ c.self.invariant tt (performed c))
+    rw (c.from.ensures, c.number.ensures) (fits_after c.args.device (Run c.args.kernel.now c.args.uses.now) _ _ c.self.invariant tt (performed c))
 
 pub returns : goal.returns
 returns c = rw (← c.self.view_is, c.from.ensures, c.number.ensures) (performed c)

@@ -1,9 +1,15 @@
-use Rattle.std.proofs.Common.{◌≡◌, ◌+◌, length, Some, ap, ◌∙◌, arith}
+use Rattle.std.proofs.Common.{◌≡◌, ℕ, ◌+◌, List, length, take, Some, ap, subst, ◌∙◌, arith}
+use Rattle.acc_place.specs.declared.directive.Directive.{Directive}
+use Rattle.acc_place.specs.declared.directive.Item.{Item}
+use Rattle.acc_place.specs.declared.directive.Region.{Region}
+use Rattle.acc_place.specs.declared.directive.TheConstants.{MAX_ITEMS}
 use Rattle.acc_present.specs.declared.change.Change.TheVariants.{StructuredDown}
 use Rattle.acc_place.specs.declared.place.Place.TheInside.{Inside}
 use Rattle.acc_place.specs.declared.plan.Plan.TheInside.{Inside as PlanInside}
 use Rattle.acc_place.specs.Plans.{PlaceView, PlanView, standing_in, Fits}
-use Rattle.acc_place.specs.Standings.{change_by}
+use Rattle.acc_place.specs.Loops.{lengths_of}
+use Rattle.acc_place.specs.Regions.{regions_after}
+use Rattle.acc_place.specs.Standings.{change_by, subject_by}
 use Rattle.acc_place.specs.Walks.{holding, holding_after_all, holding_between, holding_behind, ends_of}
 use Rattle.acc_place.proofs.Accepted.{all_cells, entered_in, items_in, length-ends, room_for}
 use Rattle.acc_place.proofs.Planning.{viewed, are_put, put_then, free_in, place_pushed, pushed_view, answer_is}
@@ -12,6 +18,15 @@ use Rattle.acc_place.proofs.place.Place.accept.Goals as goal
 
 abbrev seen : Inside → PlaceView
 seen w = viewed w.config w.history.items w.counts.items w.is_ready
+
+put_for : (lengths : List ℕ) (regions : List Region) (host : ℕ) (d e : Directive) (put : List Item) → e ≡ d
+    → put ≡ take (MAX_ITEMS + 1) (subject_by lengths regions host e e.kind).items → put ≡ take (MAX_ITEMS + 1) (subject_by lengths regions host d d.kind).items
+put_for lengths regions host d e put same is =
+    subst (λ (x : Directive). put ≡ take (MAX_ITEMS + 1) (subject_by lengths regions host x x.kind).items) same is
+
+settled_for : (host : ℕ) (d e : Directive) (regions after : List Region) → e ≡ d → after ≡ regions_after host e e.kind regions
+    → after ≡ regions_after host d d.kind regions
+settled_for host d e regions after same is = subst (λ (x : Directive). after ≡ regions_after host x x.kind regions) same is
 
 abbrev planned : PlanInside → PlanView
 planned q = record { host = q.host; items_done = q.items_done; directive = q.directive; region = q.region; label = q.label; batch = q.batch; stamp = q.stamp }
@@ -24,7 +39,7 @@ is_answered-present-requires c =
     let fits : Fits (seen w) q = rw (← c.self.view_is, ← c.plan.view_is) at c.requires in
     let free = free_in (seen w) q w.table w.opened w.regions.items w.labels.items h.0 fits in
     let items = items_in (standing_in (seen w)).lengths w.regions.items q.host q.directive in
-    let put = are_put (seen w) q.host q.directive w.regions.items c.as_slice.result.now c.items-items.result.now c.as_slice.ensures.value (c.items-items.ensures ∙ c.put_items.ensures) in
+    let put = are_put (seen w) q.host q.directive w.regions.items c.as_slice.result.now c.items-items.result.now c.as_slice.ensures.value (c.items-items.ensures ∙ put_for (lengths_of (seen w).config) c.as_slice.result.now q.host q.directive c.get-given.result.now _ c.get-given.ensures c.put_items.ensures) in
     let own : c.items-items.result.now ≡ items = put_then (seen w) q w.table w.opened w.regions.items w.labels.items c.items-items.result.now h.0 fits put in
     rw own (record { cells = all_cells w.config.capacity (change_by q.directive.kind) (holding w.table.presences w.opened) items free.fine })
 
@@ -36,9 +51,9 @@ mark_all-between-requires-clause-fine c =
     let fits : Fits (seen w) q = rw (← c.self.view_is, ← c.plan.view_is) at c.requires in
     let free = free_in (seen w) q w.table w.opened w.regions.items w.labels.items h.0 fits in
     let items = items_in (standing_in (seen w)).lengths w.regions.items q.host q.directive in
-    let put = are_put (seen w) q.host q.directive w.regions.items c.as_slice.result.now c.items-items.result.now c.as_slice.ensures.value (c.items-items.ensures ∙ c.put_items.ensures) in
+    let put = are_put (seen w) q.host q.directive w.regions.items c.as_slice.result.now c.items-items.result.now c.as_slice.ensures.value (c.items-items.ensures ∙ put_for (lengths_of (seen w).config) c.as_slice.result.now q.host q.directive c.get-given.result.now _ c.get-given.ensures c.put_items.ensures) in
     let own : c.items-items.result.now ≡ items = put_then (seen w) q w.table w.opened w.regions.items w.labels.items c.items-items.result.now h.0 fits put in
-    rw (own, h.0.capacity, c.change.ensures) free.fine
+    rw (own, h.0.capacity, c.change.ensures, c.get-given.ensures) free.fine
 
 pub mark_all-between-requires-clause-entered : goal.mark_all-between-requires-clause-entered
 mark_all-between-requires-clause-entered c =
@@ -48,9 +63,9 @@ mark_all-between-requires-clause-entered c =
     let fits : Fits (seen w) q = rw (← c.self.view_is, ← c.plan.view_is) at c.requires in
     let free = free_in (seen w) q w.table w.opened w.regions.items w.labels.items h.0 fits in
     let items = items_in (standing_in (seen w)).lengths w.regions.items q.host q.directive in
-    let put = are_put (seen w) q.host q.directive w.regions.items c.as_slice.result.now c.items-items.result.now c.as_slice.ensures.value (c.items-items.ensures ∙ c.put_items.ensures) in
+    let put = are_put (seen w) q.host q.directive w.regions.items c.as_slice.result.now c.items-items.result.now c.as_slice.ensures.value (c.items-items.ensures ∙ put_for (lengths_of (seen w).config) c.as_slice.result.now q.host q.directive c.get-given.result.now _ c.get-given.ensures c.put_items.ensures) in
     let own : c.items-items.result.now ≡ items = put_then (seen w) q w.table w.opened w.regions.items w.labels.items c.items-items.result.now h.0 fits put in
-    rw (own, c.change.ensures)
+    rw (own, c.change.ensures, c.get-given.ensures)
     (entered_in (standing_in (seen w)) q.host q.directive w.table w.opened w.regions.items w.labels.items h.0.tied)
 
 pub mark_all-between-requires-clause-room : goal.mark_all-between-requires-clause-room
@@ -61,7 +76,7 @@ mark_all-between-requires-clause-room c =
     let fits : Fits (seen w) q = rw (← c.self.view_is, ← c.plan.view_is) at c.requires in
     let free = free_in (seen w) q w.table w.opened w.regions.items w.labels.items h.0 fits in
     let items = items_in (standing_in (seen w)).lengths w.regions.items q.host q.directive in
-    let put = are_put (seen w) q.host q.directive w.regions.items c.as_slice.result.now c.items-items.result.now c.as_slice.ensures.value (c.items-items.ensures ∙ c.put_items.ensures) in
+    let put = are_put (seen w) q.host q.directive w.regions.items c.as_slice.result.now c.items-items.result.now c.as_slice.ensures.value (c.items-items.ensures ∙ put_for (lengths_of (seen w).config) c.as_slice.result.now q.host q.directive c.get-given.result.now _ c.get-given.ensures c.put_items.ensures) in
     let own : c.items-items.result.now ≡ items = put_then (seen w) q w.table w.opened w.regions.items w.labels.items c.items-items.result.now h.0 fits put in
     rw own
     (room_for (standing_in (seen w)) w.table w.opened (length items) w.regions.items w.labels.items h.0.tied (omega (arith, free.within.short)) (h.1 fits.ready).table)
@@ -74,11 +89,11 @@ mark_all-self-inside-requires-clause-fine c =
     let fits : Fits (seen w) q = rw (← c.self.view_is, ← c.plan.view_is) at c.requires in
     let free = free_in (seen w) q w.table w.opened w.regions.items w.labels.items h.0 fits in
     let items = items_in (standing_in (seen w)).lengths w.regions.items q.host q.directive in
-    let put = are_put (seen w) q.host q.directive w.regions.items c.as_slice.result.now c.items-items.result.now c.as_slice.ensures.value (c.items-items.ensures ∙ c.put_items.ensures) in
+    let put = are_put (seen w) q.host q.directive w.regions.items c.as_slice.result.now c.items-items.result.now c.as_slice.ensures.value (c.items-items.ensures ∙ put_for (lengths_of (seen w).config) c.as_slice.result.now q.host q.directive c.get-given.result.now _ c.get-given.ensures c.put_items.ensures) in
     let own : c.items-items.result.now ≡ items = put_then (seen w) q w.table w.opened w.regions.items w.labels.items c.items-items.result.now h.0 fits put in
     let between : holding c.mark_all-between.new.table.presences c.mark_all-between.result ≡ holding_between q.directive.kind (holding w.table.presences w.opened) items =
-    rw (own, c.change.ensures) at c.mark_all-between.ensures.holding in
-    let ends : c.ends_of-ends.result.now ≡ ends_of q.directive.kind items = c.ends_of-ends.ensures ∙ ap (ends_of q.directive.kind) own in
+    rw (own, c.change.ensures, c.get-given.ensures) at c.mark_all-between.ensures.holding in
+    let ends : c.ends_of-ends.result.now ≡ ends_of q.directive.kind items = (rw c.get-given.ensures at c.ends_of-ends.ensures) ∙ ap (ends_of q.directive.kind) own in
     rw (between, ends, c.mark_all-between.ensures.capacity, h.0.capacity) free.ends_fine
 
 pub mark_all-self-inside-requires-clause-entered : goal.mark_all-self-inside-requires-clause-entered
@@ -89,11 +104,11 @@ mark_all-self-inside-requires-clause-entered c =
     let fits : Fits (seen w) q = rw (← c.self.view_is, ← c.plan.view_is) at c.requires in
     let free = free_in (seen w) q w.table w.opened w.regions.items w.labels.items h.0 fits in
     let items = items_in (standing_in (seen w)).lengths w.regions.items q.host q.directive in
-    let put = are_put (seen w) q.host q.directive w.regions.items c.as_slice.result.now c.items-items.result.now c.as_slice.ensures.value (c.items-items.ensures ∙ c.put_items.ensures) in
+    let put = are_put (seen w) q.host q.directive w.regions.items c.as_slice.result.now c.items-items.result.now c.as_slice.ensures.value (c.items-items.ensures ∙ put_for (lengths_of (seen w).config) c.as_slice.result.now q.host q.directive c.get-given.result.now _ c.get-given.ensures c.put_items.ensures) in
     let own : c.items-items.result.now ≡ items = put_then (seen w) q w.table w.opened w.regions.items w.labels.items c.items-items.result.now h.0 fits put in
     let between : holding c.mark_all-between.new.table.presences c.mark_all-between.result ≡ holding_between q.directive.kind (holding w.table.presences w.opened) items =
-    rw (own, c.change.ensures) at c.mark_all-between.ensures.holding in
-    let ends : c.ends_of-ends.result.now ≡ ends_of q.directive.kind items = c.ends_of-ends.ensures ∙ ap (ends_of q.directive.kind) own in
+    rw (own, c.change.ensures, c.get-given.ensures) at c.mark_all-between.ensures.holding in
+    let ends : c.ends_of-ends.result.now ≡ ends_of q.directive.kind items = (rw c.get-given.ensures at c.ends_of-ends.ensures) ∙ ap (ends_of q.directive.kind) own in
     rw (between, ends) free.ends_entered
 
 pub mark_all-self-inside-requires-clause-room : goal.mark_all-self-inside-requires-clause-room
@@ -104,11 +119,11 @@ mark_all-self-inside-requires-clause-room c =
     let fits : Fits (seen w) q = rw (← c.self.view_is, ← c.plan.view_is) at c.requires in
     let free = free_in (seen w) q w.table w.opened w.regions.items w.labels.items h.0 fits in
     let items = items_in (standing_in (seen w)).lengths w.regions.items q.host q.directive in
-    let put = are_put (seen w) q.host q.directive w.regions.items c.as_slice.result.now c.items-items.result.now c.as_slice.ensures.value (c.items-items.ensures ∙ c.put_items.ensures) in
+    let put = are_put (seen w) q.host q.directive w.regions.items c.as_slice.result.now c.items-items.result.now c.as_slice.ensures.value (c.items-items.ensures ∙ put_for (lengths_of (seen w).config) c.as_slice.result.now q.host q.directive c.get-given.result.now _ c.get-given.ensures c.put_items.ensures) in
     let own : c.items-items.result.now ≡ items = put_then (seen w) q w.table w.opened w.regions.items w.labels.items c.items-items.result.now h.0 fits put in
     let between : holding c.mark_all-between.new.table.presences c.mark_all-between.result ≡ holding_between q.directive.kind (holding w.table.presences w.opened) items =
-    rw (own, c.change.ensures) at c.mark_all-between.ensures.holding in
-    let ends : c.ends_of-ends.result.now ≡ ends_of q.directive.kind items = c.ends_of-ends.ensures ∙ ap (ends_of q.directive.kind) own in
+    rw (own, c.change.ensures, c.get-given.ensures) at c.mark_all-between.ensures.holding in
+    let ends : c.ends_of-ends.result.now ≡ ends_of q.directive.kind items = (rw c.get-given.ensures at c.ends_of-ends.ensures) ∙ ap (ends_of q.directive.kind) own in
     let n = length (ends_of q.directive.kind items) in
     let room =
     room_for (standing_in (seen w)) w.table w.opened (length items + n) w.regions.items w.labels.items h.0.tied (omega (arith, free.within.short, length-ends q.directive.kind items)) (h.1 fits.ready).table in
@@ -123,11 +138,11 @@ invariant_of-self c =
     let fits : Fits (seen w) q = rw (← c.self.view_is, ← c.plan.view_is) at c.requires in
     let free = free_in (seen w) q w.table w.opened w.regions.items w.labels.items h.0 fits in
     let items = items_in (standing_in (seen w)).lengths w.regions.items q.host q.directive in
-    let put = are_put (seen w) q.host q.directive w.regions.items c.as_slice.result.now c.items-items.result.now c.as_slice.ensures.value (c.items-items.ensures ∙ c.put_items.ensures) in
+    let put = are_put (seen w) q.host q.directive w.regions.items c.as_slice.result.now c.items-items.result.now c.as_slice.ensures.value (c.items-items.ensures ∙ put_for (lengths_of (seen w).config) c.as_slice.result.now q.host q.directive c.get-given.result.now _ c.get-given.ensures c.put_items.ensures) in
     let own : c.items-items.result.now ≡ items = put_then (seen w) q w.table w.opened w.regions.items w.labels.items c.items-items.result.now h.0 fits put in
     let between : holding c.mark_all-between.new.table.presences c.mark_all-between.result ≡ holding_between q.directive.kind (holding w.table.presences w.opened) items =
-    rw (own, c.change.ensures) at c.mark_all-between.ensures.holding in
-    let ends : c.ends_of-ends.result.now ≡ ends_of q.directive.kind items = c.ends_of-ends.ensures ∙ ap (ends_of q.directive.kind) own in
+    rw (own, c.change.ensures, c.get-given.ensures) at c.mark_all-between.ensures.holding in
+    let ends : c.ends_of-ends.result.now ≡ ends_of q.directive.kind items = (rw c.get-given.ensures at c.ends_of-ends.ensures) ∙ ap (ends_of q.directive.kind) own in
     let d = q.directive in
     let marked = c.mark_all-self-inside.ensures in
     let after = c.mark_all-self-inside.new.table in
@@ -137,7 +152,7 @@ invariant_of-self c =
     let is : holding after.presences next ≡ holding_behind d.kind (holding w.table.presences w.opened) items = left ∙ ap (λ g. holding_after_all (Some StructuredDown) g (ends_of d.kind items)) between in (
       place_pushed w.config w.history.items c.push_reserved.new.self.items w.counts.items c.push_reserved-2.new.self.items w.is_ready q w.table after w.opened next
           w.regions.items c.settle.new.regions.items w.labels.items c.push_label-batch.new.labels.items
-          c.push_reserved.ensures.items c.push_reserved-2.ensures.items c.settle.ensures.regions c.push_label-batch.ensures.labels h.0 fits is
+          c.push_reserved.ensures.items c.push_reserved-2.ensures.items (settled_for q.host q.directive c.get-given.result.now w.regions.items c.settle.new.regions.items c.get-given.ensures c.settle.ensures.regions) c.push_label-batch.ensures.labels h.0 fits is
           (marked.capacity ∙ c.mark_all-between.ensures.capacity),
       λ no. absurd (cc),
     )
@@ -157,8 +172,8 @@ returns-clause-answer c =
     let fits : Fits (seen w) q = rw (← c.self.view_is, ← c.plan.view_is) at c.requires in
     let free = free_in (seen w) q w.table w.opened w.regions.items w.labels.items h.0 fits in
     let items = items_in (standing_in (seen w)).lengths w.regions.items q.host q.directive in
-    let put = are_put (seen w) q.host q.directive w.regions.items c.as_slice.result.now c.items-items.result.now c.as_slice.ensures.value (c.items-items.ensures ∙ c.put_items.ensures) in
+    let put = are_put (seen w) q.host q.directive w.regions.items c.as_slice.result.now c.items-items.result.now c.as_slice.ensures.value (c.items-items.ensures ∙ put_for (lengths_of (seen w).config) c.as_slice.result.now q.host q.directive c.get-given.result.now _ c.get-given.ensures c.put_items.ensures) in
     let own : c.items-items.result.now ≡ items = put_then (seen w) q w.table w.opened w.regions.items w.labels.items c.items-items.result.now h.0 fits put in
-    let told = rw own at c.is_answered-present.ensures in
+    let told = rw (own, c.get-given.ensures) at c.is_answered-present.ensures in
     rw (← c.self.view_is, ← c.plan.view_is)
     (answer_is (seen w) q w.table w.opened w.regions.items w.labels.items c.push_label-batch.result c.is_answered-present.result h.0 fits c.push_label-batch.ensures.result told)

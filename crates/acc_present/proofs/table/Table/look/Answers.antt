@@ -8,22 +8,22 @@ use Rattle.acc_present.proofs.table.Table.look.Goals as goal
 pub returns-in-Some : goal.returns-in-Some
 returns-in-Some c =
     let es = c.self.inside.entries.items in
-    let held = rw c.as_slice.ensures.value at c.in-Some.ensures.held in
-    let low = rw c.as_slice.ensures.value at c.in-Some.ensures.within in
-    let f = found_at es c.args.range c.in-Some.i c.index.result.now held low c.index.ensures in
+    let held = rw c.as_slice-entries.ensures.value at c.in-Some.ensures.held in
+    let low = rw c.as_slice-entries.ensures.value at c.in-Some.ensures.within in
+    let f = found_at es c.args.range c.in-Some.i c.index-entries-i.result held low (rw c.as_slice-entries.ensures.value at c.index-entries-i.is) in
     rw (← c.self.view_is) (f.seen, not_partly (map entry_presence es) c.args.range f.held)
 
-pub returns-then-overlaps_any : goal.returns-then-overlaps_any
-returns-then-overlaps_any c =
+pub returns-then-overlaps_around : goal.returns-then-overlaps_around
+returns-then-overlaps_around c =
     let ps = map entry_presence c.self.inside.entries.items in
-    let none : holder ps c.args.range ≡ None = rw c.as_slice.ensures.value at c.in-None.ensures.held in
+    let none : holder ps c.args.range ≡ None = rw c.as_slice-entries.ensures.value at c.in-None.ensures.held in
     let absent = is_present-none ps c.args.range none in
-    let overlaps : overlaps_any ps c.args.range ≡ true = sym (rw c.as_slice-in-None.ensures.value at c.overlaps_any.ensures) ∙ c.if-overlaps_any.true in
+    let overlaps : overlaps_any ps c.args.range ≡ true = sym (rw c.as_slice-entries.ensures.value at c.overlaps_around.ensures) ∙ c.if-overlaps_around.true in
     rw (← c.self.view_is) (rw (overlaps, absent) refl)
 
-pub returns-else-overlaps_any : goal.returns-else-overlaps_any
-returns-else-overlaps_any c =
+pub returns-else-overlaps_around : goal.returns-else-overlaps_around
+returns-else-overlaps_around c =
     let ps = map entry_presence c.self.inside.entries.items in
-    let none : holder ps c.args.range ≡ None = rw c.as_slice.ensures.value at c.in-None.ensures.held in
-    let apart : overlaps_any ps c.args.range ≡ false = sym (rw c.as_slice-in-None.ensures.value at c.overlaps_any.ensures) ∙ c.if-overlaps_any.false in
+    let none : holder ps c.args.range ≡ None = rw c.as_slice-entries.ensures.value at c.in-None.ensures.held in
+    let apart : overlaps_any ps c.args.range ≡ false = sym (rw c.as_slice-entries.ensures.value at c.overlaps_around.ensures) ∙ c.if-overlaps_around.false in
     rw (← c.self.view_is) (none, rw apart refl)

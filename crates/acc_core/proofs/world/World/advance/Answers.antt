@@ -1,0 +1,29 @@
+use Rattle.std.proofs.Common.{◌≡◌, ◌+◌, ◌∷◌, [], ◌++◌, take, refl, sym, ◌∙◌, ap}
+use Rattle.std.proofs.lemmas.List.{take_all, take_more}
+use Rattle.acc_core.specs.Machine.{Runs}
+use Rattle.acc_core.proofs.Runs.{Runs-more}
+use Rattle.acc_core.proofs.WorldSteps.{has_run}
+use Rattle.acc_core.proofs.world.World.advance.Goals as goal
+
+pub loop-event-init : goal.loop-event-init
+loop-event-init c = ([], refl)
+
+pub loop-event-preserved : goal.loop-event-preserved
+loop-event-preserved c =
+    let events = c.args.events.now in
+    let i = c.loop-event.event-index in
+    let event = c.event-item.result in
+    let replies = c.loop-event.invariant.0 in
+    let further : take (i + 1) events ≡ take i events ++ event ∷ [] = take_more events i event c.loop-event-test.true ∙ ap (λ e. take i events ++ e ∷ []) (sym c.event-item.is) in (
+      replies ++ c.step.result ∷ [],
+      rw further (Runs-more (take i events) replies c.args.self.now c.loop-event.self c.step.new.self event c.step.result c.loop-event.invariant.1 c.step.ensures),
+    )
+
+pub returns : goal.returns
+returns c =
+    let events = c.args.events.now in
+    let replies = c.loop-event.invariant.0 in
+    let whole = take_all c.loop-event.event-index events c.loop-event-test.false in
+    let runs : Runs c.args.self.now events replies c.loop-event.self = rw whole at c.loop-event.invariant.1 in
+    let is = rw c.self.view_is at c.self.invariant in
+    record { ran = (replies, has_run c.args.self.now c.loop-event.self events replies is.one_device is.legal is.stand runs) }

@@ -1,0 +1,7 @@
+use Rattle.std.proofs.Common.{List, take}
+use Rattle.acc_core.specs.declared.event.Reply.{Reply}
+use Rattle.acc_core.specs.Machine.{Runs}
+use Rattle.acc_core.proofs.world.World.advance.Given as goal
+
+abbrev pub invariant-loop-event : goal.invariant-loop-event
+invariant-loop-event l = (replies : List Reply) × Runs l.initial.self (take l.event-index l.events) replies l.self
