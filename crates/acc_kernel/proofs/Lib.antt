@@ -1,3 +1,6 @@
+pub mod Abreast
+pub mod Exchange
+pub mod Filling
 mod Flagging
 mod Holding
 mod Keeping
@@ -8,5 +11,7 @@ mod Reaching
 pub mod Rowing
 pub mod Running
 mod Scanning
+pub mod Splicing
+pub mod Stacking
 pub mod Turning
 mod Valid

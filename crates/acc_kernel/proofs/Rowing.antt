@@ -11,8 +11,8 @@ use Rattle.std.proofs.lemmas.List.{ext_get_or, get_or_default, get_or_past, get_
 use Rattle.std.proofs.lemmas.List.FromFn.{length-map-range_with_len, get_or-map-range_with_len}
 use Rattle.std.proofs.lemmas.Option.{get_or_from_slice_get}
 use Rattle.std.proofs.lemmas.List.Sums.{passes_at_first, position_or_len_is, prefix_len-le-length}
-use Rattle.acc_kernel.specs.Cells.{with_cell}
-use Rattle.acc_kernel.specs.Jobs.{Use, no_use, place_of, range_of, has_cell, value_in, cell_in, AreDistinct, AreRows}
+use Rattle.acc_kernel.specs.Cells.{with_cell, value_in}
+use Rattle.acc_kernel.specs.Jobs.{Use, no_use, place_of, range_of, has_cell, cell_in, AreDistinct, AreRows}
 use Rattle.acc_kernel.specs.RowTables.{IsStored}
 use Rattle.acc_kernel.proofs.Looping.{CellsOf, within}
 
@@ -107,6 +107,22 @@ value_in-set row n lo cell c value inside at = by (int_eq cell c) refl
         let apart : c -ℤ pos lo ≢ pos n = λ q. other (omega (arith, ints)) in
         value_in_other row n value (c -ℤ pos lo) apart
 
+-- a row that is replaced shows in its own array alone
+pub other_row : (uses : List Use) (rows : List (List ℤ)) (array : ℕ) (cell : ℤ) (place : ℕ) → Spot uses rows array cell place → (row : List ℤ) (a : ℕ) (c : ℤ) → (array == a) ≡ false
+    → cell_in uses (set rows place row) a c ≡ cell_in uses rows a c
+other_row uses rows array cell place s row a c e =
+    let other : array ≢ a = not_from_Decides (array == a) (Decides-eqb array a) e in
+    let apart : place_of uses a ≢ place = λ q.
+    let here : place < length uses = s.here in
+    let p : uses_array a (get_or uses (place_of uses a) no_use) ≡ true = passes_at_first (uses_array a) uses no_use (omega arith) in
+    let r : uses_array array (get_or uses (place_of uses array) no_use) ≡ true = passes_at_first (uses_array array) uses no_use (let at_place : place ≡ place_of uses array = s.at in omega arith) in
+    let ea : (get_or uses (place_of uses a) no_use).1.array ≡ a = (Decides-eqb (get_or uses (place_of uses a) no_use).1.array a).0 p in
+    let eb : (get_or uses (place_of uses array) no_use).1.array ≡ array = (Decides-eqb (get_or uses (place_of uses array) no_use).1.array array).0 r in
+    let move : (get_or uses (place_of uses array) no_use).1.array ≡ (get_or uses (place_of uses a) no_use).1.array =
+    ap (λ (x : ℕ). (get_or uses x no_use).1.array) (sym (q ∙ s.at)) in
+    other (sym eb ∙ (move ∙ ea)) in
+    ap (λ (l : List ℤ). value_in l (c -ℤ pos (range_of uses a).lo)) (get_or-set_other rows place (place_of uses a) row [] apart)
+
 module _ (uses : List Use) (rows : List (List ℤ)) (array : ℕ) (cell value : ℤ) (place n : ℕ) where
   abbrev written : List (List ℤ)
   written = set rows place (set (get_or rows place []) n value)
@@ -127,18 +143,7 @@ module _ (uses : List Use) (rows : List (List ℤ)) (array : ℕ) (cell value : 
       let here : place ≡ place_of uses a = s.at ∙ ap (λ (x : ℕ). place_of uses x) same in
       subst (λ (p : ℕ). value_in (get_or written p []) (c -ℤ pos (get_or uses p no_use).1.lo) ≡ (if int_eq cell c then value else value_in (get_or rows p []) (c -ℤ pos (get_or uses p no_use).1.lo)))
       here (own s at c)
-  one_cell s at a c false e =
-      let other : array ≢ a = not_from_Decides (array == a) (Decides-eqb array a) e in
-      let apart : place_of uses a ≢ place = λ q.
-      let here : place < length uses = s.here in
-      let p : uses_array a (get_or uses (place_of uses a) no_use) ≡ true = passes_at_first (uses_array a) uses no_use (omega arith) in
-      let r : uses_array array (get_or uses (place_of uses array) no_use) ≡ true = passes_at_first (uses_array array) uses no_use (let at_place : place ≡ place_of uses array = s.at in omega arith) in
-      let ea : (get_or uses (place_of uses a) no_use).1.array ≡ a = (Decides-eqb (get_or uses (place_of uses a) no_use).1.array a).0 p in
-      let eb : (get_or uses (place_of uses array) no_use).1.array ≡ array = (Decides-eqb (get_or uses (place_of uses array) no_use).1.array array).0 r in
-      let move : (get_or uses (place_of uses array) no_use).1.array ≡ (get_or uses (place_of uses a) no_use).1.array =
-      ap (λ (x : ℕ). (get_or uses x no_use).1.array) (sym (q ∙ s.at)) in
-      other (sym eb ∙ (move ∙ ea)) in
-      ap (λ (l : List ℤ). value_in l (c -ℤ pos (range_of uses a).lo)) (get_or-set_other rows place (place_of uses a) (set (get_or rows place []) n value) [] apart)
+  one_cell s at a c false e = other_row uses rows array cell place s (set (get_or rows place []) n value) a c e
 
   pub write_one : Spot uses rows array cell place → cell -ℤ pos (get_or uses place no_use).1.lo ≡ pos n
       → cell_in uses (set rows place (set (get_or rows place []) n value)) ≡ with_cell (cell_in uses rows) array cell value

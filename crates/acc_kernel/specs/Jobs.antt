@@ -1,7 +1,8 @@
 -- A loop with the cells that it uses: the values before it, and those that it gives.
-use Rattle.std.specs.Prelude.{◌≡◌, ◌≢◌, ℕ, ℤ, ◌+◌, ◌<◌, ◌+ℤ◌, ◌-ℤ◌, pos, negsuc, not, ◌==◌, ◌&&◌, int_le, int_lt, Bool, IsTrue, List, [], length, map, replicate, slice_index_or}
+use Rattle.std.specs.Prelude.{◌≡◌, ◌≢◌, ℕ, ℤ, ◌+◌, ◌<◌, ◌+ℤ◌, ◌-ℤ◌, pos, not, ◌==◌, ◌&&◌, int_le, int_lt, Bool, IsTrue, List, [], length, map, replicate, slice_index_or}
 use Rattle.std.specs.List.{AllPairs, position_or_len, range_with_len}
 use Rattle.acc_base.specs.declared.range.Range.{Range}
+use Rattle.acc_kernel.specs.Cells.{value_in}
 use Rattle.acc_kernel.specs.Kernels.{Loop, Reaches, value_after}
 use Rattle.acc_kernel.specs.Trees.{Reference}
 
@@ -23,11 +24,6 @@ range_of uses array = (slice_index_or uses (place_of uses array) no_use).1
 abbrev pub has_cell : List Use → ℕ → ℤ → Bool
 has_cell uses array cell =
     int_le (pos (range_of uses array).lo) cell && int_lt cell (pos ((range_of uses array).lo + (range_of uses array).len))
-
--- the value so far into a row, and 0 outside it
-abbrev pub value_in : List ℤ → ℤ → ℤ
-value_in row (pos n) = slice_index_or row n (pos 0)
-value_in row (negsuc n) = pos 0
 
 -- the value of a cell, where each use has its row
 abbrev pub cell_in : List Use → List (List ℤ) → ℕ → ℤ → ℤ

@@ -1,4 +1,5 @@
 pub mod Cells
+pub mod Columns
 pub mod Examples
 pub mod Faults
 pub mod Jobs

@@ -3,6 +3,7 @@
 
 mod arrays;
 mod assign;
+mod columns;
 mod expr;
 mod fault;
 mod job;

@@ -99,6 +99,18 @@ impl Window for Rows {
         row.set(at, value);
     }
 
+    fn read(&self, array: u8, first: i64, into: &mut [i64]) {
+        let place = self.places[usize::from(array)];
+        self.rows[place].copy_to(distance(first, self.uses[place].1.lo), into);
+    }
+
+    fn write(&mut self, array: u8, first: i64, values: &[i64]) {
+        let place = self.places[usize::from(array)];
+        let at = distance(first, self.uses[place].1.lo);
+        let row = &mut self.rows[place];
+        row.copy_from(at, values);
+    }
+
     ghost keeps_itself = { λ w. refl };
 
     ghost keeps_on = { λ u v w e f. f ∙ e };

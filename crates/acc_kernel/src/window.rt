@@ -1,5 +1,5 @@
-ghost use Rattle.std.specs.Prelude.{◌≡◌, ℕ, ℤ, ◌-ℤ◌, ◌≤ℤ◌, pos, Bool, IsTrue};
-ghost use Rattle.acc_kernel.specs.Cells.{with_cell};
+ghost use Rattle.std.specs.Prelude.{◌≡◌, ℕ, ℤ, ◌+ℤ◌, ◌-ℤ◌, ◌<◌, ◌≤ℤ◌, pos, Bool, IsTrue, length, slice_index_or};
+ghost use Rattle.acc_kernel.specs.Cells.{with_cell, with_cells};
 
 /// Cells of some arrays, that a loop reads and writes.
 pub trait Window {
@@ -22,6 +22,20 @@ pub trait Window {
         requires { IsTrue (has self.old array cell) }
         ensures has { has self.new ≡ has self.old }
         ensures cells { cells self.new ≡ with_cell (cells self.old) array cell value }
+        ensures keeps { keeps self.old self.new };
+
+    /// The values of as many cells, side by side from the first on.
+    fn read(&self, array: u8, first: i64, into: &mut [i64])
+        requires some { 0 < length into.old }
+        requires has { (k : ℕ) → k < length into.old → IsTrue (has self.now array (first +ℤ pos k)) }
+        ensures { (k : ℕ) → k < length into.old → slice_index_or into.new k (pos 0) ≡ cells self.now array (first +ℤ pos k) };
+
+    /// Writes as many cells, side by side from the first on.
+    fn write(&mut self, array: u8, first: i64, values: &[i64])
+        requires some { 0 < length values.now }
+        requires has { (k : ℕ) → k < length values.now → IsTrue (has self.old array (first +ℤ pos k)) }
+        ensures has { has self.new ≡ has self.old }
+        ensures cells { cells self.new ≡ with_cells (cells self.old) array first (length values.now) values.now }
         ensures keeps { keeps self.old self.new };
 
     ghost keeps_itself: { (w : Self) → keeps w w };

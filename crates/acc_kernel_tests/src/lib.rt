@@ -4,6 +4,8 @@
 #[cfg(test)]
 mod arrays;
 #[cfg(test)]
+mod columns;
+#[cfg(test)]
 mod computed;
 #[cfg(test)]
 mod faults;

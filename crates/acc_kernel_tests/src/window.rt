@@ -27,6 +27,15 @@ impl Window for Single {
         self.value = value;
     }
 
+    // It has no two cells.
+    fn read(&self, _array: u8, _first: i64, into: &mut [i64]) {
+        into[0] = self.value;
+    }
+
+    fn write(&mut self, _array: u8, _first: i64, values: &[i64]) {
+        self.value = values[0];
+    }
+
     ghost keeps_itself = { λ w. tt };
 
     ghost keeps_on = { λ u v w e f. tt };

@@ -1,9 +1,11 @@
+ghost use Rattle.std.specs.Prelude.{◌≤◌};
+
 use acc_base::{BlockId, Fault, Listed, Range, Shared};
 use acc_kernel::{Job, Kernel};
 use acc_parts::{LESS, PLUS, Part, TIMES, job_of, statements_of};
 use std::alloc::Global;
 
-/// How many cells a loop assigns.
+/// How many cells a loop assigns, and the most that it may be told to.
 pub const CELLS: u32 = 1_000;
 
 // x[i] and its neighbours, where x is array 0
@@ -12,6 +14,9 @@ const BEFORE: Part = Part::Read(0, -1);
 const HERE: Part = Part::Read(0, 0);
 
 const BEHIND: Part = Part::Read(0, 1);
+
+/// `y[i] = x[i] + 1`
+const INCREASE: [Part; 3] = [HERE, Part::Number(1), PLUS];
 
 /// `y[i] = 3 * x[i] + 7`
 const SCALE: [Part; 5] = [Part::Number(3), HERE, TIMES, Part::Number(7), PLUS];
@@ -30,6 +35,27 @@ const CHOOSE: [Part; 9] = [
     HERE,
     Part::Negate,
     Part::Choose,
+];
+
+/// `y[i] = (((x[i] * i + 1) * i + 2) * i + 3) * i + 4`
+const QUARTIC: [Part; 17] = [
+    HERE,
+    Part::Index,
+    TIMES,
+    Part::Number(1),
+    PLUS,
+    Part::Index,
+    TIMES,
+    Part::Number(2),
+    PLUS,
+    Part::Index,
+    TIMES,
+    Part::Number(3),
+    PLUS,
+    Part::Index,
+    TIMES,
+    Part::Number(4),
+    PLUS,
 ];
 
 /// `y[i] = ((((x[i] * i + 1) * i + 2) * i + 3) * i + 4) * i + 5`
@@ -58,45 +84,52 @@ const POWERS: [Part; 21] = [
 ];
 
 /// The names of the loops.
-pub const NAMES: [&str; 4] = ["scale", "smooth", "choose", "powers"];
+pub const NAMES: [&str; 6] = ["increase", "scale", "smooth", "choose", "quartic", "powers"];
 
 /// The value that the loop of a name assigns.
 pub fn parts_of(name: &str) -> &'static [Part] {
     match name {
+        "increase" => &INCREASE,
         "scale" => &SCALE,
         "smooth" => &SMOOTH,
         "choose" => &CHOOSE,
+        "quartic" => &QUARTIC,
         "powers" => &POWERS,
         _ => &[],
     }
 }
 
-/// A job that computes it for i from 1 to `CELLS`, where x has some values.
-pub fn job_for(alloc: Global, parts: &'static [Part]) -> Result<Option<Job>, Fault> {
+/// A job that computes it for i from 1 to so many, at most `CELLS`, where x has some values.
+pub fn job_for(alloc: Global, parts: &'static [Part], cells: u32) -> Result<Option<Job>, Fault> {
+    let cells = cells.min(CELLS);
     let statements = statements_of(alloc, &[(1, parts)])?;
-    let Ok(kernel) = Kernel::new(alloc, 1, i64::from(CELLS) + 1, statements) else {
+    let Ok(kernel) = Kernel::new(alloc, 1, i64::from(cells) + 1, statements) else {
         return Ok(None);
     };
     let kernel = Shared::new(alloc, kernel)?;
-    let uses = vec![in alloc; whole(1, 0), whole(2, 1)]?;
+    let uses = vec![in alloc; whole(1, 0, cells), whole(2, 1, cells)]?;
     let uses = Shared::new(alloc, Listed::from_vec(uses))?;
     let Some(mut job) = job_of(alloc, &kernel, &uses)? else {
         return Ok(None);
     };
-    fill(alloc, &mut job)?;
+    fill(alloc, &mut job, cells)?;
     Ok(Some(job))
 }
 
 // An array with its cells from 0 to one behind the last that is assigned.
-fn whole(block: u64, array: u8) -> (BlockId, Range) {
-    let len = CELLS + 2;
+fn whole(block: u64, array: u8, cells: u32) -> (BlockId, Range)
+    requires { cells ≤ 1000 }
+{
+    let len = cells + 2;
     (BlockId::new(block), Range { array, lo: 0, len })
 }
 
 // Sets x[n] to 37 n modulo 101.
-fn fill(alloc: Global, job: &mut Job) -> Result<(), Fault> {
+fn fill(alloc: Global, job: &mut Job, cells: u32) -> Result<(), Fault>
+    requires { cells ≤ 1000 }
+{
     let mut values = Vec::new(alloc);
-    for n in 0..CELLS + 2 {
+    for n in 0..cells + 2 {
         values.push(i64::from(n * 37 % 101))?;
     }
     if let Some((_, range)) = job.uses().first() {

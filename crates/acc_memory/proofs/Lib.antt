@@ -10,4 +10,5 @@ mod Places
 mod Rows
 mod Runs
 mod Seeing
+pub mod SeeingRuns
 pub mod Showing

@@ -10,7 +10,8 @@ use Rattle.std.proofs.lemmas.Option.{get_or_from_slice_get, slice_get_within}
 use Rattle.acc_base.specs.declared.range.Range.{Range}
 use Rattle.acc_batch.specs.declared.operation.Op.TheVariants.{Run}
 use Rattle.acc_batch.specs.declared.task.Block.{Block}
-use Rattle.acc_kernel.specs.Jobs.{Use, no_use, range_of, has_cell, value_in, AreDistinct, HoldReached}
+use Rattle.acc_kernel.specs.Cells.{value_in}
+use Rattle.acc_kernel.specs.Jobs.{Use, no_use, range_of, has_cell, AreDistinct, HoldReached}
 use Rattle.acc_kernel.specs.Jobs as jobs
 use Rattle.acc_kernel.specs.Kernels.{Loop, Reaches, value_after}
 use Rattle.acc_kernel.proofs.Looping.{within, loop_alike, loop_leaves}

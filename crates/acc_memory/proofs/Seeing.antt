@@ -8,8 +8,7 @@ use Rattle.std.proofs.lemmas.Int.{ints}
 use Rattle.std.proofs.lemmas.List.{length-set}
 use Rattle.std.proofs.lemmas.Option.{get_or_from_slice_get, slice_get_within}
 use Rattle.acc_batch.specs.declared.task.Block.{Block}
-use Rattle.acc_kernel.specs.Cells.{with_cell}
-use Rattle.acc_kernel.specs.Jobs.{value_in}
+use Rattle.acc_kernel.specs.Cells.{with_cell, value_in}
 use Rattle.acc_kernel.proofs.Looping.{within}
 use Rattle.acc_kernel.proofs.Rowing.{value_in-set}
 use Rattle.acc_memory.specs.Blocks.{row_of}
@@ -62,16 +61,14 @@ pub block_for_is : (blocks : List Block) (places : List ℕ) (array i : ℕ) (b 
     → block_for blocks places array ≡ Some b
 block_for_is blocks places array i b e f same = rw (e, f, eq-eqb b.range.array array same) refl
 
--- ## A cell that is written
+-- ## A block that is replaced by one alike
 
--- the block with one cell written
-pub record IsWritten (n : ℕ) (value : ℤ) (old new : Block) : Type 0 where
+pub record IsAlike (old new : Block) : Type 0 where
   pub block : new.block ≡ old.block
   pub range : new.range ≡ old.range
-  pub cells : new.cells ≡ set old.cells n value
+  pub size : length new.cells ≡ length old.cells
 
-module _ (blocks : List Block) (places : List ℕ) (array : ℕ) (cell value : ℤ) (n : ℕ) (s : Spot blocks places array cell) (y : Block)
-    (at : cell -ℤ pos s.block.range.lo ≡ pos n) (w : IsWritten n value s.block y) where
+module _ (blocks : List Block) (places : List ℕ) (array : ℕ) (cell : ℤ) (s : Spot blocks places array cell) (y : Block) (w : IsAlike s.block y) where
   own_block : block_for (set blocks s.place y) places array ≡ Some y
   own_block =
       block_for_is (set blocks s.place y) places array s.place y s.at_array (slice_get-set_same blocks s.place y (slice_get_within blocks s.place s.block s.at_place))
@@ -96,34 +93,31 @@ module _ (blocks : List Block) (places : List ℕ) (array : ℕ) (cell value : �
   has_one a c = elim (cases_eq a array) [
     | inl same ↦
         let old : block_for blocks places array ≡ Some s.block = block_for_is blocks places array s.place s.block s.at_array s.at_place s.same_array in
-        let size : length y.cells ≡ length s.block.cells = ap length w.cells ∙ length-set s.block.cells n value in
-        rw (same, own_block, old, size, w.range) refl
+        rw (same, own_block, old, w.size, w.range) refl
     | inr other ↦ ap (λ o. has_at o c) (other_block a other)
   ]
 
-  own_cell : (c : ℤ) → value_in y.cells (c -ℤ pos y.range.lo) ≡ (if int_eq cell c then value else value_in s.block.cells (c -ℤ pos s.block.range.lo))
-  own_cell c =
-      let low : n < length s.block.cells = (let long = s.long in let high = s.high in omega (arith, ints)) in
-      rw (w.cells, w.range) (value_in-set s.block.cells n s.block.range.lo cell c value low at)
+  pub alike_has : is_seen (set blocks s.place y) places ≡ is_seen blocks places
+  alike_has = fun_ext (λ (a : ℕ). fun_ext (λ (c : ℤ). has_one a c))
 
-  cell_one : (a : ℕ) (c : ℤ) → seen_in (set blocks s.place y) places a c ≡ with_cell (seen_in blocks places) array cell value a c
-  cell_one a c = elim (cases_eq a array) [
-    | inl same ↦
-        let old : block_for blocks places array ≡ Some s.block = block_for_is blocks places array s.place s.block s.at_array s.at_place s.same_array in
-        rw (same, own_block, old, eq-eqb array array refl) (own_cell c)
-    | inr other ↦ rw (ne_eqb array a (λ e. other (sym e))) (ap (λ o. cell_at o c) (other_block a other))
-  ]
+  -- where the block's own cells change as the array's are to change, the cells change so
+  pub alike_cells : (test : ℤ → Bool) (value : ℤ → ℤ)
+      → ((c : ℤ) → value_in y.cells (c -ℤ pos y.range.lo) ≡ (if test c then value c else value_in s.block.cells (c -ℤ pos s.block.range.lo)))
+      → seen_in (set blocks s.place y) places ≡ (λ a c. if (array == a) && test c then value c else seen_in blocks places a c)
+  alike_cells test value own = fun_ext (λ (a : ℕ). fun_ext (λ (c : ℤ). at a c))
+    where
+      at : (a : ℕ) (c : ℤ) → seen_in (set blocks s.place y) places a c ≡ (if (array == a) && test c then value c else seen_in blocks places a c)
+      at a c = elim (cases_eq a array) [
+        | inl same ↦
+            let old : block_for blocks places array ≡ Some s.block = block_for_is blocks places array s.place s.block s.at_array s.at_place s.same_array in
+            rw (same, own_block, old, eq-eqb array array refl) (own c)
+        | inr other ↦ rw (ne_eqb array a (λ e. other (sym e))) (ap (λ o. cell_at o c) (other_block a other))
+      ]
 
-  pub write_has : is_seen (set blocks s.place y) places ≡ is_seen blocks places
-  write_has = fun_ext (λ (a : ℕ). fun_ext (λ (c : ℤ). has_one a c))
-
-  pub write_cells : seen_in (set blocks s.place y) places ≡ with_cell (seen_in blocks places) array cell value
-  write_cells = fun_ext (λ (a : ℕ). fun_ext (λ (c : ℤ). cell_one a c))
-
-  pub write_keeps : KeepsBlocks places blocks (set blocks s.place y)
-  write_keeps = record {
+  pub alike_keeps : KeepsBlocks places blocks (set blocks s.place y)
+  alike_keeps = record {
     made = map-set_like (λ (b : Block). made_of (row_of b)) blocks s.place s.block y s.at_place (rw (w.block, w.range) refl);
-    lengths = map-set_like (λ (b : Block). length b.cells) blocks s.place s.block y s.at_place (ap length w.cells ∙ length-set s.block.cells n value);
+    lengths = map-set_like (λ (b : Block). length b.cells) blocks s.place s.block y s.at_place w.size;
     unseen = λ i b here apart.
         slice_get-set_other blocks s.place y i (λ same. apart (is_mine i b here same)) ∙ here;
   }
@@ -133,6 +127,14 @@ module _ (blocks : List Block) (places : List ℕ) (array : ℕ) (cell value : �
           let both : Some b ≡ Some s.block = sym here ∙ (ap (slice_get blocks) same ∙ s.at_place) in
           let is : b ≡ s.block = cc in
           ap (λ (k : Block). slice_get places k.range.array) is ∙ (ap (slice_get places) s.same_array ∙ (s.at_array ∙ ap Some (sym same)))
+
+-- ## A cell that is written
+
+-- the block with one cell written
+pub record IsWritten (n : ℕ) (value : ℤ) (old new : Block) : Type 0 where
+  pub block : new.block ≡ old.block
+  pub range : new.range ≡ old.range
+  pub cells : new.cells ≡ set old.cells n value
 
 -- what writing a cell that is seen changes
 pub record Writes (blocks : List Block) (places : List ℕ) (array : ℕ) (cell value : ℤ) (place : ℕ) (y : Block) : Type 0 where
@@ -149,8 +151,11 @@ writes blocks places array cell value index n x y has same at w =
     let block : get_or blocks (get_or places index 0) x ≡ s.block = ap (λ i. get_or blocks i x) place ∙ get_or_from_slice_get blocks s.place s.block x s.at_place in
     let there : cell -ℤ pos s.block.range.lo ≡ pos n = ap (λ (b : Block). cell -ℤ pos b.range.lo) (sym block) ∙ at in
     let written : IsWritten n value s.block y = subst (λ (b : Block). IsWritten n value b y) block w in
+    let alike : IsAlike s.block y = record { block = written.block; range = written.range; size = ap length written.cells ∙ length-set s.block.cells n value } in
+    let low : n < length s.block.cells = (let long = s.long in let high = s.high in omega (arith, ints)) in
     subst (λ i. Writes blocks places array cell value i y) (sym place) (record {
-      has = write_has blocks places array cell value n s y there written;
-      cells = write_cells blocks places array cell value n s y there written;
-      keeps = write_keeps blocks places array cell value n s y there written;
+      has = alike_has blocks places array cell s y alike;
+      cells = alike_cells blocks places array cell s y alike (λ c. int_eq cell c) (λ c. value)
+          (λ c. rw (written.cells, written.range) (value_in-set s.block.cells n s.block.range.lo cell c value low there));
+      keeps = alike_keeps blocks places array cell s y alike;
     })

@@ -1,7 +1,8 @@
 -- The blocks of a device as a loop sees them: of each array one block, whose place stands in a table.
 use Rattle.std.specs.Prelude.{◌≡◌, ℕ, ℤ, ◌+◌, ◌<◌, ◌-ℤ◌, pos, ◌==◌, ◌&&◌, int_le, int_lt, Bool, false, List, length, map, slice_get, slice_index_or, Option, Some, None, if◌then◌else◌}
 use Rattle.acc_batch.specs.declared.task.Block.{Block}
-use Rattle.acc_kernel.specs.Jobs.{Use, no_use, value_in}
+use Rattle.acc_kernel.specs.Cells.{value_in}
+use Rattle.acc_kernel.specs.Jobs.{Use, no_use}
 use Rattle.acc_memory.specs.Blocks.{row_of}
 use Rattle.acc_memory.specs.Memories.{Row, made_of, is_whole, place_of}
 

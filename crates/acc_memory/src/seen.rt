@@ -55,6 +55,18 @@ impl<'a> Window for Seen<'a> {
         block.cells.set(at, value);
     }
 
+    fn read(&self, array: u8, first: i64, into: &mut [i64]) {
+        let blocks = &*self.blocks;
+        let block = &blocks[self.places[usize::from(array)]];
+        block.cells.copy_to(distance(first, block.range.lo), into);
+    }
+
+    fn write(&mut self, array: u8, first: i64, values: &[i64]) {
+        let block = &mut self.blocks[self.places[usize::from(array)]];
+        let at = distance(first, block.range.lo);
+        block.cells.copy_from(at, values);
+    }
+
     ghost keeps_itself = { λ w. (refl, refl, record { made = refl; lengths = refl; unseen = λ i b at apart. at }) };
 
     ghost keeps_on = { λ u v w e f. (
