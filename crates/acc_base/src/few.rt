@@ -57,6 +57,10 @@ impl<T> Few<T> {
 
 impl<T: Drop> Few<T> {
     /// Puts an item behind the others. It takes memory where they are two or more.
+    ///
+    /// # Errors
+    ///
+    /// `AllocError` where memory is refused; then the list is as it was.
     pub fn push(&mut self, item: T) -> Result<(), AllocError>
         ensures items { OnOk result (self.new ≡ self.old ++ item ∷ []) }
         ensures kept { OnErr result (self.new ≡ self.old) }

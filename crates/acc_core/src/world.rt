@@ -143,7 +143,7 @@ impl World {
         Ok(replies)
     }
 
-    /// One step for each event, in order, whose replies are dropped. It takes no memory.
+    /// One step for each event, in order, whose replies are dropped. It takes no memory but what the steps take.
     pub fn advance(&mut self, events: &[Event])
         ensures ran { (replies : List Reply) × Ran self.old events.now replies self.new }
     {
