@@ -1,6 +1,7 @@
 -- What a configuration holds, its limits, and the first fault of one that passes them.
-use Rattle.std.specs.Prelude.{ℕ, ℤ, ◌≤◌, Bool, ◌||◌, ◌==◌, nat_lt, List, length, map, All, Option, Some, None, if◌then◌else◌, Vec}
+use Rattle.std.specs.Prelude.{ℕ, ℤ, ◌+◌, ◌≤◌, Bool, false, ◌&&◌, ◌||◌, ◌==◌, nat_lt, nat_le, List, length, map, slice_get, All, Option, Some, None, if◌then◌else◌, Vec}
 use Rattle.std.specs.List.{list_any}
+use Rattle.acc_base.specs.declared.range.Range.{Range}
 use Rattle.acc_base.specs.declared.fault.Fault.{Fault}
 use Rattle.acc_base.specs.declared.fault.Fault.TheVariants.{BadDevice, BadRange, TooMany}
 use Rattle.acc_base.specs.declared.config.TheConstants.{MAX_DEVICES, MAX_HOSTS, MAX_ARRAYS, MAX_CELLS, MAX_CAPACITY, MAX_ROOM}
@@ -27,6 +28,14 @@ pub record IsWithinLimits (c : Configuration) : Type 0 where
   pub cells : All (λ cells. (1 ≤ length cells) × (length cells ≤ MAX_CELLS)) c.arrays
   pub capacity : (1 ≤ c.capacity) × (c.capacity ≤ MAX_CAPACITY)
   pub room : (1 ≤ c.room) × (c.room ≤ MAX_ROOM)
+
+abbrev pub ends_within : Option (List ℤ) → ℕ → Bool
+ends_within None end = false
+ends_within (Some cells) end = nat_le end (length cells)
+
+-- a range has a cell, and lies in its array
+abbrev pub is_in_array : List (List ℤ) → Range → Bool
+is_in_array arrays r = nat_lt 0 r.len && ends_within (slice_get arrays r.array) (r.lo + r.len)
 
 -- a number is not one of 1 to the limit
 abbrev pub is_outside : ℕ → ℕ → Bool

@@ -52,4 +52,11 @@ impl<T: Drop> Boxed<T> {
             Err(_) => Err(Fault::Memory),
         }
     }
+
+    /// Puts another value there, in place of the one before.
+    pub fn set(&mut self, value: T)
+        ensures { self.new ≡ value }
+    {
+        *self.inner = value;
+    }
 }

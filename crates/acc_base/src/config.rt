@@ -1,9 +1,10 @@
 ghost use Rattle.std.specs.Prelude.{◌≡◌, ◌<◌, ◌&&◌, ◌==◌, nat_lt, IfOk, OnOk, IfErr, length, None, Some, slice_get};
 ghost use Rattle.std.specs.List.{list_any};
-ghost use Rattle.acc_base.specs.Configurations.{configuration, rows, fault_of, passes_a_limit, is_outside, has_long_array, has_empty_array, IsWithinLimits};
+ghost use Rattle.acc_base.specs.Configurations.{configuration, rows, fault_of, passes_a_limit, is_outside, has_long_array, has_empty_array, is_in_array, IsWithinLimits};
 
 use crate::fault::Fault;
 use crate::ids::{DeviceId, HostId, QUEUES, QueueAt};
+use crate::range::Range;
 use std::marker::Model;
 
 /// The most devices of a configuration; it has at least one.
@@ -155,6 +156,16 @@ impl Config {
         ensures { result ≡ nat_lt array (length self.now.arrays) }
     {
         usize::from(array) < self.arrays.len()
+    }
+
+    /// Whether a range has a cell, and lies in its array.
+    pub fn is_in_array(&self, range: Range) -> bool
+        ensures { result ≡ is_in_array self.now.arrays range }
+    {
+        if range.len == 0 || !self.has_array(range.array) {
+            return false;
+        }
+        range.end() <= self.array(range.array).len() as u64
     }
 }
 

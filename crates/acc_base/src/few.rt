@@ -1,4 +1,4 @@
-ghost use Rattle.std.specs.Prelude.{◌≡◌, [], ◌∷◌, ◌++◌, IfOk, IfErr, IfSome, IfNone, OnOk, OnErr};
+ghost use Rattle.std.specs.Prelude.{◌≡◌, [], ◌∷◌, ◌++◌, ◌<◌, length, IfOk, IfErr, IfSome, IfNone, OnOk, OnErr};
 ghost use Rattle.acc_base.specs.Lists.{items_of};
 
 use crate::fault::Fault;
@@ -103,6 +103,7 @@ impl<T: Copy> Few<T> {
     /// `Memory` where memory is refused.
     pub fn from_slice(alloc: Global, items: &[T]) -> Result<Self, Fault>
         ensures items { IfOk result (λ f. f ≡ items.now) }
+        ensures missing { OnErr result (2 < length items.now) }
         ensures fault { IfErr result (λ f. f ≡ fault.Memory) }
     {
         let form = match items {
@@ -125,6 +126,7 @@ impl<T: Copy> Few<T> {
     /// `Memory` where memory is refused.
     pub fn try_clone(&self) -> Result<Self, Fault>
         ensures equal { IfOk result (λ f. f ≡ self.now) }
+        ensures missing { OnErr result (2 < length self.now) }
         ensures fault { IfErr result (λ f. f ≡ fault.Memory) }
     {
         Few::from_slice(self.alloc, self.as_slice())

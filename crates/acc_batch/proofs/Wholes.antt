@@ -1,5 +1,5 @@
 -- How many batches end within the first operations.
-use Rattle.std.proofs.Common.{inl, inr, ◌≡◌, ℕ, zero, suc, ◌+◌, ◌-◌, ◌<◌, ◌≤◌, true, false, cond, List, [], ◌∷◌, ◌++◌, length, take, refl, arith}
+use Rattle.std.proofs.Common.{inl, inr, ◌≡◌, ℕ, zero, suc, ◌+◌, ◌-◌, ◌<◌, ◌≤◌, true, false, cond, List, [], ◌∷◌, ◌++◌, length, take, refl, ap, ◌∙◌, arith}
 use Rattle.std.specs.Prelude.{All, nat_le}
 use Rattle.std.proofs.lemmas.Bool.{cases_Bool, leb-true, le-leb, lt-leb}
 use Rattle.std.proofs.lemmas.List.{length-append}
@@ -59,3 +59,13 @@ none_whole l later n h = rw (lt-leb (length l.ops) n h) refl
 pub none_begun : (later : List Label) → All (λ (l : Label). 0 < length l.ops) later → whole later 0 ≡ 0
 none_begun [] h = refl
 none_begun (l ∷ later) h = none_whole l later 0 (All-head (λ (l : Label). 0 < length l.ops) l later h)
+
+-- what is performed of the first batches counts these alone, where each batch behind them has an operation
+pub whole_taken : (ls more : List Label) (n : ℕ) → n ≤ length (ops_of ls) → All (λ (l : Label). 0 < length l.ops) more → whole (ls ++ more) n ≡ whole ls n
+whole_taken [] more n low h =
+    let none : n ≡ 0 = omega (arith, low) in
+    ap (whole more) none ∙ none_begun more h
+whole_taken (l ∷ ls) more n low h =
+    let ih = whole_taken ls more (n - length l.ops) (omega (arith, low, length-append l.ops (ops_of ls))) h in
+    elim (nat_le (length l.ops) n) as (λ v. cond v (1 + whole (ls ++ more) (n - length l.ops)) 0 ≡ cond v (1 + whole ls (n - length l.ops)) 0)
+    [ true ↦ omega (arith, ih) | false ↦ refl ]

@@ -13,6 +13,8 @@ HasItsCells (op.CopyIn b r) = Unit {0}
 HasItsCells (op.CopyOut b r) = Unit {0}
 HasItsCells (op.Release b) = Unit {0}
 HasItsCells (op.Run k uses) = AreDistinct uses × HoldReached k uses
+HasItsCells (op.Await q n) = Unit {0}
+HasItsCells op.Close = Unit {0}
 
 -- the operation that a task performs
 abbrev pub op_of : Task → Op
@@ -21,6 +23,8 @@ op_of (task.CopyIn b r) = op.CopyIn b r
 op_of (task.CopyOut b r) = op.CopyOut b r
 op_of (task.Release b) = op.Release b
 op_of (task.Run k uses) = op.Run k uses
+op_of (task.Await q n) = op.Await q n
+op_of task.Close = op.Close
 
 abbrev pub ops_in : List Task → List Op
 ops_in tasks = map op_of tasks
@@ -32,6 +36,8 @@ IsReady (task.CopyIn b r) = Unit {0}
 IsReady (task.CopyOut b r) = Unit {0}
 IsReady (task.Release b) = Unit {0}
 IsReady (task.Run k uses) = HasItsCells (op.Run k uses)
+IsReady (task.Await q n) = Unit {0}
+IsReady task.Close = Unit {0}
 
 abbrev pub AllReady : List Task → Type 0
 AllReady [] = Unit {0}

@@ -57,6 +57,13 @@ impl Batch {
         &self.label
     }
 
+    /// Gives the label this number. It changes nothing else, and takes no memory.
+    pub fn renumber(&mut self, number: u64)
+        ensures { self.new ≡ record self.old { number = number } }
+    {
+        self.label.number = number;
+    }
+
     /// Its tasks, in their order.
     pub fn ops(&self) -> &Tasks
         ensures ops { ops_in result.now ≡ self.now.ops }

@@ -3,7 +3,7 @@ ghost use Rattle.std.specs.List.{All};
 ghost use Rattle.acc_base.specs.declared.fault.Fault.TheVariants as fault;
 ghost use Rattle.acc_batch.specs.Tasks.{HasItsCells};
 
-use acc_base::{BlockId, Fault, Few, HostId, Listed, QueueAt, Range, Shared};
+use acc_base::{BlockId, Fault, Few, HostId, Listed, QueueAt, QueueId, Range, Shared};
 use acc_kernel::{Kernel, are_distinct};
 use std::mem::size_of;
 
@@ -34,6 +34,13 @@ pub enum Op {
         kernel: Shared<Kernel>,
         uses: Shared<Listed<(BlockId, Range)>>,
     },
+    /// Waits until the batch with this number is performed on the queue of the same device.
+    Await {
+        queue: QueueId,
+        number: u64,
+    },
+    /// Closes its queue.
+    Close,
 }
 
 /// The plain description of a batch: its queue and its number there, the host that placed it, how many
@@ -63,6 +70,7 @@ impl Op {
                 are_distinct(uses) && kernel.get().is_held_by(uses)
             }
             Op::Make { .. } | Op::CopyIn { .. } | Op::CopyOut { .. } | Op::Release { .. } => true,
+            Op::Await { .. } | Op::Close => true,
         }
     }
 }

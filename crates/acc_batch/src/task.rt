@@ -2,7 +2,7 @@ ghost use Rattle.std.specs.Prelude.{◌≡◌, IfOk, IfErr};
 ghost use Rattle.acc_batch.specs.Tasks.{op_of, HasItsCells, IsReady};
 
 use crate::operation::Op;
-use acc_base::{BlockId, Fault, Listed, Range, Shared};
+use acc_base::{BlockId, Fault, Listed, QueueId, Range, Shared};
 use acc_kernel::Kernel;
 use acc_raw::Cells;
 use std::alloc::Global;
@@ -39,6 +39,11 @@ pub enum Task {
         kernel: Shared<Kernel>,
         uses: Shared<Listed<(BlockId, Range)>>,
     },
+    Await {
+        queue: QueueId,
+        number: u64,
+    },
+    Close,
 }
 
 // A batch moves with two of them.
@@ -82,6 +87,11 @@ impl Task {
                 let uses = uses.try_clone()?;
                 Ok(Task::Run { kernel, uses })
             }
+            Op::Await { queue, number } => Ok(Task::Await {
+                queue: *queue,
+                number: *number,
+            }),
+            Op::Close => Ok(Task::Close),
         }
     }
 
@@ -98,6 +108,8 @@ impl Task {
             Task::CopyOut { block, range } => Op::CopyOut { block, range },
             Task::Release { block } => Op::Release { block },
             Task::Run { kernel, uses } => Op::Run { kernel, uses },
+            Task::Await { queue, number } => Op::Await { queue, number },
+            Task::Close => Op::Close,
         }
     }
 }

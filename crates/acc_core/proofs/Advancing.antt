@@ -6,10 +6,10 @@ use Rattle.acc_batch.specs.declared.operation.Label.{Label}
 use Rattle.acc_core.specs.declared.event.Event.TheVariants as event
 use Rattle.acc_core.specs.declared.log.WorkEntry.TheVariants as entry
 use Rattle.acc_batch.specs.declared.operation.Op.{Op}
-use Rattle.acc_batch.specs.declared.operation.Op.TheVariants.{Make, CopyIn, CopyOut, Release, Run}
+use Rattle.acc_batch.specs.declared.operation.Op.TheVariants.{Make, CopyIn, CopyOut, Release, Run, Await, Close}
 use Rattle.acc_batch.specs.Labels.{on_queue, ops_of, batch_at}
 use Rattle.acc_batch.proofs.Labels.{ops_of-take-le}
-use Rattle.acc_core.specs.Legality.{made}
+use Rattle.acc_batch.specs.Lives.{made}
 use Rattle.acc_core.specs.Logs.{performed, host_allows}
 use Rattle.acc_core.specs.Machine.{State, is_there, perform_step, step, idle, did, with_op}
 use Rattle.acc_core.specs.Ties.{IsAccelerator, Queued, labels_of, performed_count}
@@ -35,6 +35,8 @@ makes_one (CopyIn b r) = omega arith
 makes_one (CopyOut b r) = omega arith
 makes_one (Release b) = omega arith
 makes_one (Run k uses) = omega arith
+makes_one (Await q n) = omega arith
+makes_one Close = omega arith
 
 -- what is in the lane is waiting
 pub lane_waits : (w : State) (v : WorkView) (queue : List Label) (t waiting : ℕ) → Queued w v queue t waiting → length v.lane ≤ waiting

@@ -15,7 +15,7 @@ use Rattle.acc_present.specs.Lifetimes.{Lifetime, opened, live, lives}
 use Rattle.acc_present.proofs.Apart.{Differ, Apart, apart_first, apart_others}
 use Rattle.acc_present.proofs.Numbering.{numbered}
 use Rattle.acc_batch.specs.declared.operation.Op.{Op}
-use Rattle.acc_batch.specs.declared.operation.Op.TheVariants.{Make, CopyIn, CopyOut, Release, Run}
+use Rattle.acc_batch.specs.declared.operation.Op.TheVariants.{Make, CopyIn, CopyOut, Release, Run, Await, Close}
 use Rattle.acc_kernel.specs.Jobs.{Use}
 use Rattle.acc_kernel.specs.Kernels.{Loop, arrays_of}
 use Rattle.acc_place.specs.Implicit.{item_of}
@@ -24,10 +24,9 @@ use Rattle.acc_place.specs.Standings.{Asked, Visit, visits}
 use Rattle.acc_place.specs.declared.directive.Clause.{Clause}
 use Rattle.acc_place.specs.declared.directive.Clause.TheVariants.{Copy, Copyin, Copyout, Create, Present, Delete, UpdateSelf, UpdateDevice}
 use Rattle.acc_place.specs.Batches.{opened_blocks, ended_blocks, holding_blocks, makes, copy_ins, updates, updates_by, use_by, uses_of, runs_by, copy_outs, releases, copies_in, copies_out}
-use Rattle.acc_place.specs.Accepting.{is_in_array}
-use Rattle.acc_core.specs.Legality.{made, released, HoldsBlock}
-use Rattle.acc_memory.specs.Memories.{Made}
-use Rattle.acc_core.proofs.Uses.{made-append, released-append, AllUse, AllUse-append, marked_by, visit_is, visit, made_of, Booked, booked_more, ended_is, held_block_is, is_opened, new_made, new_is_made, live_member}
+use Rattle.acc_base.specs.Configurations.{is_in_array}
+use Rattle.acc_batch.specs.Lives.{made, released, HoldsBlock, AllUse, Made}
+use Rattle.acc_core.proofs.Uses.{made-append, released-append, AllUse-append, marked_by, visit_is, visit, made_of, Booked, booked_more, ended_is, held_block_is, is_opened, new_made, new_is_made, live_member}
 
 -- A block of these was made with a range that has this one, and is none of the released ones.
 pub record HoldsIn (makings : List Made) (gone : List ℕ) (range : Range) (block : ℕ) : Type 0 where
@@ -55,6 +54,8 @@ Copies makings gone (CopyIn b r) = HoldsIn makings gone r b
 Copies makings gone (CopyOut b r) = HoldsIn makings gone r b
 Copies makings gone (Release b) = ⊥
 Copies makings gone (Run k uses) = All (IsUsed makings gone) uses
+Copies makings gone (Await q n) = Unit {0}
+Copies makings gone Close = ⊥
 
 -- an operation that makes no block leaves what was made
 made_same : (before : List Op) (op : Op) (makings : List Made) → made (op ∷ []) ≡ [] → made before ≡ makings → made (before ++ op ∷ []) ≡ makings
@@ -81,6 +82,11 @@ copies_use arrays (Run k uses ∷ ops) before makings gone e f h = (
   holds_uses before makings gone uses e f (All-head (Copies makings gone) (Run k uses) ops h),
   copies_use arrays ops (before ++ Run k uses ∷ []) makings gone (made_same before (Run k uses) makings refl e) (released_same before (Run k uses) gone refl f) (All-tail (Copies makings gone) (Run k uses) ops h),
 )
+copies_use arrays (Await q n ∷ ops) before makings gone e f h = (
+  tt,
+  copies_use arrays ops (before ++ Await q n ∷ []) makings gone (made_same before (Await q n) makings refl e) (released_same before (Await q n) gone refl f) (All-tail (Copies makings gone) (Await q n) ops h),
+)
+copies_use arrays (Close ∷ ops) before makings gone e f h = absurd (All-head (Copies makings gone) Close ops h)
 
 -- a list of such copies makes and releases nothing
 pub no_copy_makes : (ops : List Op) (makings : List Made) (gone : List ℕ) → All (Copies makings gone) ops → (made ops ≡ []) × (released ops ≡ [])
@@ -90,6 +96,8 @@ no_copy_makes (CopyIn b r ∷ ops) makings gone h = no_copy_makes ops makings go
 no_copy_makes (CopyOut b r ∷ ops) makings gone h = no_copy_makes ops makings gone (All-tail (Copies makings gone) (CopyOut b r) ops h)
 no_copy_makes (Release b ∷ ops) makings gone h = absurd (All-head (Copies makings gone) (Release b) ops h)
 no_copy_makes (Run k uses ∷ ops) makings gone h = no_copy_makes ops makings gone (All-tail (Copies makings gone) (Run k uses) ops h)
+no_copy_makes (Await q n ∷ ops) makings gone h = no_copy_makes ops makings gone (All-tail (Copies makings gone) (Await q n) ops h)
+no_copy_makes (Close ∷ ops) makings gone h = absurd (All-head (Copies makings gone) Close ops h)
 
 -- what each member has, all have
 all_from_members : {X : Type 0} (P : X → Type 0) (xs : List X) → ((x : X) → Contains xs x → P x) → All P xs

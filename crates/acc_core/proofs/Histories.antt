@@ -17,13 +17,12 @@ use Rattle.acc_place.specs.declared.directive.PlaceEntry.TheVariants as noted
 use Rattle.acc_place.specs.Standings.{Standing, Asked, Walk, walk_of, Visit, visits, all_visits, marks_after, marks_between, marks_behind}
 use Rattle.acc_place.specs.Batches.{opened_blocks, ended_blocks, makes, copy_ins, runs, updates, copy_outs, releases, grouped, batch_of}
 use Rattle.acc_place.specs.Histories.{AllAccepted, standing, after_walk, at_first}
-use Rattle.acc_core.specs.Legality.{made, released}
-use Rattle.acc_memory.specs.Memories.{Made}
+use Rattle.acc_batch.specs.Lives.{made, released, AllUse, Made}
 use Rattle.acc_batch.specs.Labels.{ops_of, AllAt}
 use Rattle.acc_core.specs.Works.{sync}
 use Rattle.acc_base.proofs.Members.{no_member}
 use Rattle.acc_core.proofs.Queues.{all_at_labelled, ops_of-labelled}
-use Rattle.acc_core.proofs.Uses.{AllUse, made-append, released-append, AllUse-append, marked_by, visit, Booked, booked_more}
+use Rattle.acc_core.proofs.Uses.{made-append, released-append, AllUse-append, marked_by, visit, Booked, booked_more}
 use Rattle.acc_core.proofs.Ends.{asks_of, all_visits_are, marks_behind_are}
 use Rattle.acc_core.proofs.Groups.{Copies, copies_use, no_copy_makes, copies_of, copy_ins_of, run_of, updates_of, copy_outs_of, makings_of, holding_held, visits_hold, AllInArrays, makes_use, made_releases, released_releases, releases_use}
 use Rattle.acc_core.proofs.InArrays.{accepted_fits}

@@ -3,7 +3,7 @@ use Rattle.std.proofs.Common.{◌≡◌, ℕ, ◌<◌, List, [], ◌∷◌, ◌+
 use Rattle.std.specs.Prelude.{not, ℤ}
 use Rattle.std.proofs.lemmas.Bool.{leb-false}
 use Rattle.acc_base.specs.declared.fault.Fault.TheVariants.{BadRange}
-use Rattle.acc_base.specs.Configurations.{Configuration}
+use Rattle.acc_base.specs.Configurations.{Configuration, is_in_array}
 use Rattle.acc_present.specs.declared.change.Change.{Change}
 use Rattle.acc_present.specs.declared.change.Change.TheVariants.{StructuredDown}
 use Rattle.acc_present.specs.Marks.{Mark}
@@ -12,7 +12,7 @@ use Rattle.acc_place.specs.declared.directive.Item.{Item}
 use Rattle.acc_place.specs.declared.directive.Kind.{Kind}
 use Rattle.acc_place.specs.declared.directive.Kind.TheVariants as kind
 use Rattle.acc_place.specs.Standings.{Standing, Asked, all_asked, change_by, ends_by, subject_by, walk_of, visits}
-use Rattle.acc_place.specs.Accepting.{is_in_array, first_fault, fault_where, fault_at, refusal}
+use Rattle.acc_place.specs.Accepting.{first_fault, fault_where, fault_at, refusal}
 use Rattle.acc_place.proofs.Faultless.{first_fault_none, no_fault_at, no_fault_of}
 use Rattle.acc_core.proofs.Ends.{asks_of}
 use Rattle.acc_core.proofs.Uses.{marked_by, visit}

@@ -6,10 +6,11 @@ use Rattle.std.proofs.lemmas.List.{append-nil}
 use Rattle.acc_core.specs.declared.log.WorkEntry.{WorkEntry}
 use Rattle.acc_core.specs.declared.log.WorkEntry.TheVariants as entry
 use Rattle.acc_batch.specs.declared.operation.Op.{Op}
-use Rattle.acc_batch.specs.declared.operation.Op.TheVariants.{Make, CopyIn, CopyOut, Release, Run}
-use Rattle.acc_core.specs.Legality.{made, released, UsesLive, AllLive}
+use Rattle.acc_batch.specs.declared.operation.Op.TheVariants.{Make, CopyIn, CopyOut, Release, Run, Await, Close}
+use Rattle.acc_core.specs.Legality.{AllLive}
+use Rattle.acc_batch.specs.Lives.{made, released, UsesLive, Made}
 use Rattle.acc_core.specs.Logs.{device_ops}
-use Rattle.acc_memory.specs.Memories.{Made, blocks_after}
+use Rattle.acc_memory.specs.Memories.{blocks_after}
 use Rattle.acc_memory.proofs.HeldBlocks.{Held, held_first, held_make, held_release}
 use Rattle.acc_core.specs.Ties.{blocks_by, blocks_in}
 use Rattle.acc_core.proofs.Uses.{made-append, released-append}
@@ -34,6 +35,10 @@ held_after arrays ops bs (Release b) h u =
     (held_release (made ops) (released ops) bs b h)
 held_after arrays ops bs (Run k uses) h u =
     rw (made-append ops (Run k uses ∷ []), released-append ops (Run k uses ∷ []), append-nil (made ops), append-nil (released ops)) h
+held_after arrays ops bs (Await q n) h u =
+    rw (made-append ops (Await q n ∷ []), released-append ops (Await q n ∷ []), append-nil (made ops), append-nil (released ops)) h
+held_after arrays ops bs Close h u =
+    rw (made-append ops (Close ∷ []), released-append ops (Close ∷ []), append-nil (made ops), append-nil (released ops)) h
 
 -- So it is after each log whose operations use live blocks.
 pub held_in : (arrays : List (List ℤ)) (work : List WorkEntry) → AllLive arrays work → Held (made (device_ops 0 work)) (released (device_ops 0 work)) (blocks_in work)

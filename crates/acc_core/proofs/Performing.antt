@@ -10,7 +10,8 @@ use Rattle.acc_core.specs.declared.log.WorkEntry.TheVariants as entry
 use Rattle.acc_batch.specs.declared.operation.Label.{Label}
 use Rattle.acc_batch.specs.declared.operation.Op.{Op}
 use Rattle.acc_batch.specs.Labels.{on_queue, ops_of, AllAt}
-use Rattle.acc_core.specs.Legality.{Legal, IsPrefix, InOrder, UsesLive}
+use Rattle.acc_core.specs.Legality.{Legal, IsPrefix, InOrder}
+use Rattle.acc_batch.specs.Lives.{UsesLive, AllUse}
 use Rattle.acc_core.specs.Logs.{performed, device_ops}
 use Rattle.acc_core.specs.Machine.{State, standing_of, taken_on, rest}
 use Rattle.acc_core.specs.Works.{sync}
@@ -20,7 +21,6 @@ use Rattle.acc_batch.proofs.Labels.{ops_of_all, no_rest}
 use Rattle.acc_batch.proofs.NextOperation.{NextOp, next_in}
 use Rattle.acc_batch.proofs.OneQueue.{on_queue_all, on_queue_none}
 use Rattle.acc_core.proofs.Queues.{NoneElsewhere, none_elsewhere, device_ops_is}
-use Rattle.acc_core.proofs.Uses.{AllUse}
 
 -- what isn't performed of the first batches begins with the next operation of all of them
 next_of_taken : (labels : List Label) (taken : ℕ) (done : List Op) (op : Op) (ops : List Op) → IsPrefix done (ops_of labels) → drop (length done) (ops_of (take taken labels)) ≡ op ∷ ops → NextOp done op (ops_of labels)

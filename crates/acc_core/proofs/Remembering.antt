@@ -8,13 +8,14 @@ use Rattle.std.proofs.lemmas.List.Filters.{length-filter_both}
 use Rattle.acc_base.specs.declared.range.Range.{Range}
 use Rattle.acc_core.specs.declared.log.Shown.{Shown}
 use Rattle.acc_batch.specs.declared.operation.Op.{Op}
-use Rattle.acc_batch.specs.declared.operation.Op.TheVariants.{Make, CopyIn, CopyOut, Release, Run}
-use Rattle.acc_place.specs.Accepting.{ends_within, is_in_array}
-use Rattle.acc_core.specs.Legality.{made, UsesLive, AllLive, HoldsBlock}
+use Rattle.acc_batch.specs.declared.operation.Op.TheVariants.{Make, CopyIn, CopyOut, Release, Run, Await, Close}
+use Rattle.acc_base.specs.Configurations.{ends_within, is_in_array}
+use Rattle.acc_core.specs.Legality.{AllLive}
+use Rattle.acc_batch.specs.Lives.{made, UsesLive, HoldsBlock, Made}
 use Rattle.acc_core.specs.Logs.{device_ops, value}
 use Rattle.acc_core.specs.Machine.{State, with_op, with_item}
 use Rattle.acc_kernel.specs.Jobs.{Use}
-use Rattle.acc_memory.specs.Memories.{Made, MemoryView, rows_on, room_on, held_blocks, blocks_after, lengths_of, HasRange, reaches, ends_in, has_array, find_block, MayPerform}
+use Rattle.acc_memory.specs.Memories.{MemoryView, rows_on, room_on, held_blocks, blocks_after, lengths_of, HasRange, reaches, ends_in, has_array, find_block, MayPerform}
 use Rattle.acc_memory.proofs.Showing.{length_held}
 use Rattle.acc_core.specs.Ties.{Remembers}
 use Rattle.acc_core.specs.Works.{WorkView, HasPerformed, HasShown, sync}
@@ -75,6 +76,8 @@ may_perform w v (CopyOut b r) m live u room = range_of_block w v b r m live u
 may_perform w v (Release b) m live u room = live_block w v b u.0 m live u.1
 may_perform w v (Run k uses) m live u room =
     All-weaker (λ (x : Use). HoldsBlock (device_ops 0 w.work) x.0 x.1) (λ (x : Use). HasRange (held_blocks v.memory 0) x.0 x.1) (λ x h. range_of_block w v x.0 x.1 m live h) uses u
+may_perform w v (Await q n) m live u room = tt
+may_perform w v Close m live u room = tt
 
 -- An operation adds no more blocks than it makes.
 pub length_blocks : (op : Op) (bs : List Made) → length (blocks_after op bs) ≤ length bs + length (made (op ∷ []))
@@ -86,6 +89,8 @@ length_blocks (Make b r) bs =
 length_blocks (CopyIn b r) bs = omega arith
 length_blocks (CopyOut b r) bs = omega arith
 length_blocks (Run k uses) bs = omega arith
+length_blocks (Await q n) bs = omega arith
+length_blocks Close bs = omega arith
 length_blocks (Release b) bs =
     let both : length (filter (λ (k : Made). k.block == b) bs) + length (filter (λ (k : Made). not (k.block == b)) bs) ≡ length bs = length-filter_both (λ k. k.block == b) (λ k. not (k.block == b)) (λ k. refl) bs in
     omega (arith, both)

@@ -15,16 +15,10 @@ use Rattle.acc_present.proofs.Apart.{apart_same}
 use Rattle.acc_present.proofs.Lasting.{lives_before, ended_inside}
 use Rattle.acc_present.proofs.Numbering.{numbered, opened_one}
 use Rattle.acc_batch.specs.declared.operation.Op.{Op}
-use Rattle.acc_batch.specs.declared.operation.Op.TheVariants.{Make, CopyIn, CopyOut, Release, Run}
+use Rattle.acc_batch.specs.declared.operation.Op.TheVariants.{Make, CopyIn, CopyOut, Release, Run, Await, Close}
 use Rattle.acc_place.specs.Standings.{Asked, Visit, made_by, one_mark, marked}
 use Rattle.acc_place.specs.Batches.{ended_blocks, found_block, holding_blocks, makes}
-use Rattle.acc_core.specs.Legality.{made, released, UsesLive}
-use Rattle.acc_memory.specs.Memories.{Made}
-
--- These operations, in order behind those before, each use live blocks.
-abbrev pub AllUse : List (List ℤ) → List Op → List Op → Type 0
-AllUse arrays before [] = Unit {0}
-AllUse arrays before (op ∷ ops) = UsesLive arrays op before × AllUse arrays (before ++ op ∷ []) ops
+use Rattle.acc_batch.specs.Lives.{made, released, UsesLive, AllUse, Made}
 
 -- what two lists of operations made
 pub made-append : (xs ys : List Op) → made (xs ++ ys) ≡ made xs ++ made ys
@@ -34,6 +28,8 @@ made-append (CopyIn b r ∷ xs) ys = made-append xs ys
 made-append (CopyOut b r ∷ xs) ys = made-append xs ys
 made-append (Release b ∷ xs) ys = made-append xs ys
 made-append (Run k uses ∷ xs) ys = made-append xs ys
+made-append (Await q n ∷ xs) ys = made-append xs ys
+made-append (Close ∷ xs) ys = made-append xs ys
 
 -- and what they released
 pub released-append : (xs ys : List Op) → released (xs ++ ys) ≡ released xs ++ released ys
@@ -43,6 +39,8 @@ released-append (CopyIn b r ∷ xs) ys = released-append xs ys
 released-append (CopyOut b r ∷ xs) ys = released-append xs ys
 released-append (Release b ∷ xs) ys = ap (λ bs. b ∷ bs) (released-append xs ys)
 released-append (Run k uses ∷ xs) ys = released-append xs ys
+released-append (Await q n ∷ xs) ys = released-append xs ys
+released-append (Close ∷ xs) ys = released-append xs ys
 
 -- two lists of operations use live blocks where each does in its place
 pub AllUse-append : (arrays : List (List ℤ)) (before xs ys : List Op) → AllUse arrays before xs → AllUse arrays (before ++ xs) ys → AllUse arrays before (xs ++ ys)

@@ -10,7 +10,8 @@ use Rattle.acc_core.specs.declared.log.Shown.{Shown}
 use Rattle.acc_core.specs.declared.log.Shown.TheVariants.{Print}
 use Rattle.acc_core.specs.declared.log.TheConstants.{MAX_HOST_ITEMS}
 use Rattle.acc_core.specs.declared.log.WorkEntry.{WorkEntry}
-use Rattle.acc_place.specs.Accepting.{refusal, is_in_array}
+use Rattle.acc_place.specs.Accepting.{refusal}
+use Rattle.acc_base.specs.Configurations.{is_in_array}
 use Rattle.acc_place.specs.Batches.{answer_of}
 use Rattle.acc_core.specs.Logs.{items_of, all_items, value}
 use Rattle.acc_memory.specs.Values.{values_of}

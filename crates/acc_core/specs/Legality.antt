@@ -1,9 +1,7 @@
 -- What holds of the histories after any list of events (OpenACC API 3.0, 2.16, Asynchronous Behavior).
 use Rattle.std.specs.Prelude.{◌≡◌, ◌↔◌, ℕ, ◌+◌, ◌-◌, ◌≤◌, ◌==◌, IsTrue, List, [], ◌∷◌, ◌++◌, length, map, take, drop, slice_index_or, All, Contains, ℤ}
 use Rattle.acc_base.specs.declared.ids.QueueAt.{QueueAt}
-use Rattle.acc_base.specs.declared.range.Range.{Range}
 use Rattle.acc_base.specs.Configurations.{Configuration}
-use Rattle.acc_base.specs.Ranges.{Includes}
 use Rattle.acc_place.specs.declared.directive.Directive.{Directive}
 use Rattle.acc_place.specs.declared.directive.Placed.{Placed}
 use Rattle.acc_place.specs.declared.directive.PlaceEntry.{PlaceEntry}
@@ -16,14 +14,11 @@ use Rattle.acc_core.specs.declared.log.WorkEntry.{WorkEntry}
 use Rattle.acc_core.specs.declared.log.WorkEntry.TheVariants as entry
 use Rattle.acc_batch.specs.declared.operation.Label.{Label}
 use Rattle.acc_batch.specs.declared.operation.Op.{Op}
-use Rattle.acc_batch.specs.declared.operation.Op.TheVariants.{Make, CopyIn, CopyOut, Release, Run}
 use Rattle.acc_core.specs.declared.program.Host.{Host}
-use Rattle.acc_place.specs.Accepting.{is_in_array}
 use Rattle.acc_place.specs.Batches.{answer_of}
 use Rattle.acc_place.specs.Histories.{AllAccepted, standing}
+use Rattle.acc_batch.specs.Lives.{UsesLive}
 use Rattle.acc_batch.specs.Labels.{on_queue, ops_of, batch_at, whole}
-use Rattle.acc_kernel.specs.Jobs.{Use}
-use Rattle.acc_memory.specs.Memories.{Made}
 use Rattle.acc_memory.specs.Values.{values_of}
 use Rattle.acc_core.specs.Logs.{one_more, performed, device_ops, value, all_done, host_allows}
 use Rattle.acc_core.specs.Machine.{State, standing_of, Runs}
@@ -50,38 +45,6 @@ InHostOrder opening labels (entry.Op at op ∷ before) =
     IsTrue (host_allows (batch_at (on_queue at labels) (length (performed at before))) before) × InHostOrder opening labels before
 InHostOrder opening labels (entry.Item host shown ∷ before) =
     ShowsTruth opening labels shown before × InHostOrder opening labels before
-
--- the blocks that were made, with their ranges, and those that were released
-abbrev pub made : List Op → List Made
-made [] = []
-made (Make b r ∷ ops) = record { block = b; range = r } ∷ made ops
-made (CopyIn b r ∷ ops) = made ops
-made (CopyOut b r ∷ ops) = made ops
-made (Release b ∷ ops) = made ops
-made (Run k uses ∷ ops) = made ops
-
-abbrev pub released : List Op → List ℕ
-released [] = []
-released (Make b r ∷ ops) = released ops
-released (CopyIn b r ∷ ops) = released ops
-released (CopyOut b r ∷ ops) = released ops
-released (Release b ∷ ops) = b ∷ released ops
-released (Run k uses ∷ ops) = released ops
-
--- A block was made and not released, and the range lies in its range.
-pub record HoldsBlock (before : List Op) (block : ℕ) (range : Range) : Type 0 where
-  pub whole_range : Range
-  pub is_made : Contains (made before) (record { block = block; range = whole_range })
-  pub not_released : ¬ Contains (released before) block
-  pub inside : Includes whole_range range
-
--- An operation of a device uses live blocks, where these operations came before it.
-abbrev pub UsesLive : List (List ℤ) → Op → List Op → Type 0
-UsesLive arrays (Make b r) before = ¬ Contains (map (λ m. m.block) (made before)) b × IsTrue (is_in_array arrays r)
-UsesLive arrays (CopyIn b r) before = HoldsBlock before b r
-UsesLive arrays (CopyOut b r) before = HoldsBlock before b r
-UsesLive arrays (Release b) before = (r : Range) × HoldsBlock before b r
-UsesLive arrays (Run k uses) before = All (λ (u : Use). HoldsBlock before u.0 u.1) uses
 
 abbrev pub AllLive : List (List ℤ) → List WorkEntry → Type 0
 AllLive arrays [] = Unit {0}

@@ -10,7 +10,8 @@ use Rattle.acc_core.specs.Legality.{Legal}
 use Rattle.acc_core.specs.Logs.{performed, device_ops, value, all_items}
 use Rattle.acc_core.specs.declared.log.TheConstants.{MAX_HOST_ITEMS}
 use Rattle.acc_core.specs.Machine.{State, standing_of}
-use Rattle.acc_memory.specs.Memories.{Made, Shows, rows_on, room_on, held_blocks, blocks_after, lengths_of}
+use Rattle.acc_memory.specs.Memories.{Shows, rows_on, room_on, held_blocks, blocks_after, lengths_of}
+use Rattle.acc_batch.specs.Lives.{Made}
 use Rattle.acc_place.specs.Plans.{PlaceView}
 use Rattle.acc_core.specs.Works.{WorkView, sync}
 

@@ -1,7 +1,7 @@
 ghost use Rattle.std.specs.Prelude.{reverse, ◌≡◌, ◌+◌, ◌<◌, ◌≤◌, [], length, IfOk, IfErr, OnSome, true, false, slice_get, ◌^◌};
 ghost use Rattle.acc_base.specs.declared.config.TheConstants.{MAX_HOSTS};
 ghost use Rattle.acc_base.specs.declared.ids.TheConstants.{QUEUES};
-ghost use Rattle.acc_place.specs.Accepting.{is_in_array};
+ghost use Rattle.acc_base.specs.Configurations.{is_in_array};
 ghost use Rattle.acc_place.specs.Places.{is_synchronous};
 ghost use Rattle.acc_core.specs.Answers.{Places, ItemAnswers, PrintAnswers};
 ghost use Rattle.acc_batch.specs.Labels.{on_queue, ops_of};
@@ -18,7 +18,7 @@ use crate::totals::Totals;
 use crate::work::{Work, sync_queue};
 use acc_base::{Config, DeviceId, Fault, HostId, QueueAt, QueueId, Range, Shared};
 use acc_batch::Batch;
-use acc_place::{Directive, Place, PlaceEntry, Placed, is_in_array};
+use acc_place::{Directive, Place, PlaceEntry, Placed};
 use acc_present::Entry;
 use std::alloc::Global;
 use std::collections::VecDeque;
@@ -119,7 +119,7 @@ impl Accelerator {
             len: 1,
         };
         self.work.spare_item(self.waiting)?;
-        if !is_in_array(self.place.config(), range) {
+        if !self.place.config().is_in_array(range) {
             return Err(Fault::BadRange);
         }
         self.work.write(host, array, cell, value);
@@ -136,7 +136,7 @@ impl Accelerator {
         ensures { PrintAnswers self.old host range result self.new }
     {
         self.work.spare_item(self.waiting)?;
-        if !is_in_array(self.place.config(), range) {
+        if !self.place.config().is_in_array(range) {
             return Err(Fault::BadRange);
         }
         self.work.print(host, range)

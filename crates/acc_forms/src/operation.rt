@@ -1,4 +1,4 @@
-use acc_base::{BlockId, Range};
+use acc_base::{BlockId, QueueId, Range};
 use acc_batch::{Op, Task};
 
 /// What a table says of an operation: of a loop, how many ranges it uses, and the first two with their blocks.
@@ -24,6 +24,11 @@ pub enum Operation {
         first: Option<(BlockId, Range)>,
         second: Option<(BlockId, Range)>,
     },
+    Await {
+        queue: QueueId,
+        number: u64,
+    },
+    Close,
 }
 
 pub fn make(block: u64, range: Range) -> Operation {
@@ -84,6 +89,11 @@ pub fn operation_of(op: &Op) -> Operation {
         },
         Op::Release { block } => Operation::Release { block: *block },
         Op::Run { uses, .. } => run(uses.get().as_slice()),
+        Op::Await { queue, number } => Operation::Await {
+            queue: *queue,
+            number: *number,
+        },
+        Op::Close => Operation::Close,
     }
 }
 
@@ -104,5 +114,10 @@ pub fn performed_by(task: &Task) -> Operation {
         },
         Task::Release { block } => Operation::Release { block: *block },
         Task::Run { uses, .. } => run(uses.get().as_slice()),
+        Task::Await { queue, number } => Operation::Await {
+            queue: *queue,
+            number: *number,
+        },
+        Task::Close => Operation::Close,
     }
 }

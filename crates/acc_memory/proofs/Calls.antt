@@ -11,7 +11,8 @@ use Rattle.acc_batch.specs.declared.task.Block.{Block}
 use Rattle.acc_batch.specs.declared.operation.Op.{Op}
 use Rattle.acc_batch.specs.declared.operation.Op.TheVariants.{Make, CopyIn, Release}
 use Rattle.acc_memory.specs.Blocks.{row_of}
-use Rattle.acc_memory.specs.Memories.{Row, Made, ShowsRows, ShowsArray, blocks_after, find_row, find_block, made_of, place_of, is_whole, IsMemory, HasRange, IsCopy}
+use Rattle.acc_memory.specs.Memories.{Row, ShowsRows, ShowsArray, blocks_after, find_row, find_block, made_of, place_of, is_whole, IsMemory, HasRange, IsCopy}
+use Rattle.acc_batch.specs.Lives.{Made}
 use Rattle.acc_memory.specs.Values.{Cell, after_op}
 use Rattle.acc_memory.proofs.Effects.{HoldsRow, shows_make, shows_copy_in, shows_release}
 use Rattle.acc_memory.proofs.Rows.{row_there, no_row, place_of-found, place_of-within, find_row-insert, find_row-set, find_row-remove, find_row-name, made-insert, made-remove, map-set_like, list_all-at, IsMemory-insert, IsMemory-set, IsMemory-remove}

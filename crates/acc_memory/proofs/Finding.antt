@@ -4,7 +4,8 @@ use Rattle.std.specs.Prelude.{not, filter, nat_lt, ◌==◌}
 use Rattle.std.specs.Option.{option_or}
 use Rattle.std.proofs.lemmas.Bool.{cases_Bool, eqb-true, eq-eqb, ne_eqb, le-ltb}
 use Rattle.std.proofs.lemmas.List.Folds.{find-append}
-use Rattle.acc_memory.specs.Memories.{Made, block_placed_in, find_block}
+use Rattle.acc_memory.specs.Memories.{block_placed_in, find_block}
+use Rattle.acc_batch.specs.Lives.{Made}
 
 -- one value behind a test, or else behind its contrary, is that value
 either_way : (t : Bool) (o : Option Made) → option_or (cond t o None) (cond (not t) o None) ≡ o

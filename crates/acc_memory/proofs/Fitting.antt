@@ -5,8 +5,9 @@ use Rattle.std.proofs.lemmas.Bool.{cases_Bool, cases_eq, le-leb, leb-true}
 use Rattle.std.proofs.lemmas.List.Elements.{All-cons, All-append, All-filter, All-head, All-tail}
 use Rattle.acc_base.specs.declared.range.Range.{Range}
 use Rattle.acc_batch.specs.declared.operation.Op.{Op}
-use Rattle.acc_batch.specs.declared.operation.Op.TheVariants.{Make, CopyIn, CopyOut, Release, Run}
-use Rattle.acc_memory.specs.Memories.{Made, MemoryView, AllFit, HasRange, PerformsOn, reaches, ends_in, has_array, lengths_of, held_blocks, blocks_after, find_block}
+use Rattle.acc_batch.specs.declared.operation.Op.TheVariants.{Make, CopyIn, CopyOut, Release, Run, Await, Close}
+use Rattle.acc_memory.specs.Memories.{MemoryView, AllFit, HasRange, PerformsOn, reaches, ends_in, has_array, lengths_of, held_blocks, blocks_after, find_block}
+use Rattle.acc_batch.specs.Lives.{Made}
 
 -- what holds of each block holds of the one that is found
 all_found : (P : Made → Type 0) (bs : List Made) (n : ℕ) (m : Made) → All P bs → find_block bs n ≡ Some m → P m
@@ -44,6 +45,8 @@ MakesFit lengths (CopyIn b r) = Unit {0}
 MakesFit lengths (CopyOut b r) = Unit {0}
 MakesFit lengths (Release b) = Unit {0}
 MakesFit lengths (Run k uses) = Unit {0}
+MakesFit lengths (Await q n) = Unit {0}
+MakesFit lengths Close = Unit {0}
 
 blocks_fit : (lengths : List ℕ) (op : Op) (bs : List Made) → MakesFit lengths op → All (λ (b : Made). ends_in lengths b.range ≡ true) bs
     → All (λ (b : Made). ends_in lengths b.range ≡ true) (blocks_after op bs)
@@ -56,6 +59,8 @@ blocks_fit lengths (Make b r) bs makes h =
 blocks_fit lengths (CopyIn b r) bs makes h = h
 blocks_fit lengths (CopyOut b r) bs makes h = h
 blocks_fit lengths (Run k uses) bs makes h = h
+blocks_fit lengths (Await q n) bs makes h = h
+blocks_fit lengths Close bs makes h = h
 blocks_fit lengths (Release b) bs makes h = All-filter (λ k. not (k.block == b)) (λ k. ends_in lengths k.range ≡ true) bs h
 
 -- So the blocks lie in their arrays after an operation.

@@ -3,7 +3,8 @@ use Rattle.std.proofs.Common.{◌≡◌, ℕ, zero, suc, ◌+◌, ◌<◌, ◌�
 use Rattle.std.specs.Prelude.{◌==◌, not, nat_lt, nat_le, filter, insert, remove, slice_get}
 use Rattle.std.specs.List.{list_all}
 use Rattle.std.proofs.lemmas.Bool.{cases_Bool, cases_eq, and_parts, and_from, eq-eqb, ne_eqb, lt-ltb, le-ltb, ltb-true, ltb-false, le-leb, lt-leb}
-use Rattle.acc_memory.specs.Memories.{Row, Made, find_row, find_block, made_of, block_placed_in, place_of, is_before_all, is_ascending, is_whole, IsMemory}
+use Rattle.acc_memory.specs.Memories.{Row, find_row, find_block, made_of, block_placed_in, place_of, is_before_all, is_ascending, is_whole, IsMemory}
+use Rattle.acc_batch.specs.Lives.{Made}
 
 -- ## The order
 

@@ -17,7 +17,8 @@ use Rattle.acc_kernel.specs.Kernels.{Loop, Reaches, value_after}
 use Rattle.acc_kernel.proofs.Looping.{within, loop_alike, loop_leaves}
 use Rattle.acc_kernel.proofs.Rowing.{uses_array, used, its_place}
 use Rattle.acc_memory.specs.Blocks.{row_of}
-use Rattle.acc_memory.specs.Memories.{Row, Made, HasRanges, IsMemory, ShowsRows, made_of, find_row, row_cell, row_has, place_of, is_ascending, is_before_all, is_whole}
+use Rattle.acc_memory.specs.Memories.{Row, HasRanges, IsMemory, ShowsRows, made_of, find_row, row_cell, row_has, place_of, is_ascending, is_before_all, is_whole}
+use Rattle.acc_batch.specs.Lives.{Made}
 use Rattle.acc_memory.specs.Seen.{KeepsBlocks, ArePlaces, block_for, cell_at, is_seen, has_at, seen_in}
 use Rattle.acc_memory.specs.Values.{Cell, Block_cell, is_in, or_zero, seen_by, use_with, after_loop, after_op}
 use Rattle.acc_memory.proofs.Calls.{rows_of}

@@ -3,8 +3,9 @@ use Rattle.std.specs.Prelude.{◌≡◌, ℕ, ◌+◌, ◌-◌, ◌<◌, Bool, t
 use Rattle.std.specs.List.{list_all, position_or_len}
 use Rattle.acc_base.specs.declared.range.Range.{Range}
 use Rattle.acc_base.specs.Ranges.{Includes}
+use Rattle.acc_batch.specs.Lives.{Made}
 use Rattle.acc_batch.specs.declared.operation.Op.{Op}
-use Rattle.acc_batch.specs.declared.operation.Op.TheVariants.{Make, CopyIn, CopyOut, Release, Run}
+use Rattle.acc_batch.specs.declared.operation.Op.TheVariants.{Make, CopyIn, CopyOut, Release, Run, Await, Close}
 use Rattle.acc_batch.specs.declared.task.Task.{Task}
 use Rattle.acc_batch.specs.Tasks.{op_of, IsReady}
 use Rattle.acc_kernel.specs.Jobs.{Use}
@@ -74,11 +75,6 @@ ShowsRows device rows was =
 abbrev pub ShowsArray : ℕ → List ℤ → (Cell → ℤ) → Type 0
 ShowsArray array cells was = (cell : ℕ) → or_zero (slice_get cells cell) ≡ was (Host_cell array cell)
 
--- a block with its range
-pub record Made : Type 0 where
-  pub block : ℕ
-  pub range : Range
-
 abbrev pub made_of : Row → Made
 made_of row = record { block = row.block; range = row.range }
 
@@ -98,6 +94,8 @@ blocks_after (CopyIn b r) bs = bs
 blocks_after (CopyOut b r) bs = bs
 blocks_after (Release b) bs = filter (λ k. not (k.block == b)) bs
 blocks_after (Run k uses) bs = bs
+blocks_after (Await q n) bs = bs
+blocks_after Close bs = bs
 
 abbrev pub find_block : List Made → ℕ → Option Made
 find_block bs block = find (λ k. k.block == block) bs
@@ -161,6 +159,8 @@ MayPerform m device (CopyIn b r) = HasRange (held_blocks m device) b r
 MayPerform m device (CopyOut b r) = HasRange (held_blocks m device) b r
 MayPerform m device (Release b) = is_some (find_block (held_blocks m device) b) ≡ true
 MayPerform m device (Run k uses) = HasRanges (held_blocks m device) uses
+MayPerform m device (Await q n) = Unit {0}
+MayPerform m device Close = Unit {0}
 
 -- So a task may be: a block that is made has its cells, all zero, and a loop has its cells.
 abbrev pub IsAllowed : MemoryView → ℕ → Task → Type 0

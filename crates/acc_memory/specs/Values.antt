@@ -3,7 +3,7 @@
 use Rattle.std.specs.Prelude.{ℕ, zero, suc, ◌+◌, Bool, ◌&&◌, nat_lt, nat_le, ◌==◌, List, [], ◌∷◌, find, slice_index_or, Option, Some, None, ℤ, pos, negsuc, if◌then◌else◌}
 use Rattle.acc_base.specs.declared.range.Range.{Range}
 use Rattle.acc_batch.specs.declared.operation.Op.{Op}
-use Rattle.acc_batch.specs.declared.operation.Op.TheVariants.{Make, CopyIn, CopyOut, Release, Run}
+use Rattle.acc_batch.specs.declared.operation.Op.TheVariants.{Make, CopyIn, CopyOut, Release, Run, Await, Close}
 use Rattle.acc_kernel.specs.Jobs.{Use, no_use}
 use Rattle.acc_kernel.specs.Jobs as jobs
 use Rattle.acc_kernel.specs.Kernels.{Loop, value_after}
@@ -42,6 +42,8 @@ block_after (CopyIn b r) device was block cell =
     if (block == b) && is_in r cell then was (Host_cell r.array cell) else was (Block_cell device block cell)
 block_after (CopyOut b r) device was block cell = was (Block_cell device block cell)
 block_after (Release b) device was block cell = was (Block_cell device block cell)
+block_after (Await q n) device was block cell = was (Block_cell device block cell)
+block_after Close device was block cell = was (Block_cell device block cell)
 block_after (Run k uses) device was block cell =
     after_loop k (seen_by uses device was) (use_with uses block cell) cell (was (Block_cell device block cell))
 
@@ -53,6 +55,8 @@ host_after (Make b r) device was array cell = was (Host_cell array cell)
 host_after (CopyIn b r) device was array cell = was (Host_cell array cell)
 host_after (Release b) device was array cell = was (Host_cell array cell)
 host_after (Run k uses) device was array cell = was (Host_cell array cell)
+host_after (Await q n) device was array cell = was (Host_cell array cell)
+host_after Close device was array cell = was (Host_cell array cell)
 
 -- The value of each cell after one more operation on a device.
 abbrev pub after_op : ℕ → Op → (Cell → ℤ) → Cell → ℤ

@@ -102,6 +102,8 @@ impl Memory {
                 self.run(device, kernel.get(), uses.get().as_slice());
                 Op::Run { kernel, uses }
             }
+            Task::Await { queue, number } => Op::Await { queue, number },
+            Task::Close => Op::Close,
         }
     }
 

@@ -29,6 +29,7 @@ pub fn is_allowed(config: &Config, memory: &Memory, op: &Op) -> bool
         }
         Op::Release { block } => is_there(memory, *block),
         Op::Run { uses, .. } => holds_ranges(memory, uses.get().as_slice()),
+        Op::Await { .. } | Op::Close => true,
     }
 }
 

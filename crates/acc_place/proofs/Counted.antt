@@ -5,7 +5,7 @@ use Rattle.std.specs.Option.{option_to_list}
 use Rattle.std.proofs.lemmas.Bool.Decides.{nat_tests}
 use Rattle.std.proofs.lemmas.List.Elements.{All-cons, All-nil, All-head, All-tail}
 use Rattle.acc_base.specs.declared.fault.Fault.{Fault}
-use Rattle.acc_base.specs.Configurations.{Configuration}
+use Rattle.acc_base.specs.Configurations.{Configuration, is_in_array}
 use Rattle.acc_batch.specs.declared.operation.Label.{Label}
 use Rattle.acc_present.specs.Legality.{IsEntered}
 use Rattle.acc_present.specs.Presences.{Presence, holder}
@@ -20,7 +20,6 @@ use Rattle.acc_place.specs.declared.directive.PlaceEntry.{PlaceEntry}
 use Rattle.acc_place.specs.declared.directive.PlaceEntry.TheVariants as entry
 use Rattle.acc_place.specs.declared.directive.Region.{Region}
 use Rattle.acc_place.specs.declared.directive.TheConstants.{MAX_ITEMS, MAX_DIRECTIVES}
-use Rattle.acc_place.specs.Accepting.{is_in_array}
 use Rattle.acc_place.specs.Counts.{AcceptedAreCounted, EnteredCanBeLeft}
 use Rattle.acc_place.specs.Histories.{AllAccepted, standing}
 use Rattle.acc_place.specs.Places.{IsTied}
@@ -44,7 +43,7 @@ record HasTable (st : Standing) : Type 0 where
 tables : (config : Configuration) (history : List PlaceEntry) (counts : List ℕ) → config.devices ≡ 1 → AllAccepted config history counts → HasTable (standing config history counts)
 unfolding standing
 tables config [] counts one all =
-    let empty : Present = record { presences = []; capacity = config.capacity; room = 0 } in
+    let empty : Present = record { presences = []; notes = []; capacity = config.capacity; room = 0 } in
     record { table = empty; blocks = 0; labels = []; tied = (first_place config [] [] [] [] empty refl refl refl refl one refl refl).tied }
 tables config (entry.Accepted host d ∷ before) counts one all =
     let st = standing config before (drop 1 counts) in
@@ -52,7 +51,7 @@ tables config (entry.Accepted host d ∷ before) counts one all =
     let items_done = slice_index_or counts 0 0 in
     let free = is_free config st host d h.table h.blocks st.regions h.labels h.tied one all.0 in
     let next = holding_behind d.kind (holding h.table.presences h.blocks) (items_in st.lengths st.regions host d) in
-    let after : Present = record { presences = next.presences; capacity = config.capacity; room = 0 } in
+    let after : Present = record { presences = next.presences; notes = []; capacity = config.capacity; room = 0 } in
     let label = label_in st host items_done (walk_of st host d) in
     record {
       table = after;

@@ -5,7 +5,7 @@ use Rattle.std.proofs.lemmas.Bool.{cases_Bool, and_parts, ltb-true, ltb-false, l
 use Rattle.acc_base.specs.declared.range.Range.{Range}
 use Rattle.acc_base.specs.declared.fault.Fault.{Fault}
 use Rattle.acc_base.specs.declared.fault.Fault.TheVariants.{BadRange, PartlyPresent, NotPresent, DeviceFull}
-use Rattle.acc_base.specs.Configurations.{Configuration}
+use Rattle.acc_base.specs.Configurations.{Configuration, is_in_array, ends_within}
 use Rattle.acc_present.specs.Drafts.{Drafted, drafted, IsDraft}
 use Rattle.acc_present.specs.declared.table.Look.{Look}
 use Rattle.acc_present.specs.declared.table.Look.TheVariants as look
@@ -18,7 +18,7 @@ use Rattle.acc_present.proofs.Searching.{is_present-some, is_present-none}
 use Rattle.acc_place.specs.declared.directive.Item.{Item}
 use Rattle.acc_place.specs.declared.directive.Kind.{Kind}
 use Rattle.acc_place.specs.declared.directive.Kind.TheVariants as kind
-use Rattle.acc_place.specs.Accepting.{is_in_array, ends_within, fault_where, first_fault, wants_whole, wants_presence}
+use Rattle.acc_place.specs.Accepting.{fault_where, first_fault, wants_whole, wants_presence}
 use Rattle.acc_place.specs.Standings.{change_by}
 use Rattle.acc_place.specs.Walks.{fault_in, found_fault, can_open_by, opens_one, block_found, block_held, IsFine}
 

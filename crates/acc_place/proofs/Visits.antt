@@ -8,7 +8,7 @@ use Rattle.std.proofs.lemmas.Grind.{flat_map-append}
 use Rattle.acc_base.specs.declared.range.Range.{Range}
 use Rattle.acc_base.specs.declared.fault.Fault.{Fault}
 use Rattle.acc_base.specs.declared.fault.Fault.TheVariants.{BadRange, PartlyPresent, NotPresent, DeviceFull}
-use Rattle.acc_base.specs.Configurations.{Configuration}
+use Rattle.acc_base.specs.Configurations.{Configuration, is_in_array}
 use Rattle.acc_batch.specs.declared.operation.Op.{Op}
 use Rattle.acc_batch.specs.declared.operation.Op.TheVariants as op
 use Rattle.acc_present.specs.declared.table.Counter.TheVariants.{Structured, Dynamic}
@@ -32,7 +32,7 @@ use Rattle.acc_place.specs.declared.directive.Item.{Item}
 use Rattle.acc_place.specs.declared.directive.Kind.{Kind}
 use Rattle.acc_place.specs.declared.plan.Group.TheVariants.{Makes, CopyIns, Updates, CopyOuts, Releases}
 use Rattle.acc_place.specs.declared.judge.Marked.{Marked}
-use Rattle.acc_place.specs.Accepting.{fault_at, first_fault, fault_where, is_in_array, has_opened, wants_whole, wants_presence}
+use Rattle.acc_place.specs.Accepting.{fault_at, first_fault, fault_where, has_opened, wants_whole, wants_presence}
 use Rattle.acc_place.specs.Batches.{opened_block, opened_blocks, ended_blocks, found_block, holding_blocks, makes, copy_ins, updates_by, updates, copy_outs, releases, grouped, copies_in, copies_out}
 use Rattle.acc_place.specs.Standings.{Visit, visits, change_by, marked, one_mark, marks_after, all_asked}
 use Rattle.acc_place.specs.Walks.{Holding, holding, mark_by, opens_one, opened_after, holding_after, holding_after_all, fault_in, fault_or, first_fault_in, block_held, block_opened, ended_by, marked_in, all_marked, update_for, group_ops, marked_ops, HasEntered, AllEntered, IsFine, AllFine}

@@ -212,7 +212,7 @@ room_all change t after [] n opened next room is same =
     record { room = omega (arith, ap length ps, same, rest.room); low = rw ps rest.low; few = omega (arith, count, rest.few) }
 room_all change t after (i ∷ is) n opened next room at_all same =
     let h = holding_after change i.range (holding t.presences opened) in
-    let between : Present = record { presences = h.presences; capacity = t.capacity; room = t.room } in
+    let between : Present = record { presences = h.presences; notes = []; capacity = t.capacity; room = t.room } in
     room_all change between after is n h.opened next (room_after change t between i.range (length is + n) opened h.opened (room_fewer t (length (i ∷ is) + n) (suc (length is + n)) opened (omega arith) room) refl refl) at_all same
 
 -- ## Items that leave

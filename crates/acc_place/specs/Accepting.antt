@@ -5,7 +5,7 @@ use Rattle.std.specs.List.{list_any}
 use Rattle.acc_base.specs.declared.range.Range.{Range}
 use Rattle.acc_base.specs.declared.fault.Fault.{Fault}
 use Rattle.acc_base.specs.declared.fault.Fault.TheVariants.{BadDevice, BadRange, TooMany, PartlyPresent, NotPresent, DeviceFull, OutsideRange, NoRegion}
-use Rattle.acc_base.specs.Configurations.{Configuration}
+use Rattle.acc_base.specs.Configurations.{Configuration, is_in_array}
 use Rattle.acc_kernel.specs.declared.reach.Reach.{Reach}
 use Rattle.acc_kernel.specs.Kernels.{Loop, arrays_of, reach_of}
 use Rattle.acc_present.specs.Lifetimes.{opened}
@@ -21,14 +21,6 @@ use Rattle.acc_place.specs.declared.directive.TheConstants.{MAX_ITEMS, MAX_REGIO
 use Rattle.acc_place.specs.Implicit.{item_of}
 use Rattle.acc_place.specs.Regions.{open_region, regions_of}
 use Rattle.acc_place.specs.Standings.{Standing, Walk, Visit, visits, walk_of}
-
-abbrev pub ends_within : Option (List ℤ) → ℕ → Bool
-ends_within None end = false
-ends_within (Some cells) end = nat_le end (length cells)
-
--- a range has a cell, and lies in its array
-abbrev pub is_in_array : List (List ℤ) → Range → Bool
-is_in_array arrays r = nat_lt 0 r.len && ends_within (slice_get arrays r.array) (r.lo + r.len)
 
 abbrev pub fault_where : Bool → Fault → Option Fault
 fault_where true fault = Some fault

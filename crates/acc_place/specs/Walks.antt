@@ -6,7 +6,7 @@ use Rattle.std.specs.Option.{option_and_then, option_to_list}
 use Rattle.acc_base.specs.declared.range.Range.{Range}
 use Rattle.acc_base.specs.declared.fault.Fault.{Fault}
 use Rattle.acc_base.specs.declared.fault.Fault.TheVariants.{BadDevice, BadRange, TooMany, PartlyPresent, NotPresent, DeviceFull, OutsideRange, NoRegion}
-use Rattle.acc_base.specs.Configurations.{Configuration}
+use Rattle.acc_base.specs.Configurations.{Configuration, is_in_array}
 use Rattle.acc_kernel.specs.Kernels.{Loop}
 use Rattle.acc_present.specs.declared.table.Counter.{Counter}
 use Rattle.acc_present.specs.declared.table.Counter.TheVariants.{Structured, Dynamic}
@@ -35,7 +35,7 @@ use Rattle.acc_batch.specs.declared.operation.Op.TheVariants as op
 use Rattle.acc_place.specs.declared.plan.Group.{Group}
 use Rattle.acc_place.specs.declared.plan.Group.TheVariants.{Makes, CopyIns, Updates, CopyOuts, Releases}
 use Rattle.acc_place.specs.declared.judge.Marked.{Marked}
-use Rattle.acc_place.specs.Accepting.{is_in_array, fault_where, first_fault, wants_whole, wants_presence, is_deep, is_outside, is_past}
+use Rattle.acc_place.specs.Accepting.{fault_where, first_fault, wants_whole, wants_presence, is_deep, is_outside, is_past}
 use Rattle.acc_place.specs.Batches.{copies_in, copies_out}
 use Rattle.acc_place.specs.Loops.{StaysInside, uses_in}
 use Rattle.acc_place.specs.Regions.{open_region}

@@ -4,7 +4,8 @@ ghost use Rattle.acc_present.specs.Presences.{holder, is_present};
 ghost use Rattle.acc_present.specs.declared.change.Change.TheVariants.{StructuredDown};
 ghost use Rattle.acc_present.specs.declared.table.TheConstants.{COUNTER_LIMIT};
 ghost use Rattle.acc_present.specs.Tables.{IsLook, entry_mark, presences_after};
-ghost use Rattle.acc_place.specs.Accepting.{is_in_array, is_deep, is_outside, wants_presence};
+ghost use Rattle.acc_place.specs.Accepting.{is_deep, is_outside, wants_presence};
+ghost use Rattle.acc_base.specs.Configurations.{is_in_array};
 ghost use Rattle.acc_place.specs.Regions.{open_region};
 ghost use Rattle.acc_place.specs.Standings.{change_by};
 ghost use Rattle.acc_place.specs.Walks.{holding, holding_after_all, presences_by, can_open_by, fault_in, found_fault, limit_fault, first_fault_in, block_found, block_held, block_opened, block_ended, marked_in, all_marked, opened_after, AllLow, HasEntered, AllEntered, CanEnter, CanMark};
@@ -132,7 +133,7 @@ fn visit(
     ensures changed { OnOk result (length draft.new.changed ≤ length draft.old.changed + 1) }
     ensures draft_room { draft.new.room ≡ draft.old.room }
 {
-    if !is_in_array(known.config, item.range) {
+    if !known.config.is_in_array(item.range) {
         return Err(Fault::BadRange);
     }
     let found = draft.look(known.table, item.range);
@@ -164,16 +165,6 @@ pub fn leave_all(table: &Table, draft: &mut Draft, items: &[Item], steps: &mut V
             leave_all(table, draft, rest, steps);
         }
     }
-}
-
-/// Whether a range has a cell, and lies in its array.
-pub fn is_in_array(config: &Config, range: Range) -> bool
-    ensures { result ≡ is_in_array config.now.arrays range }
-{
-    if range.len == 0 || !config.has_array(range.array) {
-        return false;
-    }
-    range.end() <= config.array(range.array).len() as u64
 }
 
 // The fault of an item that was found so, where so many cells are free.

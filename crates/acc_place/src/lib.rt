@@ -15,7 +15,6 @@ pub use directive::{
     ASYNC_NOVAL, Clause, Directive, Item, Kind, MAX_DIRECTIVES, MAX_ITEMS, MAX_REGIONS, PlaceEntry,
     Placed, Region, Target, Waits,
 };
-pub use judge::is_in_array;
 pub use laws::{
     accepted_directives_are_counted, plans_are_kept, plans_outlast_their_batches, reach_is_judged,
     worked_batches, worked_directives, worked_loops, worked_refusals, worked_regions,

@@ -10,7 +10,7 @@ use std::test::Fail;
 
 // An operation of each kind, and a second block, with no cell. The loop uses more cells of a than it reaches, and the very
 // cells of b that it reaches.
-fn each_kind() -> [Operation; 6] {
+fn each_kind() -> [Operation; 8] {
     let block = BlockId::new(4_294_967_297);
     let range = a(3, 7);
     [
@@ -23,6 +23,11 @@ fn each_kind() -> [Operation; 6] {
             range: a(5, 1),
         },
         Operation::Release { block },
+        Operation::Await {
+            queue: QueueId::new(7),
+            number: 12,
+        },
+        Operation::Close,
     ]
 }
 
@@ -49,6 +54,8 @@ fn op_of(alloc: Global, operation: Operation) -> Result<Op, Fault> {
             let uses = Shared::new(alloc, Listed::from_vec(uses))?;
             Ok(Op::Run { kernel, uses })
         }
+        Operation::Await { queue, number } => Ok(Op::Await { queue, number }),
+        Operation::Close => Ok(Op::Close),
     }
 }
 

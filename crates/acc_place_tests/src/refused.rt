@@ -5,7 +5,7 @@ use acc_base::{Fault, Range};
 use acc_forms::{
     EXIT, FINALIZE, Form, UPDATE, UPDATE_IF_PRESENT, copyin, copyout, create, delete, item, present,
 };
-use acc_place::{Clause, Item, Place, is_in_array};
+use acc_place::{Clause, Item, Place};
 use std::alloc::Global;
 use std::process::Abort;
 use std::test::Fail;
@@ -270,7 +270,7 @@ fn a_range_lies_in_its_array(rt: HostRuntime) -> Result<(), Fail> {
         (a(u32::MAX, u32::MAX), false),
     ];
     for (range, wanted) in cases {
-        assert_eq!(rt; is_in_array(place.config(), range), wanted, "{range:?}");
+        assert_eq!(rt; place.config().is_in_array(range), wanted, "{range:?}");
     }
     Ok(())
 }

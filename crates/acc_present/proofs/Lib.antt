@@ -8,6 +8,7 @@ pub mod Ending
 pub mod Entering
 pub mod Lasting
 pub mod Marking
+pub mod Noting
 pub mod Numbering
 pub mod OneMore
 pub mod Opening

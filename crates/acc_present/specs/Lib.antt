@@ -5,6 +5,7 @@ pub mod Invariants
 pub mod Legality
 pub mod Lifetimes
 pub mod Marks
+pub mod Notes
 pub mod Presences
 pub mod Tables
 pub use Rattle.acc_base.specs.Ranges

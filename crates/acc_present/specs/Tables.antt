@@ -14,6 +14,7 @@ use Rattle.acc_present.specs.declared.change.Change.TheVariants.{StructuredUp, S
 use Rattle.acc_present.specs.Marks.{Mark, dynamic_after, inside}
 use Rattle.acc_present.specs.Legality.{AllLegal}
 use Rattle.acc_present.specs.Lifetimes.{is_before, can_open, opened}
+use Rattle.acc_present.specs.Notes.{Noted}
 use Rattle.acc_present.specs.Presences.{Presence, presences, holder, is_present, is_partly_present}
 
 -- what an entry to a range changes, and what an exit from it does
@@ -114,9 +115,11 @@ LegalMarksMakeATable = (marks : List Mark) → AllLegal marks → is_table (pres
 abbrev pub entry_presence : Entry → Presence
 entry_presence e = record { range = e.range; block = e.block; s = e.s; d = e.d }
 
--- What a table shows: what is present, the device's capacity in cells, and how many entries it has memory for.
+-- What a table shows: what is present, with which notes, the device's capacity in cells, and how many entries it has memory
+-- for.
 pub record Present : Type 0 where
   pub presences : List Presence
+  pub notes : List Noted
   pub capacity : ℕ
   pub room : ℕ
 

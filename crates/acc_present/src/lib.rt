@@ -3,6 +3,7 @@
 
 mod change;
 mod draft;
+mod entries;
 mod laws;
 mod table;
 

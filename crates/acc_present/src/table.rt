@@ -1,6 +1,8 @@
-ghost use Rattle.std.specs.Prelude.{◌≡◌, ◌+◌, ◌^◌, ◌<◌, ◌≤◌, [], length, map, slice_get, slice_set, remove, true, false, Some, None, if◌then◌else◌, IfSome, IfErr, OnOk, OnErr, OnSome};
+ghost use Rattle.std.specs.Prelude.{◌≡◌, ℕ, ◌+◌, ◌^◌, ◌<◌, ◌≤◌, [], length, map, slice_get, slice_set, remove, true, false, Some, None, if◌then◌else◌, IfSome, IfErr, OnOk, OnErr, OnSome};
 ghost use Rattle.std.specs.Option.{option_map, option_map_or, option_and_then};
 ghost use Rattle.std.specs.List.{position_or_len};
+ghost use Rattle.acc_base.specs.declared.ids.TheConstants.{QUEUES};
+ghost use Rattle.acc_base.specs.declared.range.Range.{Range};
 ghost use Rattle.acc_base.specs.Ranges.{range_overlaps};
 ghost use Rattle.acc_present.specs.Lifetimes.{is_before, can_open};
 ghost use Rattle.acc_present.specs.declared.change.Change.TheVariants.{DynamicZero};
@@ -8,9 +10,11 @@ ghost use Rattle.acc_present.specs.Presences.{holder, is_present, is_partly_pres
 ghost use Rattle.acc_present.specs.Drafts.{beside};
 ghost use Rattle.acc_present.specs.Legality.{MeetsCondition};
 ghost use Rattle.acc_present.specs.Tables.{entry_mark, exit_mark, finalize_mark, entry_change, exit_change, counter_of, changed_counter, stepped, opening, presences_after, kept_after, has_count, entry_presence, is_table, IsLook, left_of};
+ghost use Rattle.acc_present.specs.Notes.{Note, entry_note, entry_noted, HasNotes, IsNoted, no_note, used_by, made_by, changed_at};
 
 use crate::change::Change;
-use acc_base::{BlockId, Fault, Range};
+use crate::entries::Entries;
+use acc_base::{BlockId, Boxed, Fault, QueueId, Range};
 use std::alloc::Global;
 use std::marker::Model;
 
@@ -26,13 +30,16 @@ pub enum Counter {
     Dynamic,
 }
 
-/// A present range, its block, its structured and its dynamic counter.
+/// A present range, its block, its structured and its dynamic counter; the queue and the number of the batch that made the
+/// block; and of each queue the number of the last batch that made or used it, or 0.
 #[derive(Clone, Copy, Debug, PartialEq, Eq)]
 pub struct Entry {
     pub range: Range,
     pub block: BlockId,
     pub s: u64,
     pub d: u64,
+    pub maker: (QueueId, u64),
+    pub uses: [u64; 8],
 }
 
 /// What a table has of a range.
@@ -66,19 +73,20 @@ pub enum Left {
 /// The present ranges of one device, by array, then by lower bound.
 #[derive(Drop)]
 pub struct Table {
-    entries: Vec<Entry>,
+    entries: Entries,
     capacity: u64,
     used: u64,
 }
 
 impl Model for Table {
-    ghost use Rattle.std.specs.Prelude.{map, vec_capacity};
+    ghost use Rattle.std.specs.Prelude.{map};
     ghost use Rattle.acc_present.specs.Tables.{Present, entry_presence};
+    ghost use Rattle.acc_present.specs.Notes.{entry_noted};
     ghost use Rattle.acc_present.specs.Invariants.{IsTable};
 
     ghost Value = { Present };
 
-    ghost view = { λ t. record { presences = map entry_presence t.entries.items; capacity = t.capacity; room = vec_capacity t.entries } };
+    ghost view = { λ t. record { presences = map entry_presence t.entries.items; notes = map entry_noted t.entries.items; capacity = t.capacity; room = t.entries.room } };
 
     ghost invariant = { λ t. IsTable (map entry_presence t.entries.items) t.used t.capacity };
 }
@@ -89,10 +97,11 @@ impl Table {
     /// A table without entries, for a device with this capacity in cells. Takes no memory.
     pub fn new(alloc: Global, capacity: u64) -> Self
         ensures presences { result.presences ≡ [] }
+        ensures notes { result.notes ≡ [] }
         ensures capacity { result.capacity ≡ capacity }
     {
         Table {
-            entries: Vec::new(alloc),
+            entries: Entries::new(alloc),
             capacity,
             used: 0,
         }
@@ -105,6 +114,7 @@ impl Table {
     /// `Memory` where the room was missing and memory is refused; then nothing changes.
     pub fn spare(&mut self, count: usize) -> Result<(), Fault>
         ensures presences { self.new.presences ≡ self.old.presences }
+        ensures notes { self.new.notes ≡ self.old.notes }
         ensures capacity { self.new.capacity ≡ self.old.capacity }
         ensures room { self.old.room ≤ self.new.room }
         ensures ok { OnOk result (length self.new.presences + count ≤ self.new.room) }
@@ -112,19 +122,19 @@ impl Table {
         ensures kept { OnErr result (self.new ≡ self.old) }
         ensures missing { OnErr result (self.old.room < length self.old.presences + count) }
     {
-        self.entries.reserve(count)?;
-        Ok(())
+        self.entries.spare(count)
     }
 
     /// What the table has of a range with a cell.
     pub fn look(&self, range: Range) -> Look
         requires { 0 < range.len }
-        ensures { IsLook self.now.presences range result }
+        ensures look { IsLook self.now.presences range result }
+        ensures noted { (notes : Range → ℕ → Note) → HasNotes notes self.now.notes → IsNoted notes result }
     {
         let entries = self.entries.as_slice();
         let behind = place_behind(entries, range);
         match held_before(entries, behind, range) {
-            Some(i) => Look::Present(entries[i]),
+            Some(i) => Look::Present(*self.entries.at(i)),
             None => {
                 if overlaps_around(entries, behind, range) {
                     Look::Partly
@@ -146,6 +156,7 @@ impl Table {
         requires capacity { holder self.old.presences range ≡ None → used_cells self.old.presences + range.len ≤ self.old.capacity }
         requires room { holder self.old.presences range ≡ None → length self.old.presences < self.old.room }
         ensures presences { self.new.presences ≡ presences_after (entry_mark counter range) block self.old.presences }
+        ensures notes { (notes : Range → ℕ → Note) → HasNotes notes self.old.notes → notes range block ≡ no_note → HasNotes notes self.new.notes }
         ensures capacity { self.new.capacity ≡ self.old.capacity }
         ensures room { self.new.room ≡ self.old.room }
         ensures result { result ≡ (if is_present self.old.presences range then Entered.Counted else Entered.Opened) }
@@ -154,13 +165,12 @@ impl Table {
         let behind = place_behind(entries, range);
         match held_before(entries, behind, range) {
             Some(i) => {
-                self.entries[i] = counted_up(&self.entries[i], counter);
+                let entry = counted_up(self.entries.at(i), counter);
+                self.entries.set(i, entry);
                 Entered::Counted
             }
             None => {
-                // there is room, so this isn't refused
-                let _ = self
-                    .entries
+                self.entries
                     .insert(behind, new_entry(range, counter, block));
                 self.used += u64::from(range.len);
                 Entered::Opened
@@ -174,6 +184,7 @@ impl Table {
         requires cells { 0 < range.len }
         requires condition { MeetsCondition (exit_change counter) range self.old.presences }
         ensures presences { self.new.presences ≡ kept_after (exit_mark counter range) self.old.presences }
+        ensures notes { (notes : Range → ℕ → Note) → HasNotes notes self.old.notes → HasNotes notes self.new.notes }
         ensures capacity { self.new.capacity ≡ self.old.capacity }
         ensures room { self.new.room ≡ self.old.room }
         ensures result { result ≡ left_of (holder self.old.presences range) (exit_change counter) }
@@ -186,6 +197,7 @@ impl Table {
     pub fn finalize(&mut self, range: Range) -> Left
         requires { 0 < range.len }
         ensures presences { self.new.presences ≡ kept_after (finalize_mark range) self.old.presences }
+        ensures notes { (notes : Range → ℕ → Note) → HasNotes notes self.old.notes → HasNotes notes self.new.notes }
         ensures capacity { self.new.capacity ≡ self.old.capacity }
         ensures room { self.new.room ≡ self.old.room }
         ensures result { result ≡ left_of (holder self.old.presences range) DynamicZero }
@@ -198,6 +210,7 @@ impl Table {
         requires cells { 0 < range.len }
         requires exit { can_open change ≡ false }
         ensures presences { self.new.presences ≡ kept_after (record { change = change; range = range }) self.old.presences }
+        ensures notes { (notes : Range → ℕ → Note) → HasNotes notes self.old.notes → HasNotes notes self.new.notes }
         ensures capacity { self.new.capacity ≡ self.old.capacity }
         ensures room { self.new.room ≡ self.old.room }
         ensures result { result ≡ left_of (holder self.old.presences range) change }
@@ -205,11 +218,12 @@ impl Table {
         match place_of(self.entries.as_slice(), range) {
             None => Left::Nothing,
             Some(i) => {
-                let entry = self.entries[i];
-                if count_of(&entry, change) == 0 {
+                let entry = self.entries.at(i);
+                if count_of(entry, change) == 0 {
                     return Left::Nothing;
                 }
-                self.settle(i, counted_down(&entry, change))
+                let after = counted_down(entry, change);
+                self.settle(i, after)
             }
         }
     }
@@ -218,12 +232,13 @@ impl Table {
     fn settle(&mut self, place: usize, after: Entry) -> Left
         requires { option_map (λ p. p.range) (slice_get self.old.presences place) ≡ Some after.range }
         ensures presences { self.new.presences ≡ (if has_count (entry_presence after) then slice_set self.old.presences place (entry_presence after) else remove self.old.presences place) }
+        ensures notes { (notes : Range → ℕ → Note) → HasNotes notes self.old.notes → entry_note after ≡ notes after.range after.block → HasNotes notes self.new.notes }
         ensures capacity { self.new.capacity ≡ self.old.capacity }
         ensures room { self.new.room ≡ self.old.room }
         ensures result { result ≡ (if has_count (entry_presence after) then Left.Counted else Left.Ended after.block) }
     {
         if has_count(&after) {
-            self.entries[place] = after;
+            self.entries.set(place, after);
             return Left::Counted;
         }
         self.entries.remove(place);
@@ -240,6 +255,42 @@ impl Table {
         overlaps_beside_in(&entries[behind.saturating_sub(1)..], range, changed)
     }
 
+    /// Notes that this batch of a queue used what a range with a cell is part of, if it is present.
+    pub fn note_use(&mut self, range: Range, queue: QueueId, batch: u64)
+        requires cells { 0 < range.len }
+        requires queue { queue < QUEUES }
+        ensures presences { self.new.presences ≡ self.old.presences }
+        ensures notes { (notes : Range → ℕ → Note) → HasNotes notes self.old.notes → HasNotes (changed_at range (used_by queue batch) notes) self.new.notes }
+        ensures capacity { self.new.capacity ≡ self.old.capacity }
+        ensures room { self.new.room ≡ self.old.room }
+    {
+        match place_of(self.entries.as_slice(), range) {
+            None => {}
+            Some(i) => {
+                let entry = used_by(self.entries.at(i), queue, batch);
+                self.entries.set(i, entry);
+            }
+        }
+    }
+
+    /// Notes that this batch of a queue made what a range with a cell is part of, if it is present.
+    pub fn note_make(&mut self, range: Range, queue: QueueId, batch: u64)
+        requires cells { 0 < range.len }
+        requires queue { queue < QUEUES }
+        ensures presences { self.new.presences ≡ self.old.presences }
+        ensures notes { (notes : Range → ℕ → Note) → HasNotes notes self.old.notes → HasNotes (changed_at range (made_by queue batch) notes) self.new.notes }
+        ensures capacity { self.new.capacity ≡ self.old.capacity }
+        ensures room { self.new.room ≡ self.old.room }
+    {
+        match place_of(self.entries.as_slice(), range) {
+            None => {}
+            Some(i) => {
+                let entry = made_by(self.entries.at(i), queue, batch);
+                self.entries.set(i, entry);
+            }
+        }
+    }
+
     /// The structured and the dynamic counter of the present range that contains a range with a cell.
     pub fn counters(&self, range: Range) -> Option<(u64, u64)>
         requires { 0 < range.len }
@@ -247,7 +298,7 @@ impl Table {
     {
         match place_of(self.entries.as_slice(), range) {
             Some(i) => {
-                let entry = self.entries[i];
+                let entry = self.entries.at(i);
                 Some((entry.s, entry.d))
             }
             None => None,
@@ -264,6 +315,7 @@ impl Table {
     /// The entry at this place, from 0, by array, then by lower bound.
     pub fn nth(&self, place: usize) -> Option<&Entry>
         ensures entry { option_map (λ e. entry_presence e.now) result ≡ slice_get self.now.presences place }
+        ensures noted { option_map (λ e. entry_noted e.now) result ≡ slice_get self.now.notes place }
         ensures next { OnSome result (place + 1 < 2 ^ 64) }
     {
         self.entries.get(place)
@@ -288,16 +340,16 @@ fn stands_before(first: Range, second: Range) -> bool
 }
 
 // The place of the first entry that begins behind the range's first cell, or the end.
-fn place_behind(entries: &[Entry], range: Range) -> usize
+fn place_behind(entries: &[Boxed<Entry>], range: Range) -> usize
     requires { is_table (map entry_presence entries.now) ≡ true }
     ensures place { result ≡ position_or_len (λ p. is_before range p.range) (map entry_presence entries.now) }
     ensures within { result ≤ length entries.now }
 {
-    entries.partition_point(|e| !stands_before(range, e.range))
+    entries.partition_point(|e| !stands_before(range, e.get().range))
 }
 
 // The place of the entry that contains the range.
-fn place_of(entries: &[Entry], range: Range) -> Option<usize>
+fn place_of(entries: &[Boxed<Entry>], range: Range) -> Option<usize>
     requires table { is_table (map entry_presence entries.now) ≡ true }
     requires cells { 0 < range.len }
     ensures held { holder (map entry_presence entries.now) range ≡ option_and_then (slice_get (map entry_presence entries.now)) result }
@@ -308,7 +360,7 @@ fn place_of(entries: &[Entry], range: Range) -> Option<usize>
 
 // The same, where the first entry that begins behind the range's first cell stands at this place: no other entry contains
 // the range than the one before.
-fn held_before(entries: &[Entry], behind: usize, range: Range) -> Option<usize>
+fn held_before(entries: &[Boxed<Entry>], behind: usize, range: Range) -> Option<usize>
     requires table { is_table (map entry_presence entries.now) ≡ true }
     requires cells { 0 < range.len }
     requires place { behind ≡ position_or_len (λ p. is_before range p.range) (map entry_presence entries.now) }
@@ -319,7 +371,7 @@ fn held_before(entries: &[Entry], behind: usize, range: Range) -> Option<usize>
     if behind == 0 {
         return None;
     }
-    if entries[behind - 1].range.contains(&range) {
+    if entries[behind - 1].get().range.contains(&range) {
         Some(behind - 1)
     } else {
         None
@@ -327,7 +379,7 @@ fn held_before(entries: &[Entry], behind: usize, range: Range) -> Option<usize>
 }
 
 // If any entry overlaps the range, one of the two on both sides of its first cell does.
-fn overlaps_around(entries: &[Entry], behind: usize, range: Range) -> bool
+fn overlaps_around(entries: &[Boxed<Entry>], behind: usize, range: Range) -> bool
     requires table { is_table (map entry_presence entries.now) ≡ true }
     requires place { behind ≡ position_or_len (λ p. is_before range p.range) (map entry_presence entries.now) }
     ensures { result ≡ overlaps_any (map entry_presence entries.now) range }
@@ -339,10 +391,10 @@ fn overlaps_around(entries: &[Entry], behind: usize, range: Range) -> bool
 }
 
 // Whether there is an entry at this place, and it overlaps the range.
-fn overlaps_at(entries: &[Entry], at: usize, range: Range) -> bool
+fn overlaps_at(entries: &[Boxed<Entry>], at: usize, range: Range) -> bool
     ensures { result ≡ option_map_or (λ p. range_overlaps p.range range) (slice_get (map entry_presence entries.now) at) false }
 {
-    at < entries.len() && entries[at].range.overlaps(&range)
+    at < entries.len() && entries[at].get().range.overlaps(&range)
 }
 
 // Whether one of the entries overlaps the range.
@@ -354,13 +406,14 @@ pub(crate) fn overlaps_one(entries: &[Entry], range: Range) -> bool
 
 // Whether the range overlaps an entry that no changed one overlaps. Goes along the entries until one begins
 // behind the range.
-fn overlaps_beside_in(entries: &[Entry], range: Range, changed: &[Entry]) -> bool
+fn overlaps_beside_in(entries: &[Boxed<Entry>], range: Range, changed: &[Entry]) -> bool
     requires { is_table (map entry_presence entries.now) ≡ true }
     ensures { result ≡ overlaps_any (beside (map entry_presence changed.now) (map entry_presence entries.now)) range }
 {
     match entries {
         [] => false,
         [first, rest @ ..] => {
+            let first = first.get();
             if first.range.overlaps(&range) {
                 !overlaps_one(changed, first.range) || overlaps_beside_in(rest, range, changed)
             } else {
@@ -372,20 +425,24 @@ fn overlaps_beside_in(entries: &[Entry], range: Range, changed: &[Entry]) -> boo
 
 // An entry for a range that was absent, counted once.
 pub(crate) fn new_entry(range: Range, counter: Counter, block: BlockId) -> Entry
-    ensures { entry_presence result ≡ opening (entry_mark counter range) block }
+    ensures presence { entry_presence result ≡ opening (entry_mark counter range) block }
+    ensures note { entry_note result ≡ no_note }
 {
     let uncounted = Entry {
         range,
         block,
         s: 0,
         d: 0,
+        maker: (QueueId::SYNC, 0),
+        uses: [0; 8],
     };
     counted_up(&uncounted, counter)
 }
 
 pub(crate) fn counted_up(entry: &Entry, counter: Counter) -> Entry
     requires { counter_of counter (entry_presence entry.now) < COUNTER_LIMIT }
-    ensures { entry_presence result ≡ stepped (entry_change counter) (entry_presence entry.now) }
+    ensures presence { entry_presence result ≡ stepped (entry_change counter) (entry_presence entry.now) }
+    ensures note { entry_note result ≡ entry_note entry.now }
 {
     match counter {
         Counter::Structured => Entry {
@@ -403,7 +460,8 @@ pub(crate) fn counted_up(entry: &Entry, counter: Counter) -> Entry
 pub(crate) fn counted_down(entry: &Entry, change: Change) -> Entry
     requires exit { can_open change ≡ false }
     requires some { 0 < counter_of (changed_counter change) (entry_presence entry.now) }
-    ensures { entry_presence result ≡ stepped change (entry_presence entry.now) }
+    ensures presence { entry_presence result ≡ stepped change (entry_presence entry.now) }
+    ensures note { entry_note result ≡ entry_note entry.now }
 {
     match change {
         Change::StructuredDown => Entry {
@@ -416,6 +474,29 @@ pub(crate) fn counted_down(entry: &Entry, change: Change) -> Entry
         },
         Change::DynamicZero => Entry { d: 0, ..*entry },
         Change::StructuredUp | Change::DynamicUp => unreachable!(),
+    }
+}
+
+// The entry where this batch of a queue used its block.
+fn used_by(entry: &Entry, queue: QueueId, batch: u64) -> Entry
+    requires { queue < QUEUES }
+    ensures presence { entry_presence result ≡ entry_presence entry.now }
+    ensures note { entry_note result ≡ used_by queue batch (entry_note entry.now) }
+{
+    let mut uses = entry.uses;
+    uses[usize::from(queue.number())] = batch;
+    Entry { uses, ..*entry }
+}
+
+// The entry where this batch of a queue made its block.
+fn made_by(entry: &Entry, queue: QueueId, batch: u64) -> Entry
+    requires { queue < QUEUES }
+    ensures presence { entry_presence result ≡ entry_presence entry.now }
+    ensures note { entry_note result ≡ made_by queue batch (entry_note entry.now) }
+{
+    Entry {
+        maker: (queue, batch),
+        ..used_by(entry, queue, batch)
     }
 }
 

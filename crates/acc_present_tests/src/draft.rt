@@ -2,7 +2,7 @@ ghost use Rattle.std.specs.Prelude.{◌≡◌, ◌+◌, ◌<◌, ◌≤◌, leng
 ghost use Rattle.acc_present.specs.Drafts.{IsDraft};
 
 use crate::fixtures::{CELLS, cells, entered_into};
-use acc_base::{BlockId, Fault, Range};
+use acc_base::{BlockId, Fault, QueueId, Range};
 use acc_present::{Counter, Draft, Entered, Entry, Left, Look, Table};
 use acc_scarce::Hoard;
 use std::process::Abort;
@@ -60,6 +60,8 @@ fn entry(range: Range, block: u64, d: u64) -> Look {
         block: BlockId::new(block),
         s: 0,
         d,
+        maker: (QueueId::SYNC, 0),
+        uses: [0; 8],
     })
 }
 

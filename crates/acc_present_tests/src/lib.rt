@@ -14,6 +14,8 @@ mod few;
 #[cfg(test)]
 mod fixtures;
 #[cfg(test)]
+mod notes;
+#[cfg(test)]
 mod owned;
 #[cfg(test)]
 mod table;

@@ -1,6 +1,6 @@
 use Rattle.std.proofs.Common.{◌≡◌, true, false, ◌∙◌, arith}
 use Rattle.acc_present.specs.Drafts.{drafted}
-use Rattle.acc_place.specs.Accepting.{is_in_array}
+use Rattle.acc_base.specs.Configurations.{is_in_array}
 use Rattle.acc_place.specs.Standings.{change_by}
 use Rattle.acc_place.proofs.Judging.{fault-outside, found_is, fine_item}
 use Rattle.acc_place.proofs.Walking.{can_mark}

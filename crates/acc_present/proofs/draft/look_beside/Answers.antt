@@ -12,7 +12,7 @@ returns-then-overlaps_one c =
     let ps = c.args.table.now.presences in
     let r = c.args.range in
     let x = entry_presence c.in-Present.entry in
-    let some : holder ps r ≡ Some x = (rw c.in-Present.is at c.look.ensures).0 in
+    let some : holder ps r ≡ Some x = (rw c.in-Present.is at c.look.ensures.look).0 in
     let hidden = beside_hidden cs ps r x c.keeps_order.ensures.table c.requires.cells some (sym c.overlaps_one.ensures ∙ c.if-overlaps_one.true) in
     let none = sym (held_beside cs ps r None c.requires.after c.requires.cells (sym c.requires.none) (sym hidden)) in
     none_looked (with_changed cs ps) r c.overlaps_drafted.result c.partly_or_absent.result none c.overlaps_drafted.ensures c.partly_or_absent.ensures
@@ -23,7 +23,7 @@ returns-else-overlaps_one c =
     let ps = c.args.table.now.presences in
     let r = c.args.range in
     let x = entry_presence c.in-Present.entry in
-    let some : holder ps r ≡ Some x = (rw c.in-Present.is at c.look.ensures).0 in
+    let some : holder ps r ≡ Some x = (rw c.in-Present.is at c.look.ensures.look).0 in
     let rest = beside_seen cs ps r x c.keeps_order.ensures.table c.requires.cells some (sym c.overlaps_one.ensures ∙ c.if-overlaps_one.false) in
     let seen = sym (held_beside cs ps r (Some x) c.requires.after c.requires.cells (sym c.requires.none) (sym rest)) in
     let qs = with_changed cs ps in
@@ -34,7 +34,7 @@ returns-in-Partly c =
     let cs = map entry_presence c.args.changed.now in
     let ps = c.args.table.now.presences in
     let r = c.args.range in
-    let rest = beside_none cs ps r (none_seen ps r (rw c.in-Partly.is at c.look.ensures)) in
+    let rest = beside_none cs ps r (none_seen ps r (rw c.in-Partly.is at c.look.ensures.look)) in
     let none = sym (held_beside cs ps r None c.requires.after c.requires.cells (sym c.requires.none) (sym rest)) in
     none_looked (with_changed cs ps) r c.overlaps_drafted-in-Partly.result c.partly_or_absent-in-Partly.result none c.overlaps_drafted-in-Partly.ensures c.partly_or_absent-in-Partly.ensures
 
@@ -43,7 +43,7 @@ returns-in-Absent c =
     let cs = map entry_presence c.args.changed.now in
     let ps = c.args.table.now.presences in
     let r = c.args.range in
-    let absent = rw c.in-Absent.is at c.look.ensures in
+    let absent = rw c.in-Absent.is at c.look.ensures.look in
     let rest = beside_none cs ps r absent.0 in
     let none = sym (held_beside cs ps r None c.requires.after c.requires.cells (sym c.requires.none) (sym rest)) in
     none_looked (with_changed cs ps) r c.overlaps_counted.result c.partly_or_absent-in-Absent.result none

@@ -15,7 +15,8 @@ returns-then-contains-clause-held c =
     let es = c.args.entries.now in
     let k = c.args.behind in
     let x = c.index-entries-behind.result in
-    let has : range_contains x.range c.args.range ≡ true = ap (λ (e : Entry). range_contains e.range c.args.range) c.index-entries-behind.is ∙ (sym c.contains.ensures.bounds ∙ c.if-contains.true) in
+    let is : c.get.result.now ≡ x = c.get.ensures in
+    let has : range_contains x.range c.args.range ≡ true = ap (λ (e : Entry). range_contains e.range c.args.range) (sym is) ∙ (sym c.contains.ensures.bounds ∙ c.if-contains.true) in
     holder_is-later es c.args.range k x c.requires.table c.requires.cells c.requires.place (omega arith) (omega arith) c.index-entries-behind.is
     ∙ rw has (sym (slice_get-entry es (k - 1) x (omega arith) c.index-entries-behind.is))
 
@@ -24,6 +25,7 @@ returns-else-contains-clause-held c =
     let es = c.args.entries.now in
     let k = c.args.behind in
     let x = c.index-entries-behind.result in
-    let has : range_contains x.range c.args.range ≡ false = ap (λ (e : Entry). range_contains e.range c.args.range) c.index-entries-behind.is ∙ (sym c.contains.ensures.bounds ∙ c.if-contains.false) in
+    let is : c.get.result.now ≡ x = c.get.ensures in
+    let has : range_contains x.range c.args.range ≡ false = ap (λ (e : Entry). range_contains e.range c.args.range) (sym is) ∙ (sym c.contains.ensures.bounds ∙ c.if-contains.false) in
     holder_is-later es c.args.range k x c.requires.table c.requires.cells c.requires.place (omega arith) (omega arith) c.index-entries-behind.is
     ∙ rw has refl

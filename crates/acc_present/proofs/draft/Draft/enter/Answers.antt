@@ -15,7 +15,7 @@ returns-in-Some-clause-drafted c =
     let d = rw (← c.self.view_is) at c.requires.draft in
     let m = entry_mark c.args.counter r in
     let k = counts_entry m c.place_for.new.changed.items ps qs c.in-Some.i c.index.result.now c.counted_up.result d.table d.after c.requires.cells c.in-Some.ensures.same c.in-Some.ensures.held
-    (omega (arith, c.in-Some.ensures.within)) c.index.ensures c.counted_up.ensures in
+    (omega (arith, c.in-Some.ensures.within)) c.index.ensures c.counted_up.ensures.presence in
     rw (← c.self.view_is) (k.same ∙ stays m c.args.block qs (is_present-some qs r (entry_presence c.index.result.now) k.seen))
 
 pub returns-in-Some-clause-draft : goal.returns-in-Some-clause-draft
@@ -27,8 +27,8 @@ returns-in-Some-clause-draft c =
     let d = rw (← c.self.view_is) at c.requires.draft in
     let m = entry_mark c.args.counter r in
     let k = counts_entry m c.place_for.new.changed.items ps qs c.in-Some.i x c.counted_up.result d.table d.after c.requires.cells c.in-Some.ensures.same c.in-Some.ensures.held
-    (omega (arith, c.in-Some.ensures.within)) c.index.ensures c.counted_up.ensures in
-    let counted = ap has_count c.counted_up.ensures ∙ has_count-entered c.args.counter (entry_presence x) in
+    (omega (arith, c.in-Some.ensures.within)) c.index.ensures c.counted_up.ensures.presence in
+    let counted = ap has_count c.counted_up.ensures.presence ∙ has_count-entered c.args.counter (entry_presence x) in
     let cells = rw counted at k.used in
     record { table = d.table; after = k.after; counted = omega (arith, cells, d.counted); within = omega (arith, cells, d.within) }
 
@@ -40,7 +40,7 @@ returns-in-Some-clause-result c =
     let x = c.index.result.now in
     let d = rw (← c.self.view_is) at c.requires.draft in
     let k = counts_entry (entry_mark c.args.counter r) c.place_for.new.changed.items ps qs c.in-Some.i x c.counted_up.result d.table d.after c.requires.cells c.in-Some.ensures.same c.in-Some.ensures.held
-    (omega (arith, c.in-Some.ensures.within)) c.index.ensures c.counted_up.ensures in
+    (omega (arith, c.in-Some.ensures.within)) c.index.ensures c.counted_up.ensures.presence in
     rw (← c.self.view_is) (rw (is_present-some qs r (entry_presence x) k.seen) refl)
 
 pub returns-in-None-clause-drafted : goal.returns-in-None-clause-drafted
@@ -52,7 +52,7 @@ returns-in-None-clause-drafted c =
     let whole = rw (← c.self.view_is) at c.requires.whole in
     let none : holder qs r ≡ None = sym c.in-None.ensures.held in
     let k = opens_entry (entry_mark c.args.counter r) c.args.block c.place_for.new.changed.items ps qs c.new_entry.result d.table d.after c.requires.cells c.in-None.ensures.same
-    (entry_opens c.args.counter) none whole c.new_entry.ensures in
+    (entry_opens c.args.counter) none whole c.new_entry.ensures.presence in
     rw (← c.self.view_is, c.push_reserved.ensures.items) k.same
 
 pub returns-in-None-clause-draft : goal.returns-in-None-clause-draft
@@ -64,7 +64,7 @@ returns-in-None-clause-draft c =
     let whole = rw (← c.self.view_is) at c.requires.whole in
     let none : holder qs r ≡ None = sym c.in-None.ensures.held in
     let k = opens_entry (entry_mark c.args.counter r) c.args.block c.place_for.new.changed.items ps qs c.new_entry.result d.table d.after c.requires.cells c.in-None.ensures.same
-    (entry_opens c.args.counter) none whole c.new_entry.ensures in
+    (entry_opens c.args.counter) none whole c.new_entry.ensures.presence in
     let capacity = rw (← c.self.view_is) at c.requires.capacity in
     rw c.push_reserved.ensures.items
     (record { table = d.table; after = k.after; counted = omega (arith, k.used, d.counted, c.from.ensures); within = omega (arith, k.used, capacity none) })

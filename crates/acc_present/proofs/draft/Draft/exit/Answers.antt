@@ -39,7 +39,7 @@ settle-requires-clause-cells c =
     let x = c.index.result.now in
     let k = rw (← c.self.view_is) at c.requires.draft in
     let f = placed_for k c.args.range es c.in-Some.i x c.in-Some.ensures.same c.in-Some.ensures.held (omega (arith, c.in-Some.ensures.within)) c.index.ensures in
-    settled_cells k (record { change = c.args.change; range = c.args.range }) es c.in-Some.i x c.counted_down.result f c.requires.cells c.counted_down.ensures
+    settled_cells k (record { change = c.args.change; range = c.args.range }) es c.in-Some.i x c.counted_down.result f c.requires.cells c.counted_down.ensures.presence
 
 pub returns-else-count_of-eq0-clause-drafted : goal.returns-else-count_of-eq0-clause-drafted
 returns-else-count_of-eq0-clause-drafted c =
@@ -48,7 +48,7 @@ returns-else-count_of-eq0-clause-drafted c =
     let k = rw (← c.self.view_is) at c.requires.draft in
     let f = placed_for k c.args.range es c.in-Some.i x c.in-Some.ensures.same c.in-Some.ensures.held (omega (arith, c.in-Some.ensures.within)) c.index.ensures in
     rw (← c.self.view_is)
-    (draft_settled k (record { change = c.args.change; range = c.args.range }) es c.in-Some.i x c.counted_down.result c.settle.new.self f c.requires.cells c.counted_down.ensures c.settle.ensures.changed c.settle.ensures.used).same
+    (draft_settled k (record { change = c.args.change; range = c.args.range }) es c.in-Some.i x c.counted_down.result c.settle.new.self f c.requires.cells c.counted_down.ensures.presence c.settle.ensures.changed c.settle.ensures.used).same
 
 pub returns-else-count_of-eq0-clause-draft : goal.returns-else-count_of-eq0-clause-draft
 returns-else-count_of-eq0-clause-draft c =
@@ -56,7 +56,7 @@ returns-else-count_of-eq0-clause-draft c =
     let x = c.index.result.now in
     let k = rw (← c.self.view_is) at c.requires.draft in
     let f = placed_for k c.args.range es c.in-Some.i x c.in-Some.ensures.same c.in-Some.ensures.held (omega (arith, c.in-Some.ensures.within)) c.index.ensures in
-    (draft_settled k (record { change = c.args.change; range = c.args.range }) es c.in-Some.i x c.counted_down.result c.settle.new.self f c.requires.cells c.counted_down.ensures c.settle.ensures.changed c.settle.ensures.used).draft
+    (draft_settled k (record { change = c.args.change; range = c.args.range }) es c.in-Some.i x c.counted_down.result c.settle.new.self f c.requires.cells c.counted_down.ensures.presence c.settle.ensures.changed c.settle.ensures.used).draft
 
 pub returns-else-count_of-eq0-clause-result : goal.returns-else-count_of-eq0-clause-result
 returns-else-count_of-eq0-clause-result c =
@@ -65,4 +65,4 @@ returns-else-count_of-eq0-clause-result c =
     let k = rw (← c.self.view_is) at c.requires.draft in
     let f = placed_for k c.args.range es c.in-Some.i x c.in-Some.ensures.same c.in-Some.ensures.held (omega (arith, c.in-Some.ensures.within)) c.index.ensures in
     let some = λ (z : counter_of (changed_counter c.args.change) (entry_presence x) ≡ 0). c.if-count_of-eq0.false (c.count_of.ensures ∙ z) in
-    rw (← c.self.view_is) (rw f.seen (says_settled (entry_presence x) (entry_presence c.counted_down.result) c.args.change c.settle.result some c.counted_down.ensures c.settle.ensures.result))
+    rw (← c.self.view_is) (rw f.seen (says_settled (entry_presence x) (entry_presence c.counted_down.result) c.args.change c.settle.result some c.counted_down.ensures.presence c.settle.ensures.result))

@@ -4,21 +4,22 @@ use Rattle.acc_present.specs.Tables.{counter_of, changed_counter, entry_presence
 use Rattle.acc_present.proofs.Counting.{kept_none}
 use Rattle.acc_present.proofs.Entering.{shown, found_at, exit_at_zero, left_nothing, left_settled, range_at, says_nothing, says_settled}
 use Rattle.acc_present.proofs.Searching.{is_present-none}
+use Rattle.acc_present.proofs.Noting.{noted_at}
 use Rattle.acc_present.proofs.table.Table.exit.Goals as goal
 
 pub returns-in-None-clause-presences : goal.returns-in-None-clause-presences
 returns-in-None-clause-presences c =
     let es = c.self.inside.entries.items in
-    let none : holder (shown es) c.args.range ≡ None = rw c.as_slice.ensures.value at c.in-None.ensures.held in
+    let none : holder (shown es) c.args.range ≡ None = rw c.as_slice.ensures at c.in-None.ensures.held in
     rw (← c.self.view_is) (sym (kept_none (record { change = c.args.change; range = c.args.range }) (shown es) c.self.invariant.table (is_present-none (shown es) c.args.range none)))
 
 pub returns-then-count_of-eq0-clause-presences : goal.returns-then-count_of-eq0-clause-presences
 returns-then-count_of-eq0-clause-presences c =
     let es = c.self.inside.entries.items in
-    let x = c.index.result.now in
-    let held = rw c.as_slice.ensures.value at c.in-Some.ensures.held in
-    let low = rw c.as_slice.ensures.value at c.in-Some.ensures.within in
-    let f = found_at es c.args.range c.in-Some.i x held low c.index.ensures in
+    let x = c.at-entry.result.now in
+    let held = rw c.as_slice.ensures at c.in-Some.ensures.held in
+    let low = rw c.as_slice.ensures at c.in-Some.ensures.within in
+    let f = found_at es c.args.range c.in-Some.i x held low c.at-entry.ensures in
     let zero : counter_of (changed_counter c.args.change) (entry_presence x) ≡ 0 = sym c.count_of.ensures ∙ c.if-count_of-eq0.true in
     rw (← c.self.view_is)
     (left_nothing es (record { change = c.args.change; range = c.args.range }) c.in-Some.i x c.self.inside.used c.self.inside.capacity c.self.invariant c.requires.cells f (exit_at_zero c.args.change (entry_presence x) c.requires.exit zero))
@@ -26,39 +27,50 @@ returns-then-count_of-eq0-clause-presences c =
 pub returns-then-count_of-eq0-clause-result : goal.returns-then-count_of-eq0-clause-result
 returns-then-count_of-eq0-clause-result c =
     let es = c.self.inside.entries.items in
-    let x = c.index.result.now in
-    let held = rw c.as_slice.ensures.value at c.in-Some.ensures.held in
-    let low = rw c.as_slice.ensures.value at c.in-Some.ensures.within in
-    let f = found_at es c.args.range c.in-Some.i x held low c.index.ensures in
+    let x = c.at-entry.result.now in
+    let held = rw c.as_slice.ensures at c.in-Some.ensures.held in
+    let low = rw c.as_slice.ensures at c.in-Some.ensures.within in
+    let f = found_at es c.args.range c.in-Some.i x held low c.at-entry.ensures in
     let zero : counter_of (changed_counter c.args.change) (entry_presence x) ≡ 0 = sym c.count_of.ensures ∙ c.if-count_of-eq0.true in
     rw (← c.self.view_is) (rw f.seen (says_nothing (entry_presence x) c.args.change zero))
 
 pub settle-requires : goal.settle-requires
 settle-requires c =
     let es = c.self.inside.entries.items in
-    let x = c.index.result.now in
-    let held = rw c.as_slice.ensures.value at c.in-Some.ensures.held in
-    let low = rw c.as_slice.ensures.value at c.in-Some.ensures.within in
-    let f = found_at es c.args.range c.in-Some.i x held low c.index.ensures in
-    rw (← c.self.view_is) (range_at es c.args.range c.counted_down.result.range c.in-Some.i x f (ap (λ (p : Presence). p.range) (sym c.counted_down.ensures)))
+    let x = c.at-entry.result.now in
+    let held = rw c.as_slice.ensures at c.in-Some.ensures.held in
+    let low = rw c.as_slice.ensures at c.in-Some.ensures.within in
+    let f = found_at es c.args.range c.in-Some.i x held low c.at-entry.ensures in
+    rw (← c.self.view_is) (range_at es c.args.range c.counted_down-after.result.range c.in-Some.i x f (ap (λ (p : Presence). p.range) (sym c.counted_down-after.ensures.presence)))
 
 pub returns-else-count_of-eq0-clause-presences : goal.returns-else-count_of-eq0-clause-presences
 returns-else-count_of-eq0-clause-presences c =
     let es = c.self.inside.entries.items in
-    let x = c.index.result.now in
-    let held = rw c.as_slice.ensures.value at c.in-Some.ensures.held in
-    let low = rw c.as_slice.ensures.value at c.in-Some.ensures.within in
-    let f = found_at es c.args.range c.in-Some.i x held low c.index.ensures in
+    let x = c.at-entry.result.now in
+    let held = rw c.as_slice.ensures at c.in-Some.ensures.held in
+    let low = rw c.as_slice.ensures at c.in-Some.ensures.within in
+    let f = found_at es c.args.range c.in-Some.i x held low c.at-entry.ensures in
     rw (← c.self.view_is)
-    (left_settled es (record { change = c.args.change; range = c.args.range }) c.in-Some.i x c.counted_down.result c.settle.new.self.presences c.self.inside.used c.self.inside.capacity c.self.invariant c.requires.cells f
-    c.counted_down.ensures (rw (← c.self.view_is) at c.settle.ensures.presences))
+    (left_settled es (record { change = c.args.change; range = c.args.range }) c.in-Some.i x c.counted_down-after.result c.settle.new.self.presences c.self.inside.used c.self.inside.capacity c.self.invariant c.requires.cells f
+    c.counted_down-after.ensures.presence (rw (← c.self.view_is) at c.settle.ensures.presences))
 
 pub returns-else-count_of-eq0-clause-result : goal.returns-else-count_of-eq0-clause-result
 returns-else-count_of-eq0-clause-result c =
     let es = c.self.inside.entries.items in
-    let x = c.index.result.now in
-    let held = rw c.as_slice.ensures.value at c.in-Some.ensures.held in
-    let low = rw c.as_slice.ensures.value at c.in-Some.ensures.within in
-    let f = found_at es c.args.range c.in-Some.i x held low c.index.ensures in
+    let x = c.at-entry.result.now in
+    let held = rw c.as_slice.ensures at c.in-Some.ensures.held in
+    let low = rw c.as_slice.ensures at c.in-Some.ensures.within in
+    let f = found_at es c.args.range c.in-Some.i x held low c.at-entry.ensures in
     let some = λ (z : counter_of (changed_counter c.args.change) (entry_presence x) ≡ 0). c.if-count_of-eq0.false (c.count_of.ensures ∙ z) in
-    rw (← c.self.view_is) (rw f.seen (says_settled (entry_presence x) (entry_presence c.counted_down.result) c.args.change c.settle.result some c.counted_down.ensures c.settle.ensures.result))
+    rw (← c.self.view_is) (rw f.seen (says_settled (entry_presence x) (entry_presence c.counted_down-after.result) c.args.change c.settle.result some c.counted_down-after.ensures.presence c.settle.ensures.result))
+
+pub returns-else-count_of-eq0-clause-notes : goal.returns-else-count_of-eq0-clause-notes
+returns-else-count_of-eq0-clause-notes c =
+    let es = c.self.inside.entries.items in
+    let low = rw c.as_slice.ensures at c.in-Some.ensures.within in
+    let x = c.at-entry.result.now in
+    let y = c.counted_down-after.result in
+    let range : y.range ≡ x.range = ap (λ (p : Presence). p.range) c.counted_down-after.ensures.presence in
+    let block : y.block ≡ x.block = ap (λ (p : Presence). p.block) c.counted_down-after.ensures.presence in
+    λ notes h. c.settle.ensures.notes notes h
+    (c.counted_down-after.ensures.note ∙ (noted_at notes es c.in-Some.i x (rw (← c.self.view_is) at h) low c.at-entry.ensures ∙ (ap (λ r. notes r x.block) (sym range) ∙ ap (λ b. notes y.range b) (sym block))))

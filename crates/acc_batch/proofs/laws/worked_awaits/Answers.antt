@@ -1,0 +1,46 @@
+use Rattle.std.proofs.Common.{◌≡◌, ℕ, ◌≤◌, [], ◌∷◌, refl, arith, inl, inr}
+use Rattle.std.specs.Prelude.{Contains}
+use Rattle.acc_base.proofs.Members.{no_member, member_first, member_rest, member_cases}
+use Rattle.acc_batch.specs.declared.operation.Op.TheVariants.{CopyIn, Release, Await}
+use Rattle.acc_batch.specs.declared.operation.Label.{Label}
+use Rattle.acc_batch.specs.Awaits.{IsOrdered, StandsBehind, one_queue, awaited, uses_made, releases_used}
+use Rattle.acc_batch.specs.AwaitExamples.{cells, first_batch, maker, user}
+use Rattle.acc_batch.proofs.laws.worked_awaits.Goals as goal
+
+pub returns-clause-awaits : goal.returns-clause-awaits
+returns-clause-awaits c = (refl, refl, refl, refl, refl, refl, refl)
+
+-- a batch that awaits nothing stands only behind those of its queue
+alone_behind : (l m : Label) → StandsBehind l m → ((q n : ℕ) → Contains l.ops (Await q n) → q ≡ m.at.queue → ⊥) → m.at ≡ l.at
+alone_behind l m (one_queue same) none = same
+alone_behind l m (awaited n low there) none = absurd (none m.at.queue n there refl)
+
+pub returns-clause-refused : goal.returns-clause-refused
+returns-clause-refused c = (no_maker, no_use, not_placed)
+  where
+    no_maker : IsOrdered (maker ∷ []) (first_batch 4 (CopyIn 1 cells ∷ [])) → ⊥
+    no_maker o =
+        let behind = o.behind maker 1 (member_first maker []) refl (uses_made (member_first 1 []) (member_first 1 [])) in
+        let none : (q n : ℕ) → Contains (CopyIn 1 cells ∷ []) (Await q n) → q ≡ 2 → ⊥ = λ q n k e. not_await q n k in
+        let same = alone_behind (first_batch 4 (CopyIn 1 cells ∷ [])) maker behind none in
+        cc
+      where
+        not_await : (q n : ℕ) → Contains (CopyIn 1 cells ∷ []) (Await q n) → ⊥
+        not_await q n k = elim (member_cases (Await q n) (CopyIn 1 cells) [] k) [ inl e ↦ cc | inr rest ↦ no_member (Await q n) rest ]
+
+    no_use : IsOrdered (maker ∷ user ∷ []) (first_batch 3 (Await 2 1 ∷ Release 1 ∷ [])) → ⊥
+    no_use o =
+        let behind = o.behind user 1 (member_rest user maker (user ∷ []) (member_first user [])) refl (releases_used (member_first 1 []) (member_first 1 [])) in
+        let same = alone_behind (first_batch 3 (Await 2 1 ∷ Release 1 ∷ [])) user behind not_await in
+        cc
+      where
+        not_await : (q n : ℕ) → Contains (Await 2 1 ∷ Release 1 ∷ []) (Await q n) → q ≡ 4 → ⊥
+        not_await q n k e = elim (member_cases (Await q n) (Await 2 1) (Release 1 ∷ []) k) [
+          | inl same ↦ (let two : q ≡ 2 = cc in omega (arith, two, e))
+          | inr rest ↦ (elim (member_cases (Await q n) (Release 1) [] rest) [ inl wrong ↦ cc | inr none ↦ no_member (Await q n) none ])
+        ]
+
+    not_placed : IsOrdered [] user → ⊥
+    not_placed o =
+        let low : 1 ≤ 0 = o.awaits_placed 2 1 (member_first (Await 2 1) (CopyIn 1 cells ∷ [])) in
+        omega (arith, low)

@@ -1,0 +1,67 @@
+-- Blocks that are live where operations use them.
+use Rattle.std.specs.Prelude.{ℕ, ℤ, ◌==◌, IsTrue, List, [], ◌∷◌, ◌++◌, map, filter, All, Contains}
+use Rattle.acc_base.specs.declared.range.Range.{Range}
+use Rattle.acc_base.specs.Configurations.{is_in_array}
+use Rattle.acc_base.specs.Ranges.{Includes}
+use Rattle.acc_kernel.specs.Jobs.{Use}
+use Rattle.acc_batch.specs.declared.operation.Label.{Label}
+use Rattle.acc_batch.specs.declared.operation.Op.{Op}
+use Rattle.acc_batch.specs.declared.operation.Op.TheVariants.{Make, CopyIn, CopyOut, Release, Run, Await, Close}
+use Rattle.acc_batch.specs.Labels.{ops_of}
+use Rattle.acc_batch.specs.Awaits.{AllOrdered}
+
+-- A block that was made, and its range.
+pub record Made : Type 0 where
+  pub block : ℕ
+  pub range : Range
+
+-- the blocks that were made, with their ranges, and those that were released
+abbrev pub made : List Op → List Made
+made [] = []
+made (Make b r ∷ ops) = record { block = b; range = r } ∷ made ops
+made (CopyIn b r ∷ ops) = made ops
+made (CopyOut b r ∷ ops) = made ops
+made (Release b ∷ ops) = made ops
+made (Run k uses ∷ ops) = made ops
+made (Await q n ∷ ops) = made ops
+made (Close ∷ ops) = made ops
+
+abbrev pub released : List Op → List ℕ
+released [] = []
+released (Make b r ∷ ops) = released ops
+released (CopyIn b r ∷ ops) = released ops
+released (CopyOut b r ∷ ops) = released ops
+released (Release b ∷ ops) = b ∷ released ops
+released (Run k uses ∷ ops) = released ops
+released (Await q n ∷ ops) = released ops
+released (Close ∷ ops) = released ops
+
+-- A block was made and not released, and the range lies in its range.
+pub record HoldsBlock (before : List Op) (block : ℕ) (range : Range) : Type 0 where
+  pub whole_range : Range
+  pub is_made : Contains (made before) (record { block = block; range = whole_range })
+  pub not_released : ¬ Contains (released before) block
+  pub inside : Includes whole_range range
+
+-- An operation of a device uses live blocks, where these operations came before it.
+abbrev pub UsesLive : List (List ℤ) → Op → List Op → Type 0
+UsesLive arrays (Make b r) before = ¬ Contains (map (λ m. m.block) (made before)) b × IsTrue (is_in_array arrays r)
+UsesLive arrays (CopyIn b r) before = HoldsBlock before b r
+UsesLive arrays (CopyOut b r) before = HoldsBlock before b r
+UsesLive arrays (Release b) before = (r : Range) × HoldsBlock before b r
+UsesLive arrays (Run k uses) before = All (λ (u : Use). HoldsBlock before u.0 u.1) uses
+UsesLive arrays (Await q n) before = Unit {0}
+UsesLive arrays Close before = Unit {0}
+
+-- These operations, in order behind those before, each use live blocks.
+abbrev pub AllUse : List (List ℤ) → List Op → List Op → Type 0
+AllUse arrays before [] = Unit {0}
+AllUse arrays before (op ∷ ops) = UsesLive arrays op before × AllUse arrays (before ++ op ∷ []) ops
+
+abbrev pub on_device : ℕ → List Label → List Label
+on_device device labels = filter (λ l. l.at.device == device) labels
+
+-- Labels whose operations use live blocks on each device in the order of placing, and that await what they need.
+pub record IsSound (arrays : List (List ℤ)) (labels : List Label) : Type 0 where
+  pub use_live : (device : ℕ) → AllUse arrays [] (ops_of (on_device device labels))
+  pub ordered : AllOrdered [] labels

@@ -1,0 +1,147 @@
+ghost use Rattle.std.specs.Prelude.{◌≡◌, ◌+◌, ◌^◌, ◌<◌, ◌≤◌, [], length, slice_get, slice_set, insert, remove, IfOk, IfErr, OnOk, OnErr, OnSome, vec_len};
+ghost use Rattle.std.specs.Option.{option_map};
+ghost use Rattle.std.proofs.Common.{get_or};
+ghost use Rattle.acc_base.specs.declared.fault.Fault.TheVariants as fault;
+
+use crate::table::Entry;
+use acc_base::{BlockId, Boxed, Fault, QueueId, Range};
+use std::alloc::Global;
+use std::marker::Model;
+
+/// Entries in their order, each in a place of its own, so that one that comes or goes moves no other; with places for entries
+/// to come.
+#[derive(Drop)]
+pub(crate) struct Entries {
+    alloc: Global,
+    places: Vec<Boxed<Entry>>,
+    spare: Vec<Boxed<Entry>>,
+}
+
+impl Model for Entries {
+    ghost use Rattle.std.specs.Prelude.{◌+◌, vec_len, vec_capacity};
+    ghost use Rattle.acc_present.specs.Invariants.{Stored, HasPlaces};
+
+    ghost Value = { Stored };
+
+    ghost view = { λ e. record { items = e.places.items; room = vec_len e.places + vec_len e.spare } };
+
+    ghost invariant = { λ e. HasPlaces (vec_len e.places + vec_len e.spare) (vec_capacity e.places) (vec_capacity e.spare) };
+}
+
+impl Entries {
+    pub fn new(alloc: Global) -> Self
+        ensures { result.items ≡ [] }
+    {
+        Entries {
+            alloc,
+            places: Vec::new(alloc),
+            spare: Vec::new(alloc),
+        }
+    }
+
+    /// Makes room for this many new entries.
+    pub fn spare(&mut self, count: usize) -> Result<(), Fault>
+        ensures items { self.new.items ≡ self.old.items }
+        ensures room { self.old.room ≤ self.new.room }
+        ensures ok { OnOk result (length self.new.items + count ≤ self.new.room) }
+        ensures fault { IfErr result (λ f. f ≡ fault.Memory) }
+        ensures kept { OnErr result (self.new ≡ self.old) }
+        ensures missing { OnErr result (self.old.room < length self.old.items + count) }
+    {
+        let spare = self.spare.len();
+        if count <= spare {
+            return Ok(());
+        }
+        let mut more = places(self.alloc, count - spare)?;
+        self.places.reserve(count)?;
+        self.spare.reserve(self.places.len() + (count - spare))?;
+        let _ = self.spare.append(&mut more);
+        Ok(())
+    }
+
+    pub fn as_slice(&self) -> &[Boxed<Entry>]
+        ensures { result.now ≡ self.now.items }
+    {
+        self.places.as_slice()
+    }
+
+    pub fn get(&self, place: usize) -> Option<&Entry>
+        ensures entry { option_map (λ e. e.now) result ≡ slice_get self.now.items place }
+        ensures next { OnSome result (place + 1 < 2 ^ 64) }
+    {
+        match self.places.get(place) {
+            Some(entry) => Some(entry.get()),
+            None => None,
+        }
+    }
+
+    pub fn at(&self, place: usize) -> &Entry
+        requires { place < length self.now.items }
+        ensures { result.now ≡ get_or self.now.items place result.now }
+    {
+        self.places[place].get()
+    }
+
+    pub fn set(&mut self, place: usize, entry: Entry)
+        requires { place < length self.old.items }
+        ensures items { self.new.items ≡ slice_set self.old.items place entry }
+        ensures room { self.new.room ≡ self.old.room }
+    {
+        self.places[place].set(entry);
+    }
+
+    /// Puts an entry before the one at this place.
+    pub fn insert(&mut self, place: usize, entry: Entry)
+        requires within { place ≤ length self.old.items }
+        requires room { length self.old.items < self.old.room }
+        ensures items { self.new.items ≡ insert self.old.items place entry }
+        ensures room { self.new.room ≡ self.old.room }
+    {
+        match self.spare.pop() {
+            Some(mut at) => {
+                at.set(entry);
+                // there is room, so this isn't refused
+                let _ = self.places.insert(place, at);
+            }
+            None => {}
+        }
+    }
+
+    pub fn remove(&mut self, place: usize)
+        requires { place < length self.old.items }
+        ensures items { self.new.items ≡ remove self.old.items place }
+        ensures room { self.new.room ≡ self.old.room }
+    {
+        let at = self.places.remove(place);
+        self.spare.push_reserved(at);
+    }
+}
+
+// So many places without an entry.
+fn places(alloc: Global, count: usize) -> Result<Vec<Boxed<Entry>>, Fault>
+    ensures count { IfOk result (λ places. vec_len places ≡ count) }
+    ensures fault { IfErr result (λ f. f ≡ fault.Memory) }
+{
+    let mut places = Vec::with_capacity(alloc, count)?;
+    for _ in 0..count {
+        places.push_reserved(Boxed::new(alloc, no_entry())?);
+    }
+    Ok(places)
+}
+
+// What stands in a place that no entry has.
+fn no_entry() -> Entry {
+    let range = Range {
+        array: 0,
+        lo: 0,
+        len: 0,
+    };
+    Entry {
+        range,
+        block: BlockId::new(0),
+        s: 0,
+        d: 0,
+        maker: (QueueId::SYNC, 0),
+        uses: [0; 8],
+    }
+}
