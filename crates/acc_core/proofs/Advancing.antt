@@ -4,16 +4,16 @@ use Rattle.std.specs.Prelude.{MatchBool}
 use Rattle.std.proofs.lemmas.List.{length-append, length-drop}
 use Rattle.acc_batch.specs.declared.operation.Label.{Label}
 use Rattle.acc_core.specs.declared.event.Event.TheVariants as event
-use Rattle.acc_core.specs.declared.log.WorkEntry.TheVariants as entry
+use Rattle.acc_work.specs.declared.log.WorkEntry.TheVariants as entry
 use Rattle.acc_batch.specs.declared.operation.Op.{Op}
 use Rattle.acc_batch.specs.declared.operation.Op.TheVariants.{Make, CopyIn, CopyOut, Release, Run, Await, Close}
 use Rattle.acc_batch.specs.Labels.{on_queue, ops_of, batch_at}
 use Rattle.acc_batch.proofs.Labels.{ops_of-take-le}
 use Rattle.acc_batch.specs.Lives.{made}
-use Rattle.acc_core.specs.Logs.{performed, host_allows}
+use Rattle.acc_work.specs.Logs.{performed, host_allows}
 use Rattle.acc_core.specs.Machine.{State, is_there, perform_step, step, idle, did, with_op}
 use Rattle.acc_core.specs.Ties.{IsAccelerator, Queued, labels_of, performed_count}
-use Rattle.acc_core.specs.Works.{WorkView, sync, lane_allows, Performs, HasPerformed, NextMayFollow}
+use Rattle.acc_work.specs.Works.{WorkView, sync, lane_allows, Performs, HasPerformed, NextMayFollow}
 use Rattle.acc_core.proofs.Keeping.{legal_performed}
 use Rattle.acc_core.proofs.Lanes.{batch_at_next, take_one_more}
 use Rattle.acc_core.proofs.Performing.{next_uses_live}

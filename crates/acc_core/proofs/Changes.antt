@@ -7,9 +7,9 @@ use Rattle.acc_place.specs.declared.directive.Directive.{Directive}
 use Rattle.acc_core.specs.declared.event.Event.{Event}
 use Rattle.acc_core.specs.declared.event.Event.TheVariants as event
 use Rattle.acc_core.specs.declared.event.Reply.{Reply}
-use Rattle.acc_core.specs.declared.log.Shown.{Shown}
-use Rattle.acc_core.specs.declared.log.Shown.TheVariants as shown
-use Rattle.acc_core.specs.declared.log.TheConstants.{MAX_HOST_ITEMS}
+use Rattle.acc_work.specs.declared.log.Shown.{Shown}
+use Rattle.acc_work.specs.declared.log.Shown.TheVariants as shown
+use Rattle.acc_work.specs.declared.log.TheConstants.{MAX_HOST_ITEMS}
 use Rattle.acc_batch.specs.declared.operation.Op.{Op}
 use Rattle.acc_core.specs.declared.program.Act.{Act}
 use Rattle.acc_core.specs.declared.program.Act.TheVariants as act
@@ -19,8 +19,8 @@ use Rattle.acc_core.specs.declared.program.Phase.TheVariants as phase
 use Rattle.acc_core.specs.declared.program.Statement.{Statement}
 use Rattle.acc_place.specs.Accepting.{refusal}
 use Rattle.acc_batch.specs.Labels.{on_queue, batch_at}
-use Rattle.acc_core.specs.Legality.{ShowsTruth}
-use Rattle.acc_core.specs.Logs.{performed, all_items, all_done, host_allows}
+use Rattle.acc_work.specs.Orders.{ShowsTruth}
+use Rattle.acc_work.specs.Logs.{performed, all_items, all_done, host_allows}
 use Rattle.acc_core.specs.Machine.{State, Outcome, Step, standing_of, is_there, held, rest, with_host, next_statement, with_item, with_op, is_full, item_step, accepting, place_step, act_step, statement_step, host_step, named_step, take_step, perform_step, queue_step, step}
 use Rattle.acc_place.specs.Standings.{walk_of}
 

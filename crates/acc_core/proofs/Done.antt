@@ -1,5 +1,5 @@
 -- How many batches of a queue are performed.
-use Rattle.std.proofs.Common.{◌≡◌, ℕ, ◌+◌, ◌-◌, ◌<◌, ◌≤◌, false, List, [], ◌∷◌, ◌++◌, length, take, drop, sym, ap, ◌∙◌, arith}
+use Rattle.std.proofs.Common.{◌≡◌, ℕ, ◌+◌, ◌-◌, ◌<◌, ◌≤◌, false, List, ◌∷◌, ◌++◌, length, take, drop, sym, ap, ◌∙◌, arith}
 use Rattle.std.proofs.lemmas.List.{length-append, length-drop, length-take-le, take-append-drop}
 use Rattle.std.proofs.lemmas.List.Elements.{All-drop}
 use Rattle.acc_base.specs.declared.ids.QueueAt.{QueueAt}
@@ -8,10 +8,10 @@ use Rattle.acc_batch.specs.declared.operation.Label.{Label}
 use Rattle.acc_batch.specs.Labels.{on_queue, ops_of, whole}
 use Rattle.acc_batch.proofs.Wholes.{whole_behind, none_whole, none_begun}
 use Rattle.acc_core.specs.Legality.{Legal}
-use Rattle.acc_core.specs.Logs.{done, performed}
+use Rattle.acc_work.specs.Logs.{done, performed}
 use Rattle.acc_core.specs.Machine.{State}
 use Rattle.acc_core.specs.Ties.{Queued, labels_of, performed_count}
-use Rattle.acc_core.specs.Works.{WorkView, sync}
+use Rattle.acc_work.specs.Works.{WorkView, sync}
 use Rattle.acc_core.proofs.Elsewhere.{none_placed}
 use Rattle.acc_core.proofs.Lanes.{ops_of_taken}
 

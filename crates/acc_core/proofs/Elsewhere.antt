@@ -7,10 +7,10 @@ use Rattle.acc_base.specs.Queues.{same_queue}
 use Rattle.acc_core.specs.declared.event.Event.TheVariants as event
 use Rattle.acc_batch.specs.Labels.{on_queue, ops_of, AllAt}
 use Rattle.acc_core.specs.Legality.{Legal}
-use Rattle.acc_core.specs.Logs.{performed}
+use Rattle.acc_work.specs.Logs.{performed}
 use Rattle.acc_core.specs.Machine.{State, Outcome, idle, is_there, held, rest, taken_on, queue_step, take_step, step}
 use Rattle.acc_core.specs.Ties.{labels_of}
-use Rattle.acc_core.specs.Works.{sync}
+use Rattle.acc_work.specs.Works.{sync}
 use Rattle.acc_core.proofs.Histories.{placed_use}
 use Rattle.acc_base.proofs.SameQueue.{same_queue_is, same_queue_itself}
 use Rattle.acc_batch.proofs.Labels.{no_rest}

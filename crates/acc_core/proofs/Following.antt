@@ -3,8 +3,8 @@
 use Rattle.std.proofs.Common.{inl, inr, ◌≡◌, ℕ, zero, suc, ◌+◌, ◌-◌, ◌≤◌, true, false, List, [], ◌∷◌, ◌++◌, length, take, drop, refl, sym, ap, ◌∙◌, subst, arith, Some}
 use Rattle.std.specs.Prelude.{◌==◌, slice_get}
 use Rattle.std.proofs.lemmas.List.{append_assoc, append-nil, take-append-le, drop-append-le, take_all, drop_all, length-drop, length_push}
-use Rattle.acc_core.specs.declared.log.WorkEntry.{WorkEntry}
-use Rattle.acc_core.specs.declared.log.WorkEntry.TheVariants as entry
+use Rattle.acc_work.specs.declared.log.WorkEntry.{WorkEntry}
+use Rattle.acc_work.specs.declared.log.WorkEntry.TheVariants as entry
 use Rattle.acc_core.specs.declared.program.Act.{Act}
 use Rattle.acc_core.specs.declared.program.Act.TheVariants as act
 use Rattle.acc_core.specs.declared.program.Host.{Host}
@@ -13,7 +13,7 @@ use Rattle.acc_core.specs.declared.program.Phase.TheVariants as phase
 use Rattle.acc_core.specs.declared.program.Statement.{Statement}
 use Rattle.acc_core.specs.Following.{Ended, OwesFor, Behind, Rise, Stands, AllStand}
 use Rattle.acc_core.specs.Legality.{Own, own_of, items_shown, merged, AllFollow}
-use Rattle.acc_core.specs.Logs.{one_more, items_of, if_one}
+use Rattle.acc_work.specs.Logs.{one_more, items_of, if_one}
 use Rattle.acc_core.specs.Machine.{State}
 use Rattle.acc_core.specs.Steps.{HostEntry, Gave, Had, Owed, nothing_owed, owes_seen, owed_by, Begins, Ends, Follows}
 

@@ -5,15 +5,15 @@ use Rattle.std.proofs.lemmas.Bool.{and_parts, and_from, leb-true, le-leb}
 use Rattle.std.proofs.lemmas.List.{append_assoc}
 use Rattle.acc_base.specs.declared.ids.QueueAt.{QueueAt}
 use Rattle.acc_batch.specs.declared.operation.Label.{Label}
-use Rattle.acc_core.specs.declared.log.Shown.{Shown}
-use Rattle.acc_core.specs.declared.log.Shown.TheVariants as shown
-use Rattle.acc_core.specs.declared.log.WorkEntry.{WorkEntry}
-use Rattle.acc_core.specs.declared.log.WorkEntry.TheVariants as entry
+use Rattle.acc_work.specs.declared.log.Shown.{Shown}
+use Rattle.acc_work.specs.declared.log.Shown.TheVariants as shown
+use Rattle.acc_work.specs.declared.log.WorkEntry.{WorkEntry}
+use Rattle.acc_work.specs.declared.log.WorkEntry.TheVariants as entry
 use Rattle.acc_batch.specs.Labels.{on_queue, ops_of, batch_at}
 use Rattle.acc_batch.proofs.Labels.{ops_of-append, on_queue-append}
 use Rattle.acc_batch.proofs.Wholes.{whole-more}
-use Rattle.acc_core.specs.Legality.{InOrder, ShowsTruth, InHostOrder}
-use Rattle.acc_core.specs.Logs.{performed, done, all_done, host_allows}
+use Rattle.acc_work.specs.Orders.{InOrder, ShowsTruth, InHostOrder}
+use Rattle.acc_work.specs.Logs.{performed, done, all_done, host_allows}
 
 -- an operation that its batch allows is still allowed
 pub host_allows-more : (ls more : List Label) (n : ℕ) (work : List WorkEntry) → IsTrue (host_allows (batch_at ls n) work) → IsTrue (host_allows (batch_at (ls ++ more) n) work)

@@ -19,7 +19,7 @@ use Rattle.acc_place.specs.Batches.{opened_blocks, ended_blocks, makes, copy_ins
 use Rattle.acc_place.specs.Histories.{AllAccepted, standing, after_walk, at_first}
 use Rattle.acc_batch.specs.Lives.{made, released, AllUse, Made}
 use Rattle.acc_batch.specs.Labels.{ops_of, AllAt}
-use Rattle.acc_core.specs.Works.{sync}
+use Rattle.acc_work.specs.Works.{sync}
 use Rattle.acc_base.proofs.Members.{no_member}
 use Rattle.acc_core.proofs.Queues.{all_at_labelled, ops_of-labelled}
 use Rattle.acc_core.proofs.Uses.{made-append, released-append, AllUse-append, marked_by, visit, Booked, booked_more}

@@ -8,7 +8,7 @@ use Rattle.acc_core.specs.declared.program.Phase.{Phase}
 use Rattle.acc_core.specs.declared.program.Phase.TheVariants as phase
 use Rattle.acc_core.specs.declared.program.Statement.{Statement}
 use Rattle.acc_core.specs.declared.world.Awaited.{Awaited}
-use Rattle.acc_core.specs.Logs.{all_done}
+use Rattle.acc_work.specs.Logs.{all_done}
 use Rattle.acc_core.specs.Machine.{State, Outcome, standing_of, idle, statement_step, host_step}
 use Rattle.acc_core.specs.Worlds.{after_answer, reply_to, Acts, HostSteps, StandsAt, IsHost}
 

@@ -5,7 +5,7 @@ use Rattle.acc_base.specs.declared.ids.QueueAt.{QueueAt}
 use Rattle.acc_place.specs.declared.directive.Directive.{Directive}
 use Rattle.acc_core.specs.declared.event.Event.{Event}
 use Rattle.acc_core.specs.declared.event.Reply.{Reply}
-use Rattle.acc_core.specs.declared.log.Shown.{Shown}
+use Rattle.acc_work.specs.declared.log.Shown.{Shown}
 use Rattle.acc_batch.specs.declared.operation.Label.{Label}
 use Rattle.acc_batch.specs.declared.operation.Op.{Op}
 use Rattle.acc_core.specs.declared.program.Host.{Host}
@@ -13,8 +13,9 @@ use Rattle.acc_place.specs.Accepting.{refusal}
 use Rattle.acc_place.specs.Batches.{batch_of, next_number, walk_at}
 use Rattle.acc_place.specs.Histories.{standing}
 use Rattle.acc_batch.specs.Labels.{on_queue, ops_of, batch_at}
-use Rattle.acc_core.specs.Legality.{Legal, ShowsTruth}
-use Rattle.acc_core.specs.Logs.{performed, items_of, host_allows}
+use Rattle.acc_work.specs.Orders.{ShowsTruth}
+use Rattle.acc_core.specs.Legality.{Legal}
+use Rattle.acc_work.specs.Logs.{performed, items_of, host_allows}
 use Rattle.acc_core.specs.Machine.{State, Step, Runs, standing_of, rest, with_item, with_op, accepting}
 use Rattle.acc_place.specs.Standings.{walk_of}
 use Rattle.acc_core.proofs.Changes.{Step-by, step_config}

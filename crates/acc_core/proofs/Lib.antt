@@ -1,6 +1,5 @@
 mod Advancing
 mod Changes
-mod Counters
 mod Done
 mod Elsewhere
 mod Ends
@@ -27,5 +26,4 @@ mod Starts
 mod Stepping
 mod Taking
 mod Uses
-mod Wholes
 mod WorldSteps

@@ -3,13 +3,13 @@ use Rattle.std.proofs.Common.{inl, inr, ◌≡◌, List, [], ◌∷◌, ◌++◌
 use Rattle.std.specs.Prelude.{◌==◌, ℤ}
 use Rattle.std.proofs.lemmas.Bool.{cases_Bool, eqb-true}
 use Rattle.std.proofs.lemmas.List.{append-nil}
-use Rattle.acc_core.specs.declared.log.WorkEntry.{WorkEntry}
-use Rattle.acc_core.specs.declared.log.WorkEntry.TheVariants as entry
+use Rattle.acc_work.specs.declared.log.WorkEntry.{WorkEntry}
+use Rattle.acc_work.specs.declared.log.WorkEntry.TheVariants as entry
 use Rattle.acc_batch.specs.declared.operation.Op.{Op}
 use Rattle.acc_batch.specs.declared.operation.Op.TheVariants.{Make, CopyIn, CopyOut, Release, Run, Await, Close}
-use Rattle.acc_core.specs.Legality.{AllLive}
+use Rattle.acc_work.specs.Lives.{AllLive}
 use Rattle.acc_batch.specs.Lives.{made, released, UsesLive, Made}
-use Rattle.acc_core.specs.Logs.{device_ops}
+use Rattle.acc_work.specs.Logs.{device_ops}
 use Rattle.acc_memory.specs.Memories.{blocks_after}
 use Rattle.acc_memory.proofs.HeldBlocks.{Held, held_first, held_make, held_release}
 use Rattle.acc_core.specs.Ties.{blocks_by, blocks_in}

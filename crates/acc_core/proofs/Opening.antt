@@ -6,12 +6,12 @@ use Rattle.acc_base.specs.declared.config.TheConstants.{MAX_HOSTS}
 use Rattle.acc_base.specs.Configurations.{Configuration}
 use Rattle.acc_batch.specs.declared.operation.Label.{Label}
 use Rattle.acc_place.specs.Histories.{standing}
-use Rattle.acc_core.specs.Logs.{value}
+use Rattle.acc_work.specs.Logs.{value}
 use Rattle.acc_core.specs.Machine.{State, state_at_first}
 use Rattle.acc_memory.specs.Memories.{MemoryView, Shows, rows_on, is_held, cell_of, lengths_of}
 use Rattle.acc_core.specs.Ties.{Queued, Remembers, IsAccelerator}
 use Rattle.acc_memory.specs.Values.{Cell, Host_cell, Block_cell}
-use Rattle.acc_core.specs.Works.{WorkView}
+use Rattle.acc_work.specs.Works.{WorkView}
 use Rattle.acc_core.proofs.Keeping.{legal_start}
 
 -- without blocks a memory shows the values of its arrays

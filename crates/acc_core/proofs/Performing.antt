@@ -5,16 +5,17 @@ use Rattle.std.proofs.lemmas.Bool.{cases_Bool}
 use Rattle.std.proofs.lemmas.List.{append_assoc, append-nil}
 use Rattle.acc_base.specs.declared.ids.QueueAt.{QueueAt}
 use Rattle.acc_base.specs.Queues.{same_queue}
-use Rattle.acc_core.specs.declared.log.WorkEntry.{WorkEntry}
-use Rattle.acc_core.specs.declared.log.WorkEntry.TheVariants as entry
+use Rattle.acc_work.specs.declared.log.WorkEntry.{WorkEntry}
+use Rattle.acc_work.specs.declared.log.WorkEntry.TheVariants as entry
 use Rattle.acc_batch.specs.declared.operation.Label.{Label}
 use Rattle.acc_batch.specs.declared.operation.Op.{Op}
 use Rattle.acc_batch.specs.Labels.{on_queue, ops_of, AllAt}
-use Rattle.acc_core.specs.Legality.{Legal, IsPrefix, InOrder}
+use Rattle.acc_work.specs.Orders.{IsPrefix, InOrder}
+use Rattle.acc_core.specs.Legality.{Legal}
 use Rattle.acc_batch.specs.Lives.{UsesLive, AllUse}
-use Rattle.acc_core.specs.Logs.{performed, device_ops}
+use Rattle.acc_work.specs.Logs.{performed, device_ops}
 use Rattle.acc_core.specs.Machine.{State, standing_of, taken_on, rest}
-use Rattle.acc_core.specs.Works.{sync}
+use Rattle.acc_work.specs.Works.{sync}
 use Rattle.acc_core.proofs.Histories.{placed_use}
 use Rattle.acc_base.proofs.SameQueue.{same_queue_is}
 use Rattle.acc_batch.proofs.Labels.{ops_of_all, no_rest}

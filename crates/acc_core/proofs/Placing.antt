@@ -22,13 +22,13 @@ use Rattle.acc_place.specs.Histories.{standing}
 use Rattle.acc_place.specs.Plans.{PlaceView, PlanView, standing_in, Fits, label_for, label_in}
 use Rattle.acc_batch.specs.Labels.{on_queue, ops_of}
 use Rattle.acc_core.specs.Legality.{Legal}
-use Rattle.acc_core.specs.Logs.{items_of, value}
+use Rattle.acc_work.specs.Logs.{items_of, value}
 use Rattle.acc_core.specs.Machine.{State, standing_of, accepting, is_empty, is_full, held}
 use Rattle.acc_place.specs.Standings.{walk_of}
 use Rattle.acc_memory.specs.Memories.{rows_on, room_on}
 use Rattle.acc_memory.proofs.Showing.{shows_same}
 use Rattle.acc_core.specs.Ties.{Queued, Remembers, IsAccelerator, IsLaneOf, labels_of, performed_count}
-use Rattle.acc_core.specs.Works.{WorkView, HasMadeRoom, sync}
+use Rattle.acc_work.specs.Works.{WorkView, HasMadeRoom, sync}
 use Rattle.acc_core.proofs.InArrays.{accepted_fits}
 use Rattle.acc_core.proofs.Histories.{placed_use}
 use Rattle.acc_core.proofs.OneDevice.{walk_is}

@@ -6,10 +6,10 @@ use Rattle.acc_base.specs.Queues.{same_queue}
 use Rattle.acc_batch.specs.Labels.{on_queue, ops_of}
 use Rattle.acc_batch.specs.declared.operation.Label.{Label}
 use Rattle.acc_core.specs.Legality.{Legal}
-use Rattle.acc_core.specs.Logs.{performed, all_items}
+use Rattle.acc_work.specs.Logs.{performed, all_items}
 use Rattle.acc_core.specs.Machine.{State}
 use Rattle.acc_core.specs.Ties.{Queued, labels_of, performed_count}
-use Rattle.acc_core.specs.Works.{WorkView, sync}
+use Rattle.acc_work.specs.Works.{WorkView, sync}
 use Rattle.acc_core.proofs.Elsewhere.{none_placed}
 use Rattle.acc_core.proofs.Histories.{placed_use}
 use Rattle.acc_core.proofs.Queues.{none_elsewhere, sync_or_item}

@@ -9,13 +9,13 @@ use Rattle.acc_batch.proofs.Labels.{ops_of-append}
 use Rattle.acc_batch.proofs.OneQueue.{on_queue_none}
 use Rattle.acc_batch.specs.declared.operation.Op.{Op}
 use Rattle.acc_batch.specs.declared.operation.Label.{Label}
-use Rattle.acc_core.specs.declared.log.WorkEntry.{WorkEntry}
-use Rattle.acc_core.specs.declared.log.WorkEntry.TheVariants as entry
+use Rattle.acc_work.specs.declared.log.WorkEntry.{WorkEntry}
+use Rattle.acc_work.specs.declared.log.WorkEntry.TheVariants as entry
 use Rattle.acc_place.specs.Batches.{labelled, next_number}
 use Rattle.acc_batch.specs.Labels.{ops_of, AllAt}
-use Rattle.acc_core.specs.Legality.{InOrder}
-use Rattle.acc_core.specs.Logs.{one_more, performed, device_ops, all_items}
-use Rattle.acc_core.specs.Works.{sync}
+use Rattle.acc_work.specs.Orders.{InOrder}
+use Rattle.acc_work.specs.Logs.{one_more, performed, device_ops, all_items}
+use Rattle.acc_work.specs.Works.{sync}
 
 -- the labels that a batch adds: one, or none where it is empty
 abbrev pub added : QueueAt → ℕ → ℕ → ℕ → List Op → List Label

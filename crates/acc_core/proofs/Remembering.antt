@@ -6,19 +6,19 @@ use Rattle.std.proofs.lemmas.List.{length-append}
 use Rattle.std.proofs.lemmas.List.Elements.{All-weaker}
 use Rattle.std.proofs.lemmas.List.Filters.{length-filter_both}
 use Rattle.acc_base.specs.declared.range.Range.{Range}
-use Rattle.acc_core.specs.declared.log.Shown.{Shown}
+use Rattle.acc_work.specs.declared.log.Shown.{Shown}
 use Rattle.acc_batch.specs.declared.operation.Op.{Op}
 use Rattle.acc_batch.specs.declared.operation.Op.TheVariants.{Make, CopyIn, CopyOut, Release, Run, Await, Close}
 use Rattle.acc_base.specs.Configurations.{ends_within, is_in_array}
-use Rattle.acc_core.specs.Legality.{AllLive}
+use Rattle.acc_work.specs.Lives.{AllLive}
 use Rattle.acc_batch.specs.Lives.{made, UsesLive, HoldsBlock, Made}
-use Rattle.acc_core.specs.Logs.{device_ops, value}
+use Rattle.acc_work.specs.Logs.{device_ops, value}
 use Rattle.acc_core.specs.Machine.{State, with_op, with_item}
 use Rattle.acc_kernel.specs.Jobs.{Use}
 use Rattle.acc_memory.specs.Memories.{MemoryView, rows_on, room_on, held_blocks, blocks_after, lengths_of, HasRange, reaches, ends_in, has_array, find_block, MayPerform}
 use Rattle.acc_memory.proofs.Showing.{length_held}
 use Rattle.acc_core.specs.Ties.{Remembers}
-use Rattle.acc_core.specs.Works.{WorkView, HasPerformed, HasShown, sync}
+use Rattle.acc_work.specs.Works.{WorkView, HasPerformed, HasShown, sync}
 use Rattle.acc_core.proofs.LiveBlocks.{held_in, blocks_by_more}
 
 -- The memory shows the values of the log after an operation is performed.

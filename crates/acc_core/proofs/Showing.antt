@@ -4,17 +4,17 @@ use Rattle.std.specs.Prelude.{Result, Ok, Err, OnOk, OnErr}
 use Rattle.acc_base.specs.declared.fault.Fault.{Fault}
 use Rattle.acc_base.specs.declared.range.Range.{Range}
 use Rattle.acc_batch.specs.declared.operation.Label.{Label}
-use Rattle.acc_core.specs.declared.log.Shown.{Shown}
-use Rattle.acc_core.specs.declared.log.Shown.TheVariants.{Print}
-use Rattle.acc_core.specs.declared.log.TheConstants.{MAX_HOST_ITEMS}
-use Rattle.acc_core.specs.declared.log.WorkEntry.TheVariants as entry
-use Rattle.acc_core.specs.Legality.{ShowsTruth}
-use Rattle.acc_core.specs.Logs.{all_items, value}
+use Rattle.acc_work.specs.declared.log.Shown.{Shown}
+use Rattle.acc_work.specs.declared.log.Shown.TheVariants.{Print}
+use Rattle.acc_work.specs.declared.log.TheConstants.{MAX_HOST_ITEMS}
+use Rattle.acc_work.specs.declared.log.WorkEntry.TheVariants as entry
+use Rattle.acc_work.specs.Orders.{ShowsTruth}
+use Rattle.acc_work.specs.Logs.{all_items, value}
 use Rattle.acc_core.specs.Machine.{State}
 use Rattle.acc_memory.specs.Memories.{rows_on}
 use Rattle.acc_memory.proofs.Showing.{length_held}
 use Rattle.acc_core.specs.Ties.{IsAccelerator, labels_of}
-use Rattle.acc_core.specs.Works.{WorkView, HasMadeRoom, HasShown, HasPrinted}
+use Rattle.acc_work.specs.Works.{WorkView, HasMadeRoom, HasShown, HasPrinted}
 use Rattle.acc_core.proofs.Advancing.{with_work}
 use Rattle.acc_core.proofs.Keeping.{legal_item}
 use Rattle.acc_core.proofs.Placing.{remembers_room}

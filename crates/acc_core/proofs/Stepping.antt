@@ -11,9 +11,9 @@ use Rattle.acc_place.specs.declared.directive.Directive.{Directive}
 use Rattle.acc_core.specs.declared.event.Event.{Event}
 use Rattle.acc_core.specs.declared.event.Event.TheVariants as event
 use Rattle.acc_core.specs.declared.event.Reply.{Reply}
-use Rattle.acc_core.specs.declared.log.Shown.{Shown}
-use Rattle.acc_core.specs.declared.log.Shown.TheVariants as shown
-use Rattle.acc_core.specs.declared.log.TheConstants.{MAX_HOST_ITEMS}
+use Rattle.acc_work.specs.declared.log.Shown.{Shown}
+use Rattle.acc_work.specs.declared.log.Shown.TheVariants as shown
+use Rattle.acc_work.specs.declared.log.TheConstants.{MAX_HOST_ITEMS}
 use Rattle.acc_batch.specs.declared.operation.Label.{Label}
 use Rattle.acc_batch.specs.declared.operation.Op.{Op}
 use Rattle.acc_core.specs.declared.program.Act.{Act}
@@ -27,7 +27,7 @@ use Rattle.acc_place.specs.Batches.{answer_of}
 use Rattle.acc_core.specs.Following.{Owes, OwesFor, Behind, Rise, Stands, StandsIn, AllStand}
 use Rattle.acc_batch.specs.Labels.{on_queue, batch_at}
 use Rattle.acc_core.specs.Legality.{Own, own_of, items_shown, merged}
-use Rattle.acc_core.specs.Logs.{performed, items_of, all_items, value, all_done, host_allows}
+use Rattle.acc_work.specs.Logs.{performed, items_of, all_items, value, all_done, host_allows}
 use Rattle.acc_memory.specs.Values.{values_of}
 use Rattle.acc_core.specs.Machine.{State, Outcome, Step, Runs, standing_of, is_there, taken_on, held, rest, with_host, in_phase, refused, next_statement, with_item, item_step, accepting, after_place, is_full, place_step, act_step, statement_step, host_step, named_step, take_step, perform_step, queue_step, with_op, step}
 use Rattle.acc_place.specs.Standings.{walk_of}

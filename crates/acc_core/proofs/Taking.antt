@@ -10,7 +10,7 @@ use Rattle.std.proofs.lemmas.Bool.{lt-ltb}
 use Rattle.acc_core.specs.declared.event.Event.TheVariants as event
 use Rattle.acc_core.specs.Machine.{State, did, idle, is_there, held, rest, queue_step, step, take_step}
 use Rattle.acc_core.specs.Ties.{Queued, labels_of, performed_count}
-use Rattle.acc_core.specs.Works.{WorkView, sync}
+use Rattle.acc_work.specs.Works.{WorkView, sync}
 use Rattle.acc_core.proofs.Lanes.{lane_filled}
 
 -- the state with so many batches taken

@@ -18,7 +18,7 @@ use Rattle.acc_batch.specs.declared.operation.Op.{Op}
 use Rattle.acc_batch.specs.declared.operation.Op.TheVariants.{Make, CopyIn, CopyOut, Release, Run, Await, Close}
 use Rattle.acc_place.specs.Standings.{Asked, Visit, made_by, one_mark, marked}
 use Rattle.acc_place.specs.Batches.{ended_blocks, found_block, holding_blocks, makes}
-use Rattle.acc_batch.specs.Lives.{made, released, UsesLive, AllUse, Made}
+use Rattle.acc_batch.specs.Lives.{made, released, AllUse, Made}
 
 -- what two lists of operations made
 pub made-append : (xs ys : List Op) → made (xs ++ ys) ≡ made xs ++ made ys

@@ -18,7 +18,7 @@ use Rattle.acc_core.specs.declared.program.HostState.{HostState}
 use Rattle.acc_core.specs.Following.{AllStand}
 use Rattle.acc_batch.specs.Labels.{on_queue, batch_at}
 use Rattle.acc_core.specs.Legality.{Legal}
-use Rattle.acc_core.specs.Logs.{performed, host_allows}
+use Rattle.acc_work.specs.Logs.{performed, host_allows}
 use Rattle.acc_core.specs.Machine.{State, Outcome, Step, Runs, standing_of, is_there, held, rest, take_step, perform_step, queue_step, step}
 use Rattle.acc_core.specs.Worlds.{ready, opening, IsWorld, Ran, HostSteps, AllSynchronous, IsHost}
 use Rattle.acc_core.proofs.Changes.{step_config}

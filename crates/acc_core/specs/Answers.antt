@@ -1,19 +1,18 @@
 -- What the core answers to a host: to a directive, and to an item.
-use Rattle.std.specs.Prelude.{◌≡◌, ℕ, Bool, true, false, not, nat_le, List, ◌∷◌, Option, Some, None, Result, Ok, Err, if◌then◌else◌}
+use Rattle.std.specs.Prelude.{◌≡◌, ℕ, Bool, true, false, ◌∷◌, Option, Some, None, Result, Ok, Err, if◌then◌else◌}
 use Rattle.acc_base.specs.declared.fault.Fault.{Fault}
-use Rattle.acc_base.specs.declared.fault.Fault.TheVariants.{BadRange, TooMany, Memory, QueueFull}
+use Rattle.acc_base.specs.declared.fault.Fault.TheVariants.{Memory, QueueFull}
 use Rattle.acc_place.specs.declared.directive.Directive.{Directive}
 use Rattle.acc_place.specs.declared.directive.PlaceEntry.TheVariants as noted
 use Rattle.acc_place.specs.declared.directive.Placed.{Placed}
 use Rattle.acc_base.specs.declared.range.Range.{Range}
-use Rattle.acc_core.specs.declared.log.Shown.{Shown}
-use Rattle.acc_core.specs.declared.log.Shown.TheVariants.{Print}
-use Rattle.acc_core.specs.declared.log.TheConstants.{MAX_HOST_ITEMS}
-use Rattle.acc_core.specs.declared.log.WorkEntry.{WorkEntry}
+use Rattle.acc_work.specs.declared.log.Shown.{Shown}
+use Rattle.acc_work.specs.declared.log.Shown.TheVariants.{Print}
 use Rattle.acc_place.specs.Accepting.{refusal}
 use Rattle.acc_base.specs.Configurations.{is_in_array}
 use Rattle.acc_place.specs.Batches.{answer_of}
-use Rattle.acc_core.specs.Logs.{items_of, all_items, value}
+use Rattle.acc_work.specs.Logs.{items_of, value}
+use Rattle.acc_work.specs.Works.{item_fault}
 use Rattle.acc_memory.specs.Values.{values_of}
 use Rattle.acc_core.specs.Machine.{State, standing_of, is_full, with_item}
 use Rattle.acc_place.specs.Standings.{walk_of}
@@ -42,13 +41,6 @@ Places old host d (Ok placed) new =
     × (placed ≡ answer_of (standing_of old) d (walk_of (standing_of old) host d))
     × (new ≡ after_accept old host d)
 Places old host d (Err fault) new = (no_memory : Bool) × (fault_of_place no_memory old host d ≡ Some fault) × (new ≡ old)
-
--- the fault of an item
-abbrev pub item_fault : Bool → List WorkEntry → Bool → Option Fault
-item_fault no_memory work in_array =
-    if no_memory then Some Memory
-    else (if nat_le MAX_HOST_ITEMS (all_items work) then Some TooMany
-    else (if not in_array then Some BadRange else None))
 
 -- The item joins the log, or the host is refused with the defined fault, and then nothing changes.
 abbrev pub ItemAnswers : State → ℕ → Bool → Shown → Result (Unit {0}) Fault → State → Type 0

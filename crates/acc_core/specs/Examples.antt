@@ -18,9 +18,9 @@ use Rattle.acc_core.specs.declared.event.Event.{Event}
 use Rattle.acc_core.specs.declared.event.Event.TheVariants as event
 use Rattle.acc_core.specs.declared.event.Reply.{Reply}
 use Rattle.acc_core.specs.declared.event.Reply.TheVariants as reply
-use Rattle.acc_core.specs.declared.log.Shown.TheVariants as shown
-use Rattle.acc_core.specs.declared.log.WorkEntry.{WorkEntry}
-use Rattle.acc_core.specs.declared.log.WorkEntry.TheVariants as entry
+use Rattle.acc_work.specs.declared.log.Shown.TheVariants as shown
+use Rattle.acc_work.specs.declared.log.WorkEntry.{WorkEntry}
+use Rattle.acc_work.specs.declared.log.WorkEntry.TheVariants as entry
 use Rattle.acc_batch.specs.declared.operation.Op.TheVariants.{Make, CopyIn, CopyOut, Release, Run}
 use Rattle.acc_core.specs.declared.program.Act.{Act}
 use Rattle.acc_core.specs.declared.program.Act.TheVariants as act
@@ -30,7 +30,7 @@ use Rattle.acc_core.specs.declared.program.Phase.TheVariants as phase
 use Rattle.acc_core.specs.Machine.{State, Outcome, step, standing_of}
 use Rattle.acc_place.specs.LoopExamples.{shifts, all_x, all_y}
 use Rattle.acc_place.specs.Standings.{Standing}
-use Rattle.acc_core.specs.Works.{sync}
+use Rattle.acc_work.specs.Works.{sync}
 use Rattle.acc_core.specs.Worlds.{opening}
 
 pub record Played : Type 0 where

@@ -1,6 +1,5 @@
 -- What holds of the histories after any list of events (OpenACC API 3.0, 2.16, Asynchronous Behavior).
-use Rattle.std.specs.Prelude.{◌≡◌, ◌↔◌, ℕ, ◌+◌, ◌-◌, ◌≤◌, ◌==◌, IsTrue, List, [], ◌∷◌, ◌++◌, length, map, take, drop, slice_index_or, All, Contains, ℤ}
-use Rattle.acc_base.specs.declared.ids.QueueAt.{QueueAt}
+use Rattle.std.specs.Prelude.{ℕ, ◌+◌, ◌-◌, ◌==◌, List, [], ◌∷◌, ◌++◌, length, take, drop, slice_index_or}
 use Rattle.acc_base.specs.Configurations.{Configuration}
 use Rattle.acc_place.specs.declared.directive.Directive.{Directive}
 use Rattle.acc_place.specs.declared.directive.Placed.{Placed}
@@ -8,48 +7,17 @@ use Rattle.acc_place.specs.declared.directive.PlaceEntry.{PlaceEntry}
 use Rattle.acc_place.specs.declared.directive.PlaceEntry.TheVariants as noted
 use Rattle.acc_core.specs.declared.event.Event.{Event}
 use Rattle.acc_core.specs.declared.event.Reply.{Reply}
-use Rattle.acc_core.specs.declared.log.Shown.{Shown}
-use Rattle.acc_core.specs.declared.log.Shown.TheVariants.{Write, Print, Seen}
-use Rattle.acc_core.specs.declared.log.WorkEntry.{WorkEntry}
-use Rattle.acc_core.specs.declared.log.WorkEntry.TheVariants as entry
-use Rattle.acc_batch.specs.declared.operation.Label.{Label}
-use Rattle.acc_batch.specs.declared.operation.Op.{Op}
+use Rattle.acc_work.specs.declared.log.WorkEntry.{WorkEntry}
+use Rattle.acc_work.specs.declared.log.WorkEntry.TheVariants as entry
 use Rattle.acc_core.specs.declared.program.Host.{Host}
 use Rattle.acc_place.specs.Batches.{answer_of}
 use Rattle.acc_place.specs.Histories.{AllAccepted, standing}
-use Rattle.acc_batch.specs.Lives.{UsesLive}
-use Rattle.acc_batch.specs.Labels.{on_queue, ops_of, batch_at, whole}
-use Rattle.acc_memory.specs.Values.{values_of}
-use Rattle.acc_core.specs.Logs.{one_more, performed, device_ops, value, all_done, host_allows}
+use Rattle.acc_work.specs.Lives.{AllLive}
+use Rattle.acc_work.specs.Logs.{one_more}
+use Rattle.acc_work.specs.Orders.{InOrder, InHostOrder}
 use Rattle.acc_core.specs.Machine.{State, standing_of, Runs}
 use Rattle.acc_place.specs.Standings.{Standing, walk_of}
 use Rattle.acc_core.specs.Steps.{HostEntry, Gave, Had, Follows}
-
-abbrev pub IsPrefix : List Op → List Op → Type 0
-IsPrefix xs ys = (more : List Op) × (xs ++ more ≡ ys)
-
--- What a queue has performed is a prefix of what was placed on it, in order and once.
-abbrev pub InOrder : List Label → List WorkEntry → Type 0
-InOrder labels work = (at : QueueAt) → IsPrefix (performed at work) (ops_of (on_queue at labels))
-
--- Each item of the hosts shows what is so at its place.
-abbrev pub ShowsTruth : List (List ℤ) → List Label → Shown → List WorkEntry → Type 0
-ShowsTruth opening labels (Write array cell new_value) before = Unit {0}
-ShowsTruth opening labels (Print range values) before = values ≡ values_of (value opening before) range
-ShowsTruth opening labels (Seen device counts) before = IsTrue (all_done labels before device 0 counts)
-
--- Each operation stands behind its host's items, and each item shows the truth.
-abbrev pub InHostOrder : List (List ℤ) → List Label → List WorkEntry → Type 0
-InHostOrder opening labels [] = Unit {0}
-InHostOrder opening labels (entry.Op at op ∷ before) =
-    IsTrue (host_allows (batch_at (on_queue at labels) (length (performed at before))) before) × InHostOrder opening labels before
-InHostOrder opening labels (entry.Item host shown ∷ before) =
-    ShowsTruth opening labels shown before × InHostOrder opening labels before
-
-abbrev pub AllLive : List (List ℤ) → List WorkEntry → Type 0
-AllLive arrays [] = Unit {0}
-AllLive arrays (entry.Op at op ∷ before) = UsesLive arrays op (device_ops at.device before) × AllLive arrays before
-AllLive arrays (entry.Item host shown ∷ before) = AllLive arrays before
 
 pub record Legal (w : State) : Type 0 where
   pub accepted : AllAccepted w.config w.history w.counts
@@ -101,9 +69,3 @@ pub record LegalCut (old : State) (first second : List Event) (replies : List Re
   pub legal : Legal mid
   pub follow : AllFollow mid 0 mid.hosts
   pub after : Runs mid second (drop (length first) replies) new
-
--- The count of performed batches is the greatest n for which the operations of the first n batches are a prefix of what was performed.
-abbrev pub WholeIsGreatest : Type 0
-WholeIsGreatest =
-    (labels : List Label) (ops : List Op) (n : ℕ) → IsPrefix ops (ops_of labels)
-    → (n ≤ whole labels (length ops)) ↔ ((n ≤ length labels) × IsPrefix (ops_of (take n labels)) ops)

@@ -1,14 +1,11 @@
 pub mod Answers
-pub mod Counted
 pub mod Examples
 pub mod Following
 pub mod Legality
-pub mod LogExamples
-pub mod Logs
 pub mod Machine
 pub mod Place
 pub mod Present
 pub mod Steps
 pub mod Ties
-pub mod Works
+pub mod Work
 pub mod Worlds

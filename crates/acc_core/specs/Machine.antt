@@ -13,11 +13,11 @@ use Rattle.acc_core.specs.declared.event.Event.{Event}
 use Rattle.acc_core.specs.declared.event.Event.TheVariants as event
 use Rattle.acc_core.specs.declared.event.Reply.{Reply}
 use Rattle.acc_core.specs.declared.event.Reply.TheVariants as reply
-use Rattle.acc_core.specs.declared.log.Shown.{Shown}
-use Rattle.acc_core.specs.declared.log.Shown.TheVariants as shown
-use Rattle.acc_core.specs.declared.log.TheConstants.{MAX_HOST_ITEMS}
-use Rattle.acc_core.specs.declared.log.WorkEntry.{WorkEntry}
-use Rattle.acc_core.specs.declared.log.WorkEntry.TheVariants as entry
+use Rattle.acc_work.specs.declared.log.Shown.{Shown}
+use Rattle.acc_work.specs.declared.log.Shown.TheVariants as shown
+use Rattle.acc_work.specs.declared.log.TheConstants.{MAX_HOST_ITEMS}
+use Rattle.acc_work.specs.declared.log.WorkEntry.{WorkEntry}
+use Rattle.acc_work.specs.declared.log.WorkEntry.TheVariants as entry
 use Rattle.acc_batch.specs.declared.operation.Label.{Label}
 use Rattle.acc_batch.specs.declared.operation.Op.{Op}
 use Rattle.acc_core.specs.declared.program.Act.{Act}
@@ -30,7 +30,7 @@ use Rattle.acc_place.specs.Accepting.{refusal}
 use Rattle.acc_place.specs.Batches.{batch_of, answer_of, walk_at}
 use Rattle.acc_place.specs.Histories.{standing}
 use Rattle.acc_batch.specs.Labels.{on_queue, ops_of, batch_at}
-use Rattle.acc_core.specs.Logs.{performed, items_of, all_items, value, all_done, host_allows}
+use Rattle.acc_work.specs.Logs.{performed, items_of, all_items, value, all_done, host_allows}
 use Rattle.acc_memory.specs.Values.{values_of}
 use Rattle.acc_place.specs.Standings.{Standing, Walk, walk_of}
 use Rattle.acc_core.specs.Steps.{Owed, nothing_owed, owes_seen, owed_by}

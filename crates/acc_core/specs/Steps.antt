@@ -4,8 +4,8 @@ use Rattle.acc_base.specs.declared.ids.QueueAt.{QueueAt}
 use Rattle.acc_base.specs.Queues.{every_queue}
 use Rattle.acc_place.specs.declared.directive.Directive.{Directive}
 use Rattle.acc_place.specs.declared.directive.Placed.{Placed}
-use Rattle.acc_core.specs.declared.log.Shown.{Shown}
-use Rattle.acc_core.specs.declared.log.Shown.TheVariants as shown
+use Rattle.acc_work.specs.declared.log.Shown.{Shown}
+use Rattle.acc_work.specs.declared.log.Shown.TheVariants as shown
 use Rattle.acc_core.specs.declared.program.Act.{Act}
 use Rattle.acc_core.specs.declared.program.Act.TheVariants as act
 use Rattle.acc_core.specs.declared.program.Statement.{Statement}

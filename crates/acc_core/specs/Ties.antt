@@ -2,18 +2,18 @@
 use Rattle.std.specs.Prelude.{◌≡◌, ℕ, ◌+◌, ◌-◌, ◌<◌, ◌≤◌, List, [], ◌∷◌, ◌++◌, length, take, drop, replicate, All}
 use Rattle.acc_base.specs.declared.config.TheConstants.{MAX_HOSTS}
 use Rattle.acc_base.specs.Queues.{queue_count}
-use Rattle.acc_core.specs.declared.log.WorkEntry.{WorkEntry}
+use Rattle.acc_work.specs.declared.log.WorkEntry.{WorkEntry}
 use Rattle.acc_batch.specs.declared.operation.Label.{Label}
 use Rattle.acc_batch.specs.declared.operation.Op.{Op}
 use Rattle.acc_batch.specs.Labels.{on_queue, ops_of}
 use Rattle.acc_core.specs.Legality.{Legal}
-use Rattle.acc_core.specs.Logs.{performed, device_ops, value, all_items}
-use Rattle.acc_core.specs.declared.log.TheConstants.{MAX_HOST_ITEMS}
+use Rattle.acc_work.specs.Logs.{performed, device_ops, value, all_items}
+use Rattle.acc_work.specs.declared.log.TheConstants.{MAX_HOST_ITEMS}
 use Rattle.acc_core.specs.Machine.{State, standing_of}
 use Rattle.acc_memory.specs.Memories.{Shows, rows_on, room_on, held_blocks, blocks_after, lengths_of}
 use Rattle.acc_batch.specs.Lives.{Made}
 use Rattle.acc_place.specs.Plans.{PlaceView}
-use Rattle.acc_core.specs.Works.{WorkView, sync}
+use Rattle.acc_work.specs.Works.{WorkView, sync}
 
 abbrev pub labels_of : State → List Label
 labels_of w = (standing_of w).labels

@@ -8,7 +8,7 @@ use Rattle.acc_base.specs.Configurations.{Configuration}
 use Rattle.acc_core.specs.declared.event.Event.{Event}
 use Rattle.acc_core.specs.declared.event.Reply.{Reply}
 use Rattle.acc_core.specs.declared.event.Reply.TheVariants as reply
-use Rattle.acc_core.specs.declared.log.Shown.{Shown}
+use Rattle.acc_work.specs.declared.log.Shown.{Shown}
 use Rattle.acc_core.specs.declared.program.Act.{Act}
 use Rattle.acc_core.specs.declared.program.Act.TheVariants as act
 use Rattle.acc_place.specs.Places.{is_synchronous}

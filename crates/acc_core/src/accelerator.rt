@@ -5,7 +5,7 @@ ghost use Rattle.acc_base.specs.Configurations.{is_in_array};
 ghost use Rattle.acc_place.specs.Places.{is_synchronous};
 ghost use Rattle.acc_core.specs.Answers.{Places, ItemAnswers, PrintAnswers};
 ghost use Rattle.acc_batch.specs.Labels.{on_queue, ops_of};
-ghost use Rattle.acc_core.specs.Logs.{done, all_done, performed};
+ghost use Rattle.acc_work.specs.Logs.{done, all_done, performed};
 ghost use Rattle.acc_core.specs.Machine.{state_at_first, step, standing_of};
 ghost use Rattle.std.specs.Option.{option_map};
 ghost use Rattle.acc_present.specs.Presences.{presences, holder};
@@ -13,13 +13,12 @@ ghost use Rattle.acc_present.specs.Tables.{entry_presence};
 ghost use Rattle.acc_core.specs.Ties.{labels_of};
 
 use crate::event::Reply;
-use crate::log::WorkEntry;
 use crate::totals::Totals;
-use crate::work::{Work, sync_queue};
 use acc_base::{Config, DeviceId, Fault, HostId, QueueAt, QueueId, Range, Shared};
 use acc_batch::Batch;
 use acc_place::{Directive, Place, PlaceEntry, Placed};
 use acc_present::Entry;
+use acc_work::{Work, WorkEntry, sync_queue};
 use std::alloc::Global;
 use std::collections::VecDeque;
 use std::marker::Model;
@@ -53,7 +52,7 @@ impl Model for Accelerator {
 impl Accelerator {
     ghost use Rattle.acc_base.specs.declared.fault.Fault.TheVariants.{Memory as no_memory};
     ghost use Rattle.acc_core.specs.declared.event.Event.TheVariants as event;
-    ghost use Rattle.acc_core.specs.declared.log.Shown.TheVariants.{Write, Seen};
+    ghost use Rattle.acc_work.specs.declared.log.Shown.TheVariants.{Write, Seen};
 
     /// Nothing is accepted, performed or shown yet.
     pub fn new(alloc: Global, config: Config) -> Result<Accelerator, Fault>

@@ -1,6 +1,4 @@
 ghost use Rattle.acc_core.specs.Examples.{EnteredTwice, OverlapRefused, StaleHostCopy, LoopRuns, LoopOnPresent};
-ghost use Rattle.acc_core.specs.Legality.{WholeIsGreatest};
-ghost use Rattle.acc_core.specs.LogExamples.{MiddleOfABatch, CopyOutIsSeen, LoopIsSeen};
 ghost use Rattle.acc_core.specs.Machine.{EachQueueIsCounted};
 
 /// The machine computed on five programs: a range that enters twice and leaves once, a range that
@@ -12,19 +10,6 @@ pub fn worked_programs()
     ensures stale { StaleHostCopy }
     ensures runs { LoopRuns }
     ensures on_present { LoopOnPresent }
-{}
-
-/// Performed batches and prints computed on corner cases: the middle of a batch, and prints before and behind a
-/// copy out, also of what a loop made.
-pub fn worked_logs()
-    ensures middle { MiddleOfABatch }
-    ensures seen { CopyOutIsSeen }
-    ensures looped { LoopIsSeen }
-{}
-
-/// The batches of a queue that are performed are as many as the operations performed cover.
-pub fn whole_is_greatest()
-    ensures { WholeIsGreatest }
 {}
 
 /// Among the counts of batches that were taken, each queue of each device has its own, whatever the number

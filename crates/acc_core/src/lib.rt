@@ -2,13 +2,10 @@
 #![tactic(auto)]
 
 mod accelerator;
-mod counts;
 mod event;
 mod laws;
-mod log;
 mod program;
 mod totals;
-mod work;
 mod world;
 
 pub use acc_batch::{Label, Op};
@@ -17,10 +14,9 @@ pub use acc_place::{
     Placed, Region, Target, Waits,
 };
 pub use acc_present::Entry;
-pub use counts::Counts;
+pub use acc_work::{Counts, MAX_HOST_ITEMS, Shown, WorkEntry};
 pub use event::{Event, Reply};
-pub use laws::{each_queue_is_counted, whole_is_greatest, worked_logs, worked_programs};
-pub use log::{MAX_HOST_ITEMS, Shown, WorkEntry};
+pub use laws::{each_queue_is_counted, worked_programs};
 pub use program::{Act, HostProgram, HostState, Statement};
 pub use totals::Totals;
 pub use world::{Outcome, World};

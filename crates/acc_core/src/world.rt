@@ -7,20 +7,20 @@ ghost use Rattle.acc_core.specs.Legality.{AllFollow, Legal};
 ghost use Rattle.acc_core.specs.Machine.{Step, standing_of};
 ghost use Rattle.acc_core.specs.declared.event.Reply.{Reply};
 ghost use Rattle.acc_batch.specs.Labels.{on_queue, ops_of};
-ghost use Rattle.acc_core.specs.Logs.{all_done, performed};
+ghost use Rattle.acc_work.specs.Logs.{all_done, performed};
 ghost use Rattle.acc_core.specs.Ties.{labels_of};
-ghost use Rattle.acc_core.specs.declared.log.Shown.TheVariants.{Seen};
+ghost use Rattle.acc_work.specs.declared.log.Shown.TheVariants.{Seen};
 ghost use Rattle.acc_core.specs.Steps.{owed_by};
 ghost use Rattle.acc_core.specs.Worlds.{OnePerHost, world_fault, ready, opening, Ran, owed_in, after_answer, reply_to, Acts, Sees, HostSteps, AllSynchronous, IsHost, gives_synchronous, state_of, line_of};
 
 use crate::accelerator::Accelerator;
 use crate::event::{Event, Reply};
-use crate::log::WorkEntry;
 use crate::program::{Act, Host, HostProgram, HostState, Phase};
 use crate::totals::Totals;
 use acc_base::{Config, DeviceId, Fault, HostId, QueueAt, QueueId, Range};
 use acc_place::{PlaceEntry, Placed};
 use acc_present::Entry;
+use acc_work::WorkEntry;
 use std::alloc::Global;
 use std::marker::Model;
 

@@ -8,15 +8,11 @@ use Rattle.acc_base.specs.declared.ids.QueueAt.{QueueAt}
 use Rattle.acc_base.specs.declared.ids.TheConstants.{QUEUES}
 use Rattle.acc_base.specs.Faults.{number_of, name_of}
 use Rattle.acc_core.specs.Present.{Presence, presences}
-use Rattle.acc_core.specs.declared.log.Shown.{Shown}
-use Rattle.acc_core.specs.declared.log.Shown.TheVariants as shown
-use Rattle.acc_core.specs.declared.log.WorkEntry.{WorkEntry}
-use Rattle.acc_core.specs.declared.log.WorkEntry.TheVariants as entry
 use Rattle.acc_core.specs.declared.program.HostState.{HostState}
 use Rattle.acc_core.specs.declared.program.HostState.TheVariants.{Running, Finished, Refused}
 use Rattle.acc_core.specs.Place.{on_queue, ops_of}
-use Rattle.acc_core.specs.Logs.{performed}
 use Rattle.acc_core.specs.Machine.{State, standing_of}
+use Rattle.acc_core.specs.Work.{Shown, Write, Print, Seen, WorkEntry, Op, Item, performed}
 use Rattle.acc_core.specs.Worlds.{state_of}
 
 -- the texts of 0 to n - 1, in order
@@ -30,14 +26,14 @@ values_text [] = []
 values_text (value ∷ values) = signed_decimal value ++ flat_map (λ v. codes " " ++ signed_decimal v) values
 
 unfoldable pub shown_text : Shown → List ℕ
-shown_text (shown.Write array cell value) = []
-shown_text (shown.Seen device counts) = []
-shown_text (shown.Print range values) = values_text values ++ codes "\n"
+shown_text (Write array cell value) = []
+shown_text (Seen device counts) = []
+shown_text (Print range values) = values_text values ++ codes "\n"
 
 -- what an entry of the work history prints for a host
 unfoldable pub printed : ℕ → WorkEntry → List ℕ
-printed host (entry.Op at op) = []
-printed host (entry.Item h shown) = if h == host then shown_text shown else []
+printed host (Op at op) = []
+printed host (Item h shown) = if h == host then shown_text shown else []
 
 -- refused LINE Fn NAME
 unfoldable pub refusal_text : ℕ → Fault → List ℕ

@@ -1,21 +1,33 @@
 -- Counts of performed batches, and prints, computed on short histories.
-use Rattle.std.specs.Prelude.{◌≡◌, List, [], ◌∷◌, map, ℤ, pos}
+use Rattle.std.specs.Prelude.{◌≡◌, ℕ, List, [], ◌∷◌, map, ℤ, pos}
 use Rattle.acc_base.specs.declared.ids.QueueAt.{QueueAt}
 use Rattle.acc_batch.specs.declared.operation.Op.TheVariants.{Make, CopyIn, CopyOut, Run}
 use Rattle.acc_batch.specs.Labels.{whole}
-use Rattle.acc_core.specs.declared.log.Shown.TheVariants.{Write}
-use Rattle.acc_core.specs.declared.log.WorkEntry.{WorkEntry}
-use Rattle.acc_core.specs.declared.log.WorkEntry.TheVariants as entry
-use Rattle.acc_core.specs.Logs.{value, done}
-use Rattle.acc_core.specs.Works.{sync}
+use Rattle.acc_work.specs.declared.log.Shown.TheVariants.{Write}
+use Rattle.acc_work.specs.declared.log.WorkEntry.{WorkEntry}
+use Rattle.acc_work.specs.declared.log.WorkEntry.TheVariants as entry
+use Rattle.acc_work.specs.Logs.{value, done}
+use Rattle.acc_work.specs.Works.{sync}
 use Rattle.acc_memory.specs.Values.{values_of}
-use Rattle.acc_place.specs.Examples.{cells, first_four, copyin, after}
-use Rattle.acc_place.specs.LoopExamples.{counts_up}
-use Rattle.acc_place.specs.Standings.{Standing}
+use Rattle.acc_base.specs.declared.range.Range.{Range}
+use Rattle.acc_kernel.specs.Kernels.{Loop}
+use Rattle.acc_kernel.specs.Trees.{Read, Number, Binary}
+use Rattle.acc_kernel.specs.declared.operator.Operator.TheVariants.{Plus}
+use Rattle.acc_batch.specs.declared.operation.Op.{Op}
+use Rattle.acc_batch.specs.declared.operation.Label.{Label}
+
+-- cells of the only array
+abbrev pub cells : ℕ → ℕ → Range
+cells lo len = record { array = 0; lo = lo; len = len }
+
+-- a batch of the first host, on queue sync
+abbrev pub batch : ℕ → List Op → Label
+batch number ops = record { at = sync; number = number; host = 0; items_done = 0; ops = ops }
 
 -- two batches of two operations each
-abbrev pub two_batches : Standing
-two_batches = after (copyin (cells 4 2 ∷ []) ∷ first_four ∷ [])
+abbrev pub two_batches : List Label
+two_batches =
+    batch 1 (Make 1 (cells 0 4) ∷ CopyIn 1 (cells 0 4) ∷ []) ∷ batch 2 (Make 2 (cells 4 2) ∷ CopyIn 2 (cells 4 2) ∷ []) ∷ []
 
 -- the first three of them performed
 abbrev pub three_performed : List WorkEntry
@@ -28,9 +40,9 @@ noval = record { device = 0; queue = 1 }
 -- a batch counts as performed from its last operation on, and on its own queue
 abbrev pub MiddleOfABatch : Type 0
 MiddleOfABatch =
-    (map (whole two_batches.labels) (0 ∷ 1 ∷ 2 ∷ 3 ∷ 4 ∷ []) ≡ 0 ∷ 0 ∷ 1 ∷ 1 ∷ 2 ∷ [])
-    × (done two_batches.labels three_performed sync ≡ 1)
-    × (done two_batches.labels three_performed noval ≡ 0)
+    (map (whole two_batches) (0 ∷ 1 ∷ 2 ∷ 3 ∷ 4 ∷ []) ≡ 0 ∷ 0 ∷ 1 ∷ 1 ∷ 2 ∷ [])
+    × (done two_batches three_performed sync ≡ 1)
+    × (done two_batches three_performed noval ≡ 0)
 
 abbrev pub four_values : List (List ℤ)
 four_values = (pos 1 ∷ pos 2 ∷ pos 3 ∷ pos 4 ∷ []) ∷ []
@@ -47,6 +59,10 @@ CopyOutIsSeen =
     (values_of (value four_values written) (cells 0 4) ≡ pos 8 ∷ pos 9 ∷ pos 3 ∷ pos 4 ∷ [])
     × (values_of (value four_values (entry.Op sync (CopyOut 1 (cells 1 2)) ∷ written)) (cells 0 4)
     ≡ pos 8 ∷ pos 2 ∷ pos 3 ∷ pos 4 ∷ [])
+
+-- `a[i] = a[i] + 1` from 0 on
+abbrev pub counts_up : ℕ → Loop
+counts_up hi = record { lo = pos 0; hi = pos hi; statements = record { array = 0; value = Binary Plus (Read 0 (pos 0)) (Number (pos 1)) } ∷ [] }
 
 -- then a loop adds 1 to cells 0 to 1 of the block, and another to cells 0 to 2
 abbrev pub counted_up : List WorkEntry

@@ -1,6 +1,6 @@
 use Rattle.std.proofs.Common.{reverse, arith}
-use Rattle.acc_core.proofs.Counters.{items_of-le-all_items}
-use Rattle.acc_core.proofs.work.Work.push_item.Goals as goal
+use Rattle.acc_work.proofs.Counters.{items_of-le-all_items}
+use Rattle.acc_work.proofs.work.Work.push_item.Goals as goal
 
 pub overflow_add-self : goal.overflow_add-self
 overflow_add-self c =

@@ -1,14 +1,17 @@
 -- What a work side shows: the memory, the batch that is being performed, and the log.
-use Rattle.std.specs.Prelude.{◌≡◌, ℕ, ◌<◌, ◌≤◌, nat_le, Bool, true, false, MatchBool, List, [], ◌∷◌, length, slice_index_or, ℤ}
+use Rattle.std.specs.Prelude.{◌≡◌, ℕ, ◌<◌, ◌≤◌, nat_le, Bool, true, false, not, MatchBool, List, [], ◌∷◌, length, slice_index_or, Option, Some, None, ℤ, if◌then◌else◌}
 use Rattle.acc_base.specs.declared.config.TheConstants.{MAX_HOSTS}
+use Rattle.acc_base.specs.declared.fault.Fault.{Fault}
+use Rattle.acc_base.specs.declared.fault.Fault.TheVariants.{BadRange, TooMany, Memory}
 use Rattle.acc_base.specs.declared.ids.QueueAt.{QueueAt}
 use Rattle.acc_base.specs.declared.range.Range.{Range}
-use Rattle.acc_core.specs.declared.log.Shown.{Shown}
-use Rattle.acc_core.specs.declared.log.Shown.TheVariants.{Print}
-use Rattle.acc_core.specs.declared.log.WorkEntry.{WorkEntry}
-use Rattle.acc_core.specs.declared.log.WorkEntry.TheVariants as entry
+use Rattle.acc_work.specs.declared.log.TheConstants.{MAX_HOST_ITEMS}
+use Rattle.acc_work.specs.declared.log.Shown.{Shown}
+use Rattle.acc_work.specs.declared.log.Shown.TheVariants.{Print}
+use Rattle.acc_work.specs.declared.log.WorkEntry.{WorkEntry}
+use Rattle.acc_work.specs.declared.log.WorkEntry.TheVariants as entry
 use Rattle.acc_batch.specs.declared.operation.Op.{Op}
-use Rattle.acc_core.specs.Logs.{items_of, all_items, after_item}
+use Rattle.acc_work.specs.Logs.{items_of, all_items, after_item}
 use Rattle.acc_memory.specs.Memories.{MemoryView, Shows, rows_on, room_on, held_blocks, blocks_after, lengths_of, MayPerform}
 use Rattle.acc_memory.specs.Values.{Cell, values_of, after_op}
 
@@ -93,3 +96,10 @@ pub record IsWork (work : List WorkEntry) (items : List ℕ) (all : ℕ) : Type 
   pub counters : length items ≡ MAX_HOSTS
   pub counted : AreCounted items work
   pub all_counted : all ≡ all_items work
+
+-- the fault of an item
+abbrev pub item_fault : Bool → List WorkEntry → Bool → Option Fault
+item_fault no_memory work in_array =
+    if no_memory then Some Memory
+    else (if nat_le MAX_HOST_ITEMS (all_items work) then Some TooMany
+    else (if not in_array then Some BadRange else None))

@@ -22,7 +22,7 @@ impl Model for Counts {
 
     ghost Value = { List ℕ };
 
-    ghost use Rattle.acc_core.specs.Counted.{counts_of};
+    ghost use Rattle.acc_work.specs.Counted.{counts_of};
 
     ghost view = { λ c. counts_of c.form };
 }

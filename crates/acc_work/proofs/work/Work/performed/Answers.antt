@@ -1,7 +1,7 @@
 use Rattle.std.proofs.Common.{reverse, arith}
 use Rattle.std.proofs.lemmas.List.{length-reverse}
-use Rattle.acc_core.proofs.Counters.{all_items-le-length}
-use Rattle.acc_core.proofs.work.Work.performed.Goals as goal
+use Rattle.acc_work.proofs.Counters.{all_items-le-length}
+use Rattle.acc_work.proofs.work.Work.performed.Goals as goal
 
 pub overflow_sub-result : goal.overflow_sub-result
 overflow_sub-result c =

@@ -5,7 +5,7 @@ use Rattle.acc_batch.specs.declared.operation.Op.{Op}
 use Rattle.acc_batch.specs.Labels.{ops_of}
 use Rattle.acc_batch.proofs.Labels.{ops_of_all}
 use Rattle.acc_batch.proofs.Wholes.{whole_covers, whole_reaches}
-use Rattle.acc_core.specs.Legality.{IsPrefix, WholeIsGreatest}
+use Rattle.acc_work.specs.Orders.{IsPrefix, WholeIsGreatest}
 
 -- of two prefixes of one list the shorter is a prefix of the longer
 pub prefix_of_prefix : (xs ys as_rest bs_rest : List Op) → xs ++ as_rest ≡ ys ++ bs_rest → length xs ≤ length ys → IsPrefix xs ys

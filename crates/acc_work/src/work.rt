@@ -1,13 +1,13 @@
 ghost use Rattle.std.specs.Prelude.{reverse, ℕ, ℤ, ◌≡◌, ◌+◌, ◌<◌, ◌≤◌, [], length, IfOk, IfErr, OnOk, OnErr, true, Bool, Some};
 ghost use Rattle.acc_base.specs.Queues.{same_queue};
 ghost use Rattle.acc_base.specs.declared.config.TheConstants.{MAX_HOSTS};
-ghost use Rattle.acc_core.specs.Answers.{item_fault};
-ghost use Rattle.acc_core.specs.declared.log.TheConstants.{MAX_HOST_ITEMS};
-ghost use Rattle.acc_core.specs.Logs.{items_of, all_items};
+ghost use Rattle.acc_work.specs.Works.{item_fault};
+ghost use Rattle.acc_work.specs.declared.log.TheConstants.{MAX_HOST_ITEMS};
+ghost use Rattle.acc_work.specs.Logs.{items_of, all_items};
 ghost use Rattle.acc_batch.specs.Tasks.{op_of, ops_in, AllReady};
 ghost use Rattle.acc_memory.specs.Memories.{Shows, IsAllowed, PerformsOn, has_array, rows_on, room_on};
 ghost use Rattle.acc_memory.specs.Values.{Cell, values_of};
-ghost use Rattle.acc_core.specs.Works.{Performs, NextMayFollow, HasShown, HasMadeRoom, sync};
+ghost use Rattle.acc_work.specs.Works.{Performs, NextMayFollow, HasShown, HasMadeRoom, sync};
 
 use crate::counts::Counts;
 use crate::log::{MAX_HOST_ITEMS, Shown, WorkEntry};
@@ -35,7 +35,7 @@ impl Model for Work {
     ghost use Rattle.std.specs.Prelude.{reverse, length, ◌<◌, vec_capacity};
     ghost use Rattle.acc_kernel.specs.contracts.expr.Expr as expr;
     ghost use Rattle.acc_batch.specs.Tasks.{ops_in, AllReady};
-    ghost use Rattle.acc_core.specs.Works.{WorkView, IsWork};
+    ghost use Rattle.acc_work.specs.Works.{WorkView, IsWork};
 
     ghost Value = { WorkView };
 
@@ -58,10 +58,10 @@ pub fn sync_queue() -> QueueAt
 
 impl Work {
     ghost use Rattle.acc_base.specs.declared.fault.Fault.TheVariants.{Memory as no_memory};
-    ghost use Rattle.acc_core.specs.declared.log.Shown.TheVariants.{Write, Seen};
-    ghost use Rattle.acc_core.specs.declared.log.WorkEntry.TheVariants as entry;
+    ghost use Rattle.acc_work.specs.declared.log.Shown.TheVariants.{Write, Seen};
+    ghost use Rattle.acc_work.specs.declared.log.WorkEntry.TheVariants as entry;
     ghost use Rattle.std.specs.Prelude.{◌∷◌, ◌^◌};
-    ghost use Rattle.acc_core.specs.Works.{HasPrinted};
+    ghost use Rattle.acc_work.specs.Works.{HasPrinted};
 
     pub fn new(alloc: Global, config: &Config) -> Result<Work, Fault>
         ensures arrays { IfOk result (λ w. w.memory.arrays ≡ config.now.arrays) }

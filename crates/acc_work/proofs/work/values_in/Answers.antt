@@ -1,6 +1,6 @@
 use Rattle.std.proofs.Common.{◌∙◌}
 use Rattle.acc_memory.proofs.Showing.{shows_values}
-use Rattle.acc_core.proofs.work.values_in.Goals as goal
+use Rattle.acc_work.proofs.work.values_in.Goals as goal
 
 pub returns-clause-shows : goal.returns-clause-shows
 returns-clause-shows c was shows =

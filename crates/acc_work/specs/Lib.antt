@@ -1,0 +1,6 @@
+pub mod Counted
+pub mod Lives
+pub mod LogExamples
+pub mod Logs
+pub mod Orders
+pub mod Works

@@ -1,0 +1,22 @@
+ghost use Rattle.acc_work.specs.Lives.{AnyOrderIsLive};
+ghost use Rattle.acc_work.specs.LogExamples.{MiddleOfABatch, CopyOutIsSeen, LoopIsSeen};
+ghost use Rattle.acc_work.specs.Orders.{WholeIsGreatest};
+
+/// Where labels use live blocks in the order of placing, and each awaits those before it on other queues whose blocks it
+/// needs, each queue's next operation uses live blocks, in whatever order the queues have run.
+pub fn any_order_is_live()
+    ensures { AnyOrderIsLive }
+{}
+
+/// Performed batches and prints computed on corner cases: the middle of a batch, and prints before and behind a
+/// copy out, also of what a loop made.
+pub fn worked_logs()
+    ensures middle { MiddleOfABatch }
+    ensures seen { CopyOutIsSeen }
+    ensures looped { LoopIsSeen }
+{}
+
+/// The batches of a queue that are performed are as many as the operations performed cover.
+pub fn whole_is_greatest()
+    ensures { WholeIsGreatest }
+{}

@@ -1,0 +1,12 @@
+//! The work side: what queues have performed and hosts have done, with the memory that shows it.
+#![tactic(auto)]
+
+mod counts;
+mod laws;
+mod log;
+mod work;
+
+pub use counts::Counts;
+pub use laws::{any_order_is_live, whole_is_greatest, worked_logs};
+pub use log::{MAX_HOST_ITEMS, Shown, WorkEntry};
+pub use work::{Work, sync_queue};
