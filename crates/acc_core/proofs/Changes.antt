@@ -7,8 +7,8 @@ use Rattle.acc_place.specs.declared.directive.Directive.{Directive}
 use Rattle.acc_core.specs.declared.event.Event.{Event}
 use Rattle.acc_core.specs.declared.event.Event.TheVariants as event
 use Rattle.acc_core.specs.declared.event.Reply.{Reply}
-use Rattle.acc_work.specs.declared.log.Shown.{Shown}
-use Rattle.acc_work.specs.declared.log.Shown.TheVariants as shown
+use Rattle.acc_work.specs.declared.log.Told.{Told}
+use Rattle.acc_work.specs.declared.log.Told.TheVariants as shown
 use Rattle.acc_work.specs.declared.log.TheConstants.{MAX_HOST_ITEMS}
 use Rattle.acc_batch.specs.declared.operation.Op.{Op}
 use Rattle.acc_core.specs.declared.program.Act.{Act}
@@ -28,7 +28,7 @@ use Rattle.acc_place.specs.Standings.{walk_of}
 pub record Changes (P : State → Type 0) (w : State) : Type 0 where
   pub stays : P w
   pub hosts : (hosts : List Host) → P (record w { hosts = hosts })
-  pub item : (hosts : List Host) (h : ℕ) (s : Shown) → ShowsTruth w.config.arrays (standing_of w).labels s w.work → P (with_item (record w { hosts = hosts }) h s)
+  pub item : (hosts : List Host) (h : ℕ) (s : Told) → ShowsTruth w.config.arrays (standing_of w).labels s w.work → P (with_item (record w { hosts = hosts }) h s)
   pub accepted : (h : ℕ) (host : Host) (d : Directive) → refusal w.config (standing_of w) h d ≡ None → P (accepting w h host d)
   pub taken : (taken : List ℕ) → P (record w { taken = taken })
   pub performed : (at : QueueAt) (op : Op) (ops : List Op) → rest w (standing_of w).labels at ≡ op ∷ ops
@@ -40,7 +40,7 @@ if_both P true x y f g = f refl
 if_both P false x y f g = g refl
 
 -- an item joins the log, or the host is refused
-by_item : (P : State → Type 0) (no_memory : Bool) (w : State) (h : ℕ) (host : Host) (in_array : Bool) (s : Shown) → Changes P w
+by_item : (P : State → Type 0) (no_memory : Bool) (w : State) (h : ℕ) (host : Host) (in_array : Bool) (s : Told) → Changes P w
     → ShowsTruth w.config.arrays (standing_of w).labels s w.work → P (item_step no_memory w h host in_array s).state
 by_item P no_memory w h host in_array s c truth =
     if_both P no_memory _ _ (λ e. c.hosts _) (λ e.

@@ -8,8 +8,7 @@ use Rattle.acc_core.specs.declared.event.Event.TheVariants as event
 use Rattle.acc_batch.specs.Labels.{on_queue, ops_of, AllAt}
 use Rattle.acc_core.specs.Legality.{Legal}
 use Rattle.acc_work.specs.Logs.{performed}
-use Rattle.acc_core.specs.Machine.{State, Outcome, idle, is_there, held, rest, taken_on, queue_step, take_step, step}
-use Rattle.acc_core.specs.Ties.{labels_of}
+use Rattle.acc_core.specs.Machine.{State, Outcome, idle, is_there, held, rest, taken_on, queue_step, take_step, perform_step, step, labels_of}
 use Rattle.acc_work.specs.Works.{sync}
 use Rattle.acc_core.proofs.Histories.{placed_use}
 use Rattle.acc_base.proofs.SameQueue.{same_queue_is, same_queue_itself}
@@ -42,6 +41,10 @@ takes_none w at one legal differ =
     let none = none_placed w at one legal differ in
     idle_either_way (is_there w at) w (take_step w (labels_of w) at (rest w (labels_of w) at))
     (rw (none_left w at none, none_held w at none) refl)
+
+pub performs_none : (w : State) (at : QueueAt) → w.config.devices ≡ 1 → Legal w → same_queue at sync ≡ false → step false w (event.Perform at) ≡ idle w
+performs_none w at one legal differ =
+    idle_either_way (is_there w at) w (perform_step w (labels_of w) at (rest w (labels_of w) at)) (rw (none_left w at (none_placed w at one legal differ)) refl)
 
 -- the test of a queue with sync
 pub same_is : (at : QueueAt) → same_queue at sync ≡ true → at ≡ sync

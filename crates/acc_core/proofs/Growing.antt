@@ -1,19 +1,25 @@
 -- More labels behind those that are placed change nothing of what the work log has.
-use Rattle.std.proofs.Common.{◌≡◌, ℕ, ◌+◌, ◌-◌, ◌≤◌, true, false, cond, List, [], ◌∷◌, ◌++◌, length, refl, sym, ap, ◌∙◌, arith, Some}
-use Rattle.std.specs.Prelude.{ℤ, IsTrue, nat_lt, nat_le}
-use Rattle.std.proofs.lemmas.Bool.{and_parts, and_from, leb-true, le-leb}
-use Rattle.std.proofs.lemmas.List.{append_assoc}
+use Rattle.std.proofs.Common.{◌≡◌, ℕ, ◌+◌, ◌-◌, ◌<◌, ◌≤◌, true, false, cond, List, [], ◌∷◌, ◌++◌, length, refl, sym, ap, ◌∙◌, arith, Some}
+use Rattle.std.specs.Prelude.{ℤ, All, IsTrue, nat_lt, nat_le, ◌&&◌}
+use Rattle.std.proofs.lemmas.List.{append_assoc, length-append}
+use Rattle.std.proofs.lemmas.List.Elements.{All-filter}
+use Rattle.acc_base.specs.Queues.{same_queue}
+use Rattle.acc_batch.specs.declared.operation.Op.{Op}
 use Rattle.acc_base.specs.declared.ids.QueueAt.{QueueAt}
 use Rattle.acc_batch.specs.declared.operation.Label.{Label}
-use Rattle.acc_work.specs.declared.log.Shown.{Shown}
-use Rattle.acc_work.specs.declared.log.Shown.TheVariants as shown
+use Rattle.acc_work.specs.declared.log.Told.{Told}
+use Rattle.acc_work.specs.declared.log.Told.TheVariants as shown
 use Rattle.acc_work.specs.declared.log.WorkEntry.{WorkEntry}
 use Rattle.acc_work.specs.declared.log.WorkEntry.TheVariants as entry
 use Rattle.acc_batch.specs.Labels.{on_queue, ops_of, batch_at}
 use Rattle.acc_batch.proofs.Labels.{ops_of-append, on_queue-append}
-use Rattle.acc_batch.proofs.Wholes.{whole-more}
-use Rattle.acc_work.specs.Orders.{InOrder, ShowsTruth, InHostOrder}
-use Rattle.acc_work.specs.Logs.{performed, done, all_done, host_allows}
+use Rattle.acc_batch.proofs.Wholes.{whole_taken}
+use Rattle.acc_work.specs.Orders.{IsPrefix, InOrder, ShowsTruth, InHostOrder}
+use Rattle.acc_work.specs.Logs.{one_more, performed, done, all_done, host_allows}
+
+-- each label has an operation
+abbrev pub AllFilled : List Label → Type 0
+AllFilled labels = All (λ (l : Label). 0 < length l.ops) labels
 
 -- an operation that its batch allows is still allowed
 pub host_allows-more : (ls more : List Label) (n : ℕ) (work : List WorkEntry) → IsTrue (host_allows (batch_at ls n) work) → IsTrue (host_allows (batch_at (ls ++ more) n) work)
@@ -23,37 +29,40 @@ host_allows-more (l ∷ ls) more n work h =
     as (λ v. IsTrue (host_allows (cond v (Some l) (batch_at ls (n - length l.ops))) work) → IsTrue (host_allows (cond v (Some l) (batch_at (ls ++ more) (n - length l.ops))) work))
     [ true ↦ (λ k. k) | false ↦ (λ k. host_allows-more ls more (n - length l.ops) work k) ] h
 
--- no fewer batches of each queue are performed
-pub done-more : (labels more : List Label) (work : List WorkEntry) (at : QueueAt) → done labels work at ≤ done (labels ++ more) work at
-done-more labels more work at =
-    rw (on_queue-append at labels more) (whole-more (on_queue at labels) (on_queue at more) (length (performed at work)))
+-- as many batches are performed as before, where each that is new has an operation
+done_same : (labels more : List Label) (work : List WorkEntry) (at : QueueAt) → AllFilled more → IsPrefix (performed at work) (ops_of (on_queue at labels)) → done (labels ++ more) work at ≡ done labels work at
+done_same labels more work at filled p =
+    let low : length (performed at work) ≤ length (ops_of (on_queue at labels)) = omega (arith, length-append (performed at work) p.0, ap length p.1) in
+    rw (on_queue-append at labels more) (whole_taken (on_queue at labels) (on_queue at more) (length (performed at work)) low (All-filter (λ (l : Label). same_queue l.at at) (λ (l : Label). 0 < length l.ops) more filled))
 
--- counts that are reached stay reached
-pub all_done-more : (labels more : List Label) (work : List WorkEntry) (device q : ℕ) (counts : List ℕ)
-    → IsTrue (all_done labels work device q counts) → IsTrue (all_done (labels ++ more) work device q counts)
-all_done-more labels more work device q [] h = refl
-all_done-more labels more work device q (n ∷ ns) h =
+all_done_same : (labels more : List Label) (work : List WorkEntry) (device q : ℕ) (counts : List ℕ) → AllFilled more → InOrder labels work → all_done (labels ++ more) work device q counts ≡ all_done labels work device q counts
+all_done_same labels more work device q [] filled h = refl
+all_done_same labels more work device q (n ∷ ns) filled h =
     let at : QueueAt = record { device = device; queue = q } in
-    let parts = and_parts (nat_le n (done labels work at)) (all_done labels work device (q + 1) ns) h in
-    let low = leb-true n (done labels work at) parts.0 in
-    let first = le-leb n (done (labels ++ more) work at) (omega (arith, low, done-more labels more work at)) in
-    and_from (nat_le n (done (labels ++ more) work at)) (all_done (labels ++ more) work device (q + 1) ns) first
-    (all_done-more labels more work device (q + 1) ns parts.1)
+    ap (λ d. nat_le n d && all_done (labels ++ more) work device (q + 1) ns) (done_same labels more work at filled (h at))
+    ∙ ap (λ b. nat_le n (done labels work at) && b) (all_done_same labels more work device (q + 1) ns filled h)
 
 -- what an item shows is still so
-pub shows-more : (opening : List (List ℤ)) (labels more : List Label) (s : Shown) (before : List WorkEntry) → ShowsTruth opening labels s before → ShowsTruth opening (labels ++ more) s before
-shows-more opening labels more (shown.Write a c v) before h = tt
-shows-more opening labels more (shown.Print r vs) before h = h
-shows-more opening labels more (shown.Seen device counts) before h = all_done-more labels more before device 0 counts h
+pub shows-more : (opening : List (List ℤ)) (labels more : List Label) (s : Told) (before : List WorkEntry) → AllFilled more → InOrder labels before → ShowsTruth opening labels s before → ShowsTruth opening (labels ++ more) s before
+shows-more opening labels more (shown.Write a c v) before filled order h = tt
+shows-more opening labels more (shown.Print r vs) before filled order h = h
+shows-more opening labels more (shown.Seen device counts) before filled order h = rw (all_done_same labels more before device 0 counts filled order) h
+shows-more opening labels more (shown.Test device counts answer) before filled order h = h ∙ sym (all_done_same labels more before device 0 counts filled order)
+
+-- what was performed earlier is a prefix, too
+in_order-before : (labels : List Label) (at : QueueAt) (op : Op) (before : List WorkEntry) → InOrder labels (entry.Op at op ∷ before) → InOrder labels before
+in_order-before labels at op before h = λ q.
+    (elim (same_queue at q) as (λ b. IsPrefix (one_more b (performed q before) op) (ops_of (on_queue q labels)) → IsPrefix (performed q before) (ops_of (on_queue q labels)))
+    [ true ↦ (λ p. (op ∷ p.0, sym (append_assoc (performed q before) (op ∷ []) p.0) ∙ p.1)) | false ↦ (λ p. p) ]) (h q)
 
 -- each operation of the log is still allowed, and each item still shows what is so
-pub host_order-more : (opening : List (List ℤ)) (labels more : List Label) (work : List WorkEntry) → InHostOrder opening labels work → InHostOrder opening (labels ++ more) work
-host_order-more opening labels more [] h = tt
-host_order-more opening labels more (entry.Op at op ∷ before) h = (
+pub host_order-more : (opening : List (List ℤ)) (labels more : List Label) (work : List WorkEntry) → AllFilled more → InOrder labels work → InHostOrder opening labels work → InHostOrder opening (labels ++ more) work
+host_order-more opening labels more [] filled order h = tt
+host_order-more opening labels more (entry.Op at op ∷ before) filled order h = (
   rw (on_queue-append at labels more) (host_allows-more (on_queue at labels) (on_queue at more) (length (performed at before)) before h.0),
-  host_order-more opening labels more before h.1,
+  host_order-more opening labels more before filled (in_order-before labels at op before order) h.1,
 )
-host_order-more opening labels more (entry.Item host s ∷ before) h = (shows-more opening labels more s before h.0, host_order-more opening labels more before h.1)
+host_order-more opening labels more (entry.Item host s ∷ before) filled order h = (shows-more opening labels more s before filled order h.0, host_order-more opening labels more before filled order h.1)
 
 -- what was performed is still a prefix of what was placed
 pub in_order-more : (labels more : List Label) (work : List WorkEntry) → InOrder labels work → InOrder (labels ++ more) work

@@ -1,11 +1,15 @@
 -- The histories are legal at the start, and each step keeps them legal.
-use Rattle.std.proofs.Common.{◌≡◌, ℕ, List, [], ◌∷◌, ◌++◌, length, ap, ◌∙◌, None}
-use Rattle.std.specs.Prelude.{IsTrue}
+use Rattle.std.proofs.Common.{◌≡◌, ℕ, ◌≤◌, true, false, List, [], ◌∷◌, ◌++◌, length, drop, ap, ◌∙◌, arith, None}
+use Rattle.std.specs.Prelude.{IsTrue, ◌==◌}
 use Rattle.acc_base.specs.declared.ids.QueueAt.{QueueAt}
 use Rattle.acc_place.specs.declared.directive.Directive.{Directive}
+use Rattle.acc_place.specs.declared.directive.PlaceEntry.{PlaceEntry}
+use Rattle.acc_place.specs.declared.directive.PlaceEntry.TheVariants as noted
 use Rattle.acc_core.specs.declared.event.Event.{Event}
 use Rattle.acc_core.specs.declared.event.Reply.{Reply}
-use Rattle.acc_work.specs.declared.log.Shown.{Shown}
+use Rattle.acc_work.specs.declared.log.Told.{Told}
+use Rattle.acc_work.specs.declared.log.WorkEntry.{WorkEntry}
+use Rattle.acc_work.specs.declared.log.WorkEntry.TheVariants as entry
 use Rattle.acc_batch.specs.declared.operation.Label.{Label}
 use Rattle.acc_batch.specs.declared.operation.Op.{Op}
 use Rattle.acc_core.specs.declared.program.Host.{Host}
@@ -14,20 +18,30 @@ use Rattle.acc_place.specs.Batches.{batch_of, next_number, walk_at}
 use Rattle.acc_place.specs.Histories.{standing}
 use Rattle.acc_batch.specs.Labels.{on_queue, ops_of, batch_at}
 use Rattle.acc_work.specs.Orders.{ShowsTruth}
-use Rattle.acc_core.specs.Legality.{Legal}
-use Rattle.acc_work.specs.Logs.{performed, items_of, host_allows}
+use Rattle.acc_core.specs.Legality.{CountsAreLow, Legal}
+use Rattle.acc_work.specs.Logs.{if_one, performed, items_of, host_allows}
 use Rattle.acc_core.specs.Machine.{State, Step, Runs, standing_of, rest, with_item, with_op, accepting}
 use Rattle.acc_place.specs.Standings.{walk_of}
 use Rattle.acc_core.proofs.Changes.{Step-by, step_config}
 use Rattle.acc_core.proofs.Growing.{in_order-more, host_order-more}
 use Rattle.acc_core.proofs.Performing.{next_of_all, in_order_performed, next_uses_live}
-use Rattle.acc_core.proofs.Queues.{added, labelled_is}
+use Rattle.acc_core.proofs.Queues.{added, added_filled, labelled_is}
 use Rattle.acc_core.proofs.Starts.{IsStart}
+
+-- counts stay low behind one more entry of the log, by which no host has fewer items
+counts_behind : (history : List PlaceEntry) (counts : List ℕ) (work : List WorkEntry) (e : WorkEntry) → ((h : ℕ) → items_of h work ≤ items_of h (e ∷ work)) → CountsAreLow history counts work → CountsAreLow history counts (e ∷ work)
+counts_behind [] counts work e more low = tt
+counts_behind (noted.Accepted h d ∷ before) counts work e more low =
+    (omega (arith, low.0, more h), counts_behind before (drop 1 counts) work e more low.1)
+
+items_grow : (h k : ℕ) (s : Told) (work : List WorkEntry) → items_of k work ≤ items_of k (entry.Item h s ∷ work)
+items_grow h k s work = elim (h == k) as (λ b. items_of k work ≤ if_one b (items_of k work)) [ true ↦ omega arith | false ↦ omega arith ]
 
 -- the histories are legal before the first event
 pub legal_start : (w : State) → IsStart w → Legal w
 legal_start w s = record {
   accepted = rw s.history tt;
+  counts = rw s.history tt;
   prefix = λ at. (let all = ops_of (on_queue at (standing_of w).labels) in (all, ap (λ r. r ++ all) (ap (performed at) s.work)));
   host_order = rw s.work tt;
   live_blocks = rw s.work tt;
@@ -35,15 +49,15 @@ legal_start w s = record {
 
 -- other hosts leave them legal
 pub legal_hosts : (w : State) (hosts : List Host) → Legal w → Legal (record w { hosts = hosts })
-legal_hosts w hosts l = record { accepted = l.accepted; prefix = l.prefix; host_order = l.host_order; live_blocks = l.live_blocks }
+legal_hosts w hosts l = record { accepted = l.accepted; counts = l.counts; prefix = l.prefix; host_order = l.host_order; live_blocks = l.live_blocks }
 
 -- so do other counts of batches that were taken
 pub legal_taken : (w : State) (taken : List ℕ) → Legal w → Legal (record w { taken = taken })
-legal_taken w taken l = record { accepted = l.accepted; prefix = l.prefix; host_order = l.host_order; live_blocks = l.live_blocks }
+legal_taken w taken l = record { accepted = l.accepted; counts = l.counts; prefix = l.prefix; host_order = l.host_order; live_blocks = l.live_blocks }
 
 -- so does one more item that shows what is so
-pub legal_item : (w : State) (h : ℕ) (s : Shown) → Legal w → ShowsTruth w.config.arrays (standing_of w).labels s w.work → Legal (with_item w h s)
-legal_item w h s l truth = record { accepted = l.accepted; prefix = l.prefix; host_order = (truth, l.host_order); live_blocks = l.live_blocks }
+pub legal_item : (w : State) (h : ℕ) (s : Told) → Legal w → ShowsTruth w.config.arrays (standing_of w).labels s w.work → Legal (with_item w h s)
+legal_item w h s l truth = record { accepted = l.accepted; counts = counts_behind w.history w.counts w.work (entry.Item h s) (λ k. items_grow h k s w.work) l.counts; prefix = l.prefix; host_order = (truth, l.host_order); live_blocks = l.live_blocks }
 
 -- the labels that a directive adds
 abbrev pub more_labels : State → ℕ → Directive → List Label
@@ -63,8 +77,9 @@ legal_accepted w h host d l e =
     let same = labels_accepted w h host d in
     record {
       accepted = (e, l.accepted);
+      counts = (omega arith, l.counts);
       prefix = rw same (in_order-more labels (more_labels w h d) w.work l.prefix);
-      host_order = rw same (host_order-more w.config.arrays labels (more_labels w h d) w.work l.host_order);
+      host_order = rw same (host_order-more w.config.arrays labels (more_labels w h d) w.work (added_filled (walk_at (walk_of (standing_of w) h d)) (next_number (walk_at (walk_of (standing_of w) h d)) labels) h (items_of h w.work) (batch_of (standing_of w) (walk_of (standing_of w) h d))) l.prefix l.host_order);
       live_blocks = l.live_blocks;
     }
 
@@ -73,6 +88,7 @@ pub legal_performed : (w : State) (at : QueueAt) (op : Op) (ops : List Op) → w
     → IsTrue (host_allows (batch_at (on_queue at (standing_of w).labels) (length (performed at w.work))) w.work) → Legal (with_op w at op)
 legal_performed w at op ops one l e allowed = record {
   accepted = l.accepted;
+  counts = counts_behind w.history w.counts w.work (entry.Op at op) (λ k. omega arith) l.counts;
   prefix = in_order_performed (standing_of w).labels w.work at op l.prefix (next_of_all w at op ops l.prefix e);
   host_order = (allowed, l.host_order);
   live_blocks = (next_uses_live w at op ops one l e, l.live_blocks);

@@ -31,33 +31,29 @@ remembers_opening config v e none = record {
 }
 
 -- an empty queue and an empty lane hold what is placed
-queued_opening : (config : Configuration) (v : WorkView) → rows_on v.memory 0 ≡ [] → v.lane ≡ [] → v.lane_host < MAX_HOSTS → Queued (state_at_first config []) v [] 0 0
+queued_opening : (config : Configuration) (v : WorkView) → rows_on v.memory 0 ≡ [] → v.lane.taken ≡ [] → Queued (state_at_first config []) v [] 0
 unfolding standing
-queued_opening config v no_rows no_lane low = record {
+queued_opening config v no_rows no_batch = record {
   single = refl;
   filled = All-nil (λ (l : Label). 0 < length l.ops);
-  queued = refl;
-  taken_low = omega arith;
-  in_lane = no_lane;
-  of_batch = λ some. absurd (omega (arith, ap length no_lane, some));
-  performed_taken = omega arith;
+  split = rw no_batch refl;
   all_waiting = refl;
   log_room = omega arith;
+  lane_room = rw no_batch (omega arith);
   block_room = rw no_rows (omega arith);
   hosts = All-nil (λ (l : Label). l.host < MAX_HOSTS);
-  lane_host = low;
 }
 
 -- What holds of an accelerator holds before the first event.
 pub is_opening : (config : Configuration) (w : State) (v : WorkView) (queue_room : ℕ) → w ≡ state_at_first config [] → config.devices ≡ 1 → config.room ≤ queue_room
-    → v.memory.arrays ≡ config.arrays → ((d : ℕ) → rows_on v.memory d ≡ []) → v.lane ≡ [] → v.lane_host < MAX_HOSTS → IsAccelerator w v [] 0 0 queue_room
-is_opening config w v queue_room is one room arrays no_rows no_lane low =
+    → v.memory.arrays ≡ config.arrays → ((d : ℕ) → rows_on v.memory d ≡ []) → v.lane.taken ≡ [] → IsAccelerator w v [] 0 queue_room
+is_opening config w v queue_room is one room arrays no_rows no_batch =
     rw is (record {
       one_device = one;
       legal = legal_start (state_at_first config []) (record { one_device = one; history = refl; counts = refl; work = refl; hosts = tt });
       few_items = omega arith;
       held_low = omega arith;
       room = room;
-      parts = queued_opening config v (no_rows 0) no_lane low;
+      parts = queued_opening config v (no_rows 0) no_batch;
       memory = remembers_opening config v arrays no_rows;
     })

@@ -1,9 +1,10 @@
 -- A directive is accepted, and its batch placed on the queue.
-use Rattle.std.proofs.Common.{◌≡◌, ℕ, ◌+◌, ◌<◌, ◌≤◌, true, false, List, [], ◌∷◌, ◌++◌, length, take, refl, sym, ap, ◌∙◌, arith, Option, None, Some}
-use Rattle.std.specs.Prelude.{◌==◌, ◌&&◌, not, Ok, Err}
+use Rattle.std.proofs.Common.{◌≡◌, ℕ, ◌+◌, ◌<◌, ◌≤◌, true, false, List, [], ◌∷◌, ◌++◌, length, refl, sym, ap, ◌∙◌, arith, Option, None, Some}
+use Rattle.std.specs.Prelude.{◌==◌, ◌&&◌, not, All, Ok, Err}
 use Rattle.std.proofs.lemmas.Bool.{eq-eqb, ne_eqb}
-use Rattle.std.proofs.lemmas.List.{append_assoc, append-nil, length-append, take-append-le, drop-append-le}
+use Rattle.std.proofs.lemmas.List.{append_assoc, append-nil, length-append}
 use Rattle.std.proofs.lemmas.List.Elements.{All-push}
+use Rattle.acc_base.proofs.Lists.{All-behind}
 use Rattle.acc_base.specs.declared.config.TheConstants.{MAX_HOSTS}
 use Rattle.acc_place.specs.declared.directive.Directive.{Directive}
 use Rattle.acc_batch.specs.declared.operation.Label.{Label}
@@ -22,13 +23,13 @@ use Rattle.acc_place.specs.Histories.{standing}
 use Rattle.acc_place.specs.Plans.{PlaceView, PlanView, standing_in, Fits, label_for, label_in}
 use Rattle.acc_batch.specs.Labels.{on_queue, ops_of}
 use Rattle.acc_core.specs.Legality.{Legal}
-use Rattle.acc_work.specs.Logs.{items_of, value}
-use Rattle.acc_core.specs.Machine.{State, standing_of, accepting, is_empty, is_full, held}
+use Rattle.acc_work.specs.Logs.{items_of, performed, value}
+use Rattle.acc_core.specs.Machine.{State, standing_of, accepting, is_empty, is_full, held, labels_of}
 use Rattle.acc_place.specs.Standings.{walk_of}
 use Rattle.acc_memory.specs.Memories.{rows_on, room_on}
 use Rattle.acc_memory.proofs.Showing.{shows_same}
-use Rattle.acc_core.specs.Ties.{Queued, Remembers, IsAccelerator, IsLaneOf, labels_of, performed_count}
-use Rattle.acc_work.specs.Works.{WorkView, HasMadeRoom, sync}
+use Rattle.acc_core.specs.Ties.{Queued, Remembers, IsAccelerator, performed_count}
+use Rattle.acc_work.specs.Works.{WorkView, KeepsOrder, HasMadeRoom, sync}
 use Rattle.acc_core.proofs.InArrays.{accepted_fits}
 use Rattle.acc_core.proofs.Histories.{placed_use}
 use Rattle.acc_core.proofs.OneDevice.{walk_is}
@@ -36,6 +37,7 @@ use Rattle.acc_core.proofs.Keeping.{legal_accepted, legal_hosts, labels_accepted
 use Rattle.acc_base.proofs.SameQueue.{same_queue_itself}
 use Rattle.acc_batch.proofs.Labels.{on_queue-append, ops_of-append}
 use Rattle.acc_core.proofs.Queues.{added}
+use Rattle.acc_core.proofs.Lanes.{few_batches}
 use Rattle.acc_core.proofs.Taking.{with_taken, held_is}
 
 -- a host that has done nothing
@@ -90,34 +92,17 @@ labels_more w host d at some =
     ∙ ap (λ ls. labels_of w ++ ls) (added_one sync (next_number sync (labels_of w)) host (items_of host w.work) ops some))
 
 -- the queue and the lane depend on the labels and the log alone
-queued_same : (w w' : State) (v : WorkView) (queue : List Label) (t waiting : ℕ) → labels_of w' ≡ labels_of w → w'.work ≡ w.work
-    → Queued w v queue t waiting → Queued w' v queue t waiting
-queued_same w w' v queue t waiting e f q = record {
+queued_same : (w w' : State) (v : WorkView) (queue : List Label) (waiting : ℕ) → labels_of w' ≡ labels_of w → w'.work ≡ w.work
+    → Queued w v queue waiting → Queued w' v queue waiting
+queued_same w w' v queue waiting e f q = record {
   single = rw e q.single;
   filled = rw e q.filled;
-  queued = rw e q.queued;
-  taken_low = rw e q.taken_low;
-  in_lane = rw (e, f) q.in_lane;
-  of_batch = rw (e, f) q.of_batch;
-  performed_taken = rw (e, f) q.performed_taken;
+  split = e ∙ q.split;
   all_waiting = rw (e, f) q.all_waiting;
   log_room = rw f q.log_room;
+  lane_room = q.lane_room;
   block_room = q.block_room;
   hosts = rw e q.hosts;
-  lane_host = q.lane_host;
-}
-
--- the batch in the lane is the last one that was taken, also among more labels
-lane_more : (ls more : List Label) (t n host items_done : ℕ) → IsLaneOf ls t n host items_done → IsLaneOf (ls ++ more) t n host items_done
-lane_more ls more t n host items_done l = record {
-  earlier = l.earlier;
-  label = l.label;
-  later = l.later ++ more;
-  split = ap (λ r. r ++ more) l.split ∙ append_assoc l.earlier (l.label ∷ l.later) more;
-  is_last = l.is_last;
-  begun = l.begun;
-  of_host = l.of_host;
-  of_items = l.of_items;
 }
 
 -- one more label on queue sync leaves all labels there
@@ -130,29 +115,33 @@ single_more ls l all at =
 ops_more : (ls : List Label) (l : Label) → ops_of (ls ++ l ∷ []) ≡ ops_of ls ++ l.ops
 ops_more ls l = ops_of-append ls (l ∷ []) ∙ ap (λ r. ops_of ls ++ r) (append-nil l.ops)
 
+-- batches that wait in the queue are no more than the operations that wait
+few_wait : (w : State) (v : WorkView) (queue : List Label) (waiting : ℕ) → Queued w v queue waiting → KeepsOrder v.work v.lane → v.work ≡ w.work → length queue ≤ waiting
+few_wait w v queue waiting q k same =
+    let behind : All (λ (l : Label). 0 < length l.ops) queue = All-behind (λ (l : Label). 0 < length l.ops) v.lane.taken queue (rw q.split at q.filled) in
+    let done : performed_count w + length v.lane.left ≡ length (ops_of v.lane.taken) =
+    ap (λ x. length (performed sync x) + length v.lane.left) (sym same) ∙ (sym (length-append (performed sync v.work) v.lane.left) ∙ ap length k.in_order) in
+    let all : length (ops_of (labels_of w)) ≡ length (ops_of v.lane.taken) + length (ops_of queue) =
+    ap (λ r. length (ops_of r)) q.split ∙ (ap length (ops_of-append v.lane.taken queue) ∙ length-append (ops_of v.lane.taken) (ops_of queue)) in
+    omega (arith, few_batches queue behind, done, all, q.all_waiting)
+
 -- One more batch joins the queue, where there is room for its operations.
-queued_more : (w w' : State) (v v' : WorkView) (queue : List Label) (b : Label) (t waiting waiting' : ℕ) → Queued w v queue t waiting
+queued_more : (w w' : State) (v v' : WorkView) (queue : List Label) (b : Label) (waiting waiting' : ℕ) → Queued w v queue waiting
     → labels_of w' ≡ labels_of w ++ b ∷ [] → w'.work ≡ w.work → HasMadeRoom v v' → b.at ≡ sync → b.host < MAX_HOSTS
-    → 0 < length b.ops → waiting' ≡ waiting + length b.ops
-    → length w.work + waiting' ≤ v'.room → length (rows_on v'.memory 0) + waiting' ≤ room_on v'.memory 0
-    → Queued w' v' (queue ++ b ∷ []) t waiting'
-queued_more w w' v v' queue b t waiting waiting' q e f k at host some more log_room block_room =
+    → 0 < length b.ops → waiting' ≡ waiting + length b.ops → length queue ≤ waiting
+    → length w.work + waiting' ≤ v'.room → length v'.lane.taken + waiting' ≤ v'.lane.room → length (rows_on v'.memory 0) + waiting' ≤ room_on v'.memory 0
+    → Queued w' v' (queue ++ b ∷ []) waiting'
+queued_more w w' v v' queue b waiting waiting' q e f k at host some more few log_room lane_room block_room =
     let ls = labels_of w in
-    let l = b in
-    let taken : take t (ls ++ l ∷ []) ≡ take t ls = take-append-le t ls (l ∷ []) q.taken_low in
     record {
-      single = rw e (single_more ls l q.single at);
-      filled = rw e (All-push (λ (x : Label). 0 < length x.ops) ls l q.filled some);
-      queued = rw e (ap (λ r. r ++ l ∷ []) q.queued ∙ sym (drop-append-le t ls (l ∷ []) q.taken_low));
-      taken_low = rw e (omega (arith, q.taken_low, length-append ls (l ∷ [])));
-      in_lane = rw (e, f, taken, k.lane) q.in_lane;
-      of_batch = rw (e, f, k.lane, k.lane_host, k.lane_items) (λ s. lane_more ls (l ∷ []) t (performed_count w) v.lane_host v.lane_items (q.of_batch s));
-      performed_taken = rw (e, f, taken) q.performed_taken;
-      all_waiting = rw (e, f, ops_more ls l) (omega (arith, more, q.all_waiting, length-append (ops_of ls) l.ops));
+      single = rw e (single_more ls b q.single at);
+      filled = rw e (All-push (λ (x : Label). 0 < length x.ops) ls b q.filled some);
+      split = rw k.taken (e ∙ (ap (λ r. r ++ b ∷ []) q.split ∙ append_assoc v.lane.taken queue (b ∷ [])));
+      all_waiting = rw (e, f, ops_more ls b) (omega (arith, more, q.all_waiting, length-append (ops_of ls) b.ops));
       log_room = rw f log_room;
+      lane_room = omega (arith, lane_room, length-append queue (b ∷ []), more, some, few);
       block_room = block_room;
-      hosts = rw e (All-push (λ (x : Label). x.host < MAX_HOSTS) ls l q.hosts host);
-      lane_host = rw k.lane_host q.lane_host;
+      hosts = rw e (All-push (λ (x : Label). x.host < MAX_HOSTS) ls b q.hosts host);
     }
 
 -- the memory shows the same values where room was made
@@ -164,17 +153,17 @@ remembers_room w w' v v' r c f k = record {
 }
 
 -- An accelerator that accepted a directive with an empty batch.
-pub keeps_empty : (w w' : State) (v : WorkView) (queue : List Label) (t waiting room host : ℕ) (d : Directive) → IsAccelerator w v queue t waiting room
+pub keeps_empty : (w w' : State) (v : WorkView) (queue : List Label) (waiting room host : ℕ) (d : Directive) → IsAccelerator w v queue waiting room
     → refusal w.config (standing_of w) host d ≡ None → batch_of (standing_of w) (walk_of (standing_of w) host d) ≡ [] → w' ≡ after_accept w host d
-    → IsAccelerator w' v queue t waiting room
-keeps_empty w w' v queue t waiting room host d a e none is =
+    → IsAccelerator w' v queue waiting room
+keeps_empty w w' v queue waiting room host d a e none is =
     rw is (record {
       one_device = a.one_device;
       legal = legal_placed w host d a.legal e;
       few_items = a.few_items;
       held_low = a.held_low;
       room = a.room;
-      parts = queued_same w (after_accept w host d) v queue t waiting (labels_empty w host d none) refl a.parts;
+      parts = queued_same w (after_accept w host d) v queue waiting (labels_empty w host d none) refl a.parts;
       memory = record { shows = a.memory.shows; blocks = a.memory.blocks; lengths = a.memory.lengths };
     })
 
@@ -206,11 +195,11 @@ batch_placed w host d b at is =
     }
 
 -- An accelerator that accepted a directive and put its batch on the queue.
-pub keeps_batch : (w w' : State) (v v' : WorkView) (queue : List Label) (b : Label) (t waiting waiting' room room' host : ℕ) (d : Directive)
-    → IsAccelerator w v queue t waiting room → refusal w.config (standing_of w) host d ≡ None → w' ≡ after_accept w host d → HasMadeRoom v v'
+pub keeps_batch : (w w' : State) (v v' : WorkView) (queue : List Label) (b : Label) (waiting waiting' room room' host : ℕ) (d : Directive)
+    → IsAccelerator w v queue waiting room → refusal w.config (standing_of w) host d ≡ None → w' ≡ after_accept w host d → HasMadeRoom v v'
     → Some b ≡ label_in (standing_of w) host (items_of host w.work) (walk_of (standing_of w) host d) → host < MAX_HOSTS → length queue < w.config.room → waiting' ≡ waiting + length b.ops → length w.work + waiting' ≤ v'.room
-    → length (rows_on v'.memory 0) + waiting' ≤ room_on v'.memory 0 → room ≤ room' → IsAccelerator w' v' (queue ++ b ∷ []) t waiting' room'
-keeps_batch w w' v v' queue b t waiting waiting' room room' host d a e is k named low fits more log_room block_room wider =
+    → length v'.lane.taken + waiting' ≤ v'.lane.room → length (rows_on v'.memory 0) + waiting' ≤ room_on v'.memory 0 → room ≤ room' → KeepsOrder v.work v.lane → v.work ≡ w.work → IsAccelerator w' v' (queue ++ b ∷ []) waiting' room'
+keeps_batch w w' v v' queue b waiting waiting' room room' host d a e is k named low fits more log_room lane_room block_room wider order same =
     let at = acts_on_sync w host d a.one_device a.legal e in
     let l = batch_placed w host d b at named in
     let labels : labels_of (after_accept w host d) ≡ labels_of w ++ b ∷ [] = rw l.same (labels_more w host d at l.some) in
@@ -221,7 +210,7 @@ keeps_batch w w' v v' queue b t waiting waiting' room room' host d a e is k name
       few_items = a.few_items;
       held_low = omega (arith, fits, length-append queue (b ∷ []));
       room = omega (arith, a.room, wider);
-      parts = queued_more w (after_accept w host d) v v' queue b t waiting waiting' a.parts labels refl k here (rw l.same low) (rw l.same l.some) more log_room block_room;
+      parts = queued_more w (after_accept w host d) v v' queue b waiting waiting' a.parts labels refl k here (rw l.same low) (rw l.same l.some) more (few_wait w v queue waiting a.parts order same) log_room lane_room block_room;
       memory = remembers_room w (after_accept w host d) v v' a.memory refl refl k;
     })
 
@@ -231,34 +220,34 @@ not_empty [] some = absurd (omega (arith, some))
 not_empty (op ∷ ops) some = refl
 
 -- a batch that isn't empty finds the queue full where that holds its room
-full_at : (w : State) (v : WorkView) (queue : List Label) (t waiting host : ℕ) (d : Directive) → Queued w v queue t waiting → walk_at (walk_of (standing_of w) host d) ≡ sync
-    → 0 < length (batch_of (standing_of w) (walk_of (standing_of w) host d)) → is_full (with_taken w t) (standing_of w) (walk_of (standing_of w) host d) ≡ (length queue == w.config.room)
-full_at w v queue t waiting host d q at some =
+full_at : (w : State) (v : WorkView) (queue : List Label) (waiting host : ℕ) (d : Directive) → Queued w v queue waiting → walk_at (walk_of (standing_of w) host d) ≡ sync
+    → 0 < length (batch_of (standing_of w) (walk_of (standing_of w) host d)) → is_full (with_taken w v) (standing_of w) (walk_of (standing_of w) host d) ≡ (length queue == w.config.room)
+full_at w v queue waiting host d q at some =
     let ops = batch_of (standing_of w) (walk_of (standing_of w) host d) in
-    ap (λ other. not (is_empty ops) && (held (with_taken w t) (labels_of w) other == w.config.room)) at
-    ∙ (ap (λ b. not b && (held (with_taken w t) (labels_of w) sync == w.config.room)) (not_empty ops some)
-    ∙ ap (λ n. n == w.config.room) (held_is w v queue t waiting q))
+    ap (λ other. not (is_empty ops) && (held (with_taken w v) (labels_of w) other == w.config.room)) at
+    ∙ (ap (λ b. not b && (held (with_taken w v) (labels_of w) sync == w.config.room)) (not_empty ops some)
+    ∙ ap (λ n. n == w.config.room) (held_is w v queue waiting q))
 
 -- the fault is by that
-fault_is : (w : State) (v : WorkView) (queue : List Label) (t waiting host : ℕ) (d : Directive) → Queued w v queue t waiting → w.config.devices ≡ 1 → Legal w
+fault_is : (w : State) (v : WorkView) (queue : List Label) (waiting host : ℕ) (d : Directive) → Queued w v queue waiting → w.config.devices ≡ 1 → Legal w
     → refusal w.config (standing_of w) host d ≡ None → 0 < length (batch_of (standing_of w) (walk_of (standing_of w) host d))
-    → fault_of_place false (with_taken w t) host d ≡ queue_fault (length queue == w.config.room)
-fault_is w v queue t waiting host d q one l e some =
-    ap (place_fault false (with_taken w t) host d) e ∙ ap queue_fault (full_at w v queue t waiting host d q (acts_on_sync w host d one l e) some)
+    → fault_of_place false (with_taken w v) host d ≡ queue_fault (length queue == w.config.room)
+fault_is w v queue waiting host d q one l e some =
+    ap (place_fault false (with_taken w v) host d) e ∙ ap queue_fault (full_at w v queue waiting host d q (acts_on_sync w host d one l e) some)
 
 -- A directive whose queue holds its room is refused.
-pub places_full : (w w' : State) (v : WorkView) (queue : List Label) (t waiting host : ℕ) (d : Directive) → Queued w v queue t waiting → w.config.devices ≡ 1 → Legal w
+pub places_full : (w w' : State) (v : WorkView) (queue : List Label) (waiting host : ℕ) (d : Directive) → Queued w v queue waiting → w.config.devices ≡ 1 → Legal w
     → refusal w.config (standing_of w) host d ≡ None → 0 < length (batch_of (standing_of w) (walk_of (standing_of w) host d)) → length queue ≡ w.config.room
-    → w' ≡ with_taken w t → Places (with_taken w t) host d (Err QueueFull) w'
-places_full w w' v queue t waiting host d q one l e some full is =
-    (false, fault_is w v queue t waiting host d q one l e some ∙ ap queue_fault (eq-eqb (length queue) w.config.room full), is)
+    → w' ≡ with_taken w v → Places (with_taken w v) host d (Err QueueFull) w'
+places_full w w' v queue waiting host d q one l e some full is =
+    (false, fault_is w v queue waiting host d q one l e some ∙ ap queue_fault (eq-eqb (length queue) w.config.room full), is)
 
 -- A directive with a batch is answered with the batch's queue and number.
-pub places_batch : (w w' : State) (v : WorkView) (queue : List Label) (t waiting host : ℕ) (d : Directive) (placed : Placed) → Queued w v queue t waiting → w.config.devices ≡ 1 → Legal w
+pub places_batch : (w w' : State) (v : WorkView) (queue : List Label) (waiting host : ℕ) (d : Directive) (placed : Placed) → Queued w v queue waiting → w.config.devices ≡ 1 → Legal w
     → refusal w.config (standing_of w) host d ≡ None → 0 < length (batch_of (standing_of w) (walk_of (standing_of w) host d)) → ¬ length queue ≡ w.config.room
-    → placed ≡ answer_of (standing_of w) d (walk_of (standing_of w) host d) → w' ≡ after_accept (with_taken w t) host d → Places (with_taken w t) host d (Ok placed) w'
-places_batch w w' v queue t waiting host d placed q one l e some room answer is =
-    (fault_is w v queue t waiting host d q one l e some ∙ ap queue_fault (ne_eqb (length queue) w.config.room room), answer, is)
+    → placed ≡ answer_of (standing_of w) d (walk_of (standing_of w) host d) → w' ≡ after_accept (with_taken w v) host d → Places (with_taken w v) host d (Ok placed) w'
+places_batch w w' v queue waiting host d placed q one l e some room answer is =
+    (fault_is w v queue waiting host d q one l e some ∙ ap queue_fault (ne_eqb (length queue) w.config.room room), answer, is)
 
 -- A directive that is planned and finds no memory is refused.
 pub places_memory : (w w' : State) (host : ℕ) (d : Directive) (fault : Fault) → refusal w.config (standing_of w) host d ≡ None → fault ≡ Memory → w' ≡ w → Places w host d (Err fault) w'

@@ -7,8 +7,8 @@ use Rattle.acc_batch.specs.Labels.{on_queue, ops_of}
 use Rattle.acc_batch.specs.declared.operation.Label.{Label}
 use Rattle.acc_core.specs.Legality.{Legal}
 use Rattle.acc_work.specs.Logs.{performed, all_items}
-use Rattle.acc_core.specs.Machine.{State}
-use Rattle.acc_core.specs.Ties.{Queued, labels_of, performed_count}
+use Rattle.acc_core.specs.Machine.{State, labels_of}
+use Rattle.acc_core.specs.Ties.{Queued, performed_count}
 use Rattle.acc_work.specs.Works.{WorkView, sync}
 use Rattle.acc_core.proofs.Elsewhere.{none_placed}
 use Rattle.acc_core.proofs.Histories.{placed_use}
@@ -20,8 +20,8 @@ performed_beside_items w one legal =
     sync_or_item w.work (none_elsewhere (labels_of w) w.work (placed_use w.config w.history w.counts one legal.accepted).on_sync legal.prefix)
 
 -- all operations of queue sync are performed or wait
-pub operations_are : (w : State) (v : WorkView) (queue : List Label) (t waiting : ℕ) → Queued w v queue t waiting → performed_count w + waiting ≡ length (ops_of (on_queue sync (labels_of w)))
-operations_are w v queue t waiting q = omega (arith, q.all_waiting, ap (λ ls. length (ops_of ls)) q.single)
+pub operations_are : (w : State) (v : WorkView) (queue : List Label) (waiting : ℕ) → Queued w v queue waiting → performed_count w + waiting ≡ length (ops_of (on_queue sync (labels_of w)))
+operations_are w v queue waiting q = omega (arith, q.all_waiting, ap (λ ls. length (ops_of ls)) q.single)
 
 -- another queue has no operations
 pub no_operations : (w : State) (at : QueueAt) → w.config.devices ≡ 1 → Legal w → same_queue at sync ≡ false → length (ops_of (on_queue at (labels_of w))) ≡ 0

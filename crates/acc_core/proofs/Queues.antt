@@ -1,7 +1,9 @@
 -- The labels that a batch adds, and what holds where there is one queue alone.
-use Rattle.std.proofs.Common.{inl, inr, ◌≡◌, ℕ, ◌+◌, Bool, true, false, List, [], ◌∷◌, ◌++◌, length, refl, sym, ap, ◌∙◌, arith}
+use Rattle.std.proofs.Common.{inl, inr, ◌≡◌, ℕ, ◌+◌, ◌<◌, Bool, true, false, List, [], ◌∷◌, ◌++◌, length, refl, sym, ap, ◌∙◌, arith}
 use Rattle.std.proofs.lemmas.Bool.{cases_Bool}
+use Rattle.std.specs.Prelude.{All}
 use Rattle.std.proofs.lemmas.List.{append-nil, length-append}
+use Rattle.std.proofs.lemmas.List.Elements.{All-nil, All-cons}
 use Rattle.acc_base.specs.declared.ids.QueueAt.{QueueAt}
 use Rattle.acc_base.specs.Queues.{same_queue}
 use Rattle.acc_base.proofs.SameQueue.{same_queue_itself, same_queue_is}
@@ -22,6 +24,12 @@ abbrev pub added : QueueAt → ℕ → ℕ → ℕ → List Op → List Label
 added at number host items_done [] = []
 added at number host items_done (op ∷ ops) =
     record { at = at; number = number; host = host; items_done = items_done; ops = op ∷ ops } ∷ []
+
+-- each label that a batch adds has an operation
+pub added_filled : (at : QueueAt) (number host items_done : ℕ) (ops : List Op) → All (λ (l : Label). 0 < length l.ops) (added at number host items_done ops)
+added_filled at number host items_done [] = All-nil (λ (l : Label). 0 < length l.ops)
+added_filled at number host items_done (op ∷ ops) =
+    All-cons (λ (l : Label). 0 < length l.ops) (record { at = at; number = number; host = host; items_done = items_done; ops = op ∷ ops }) [] (omega arith) (All-nil (λ (l : Label). 0 < length l.ops))
 
 -- a batch adds its labels behind all others
 pub labelled_is : (at : QueueAt) (host items_done : ℕ) (labels : List Label) (ops : List Op)

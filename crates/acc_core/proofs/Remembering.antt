@@ -1,12 +1,12 @@
 -- The memory goes on to show what the log says.
 use Rattle.std.proofs.Common.{◌≡◌, ℕ, zero, suc, ◌+◌, ◌≤◌, true, List, [], ◌∷◌, length, refl, sym, ap, ◌∙◌, arith}
-use Rattle.std.specs.Prelude.{not, filter, nat_lt, ◌==◌, ℤ, slice_get, is_some}
-use Rattle.std.proofs.lemmas.Bool.{and_parts}
+use Rattle.std.specs.Prelude.{All, not, filter, nat_lt, ◌==◌, ℤ, slice_get, is_some}
+use Rattle.std.proofs.lemmas.Bool.{and_parts, leb-true}
 use Rattle.std.proofs.lemmas.List.{length-append}
-use Rattle.std.proofs.lemmas.List.Elements.{All-weaker}
+use Rattle.std.proofs.lemmas.List.Elements.{All-weaker, All-head, All-tail}
 use Rattle.std.proofs.lemmas.List.Filters.{length-filter_both}
 use Rattle.acc_base.specs.declared.range.Range.{Range}
-use Rattle.acc_work.specs.declared.log.Shown.{Shown}
+use Rattle.acc_work.specs.declared.log.Told.{Told}
 use Rattle.acc_batch.specs.declared.operation.Op.{Op}
 use Rattle.acc_batch.specs.declared.operation.Op.TheVariants.{Make, CopyIn, CopyOut, Release, Run, Await, Close}
 use Rattle.acc_base.specs.Configurations.{ends_within, is_in_array}
@@ -18,7 +18,7 @@ use Rattle.acc_kernel.specs.Jobs.{Use}
 use Rattle.acc_memory.specs.Memories.{MemoryView, rows_on, room_on, held_blocks, blocks_after, lengths_of, HasRange, reaches, ends_in, has_array, find_block, MayPerform}
 use Rattle.acc_memory.proofs.Showing.{length_held}
 use Rattle.acc_core.specs.Ties.{Remembers}
-use Rattle.acc_work.specs.Works.{WorkView, HasPerformed, HasShown, sync}
+use Rattle.acc_work.specs.Works.{WorkView, HasPerformed, HasTold, sync}
 use Rattle.acc_core.proofs.LiveBlocks.{held_in, blocks_by_more}
 
 -- The memory shows the values of the log after an operation is performed.
@@ -30,7 +30,7 @@ remembers_performed w v v' op ops r h = record {
 }
 
 -- The memory shows the values of the log after an item joins it.
-pub remembers_shown : (w : State) (v v' : WorkView) (h : ℕ) (item : Shown) → Remembers w v → HasShown v v' h item → Remembers (with_item w h item) v'
+pub remembers_shown : (w : State) (v v' : WorkView) (h : ℕ) (item : Told) → Remembers w v → HasTold v v' h item → Remembers (with_item w h item) v'
 remembers_shown w v v' h item r s = record {
   shows = s.shows (value w.config.arrays w.work) r.shows;
   blocks = s.blocks ∙ r.blocks;
@@ -48,6 +48,15 @@ pub has_same : (m : MemoryView) (arrays : List (List ℤ)) (r : Range) → lengt
 has_same m arrays r e inside =
     ap (λ lengths. ends_in lengths r) e
     ∙ (reaches_is arrays r.array (r.lo + r.len) ∙ (and_parts (nat_lt 0 r.len) (ends_within (slice_get arrays r.array) (r.lo + r.len)) inside).1)
+
+-- a range that lies in an array has no more cells than an array may have
+pub no_longer : (arrays : List (List ℤ)) (r : Range) (limit : ℕ) → All (λ (cells : List ℤ). (1 ≤ length cells) × (length cells ≤ limit)) arrays → is_in_array arrays r ≡ true → r.len ≤ limit
+no_longer arrays r limit all inside = from arrays r.array all (and_parts (nat_lt 0 r.len) (ends_within (slice_get arrays r.array) (r.lo + r.len)) inside).1
+  where
+    from : (xs : List (List ℤ)) (n : ℕ) → All (λ (cells : List ℤ). (1 ≤ length cells) × (length cells ≤ limit)) xs → ends_within (slice_get xs n) (r.lo + r.len) ≡ true → r.len ≤ limit
+    from [] n h e = cc
+    from (x ∷ xs) zero h e = omega (arith, leb-true (r.lo + r.len) (length x) e, (All-head (λ (cells : List ℤ). (1 ≤ length cells) × (length cells ≤ limit)) x xs h).1)
+    from (x ∷ xs) (suc n) h e = from xs n (All-tail (λ (cells : List ℤ). (1 ≤ length cells) × (length cells ≤ limit)) x xs h) e
 
 -- a range in a live block is one that a copy may use
 range_of_block : (w : State) (v : WorkView) (b : ℕ) (r : Range) → Remembers w v → AllLive w.config.arrays w.work → HoldsBlock (device_ops 0 w.work) b r → HasRange (held_blocks v.memory 0) b r

@@ -11,8 +11,8 @@ use Rattle.acc_place.specs.declared.directive.Directive.{Directive}
 use Rattle.acc_core.specs.declared.event.Event.{Event}
 use Rattle.acc_core.specs.declared.event.Event.TheVariants as event
 use Rattle.acc_core.specs.declared.event.Reply.{Reply}
-use Rattle.acc_work.specs.declared.log.Shown.{Shown}
-use Rattle.acc_work.specs.declared.log.Shown.TheVariants as shown
+use Rattle.acc_work.specs.declared.log.Told.{Told}
+use Rattle.acc_work.specs.declared.log.Told.TheVariants as shown
 use Rattle.acc_work.specs.declared.log.TheConstants.{MAX_HOST_ITEMS}
 use Rattle.acc_batch.specs.declared.operation.Label.{Label}
 use Rattle.acc_batch.specs.declared.operation.Op.{Op}
@@ -153,14 +153,14 @@ stand_refused w h host fault a s =
     (stands_refused host fault (own_of w.config h w.history w.counts) (items_shown h w.work) s) a
 
 -- an item is its host's alone
-stand_item : (w : State) (h : ℕ) (host : Host) (x : Shown) → HostsStand w → Stands (next_statement host) (own_of w.config h w.history w.counts) (items_shown h w.work ++ Had x ∷ []) → HostsStand (with_item (with_host w h (next_statement host)) h x)
+stand_item : (w : State) (h : ℕ) (host : Host) (x : Told) → HostsStand w → Stands (next_statement host) (own_of w.config h w.history w.counts) (items_shown h w.work ++ Had x ∷ []) → HostsStand (with_item (with_host w h (next_statement host)) h x)
 stand_item w h host x a s =
     let new = with_item (with_host w h (next_statement host)) h x in
     stand_set w new h 0 h w.hosts (next_statement host) (omega arith)
     (λ k y ne t. rw (ne_eqb h k ne) t) (rw (eq-eqb h h refl) s) a
 
 -- an item is recorded, or refused
-stand_item_step : (no_memory : Bool) (w : State) (h : ℕ) (host : Host) (in_array : Bool) (x : Shown) → HostsStand w → StandsIn w h host → Stands (next_statement host) (own_of w.config h w.history w.counts) (items_shown h w.work ++ Had x ∷ []) → HostsStand (item_step no_memory w h host in_array x).state
+stand_item_step : (no_memory : Bool) (w : State) (h : ℕ) (host : Host) (in_array : Bool) (x : Told) → HostsStand w → StandsIn w h host → Stands (next_statement host) (own_of w.config h w.history w.counts) (items_shown h w.work ++ Had x ∷ []) → HostsStand (item_step no_memory w h host in_array x).state
 stand_item_step no_memory w h host in_array x a s after =
     let not_made = λ (fault : Fault). stand_refused w h host fault a s in
     stand_if no_memory _ _ (λ e. not_made Memory) (λ e.

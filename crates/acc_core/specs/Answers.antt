@@ -6,8 +6,8 @@ use Rattle.acc_place.specs.declared.directive.Directive.{Directive}
 use Rattle.acc_place.specs.declared.directive.PlaceEntry.TheVariants as noted
 use Rattle.acc_place.specs.declared.directive.Placed.{Placed}
 use Rattle.acc_base.specs.declared.range.Range.{Range}
-use Rattle.acc_work.specs.declared.log.Shown.{Shown}
-use Rattle.acc_work.specs.declared.log.Shown.TheVariants.{Print}
+use Rattle.acc_work.specs.declared.log.Told.{Told}
+use Rattle.acc_work.specs.declared.log.Told.TheVariants.{Print}
 use Rattle.acc_place.specs.Accepting.{refusal}
 use Rattle.acc_base.specs.Configurations.{is_in_array}
 use Rattle.acc_place.specs.Batches.{answer_of}
@@ -43,7 +43,7 @@ Places old host d (Ok placed) new =
 Places old host d (Err fault) new = (no_memory : Bool) × (fault_of_place no_memory old host d ≡ Some fault) × (new ≡ old)
 
 -- The item joins the log, or the host is refused with the defined fault, and then nothing changes.
-abbrev pub ItemAnswers : State → ℕ → Bool → Shown → Result (Unit {0}) Fault → State → Type 0
+abbrev pub ItemAnswers : State → ℕ → Bool → Told → Result (Unit {0}) Fault → State → Type 0
 ItemAnswers old host in_array item (Ok u) new = (item_fault false old.work in_array ≡ None) × (new ≡ with_item old host item)
 ItemAnswers old host in_array item (Err fault) new =
     (no_memory : Bool) × (item_fault no_memory old.work in_array ≡ Some fault) × (new ≡ old)

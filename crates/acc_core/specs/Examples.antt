@@ -18,7 +18,7 @@ use Rattle.acc_core.specs.declared.event.Event.{Event}
 use Rattle.acc_core.specs.declared.event.Event.TheVariants as event
 use Rattle.acc_core.specs.declared.event.Reply.{Reply}
 use Rattle.acc_core.specs.declared.event.Reply.TheVariants as reply
-use Rattle.acc_work.specs.declared.log.Shown.TheVariants as shown
+use Rattle.acc_work.specs.declared.log.Told.TheVariants as shown
 use Rattle.acc_work.specs.declared.log.WorkEntry.{WorkEntry}
 use Rattle.acc_work.specs.declared.log.WorkEntry.TheVariants as entry
 use Rattle.acc_batch.specs.declared.operation.Op.TheVariants.{Make, CopyIn, CopyOut, Release, Run}

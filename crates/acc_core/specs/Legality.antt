@@ -1,5 +1,5 @@
 -- What holds of the histories after any list of events (OpenACC API 3.0, 2.16, Asynchronous Behavior).
-use Rattle.std.specs.Prelude.{ℕ, ◌+◌, ◌-◌, ◌==◌, List, [], ◌∷◌, ◌++◌, length, take, drop, slice_index_or}
+use Rattle.std.specs.Prelude.{ℕ, ◌+◌, ◌-◌, ◌≤◌, ◌==◌, List, [], ◌∷◌, ◌++◌, length, take, drop, slice_index_or}
 use Rattle.acc_base.specs.Configurations.{Configuration}
 use Rattle.acc_place.specs.declared.directive.Directive.{Directive}
 use Rattle.acc_place.specs.declared.directive.Placed.{Placed}
@@ -13,14 +13,21 @@ use Rattle.acc_core.specs.declared.program.Host.{Host}
 use Rattle.acc_place.specs.Batches.{answer_of}
 use Rattle.acc_place.specs.Histories.{AllAccepted, standing}
 use Rattle.acc_work.specs.Lives.{AllLive}
-use Rattle.acc_work.specs.Logs.{one_more}
+use Rattle.acc_work.specs.Logs.{one_more, items_of}
 use Rattle.acc_work.specs.Orders.{InOrder, InHostOrder}
 use Rattle.acc_core.specs.Machine.{State, standing_of, Runs}
 use Rattle.acc_place.specs.Standings.{Standing, walk_of}
 use Rattle.acc_core.specs.Steps.{HostEntry, Gave, Had, Follows}
 
+-- No directive stands behind more items than its host has.
+abbrev pub CountsAreLow : List PlaceEntry → List ℕ → List WorkEntry → Type 0
+CountsAreLow [] counts work = Unit {0}
+CountsAreLow (noted.Accepted host d ∷ before) counts work =
+    (slice_index_or counts 0 0 ≤ items_of host work) × CountsAreLow before (drop 1 counts) work
+
 pub record Legal (w : State) : Type 0 where
   pub accepted : AllAccepted w.config w.history w.counts
+  pub counts : CountsAreLow w.history w.counts w.work
   pub prefix : InOrder (standing_of w).labels w.work
   pub host_order : InHostOrder w.config.arrays (standing_of w).labels w.work
   pub live_blocks : AllLive w.config.arrays w.work

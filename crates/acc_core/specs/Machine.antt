@@ -13,8 +13,8 @@ use Rattle.acc_core.specs.declared.event.Event.{Event}
 use Rattle.acc_core.specs.declared.event.Event.TheVariants as event
 use Rattle.acc_core.specs.declared.event.Reply.{Reply}
 use Rattle.acc_core.specs.declared.event.Reply.TheVariants as reply
-use Rattle.acc_work.specs.declared.log.Shown.{Shown}
-use Rattle.acc_work.specs.declared.log.Shown.TheVariants as shown
+use Rattle.acc_work.specs.declared.log.Told.{Told}
+use Rattle.acc_work.specs.declared.log.Told.TheVariants as shown
 use Rattle.acc_work.specs.declared.log.TheConstants.{MAX_HOST_ITEMS}
 use Rattle.acc_work.specs.declared.log.WorkEntry.{WorkEntry}
 use Rattle.acc_work.specs.declared.log.WorkEntry.TheVariants as entry
@@ -51,6 +51,10 @@ state_at_first config hosts =
 
 abbrev pub standing_of : State → Standing
 standing_of w = standing w.config w.history w.counts
+
+-- the labels of the batches that were placed, in the order of placing
+abbrev pub labels_of : State → List Label
+labels_of w = (standing_of w).labels
 
 abbrev pub is_there : State → QueueAt → Bool
 is_there w at = nat_lt at.device w.config.devices && nat_lt at.queue QUEUES
@@ -94,11 +98,11 @@ refused w h host fault = record { reply = reply.Refused fault; state = with_host
 abbrev pub next_statement : Host → Host
 next_statement host = record host { ended = host.ended + 1; phase = phase.Ready }
 
-abbrev pub with_item : State → ℕ → Shown → State
+abbrev pub with_item : State → ℕ → Told → State
 with_item w h item = record w { work = entry.Item h item ∷ w.work }
 
 -- An item joins the work log.
-abbrev pub item_step : Bool → State → ℕ → Host → Bool → Shown → Outcome
+abbrev pub item_step : Bool → State → ℕ → Host → Bool → Told → Outcome
 item_step no_memory w h host in_array item =
     if no_memory then refused w h host Memory
     else (if nat_le MAX_HOST_ITEMS (all_items w.work) then refused w h host TooMany

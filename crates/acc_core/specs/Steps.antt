@@ -4,8 +4,8 @@ use Rattle.acc_base.specs.declared.ids.QueueAt.{QueueAt}
 use Rattle.acc_base.specs.Queues.{every_queue}
 use Rattle.acc_place.specs.declared.directive.Directive.{Directive}
 use Rattle.acc_place.specs.declared.directive.Placed.{Placed}
-use Rattle.acc_work.specs.declared.log.Shown.{Shown}
-use Rattle.acc_work.specs.declared.log.Shown.TheVariants as shown
+use Rattle.acc_work.specs.declared.log.Told.{Told}
+use Rattle.acc_work.specs.declared.log.Told.TheVariants as shown
 use Rattle.acc_core.specs.declared.program.Act.{Act}
 use Rattle.acc_core.specs.declared.program.Act.TheVariants as act
 use Rattle.acc_core.specs.declared.program.Statement.{Statement}
@@ -13,7 +13,7 @@ use Rattle.acc_core.specs.declared.program.Statement.{Statement}
 -- an entry of a host
 pub data HostEntry : Type 0 where
   Gave : Directive → Placed → HostEntry
-  Had : Shown → HostEntry
+  Had : Told → HostEntry
 
 -- the item that a host has still to record for a directive
 pub data Owed : Type 0 where

@@ -8,7 +8,7 @@ use Rattle.acc_base.specs.Configurations.{Configuration}
 use Rattle.acc_core.specs.declared.event.Event.{Event}
 use Rattle.acc_core.specs.declared.event.Reply.{Reply}
 use Rattle.acc_core.specs.declared.event.Reply.TheVariants as reply
-use Rattle.acc_work.specs.declared.log.Shown.{Shown}
+use Rattle.acc_work.specs.declared.log.Told.{Told}
 use Rattle.acc_core.specs.declared.program.Act.{Act}
 use Rattle.acc_core.specs.declared.program.Act.TheVariants as act
 use Rattle.acc_place.specs.Places.{is_synchronous}
@@ -109,7 +109,7 @@ Acts old h a answer new =
     ≡ record { reply = reply_to answer; state = record new { hosts = slice_set hosts h (after_answer answer host) } })
 
 -- The answer to an item that a host records, likewise.
-abbrev pub Sees : State → ℕ → Shown → Result (Option Awaited) Fault → State → Type 0
+abbrev pub Sees : State → ℕ → Told → Result (Option Awaited) Fault → State → Type 0
 Sees old h item answer new =
     (no_memory : Bool) × ((host : Host) (hosts : List Host)
     → item_step no_memory (record old { hosts = hosts }) h host true item

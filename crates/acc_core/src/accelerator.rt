@@ -1,24 +1,22 @@
 ghost use Rattle.std.specs.Prelude.{reverse, ◌≡◌, ◌+◌, ◌<◌, ◌≤◌, [], length, IfOk, IfErr, OnSome, true, false, slice_get, ◌^◌};
 ghost use Rattle.acc_base.specs.declared.config.TheConstants.{MAX_HOSTS};
-ghost use Rattle.acc_base.specs.declared.ids.TheConstants.{QUEUES};
 ghost use Rattle.acc_base.specs.Configurations.{is_in_array};
 ghost use Rattle.acc_place.specs.Places.{is_synchronous};
 ghost use Rattle.acc_core.specs.Answers.{Places, ItemAnswers, PrintAnswers};
 ghost use Rattle.acc_batch.specs.Labels.{on_queue, ops_of};
-ghost use Rattle.acc_work.specs.Logs.{done, all_done, performed};
-ghost use Rattle.acc_core.specs.Machine.{state_at_first, step, standing_of};
+ghost use Rattle.acc_work.specs.Logs.{all_done, performed};
+ghost use Rattle.acc_core.specs.Machine.{state_at_first, step, standing_of, labels_of};
 ghost use Rattle.std.specs.Option.{option_map};
 ghost use Rattle.acc_present.specs.Presences.{presences, holder};
 ghost use Rattle.acc_present.specs.Tables.{entry_presence};
-ghost use Rattle.acc_core.specs.Ties.{labels_of};
 
 use crate::event::Reply;
 use crate::totals::Totals;
-use acc_base::{Config, DeviceId, Fault, HostId, QueueAt, QueueId, Range, Shared};
+use acc_base::{Config, DeviceId, Fault, HostId, QueueAt, Range, Shared};
 use acc_batch::Batch;
 use acc_place::{Directive, Place, PlaceEntry, Placed};
 use acc_present::Entry;
-use acc_work::{Work, WorkEntry, sync_queue};
+use acc_work::{Done, Item, Work, WorkEntry, sync_queue};
 use std::alloc::Global;
 use std::collections::VecDeque;
 use std::marker::Model;
@@ -26,10 +24,11 @@ use std::marker::Model;
 /// The place side, the queue, and the work side of one device.
 #[derive(Drop)]
 pub struct Accelerator {
+    alloc: Global,
     place: Place,
     work: Work,
     queue: VecDeque<Batch>,
-    taken: u64,
+    // how many operations are placed and not performed
     waiting: usize,
 }
 
@@ -44,15 +43,15 @@ impl Model for Accelerator {
 
     ghost coded = { Prim.hlevel (codes, expr.the_row.coded) };
 
-    ghost view = { λ a. state_of_parts a.place a.work a.taken };
+    ghost view = { λ a. state_of_parts a.place a.work };
 
-    ghost invariant = { λ a. IsAccelerator (state_of_parts a.place a.work a.taken) a.work a.queue.items a.taken a.waiting (deque_capacity a.queue) };
+    ghost invariant = { λ a. IsAccelerator (state_of_parts a.place a.work) a.work a.queue.items a.waiting (deque_capacity a.queue) };
 }
 
 impl Accelerator {
     ghost use Rattle.acc_base.specs.declared.fault.Fault.TheVariants.{Memory as no_memory};
     ghost use Rattle.acc_core.specs.declared.event.Event.TheVariants as event;
-    ghost use Rattle.acc_work.specs.declared.log.Shown.TheVariants.{Write, Seen};
+    ghost use Rattle.acc_work.specs.declared.log.Told.TheVariants.{Write, Seen};
 
     /// Nothing is accepted, performed or shown yet.
     pub fn new(alloc: Global, config: Config) -> Result<Accelerator, Fault>
@@ -64,10 +63,10 @@ impl Accelerator {
         let mut queue = VecDeque::new(alloc);
         queue.reserve(config.room() as usize)?;
         Ok(Accelerator {
+            alloc,
             place: Place::new(alloc, config)?,
             work,
             queue,
-            taken: 0,
             waiting: 0,
         })
     }
@@ -82,6 +81,7 @@ impl Accelerator {
         requires synchronous { is_synchronous directive.now ≡ true }
         ensures { Places self.old host directive.now result self.new }
     {
+        self.work.keeps_order();
         let items_done = self.work.items_of(host);
         let mut plan = self.place.plan(host, items_done, directive)?;
         match plan.take_batch() {
@@ -121,7 +121,8 @@ impl Accelerator {
         if !self.place.config().is_in_array(range) {
             return Err(Fault::BadRange);
         }
-        self.work.write(host, array, cell, value);
+        let item = Item::write(array, cell, value);
+        let _ = self.work.host_item(host, item);
         Ok(())
     }
 
@@ -134,11 +135,15 @@ impl Accelerator {
         requires { host < MAX_HOSTS }
         ensures { PrintAnswers self.old host range result self.new }
     {
+        let item = Item::print(self.alloc, range)?;
         self.work.spare_item(self.waiting)?;
-        if !self.place.config().is_in_array(range) {
+        let config = self.place.config();
+        if !config.is_in_array(range) {
             return Err(Fault::BadRange);
         }
-        self.work.print(host, range)
+        config.keeps_limits();
+        let _ = self.work.host_item(host, item);
+        Ok(())
     }
 
     /// A host sees that each queue of a device has performed so many batches.
@@ -151,9 +156,10 @@ impl Accelerator {
         requires reached { all_done (labels_of self.old) self.old.work device 0 counts ≡ true }
         ensures { ItemAnswers self.old host true (Seen device counts) result self.new }
     {
-        let counts = self.work.counts(counts)?;
+        self.work.keeps_order();
+        let item = Item::seen(self.alloc, device, counts)?;
         self.work.spare_item(self.waiting)?;
-        self.work.see(host, device, counts);
+        let _ = self.work.host_item(host, item);
         Ok(())
     }
 
@@ -210,42 +216,12 @@ impl Accelerator {
         }
     }
 
-    /// How many batches of a queue are performed.
-    pub fn done(&self, at: QueueAt) -> u64
-        ensures { result ≡ done (labels_of self.now) self.now.work at }
-    {
-        if !self.work.has_queue(at) {
-            return 0;
-        }
-        if self.work.left() > 0 {
-            self.taken - 1
-        } else {
-            self.taken
-        }
-    }
-
     /// Whether each queue of a device has performed its count of batches.
     pub fn reached(&self, device: DeviceId, counts: &[u64; 8]) -> bool
         ensures { result ≡ all_done (labels_of self.now) self.now.work device 0 counts.now }
     {
-        self.reached_from(device, 0, counts.as_slice())
-    }
-
-    // Whether each queue of a device, from this one on, has performed its count.
-    fn reached_from(&self, device: DeviceId, queue: u8, counts: &[u64]) -> bool
-        requires { queue + length counts.now ≤ QUEUES }
-        ensures { result ≡ all_done (labels_of self.now) self.now.work device queue counts.now }
-    {
-        match counts {
-            [] => true,
-            [count, rest @ ..] => {
-                let at = QueueAt {
-                    device,
-                    queue: QueueId::new(queue),
-                };
-                *count <= self.done(at) && self.reached_from(device, queue + 1, rest)
-            }
-        }
+        self.work.keeps_order();
+        self.work.all_reached(device, counts)
     }
 
     /// A queue takes a batch.
@@ -255,15 +231,14 @@ impl Accelerator {
         if !self.work.has_queue(at) {
             return Reply::Idle;
         }
-        if self.work.left() > 0 {
+        self.work.keeps_order();
+        if !self.work.lane_empty() {
             return Reply::Idle;
         }
         match self.queue.pop_front() {
             None => Reply::Idle,
             Some(batch) => {
-                let (label, tasks) = batch.into_parts();
-                self.work.offer(label.host, label.items_done, tasks);
-                self.taken += 1;
+                self.work.offer(sync_queue(), batch);
                 Reply::Did
             }
         }
@@ -276,11 +251,13 @@ impl Accelerator {
         if !self.work.has_queue(at) {
             return Reply::Idle;
         }
-        if self.work.perform() {
-            self.waiting -= 1;
-            Reply::Did
-        } else {
-            Reply::Idle
+        self.work.keeps_order();
+        match self.work.perform(sync_queue()) {
+            Done::Op => {
+                self.waiting -= 1;
+                Reply::Did
+            }
+            Done::Idle => Reply::Idle,
         }
     }
 

@@ -14,7 +14,7 @@ pub use acc_place::{
     Placed, Region, Target, Waits,
 };
 pub use acc_present::Entry;
-pub use acc_work::{Counts, MAX_HOST_ITEMS, Shown, WorkEntry};
+pub use acc_work::{Counts, MAX_HOST_ITEMS, Told, WorkEntry};
 pub use event::{Event, Reply};
 pub use laws::{each_queue_is_counted, worked_programs};
 pub use program::{Act, HostProgram, HostState, Statement};

@@ -4,12 +4,11 @@ ghost use Rattle.acc_present.specs.Presences.{presences, holder};
 ghost use Rattle.acc_present.specs.Tables.{entry_presence};
 ghost use Rattle.acc_base.specs.declared.config.TheConstants.{MAX_HOSTS};
 ghost use Rattle.acc_core.specs.Legality.{AllFollow, Legal};
-ghost use Rattle.acc_core.specs.Machine.{Step, standing_of};
+ghost use Rattle.acc_core.specs.Machine.{Step, standing_of, labels_of};
 ghost use Rattle.acc_core.specs.declared.event.Reply.{Reply};
 ghost use Rattle.acc_batch.specs.Labels.{on_queue, ops_of};
 ghost use Rattle.acc_work.specs.Logs.{all_done, performed};
-ghost use Rattle.acc_core.specs.Ties.{labels_of};
-ghost use Rattle.acc_work.specs.declared.log.Shown.TheVariants.{Seen};
+ghost use Rattle.acc_work.specs.declared.log.Told.TheVariants.{Seen};
 ghost use Rattle.acc_core.specs.Steps.{owed_by};
 ghost use Rattle.acc_core.specs.Worlds.{OnePerHost, world_fault, ready, opening, Ran, owed_in, after_answer, reply_to, Acts, Sees, HostSteps, AllSynchronous, IsHost, gives_synchronous, state_of, line_of};
 

@@ -1,7 +1,7 @@
 use acc_base::{Config, DeviceId, Fault, Few, HostId, Listed, Range, Shared};
 use acc_core::{
-    ASYNC_NOVAL, Act, Clause, Directive, Event, HostProgram, HostState, Item, Kind, Reply, Shown,
-    Statement, Target, Waits, WorkEntry, World,
+    ASYNC_NOVAL, Act, Clause, Directive, Event, HostProgram, HostState, Item, Kind, Reply,
+    Statement, Target, Told, Waits, WorkEntry, World,
 };
 use acc_forms::{Form, Operation, item, kind_of, operation_of, sync};
 use std::alloc::{AllocError, Global};
@@ -63,6 +63,8 @@ pub enum Line {
     Two(Form, Item, Item),
     /// A directive with one item so often.
     Many(Form, Item, usize),
+    /// A directive with an item for each of so many cells of the first array.
+    Each(Form, Clause, u32),
     /// A cell of the first array gets a value.
     Write(u32, i64),
     Print(Range),
@@ -76,6 +78,13 @@ fn items_of(alloc: Global, line: Line) -> Result<Vec<Item>, AllocError> {
         Line::One(_, clause, range) => Ok(vec![in alloc; item(clause, range)]?),
         Line::Two(_, first, second) => Ok(vec![in alloc; first, second]?),
         Line::Many(_, item, count) => Ok(vec![in alloc; item; count]?),
+        Line::Each(_, clause, count) => {
+            let mut items = Vec::new(alloc);
+            for cell in 0..count {
+                items.push(item(clause, cells(cell, 1)))?;
+            }
+            Ok(items)
+        }
         Line::Bare(_) | Line::Write(..) | Line::Print(_) => Ok(Vec::new(alloc)),
     }
 }
@@ -96,7 +105,11 @@ pub fn place(alloc: Global, kind: Kind, items: &[Item]) -> Result<Act, Fault> {
 
 pub fn act_of(alloc: Global, line: Line) -> Result<Act, Fault> {
     let form = match line {
-        Line::Bare(form) | Line::One(form, ..) | Line::Two(form, ..) | Line::Many(form, ..) => form,
+        Line::Bare(form)
+        | Line::One(form, ..)
+        | Line::Two(form, ..)
+        | Line::Many(form, ..)
+        | Line::Each(form, ..) => form,
         Line::Write(cell, value) => {
             return Ok(Act::Write {
                 array: 0,
@@ -182,7 +195,7 @@ pub fn printed(entry: Option<&WorkEntry>) -> Option<&[i64]> {
     match entry {
         Some(
             WorkEntry::Item {
-                what: Shown::Print { values, .. },
+                what: Told::Print { values, .. },
                 ..
             },
         ) => Some(values.as_slice()),
@@ -195,7 +208,7 @@ pub fn seen(entry: Option<&WorkEntry>) -> Option<(DeviceId, [u64; 8])> {
     match entry {
         Some(
             WorkEntry::Item {
-                what: Shown::Seen { device, counts },
+                what: Told::Seen { device, counts },
                 ..
             },
         ) => Some((*device, counts.numbers())),

@@ -91,6 +91,43 @@ fn a_loop_from_one_array_into_another(rt: HostRuntime) -> Result<(), Fail> {
 }
 
 /// The array that is assigned is made first.
+/// Each of sixteen items makes, copies in, copies out and releases a block; the loop uses the first.
+#[test]
+fn a_loop_of_sixteen_copies(rt: HostRuntime) -> Result<(), Fail> {
+    let alloc = rt.alloc();
+    let uses = [used(1, cells(0, 1))];
+    let mut operations = Vec::new(alloc);
+    for cell in 0..16u32 {
+        operations.push(make(u64::from(cell) + 1, cells(cell, 1)))?;
+    }
+    for cell in 0..16u32 {
+        operations.push(copy_in(u64::from(cell) + 1, cells(cell, 1)))?;
+    }
+    operations.push(run(&uses))?;
+    for cell in 0..16u32 {
+        operations.push(copy_out(u64::from(cell) + 1, cells(cell, 1)))?;
+    }
+    for cell in 0..16u32 {
+        operations.push(release(u64::from(cell) + 1))?;
+    }
+    assert_eq!(rt; operations.len(), 65);
+    let case = Case {
+        arrays: &[&[5; 16]],
+        capacity: 16,
+        lines: &[
+            Line::Each(over(0, 1, Body::Counted), Clause::Copy, 16),
+            Line::Print(cells(0, 16)),
+        ],
+        did: 69,
+        present: &[],
+        batches: 1,
+        operations: operations.as_slice(),
+        state: FINISHED,
+        shown: &[&[6, 5, 5, 5, 5, 5, 5, 5, 5, 5, 5, 5, 5, 5, 5, 5]],
+    };
+    check(&rt, alloc, &case)
+}
+
 #[test]
 fn a_choice_by_a_comparison(rt: HostRuntime) -> Result<(), Fail> {
     let a = cells(0, 2);

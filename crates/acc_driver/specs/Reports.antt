@@ -12,7 +12,7 @@ use Rattle.acc_core.specs.declared.program.HostState.{HostState}
 use Rattle.acc_core.specs.declared.program.HostState.TheVariants.{Running, Finished, Refused}
 use Rattle.acc_core.specs.Place.{on_queue, ops_of}
 use Rattle.acc_core.specs.Machine.{State, standing_of}
-use Rattle.acc_core.specs.Work.{Shown, Write, Print, Seen, WorkEntry, Op, Item, performed}
+use Rattle.acc_core.specs.Work.{Told, Write, Print, Seen, Test, WorkEntry, Op, Item, performed}
 use Rattle.acc_core.specs.Worlds.{state_of}
 
 -- the texts of 0 to n - 1, in order
@@ -25,9 +25,11 @@ abbrev pub values_text : List ℤ → List ℕ
 values_text [] = []
 values_text (value ∷ values) = signed_decimal value ++ flat_map (λ v. codes " " ++ signed_decimal v) values
 
-unfoldable pub shown_text : Shown → List ℕ
+-- what an item prints (no script has questions yet)
+unfoldable pub shown_text : Told → List ℕ
 shown_text (Write array cell value) = []
 shown_text (Seen device counts) = []
+shown_text (Test device counts answer) = []
 shown_text (Print range values) = values_text values ++ codes "\n"
 
 -- what an entry of the work history prints for a host

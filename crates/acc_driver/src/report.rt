@@ -8,7 +8,7 @@ ghost use Rattle.acc_driver.specs.Reports.{each_below, values_text, printed, sho
 
 use crate::put::{ReportFault, put, put_number, put_signed};
 use acc_base::{DeviceId, Fault, HostId, QUEUES, QueueAt, QueueId};
-use acc_core::{Entry, HostState, Shown, Totals, WorkEntry, World};
+use acc_core::{Entry, HostState, Told, Totals, WorkEntry, World};
 use std::io::Write;
 
 /// Writes the report of a world whose arrays have these names: for each host what it printed and where it
@@ -75,10 +75,10 @@ fn put_printed<W: Write>(out: &mut W, failed: &mut bool, entry: &WorkEntry, host
 }
 
 #[tactic(auto, using(crate::proofs::Putting::puts_nothing), unfolding(crate::specs::Reports::shown_text))]
-fn put_shown<W: Write>(out: &mut W, failed: &mut bool, what: &Shown)
+fn put_shown<W: Write>(out: &mut W, failed: &mut bool, what: &Told)
     ensures { Puts (sink (W.contents out.old) failed.old) (sink (W.contents out.new) failed.new) (shown_text what.now) }
 {
-    if let Shown::Print { range: _, values } = what {
+    if let Told::Print { range: _, values } = what {
         put_values(out, failed, values.as_slice());
         put(out, failed, b"\n");
     }

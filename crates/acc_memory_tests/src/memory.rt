@@ -1,7 +1,12 @@
-use acc_base::{Config, Fault};
+ghost use Rattle.std.specs.Prelude.{◌≡◌};
+ghost use Rattle.acc_memory.specs.Memories.{lengths_of};
+
+use crate::allowed::is_in_array;
+use acc_base::{Config, Fault, Range};
 use acc_memory::Memory;
 use acc_scarce::{Hoard, at_each_amount};
 use std::alloc::Global;
+use std::process::Abort;
 use std::test::Fail;
 
 // Two devices, and two arrays.
@@ -31,5 +36,51 @@ fn room_for_blocks_is_refused_with_memory(rt: HostRuntime) -> Result<(), Fail> {
     hoard.free();
     assert_eq!(rt; refused.err(), Some(Fault::Memory));
     assert!(rt; memory.spare(1_000).is_ok());
+    Ok(())
+}
+
+// The value of a cell of a host array, if it is there.
+fn cell_of(config: &Config, memory: &Memory, array: u8, cell: u32) -> Option<i64>
+    requires { lengths_of memory.now.arrays ≡ lengths_of config.now.arrays }
+{
+    let range = Range {
+        array,
+        lo: cell,
+        len: 1,
+    };
+    if is_in_array(config, range) {
+        Some(memory.host_get(array, cell))
+    } else {
+        None
+    }
+}
+
+// A host writes a cell that is there.
+fn write(rt: &impl Abort, config: &Config, memory: &mut Memory, array: u8, cell: u32, value: i64)
+    requires { lengths_of memory.old.arrays ≡ lengths_of config.now.arrays }
+    ensures { lengths_of memory.new.arrays ≡ lengths_of config.now.arrays }
+{
+    let range = Range {
+        array,
+        lo: cell,
+        len: 1,
+    };
+    assert!(rt; is_in_array(config, range));
+    memory.host_set(array, cell, value);
+}
+
+#[test]
+fn a_cell_is_read_as_it_was_written(rt: HostRuntime) -> Result<(), Fail> {
+    let alloc = rt.alloc();
+    let config = config_of(alloc)?;
+    let mut memory = Memory::new(alloc, &config)?;
+    assert_eq!(rt; cell_of(&config, &memory, 0, 39), Some(7));
+    write(&rt, &config, &mut memory, 0, 39, i64::MIN);
+    write(&rt, &config, &mut memory, 1, 0, 12);
+    assert_eq!(rt; cell_of(&config, &memory, 0, 38), Some(7));
+    assert_eq!(rt; cell_of(&config, &memory, 0, 39), Some(i64::MIN));
+    assert_eq!(rt; cell_of(&config, &memory, 0, 40), None);
+    assert_eq!(rt; cell_of(&config, &memory, 1, 0), Some(12));
+    assert_eq!(rt; cell_of(&config, &memory, 1, 2), Some(-1));
     Ok(())
 }

@@ -1,6 +1,6 @@
 ghost use Rattle.std.specs.Prelude.{◌≡◌};
 
-use acc_base::{BlockId, Config, DeviceId, Fault, Few, HostId, QueueAt, Range, Shared};
+use acc_base::{BlockId, Config, DeviceId, Fault, Few, HostId, QueueAt, QueueId, Range, Shared};
 use acc_batch::{Batch, Label, Op, Task, Tasks};
 use acc_forms::{Form, Operation, are_alike, kind_of, operation_of, performed_by, sync};
 use acc_place::{ASYNC_NOVAL, Directive, Item, Place, Placed, Plan, Target, Waits};
@@ -32,6 +32,8 @@ pub fn entry(range: Range, block: u64, s: u64, d: u64) -> Entry {
         block: BlockId::new(block),
         s,
         d,
+        maker: (QueueId::SYNC, 0),
+        uses: [0; 8],
     }
 }
 

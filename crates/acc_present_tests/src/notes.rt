@@ -1,3 +1,5 @@
+ghost use Rattle.std.specs.Prelude.{◌<◌};
+
 use crate::fixtures::{CELLS, cells, entered_into};
 use acc_base::{QueueId, Range};
 use acc_present::{Look, Table};
@@ -8,7 +10,10 @@ fn noted(table: &Table, range: Range) -> Option<((QueueId, u64), [u64; 8])>
     requires { 0 < range.len }
 {
     match table.look(range) {
-        Look::Present(entry) => Some((entry.maker, entry.uses)),
+        Look::Present(entry) => {
+            let uses = entry.uses;
+            Some((entry.maker, uses))
+        }
         Look::Absent | Look::Partly => None,
     }
 }

@@ -4,5 +4,6 @@ pub mod Members
 pub mod Next
 pub mod Places
 pub mod Splits
+pub mod Taken
 pub mod Waits
 pub mod Wholes

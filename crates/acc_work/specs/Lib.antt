@@ -1,4 +1,6 @@
 pub mod Counted
+pub mod Items
+pub mod Lanes
 pub mod Lives
 pub mod LogExamples
 pub mod Logs

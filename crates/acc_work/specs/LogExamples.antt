@@ -3,7 +3,7 @@ use Rattle.std.specs.Prelude.{◌≡◌, ℕ, List, [], ◌∷◌, map, ℤ, pos
 use Rattle.acc_base.specs.declared.ids.QueueAt.{QueueAt}
 use Rattle.acc_batch.specs.declared.operation.Op.TheVariants.{Make, CopyIn, CopyOut, Run}
 use Rattle.acc_batch.specs.Labels.{whole}
-use Rattle.acc_work.specs.declared.log.Shown.TheVariants.{Write}
+use Rattle.acc_work.specs.declared.log.Told.TheVariants.{Write}
 use Rattle.acc_work.specs.declared.log.WorkEntry.{WorkEntry}
 use Rattle.acc_work.specs.declared.log.WorkEntry.TheVariants as entry
 use Rattle.acc_work.specs.Logs.{value, done}

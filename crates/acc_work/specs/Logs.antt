@@ -2,8 +2,8 @@
 use Rattle.std.specs.Prelude.{ℕ, ◌+◌, Bool, true, false, ◌&&◌, ◌==◌, nat_le, List, [], ◌∷◌, ◌++◌, length, slice_get, Option, Some, None, ℤ, pos}
 use Rattle.acc_base.specs.declared.ids.QueueAt.{QueueAt}
 use Rattle.acc_base.specs.Queues.{same_queue}
-use Rattle.acc_work.specs.declared.log.Shown.{Shown}
-use Rattle.acc_work.specs.declared.log.Shown.TheVariants.{Write, Print, Seen}
+use Rattle.acc_work.specs.declared.log.Told.{Told}
+use Rattle.acc_work.specs.declared.log.Told.TheVariants.{Write, Print, Seen, Test}
 use Rattle.acc_work.specs.declared.log.WorkEntry.{WorkEntry}
 use Rattle.acc_work.specs.declared.log.WorkEntry.TheVariants as entry
 use Rattle.acc_batch.specs.declared.operation.Op.{Op}
@@ -43,10 +43,11 @@ all_items [] = 0
 all_items (entry.Op at op ∷ before) = all_items before
 all_items (entry.Item h shown ∷ before) = all_items before + 1
 
-abbrev pub after_item : Shown → (Cell → ℤ) → Cell → ℤ
+abbrev pub after_item : Told → (Cell → ℤ) → Cell → ℤ
 after_item (Write a i value) was = after_write a i value was
 after_item (Print range values) was = was
 after_item (Seen device counts) was = was
+after_item (Test device counts answer) was = was
 
 -- The value of a cell: what the latest entry that writes it wrote, else its opening value.
 abbrev pub value : List (List ℤ) → List WorkEntry → Cell → ℤ

@@ -6,8 +6,8 @@ use Rattle.acc_batch.specs.declared.operation.Op.{Op}
 use Rattle.acc_batch.specs.declared.operation.Op.TheVariants.{Await}
 use Rattle.acc_batch.specs.Labels.{on_queue, ops_of, batch_at, whole}
 use Rattle.acc_memory.specs.Values.{values_of}
-use Rattle.acc_work.specs.declared.log.Shown.{Shown}
-use Rattle.acc_work.specs.declared.log.Shown.TheVariants.{Write, Print, Seen}
+use Rattle.acc_work.specs.declared.log.Told.{Told}
+use Rattle.acc_work.specs.declared.log.Told.TheVariants.{Write, Print, Seen, Test}
 use Rattle.acc_work.specs.declared.log.WorkEntry.{WorkEntry}
 use Rattle.acc_work.specs.declared.log.WorkEntry.TheVariants as entry
 use Rattle.acc_work.specs.Logs.{performed, value, done, all_done, host_allows}
@@ -20,10 +20,11 @@ abbrev pub InOrder : List Label → List WorkEntry → Type 0
 InOrder labels work = (at : QueueAt) → IsPrefix (performed at work) (ops_of (on_queue at labels))
 
 -- Each item of the hosts shows what is so at its place.
-abbrev pub ShowsTruth : List (List ℤ) → List Label → Shown → List WorkEntry → Type 0
+abbrev pub ShowsTruth : List (List ℤ) → List Label → Told → List WorkEntry → Type 0
 ShowsTruth opening labels (Write array cell new_value) before = Unit {0}
 ShowsTruth opening labels (Print range values) before = values ≡ values_of (value opening before) range
 ShowsTruth opening labels (Seen device counts) before = IsTrue (all_done labels before device 0 counts)
+ShowsTruth opening labels (Test device counts answer) before = answer ≡ all_done labels before device 0 counts
 
 -- Each operation stands behind its host's items, and each item shows the truth.
 abbrev pub InHostOrder : List (List ℤ) → List Label → List WorkEntry → Type 0

@@ -6,20 +6,36 @@ use std::mem::size_of;
 /// The most items of all hosts in a run.
 pub const MAX_HOST_ITEMS: u64 = 1_099_511_627_776;
 
-/// An item of a host, with what it showed.
+/// An item of a host as the history tells it: what it did, and what it showed.
 #[derive(Drop)]
-pub enum Shown {
-    Write { array: u8, cell: u32, value: i64 },
-    Print { range: Range, values: Listed<i64> },
+pub enum Told {
+    Write {
+        array: u8,
+        cell: u32,
+        value: i64,
+    },
+    Print {
+        range: Range,
+        values: Listed<i64>,
+    },
     /// The host saw that each queue of the device had performed so many batches.
-    Seen { device: DeviceId, counts: Counts },
+    Seen {
+        device: DeviceId,
+        counts: Counts,
+    },
+    /// The host asked whether each had, and this was the answer.
+    Test {
+        device: DeviceId,
+        counts: Counts,
+        answer: bool,
+    },
 }
 
 /// An entry of the work history.
 #[derive(Drop)]
 pub enum WorkEntry {
     Op { at: QueueAt, what: Op },
-    Item { host: HostId, what: Shown },
+    Item { host: HostId, what: Told },
 }
 
 // The history keeps each.

@@ -1,7 +1,7 @@
 use crate::script::{Script, sync};
 use crate::workloads::{ARRAYS, Failure, OTHER_CELLS, Workload};
 use acc_base::{Config, Fault, HostId, Listed, MAX_CAPACITY, MAX_ROOM};
-use acc_core::{HostProgram, Reply, Shown, Statement, WorkEntry, World};
+use acc_core::{HostProgram, Reply, Statement, Told, WorkEntry, World};
 use std::alloc::{AllocError, Global};
 use std::fmt::{self, Display, Formatter, Write};
 
@@ -115,7 +115,7 @@ fn sum_of(log: &[WorkEntry]) -> i64 {
     let mut sum = 0i64;
     if let Some(
         WorkEntry::Item {
-            what: Shown::Print { values, .. },
+            what: Told::Print { values, .. },
             ..
         },
     ) = log.last()

@@ -19,7 +19,7 @@ invariant_of-self-in-None c =
     let items = c.items_of-items_done.result in
     let facts = planned i.place c.plan.new.self q c.args.host items d e.config e.history e.counts e.fits.0 e.plan.0 e.plan.1 e.plan.2 in
     let none = batch_empty (the_view i) c.args.host items d (c.in-None.ensures.batch ∙ (e.batch ∙ facts.labelled)) in
-    keeps_empty (the_view i) _ i.work i.queue.items i.taken i.waiting (deque_capacity i.queue) c.args.host d c.self.invariant facts.accepted none
+    keeps_empty (the_view i) _ i.work i.queue.items i.waiting (deque_capacity i.queue) c.args.host d c.self.invariant facts.accepted none
     (rw (c.accept.ensures.place, c.in-None.ensures.plan, e.config, e.history, e.counts, e.plan.0, e.plan.1, e.plan.2, c.items_of-items_done.ensures) refl)
 
 pub returns-then-len-room : goal.returns-then-len-room
@@ -33,7 +33,7 @@ returns-then-len-room c =
     let placed = batch_placed (the_view i) c.args.host d c.in-Some.batch (acts_on_sync (the_view i) c.args.host d c.self.invariant.one_device c.self.invariant.legal facts.accepted) named in
     let room = c.room.ensures ∙ (ap (λ x. x.room) c.config.ensures ∙ ap (λ x. x.room) e.config) in
     let full : length i.queue.items ≡ i.place.config.room = omega (arith, i.queue.ok.0, c.len.ensures, c.if-len-room.true, room, c.self.invariant.held_low) in
-    rw (← c.self.view_is) (places_full (the_view i) _ i.work i.queue.items i.taken i.waiting c.args.host d c.self.invariant.parts c.self.invariant.one_device c.self.invariant.legal facts.accepted placed.some full
+    rw (← c.self.view_is) (places_full (the_view i) _ i.work i.queue.items i.waiting c.args.host d c.self.invariant.parts c.self.invariant.one_device c.self.invariant.legal facts.accepted placed.some full
     (rw (e.config, e.history, e.counts) refl))
 
 pub returns-in-None-checked_add : goal.returns-in-None-checked_add
@@ -52,7 +52,7 @@ returns-in_err-spare-in-Some c =
     let facts = planned i.place c.plan.new.self c.in_ok-plan.plan c.args.host c.items_of-items_done.result d e.config e.history e.counts e.fits.0 e.plan.0 e.plan.1 e.plan.2 in
     let q = err_from_is_err_and c.from_residual-in_err-spare-in-Some.result c.from_residual-in_err-spare-in-Some.ensures.1 in
     rw (q.1, ← c.self.view_is) (places_memory (the_view i) _ c.args.host d q.0 facts.accepted (q.2 ∙ c.in_err-spare-in-Some.ensures.fault)
-    (rw (e.config, e.history, e.counts, c.in_err-spare-in-Some.ensures.kept.work) refl))
+    (rw (e.config, e.history, e.counts, c.in_err-spare-in-Some.ensures.kept.work, c.in_err-spare-in-Some.ensures.kept.taken) refl))
 
 pub invariant_of-self-in-Some : goal.invariant_of-self-in-Some
 invariant_of-self-in-Some c =
@@ -69,10 +69,10 @@ invariant_of-self-in-Some c =
     let room = c.room.ensures ∙ (ap (λ x. x.room) c.config.ensures ∙ ap (λ x. x.room) e.config) in
     let low : length i.queue.items < i.place.config.room = omega (arith, i.queue.ok.0, c.len.ensures, c.if-len-room.false, room) in
     let wider : deque_capacity i.queue ≤ deque_capacity c.push_back_reserved.new.self = omega (arith, b.capacity) in
-    rw b.items (keeps_batch (the_view i) _ i.work c.spare.new.self i.queue.items c.in-Some.batch i.taken i.waiting c.in-Some-checked_add.waiting (deque_capacity i.queue)
+    rw b.items (keeps_batch (the_view i) _ i.work c.spare.new.self i.queue.items c.in-Some.batch i.waiting c.in-Some-checked_add.waiting (deque_capacity i.queue)
     (deque_capacity c.push_back_reserved.new.self) c.args.host d c.self.invariant facts.accepted
-    (rw (c.accept-placed.ensures.place, c.in-Some.ensures.plan, e.config, e.history, e.counts, e.plan.0, e.plan.1, e.plan.2, c.items_of-items_done.ensures, s.kept.work) refl)
-    s.kept named c.requires.host low more log s.blocks wider)
+    (rw (c.accept-placed.ensures.place, c.in-Some.ensures.plan, e.config, e.history, e.counts, e.plan.0, e.plan.1, e.plan.2, c.items_of-items_done.ensures, s.kept.work, s.kept.taken) refl)
+    s.kept named c.requires.host low more log s.lane s.blocks wider c.keeps_order.ensures refl)
 
 pub returns-in_ok-spare-in-Some : goal.returns-in_ok-spare-in-Some
 returns-in_ok-spare-in-Some c =
@@ -86,6 +86,6 @@ returns-in_ok-spare-in-Some c =
     let room = c.room.ensures ∙ (ap (λ x. x.room) c.config.ensures ∙ ap (λ x. x.room) e.config) in
     let low : length i.queue.items < i.place.config.room = omega (arith, i.queue.ok.0, c.len.ensures, c.if-len-room.false, room) in
     let fits = λ (full : length i.queue.items ≡ i.place.config.room). absurd (omega (arith, low, full)) in
-    rw (← c.self.view_is) (places_batch (the_view i) _ i.work i.queue.items i.taken i.waiting c.args.host d c.accept-placed.result c.self.invariant.parts c.self.invariant.one_device c.self.invariant.legal facts.accepted placed.some fits
+    rw (← c.self.view_is) (places_batch (the_view i) _ i.work i.queue.items i.waiting c.args.host d c.accept-placed.result c.self.invariant.parts c.self.invariant.one_device c.self.invariant.legal facts.accepted placed.some fits
     (rw (c.in-Some.ensures.plan, e.config, e.history, e.counts, e.plan.0, e.plan.2) at c.accept-placed.ensures.answer)
-    (rw (c.accept-placed.ensures.place, c.in-Some.ensures.plan, e.config, e.history, e.counts, e.plan.0, e.plan.1, e.plan.2, c.items_of-items_done.ensures, s.kept.work) refl))
+    (rw (c.accept-placed.ensures.place, c.in-Some.ensures.plan, e.config, e.history, e.counts, e.plan.0, e.plan.1, e.plan.2, c.items_of-items_done.ensures, s.kept.work, s.kept.taken) refl))

@@ -1,9 +1,23 @@
+use Rattle.std.proofs.Common.{refl, ◌∙◌}
 use Rattle.acc_core.specs.Ties.{state_of_parts}
-use Rattle.acc_core.proofs.Showing.{roomier, shown}
+use Rattle.acc_core.proofs.Done.{all_done_taken}
+use Rattle.acc_core.proofs.Showing.{roomier, taken_kept, told_item}
 use Rattle.acc_core.proofs.accelerator.Accelerator.see.Goals as goal
+
+pub host_item-requires-clause-item : goal.host_item-requires-clause-item
+host_item-requires-clause-item c =
+    let i = c.self.inside in
+    let kept = c.in_ok-spare_item.ensures.kept in
+    let w = state_of_parts i.place i.work in
+    let same = all_done_taken w i.work i.queue.items i.waiting c.args.device 0 c.args.counts c.self.invariant.parts c.keeps_order.ensures refl c.self.invariant.one_device c.self.invariant.legal in
+    rw (c.in_ok-item.ensures.item, kept.taken, kept.work) (same ∙ rw (← c.self.view_is) at c.requires.reached)
 
 pub invariant_of-self-2 : goal.invariant_of-self-2
 invariant_of-self-2 c =
+    let i = c.self.inside in
     let spared = c.in_ok-spare_item.ensures in
-    shown (state_of_parts c.self.inside.place c.self.inside.work c.self.inside.taken) c.spare_item.new.self c.see.new.self c.self.inside.queue.items c.self.inside.taken c.self.inside.waiting _ c.args.host
-    _ (roomier c.self.invariant spared.kept) spared.kept.work c.see.ensures spared.room spared.few (rw c.in_ok-counts.ensures.counts (rw (← c.self.view_is) at c.requires.reached))
+    let e = c.host_item.ensures in
+    let what = rw c.in_ok-item.ensures.item at e.1 in
+    rw (taken_kept i.work c.spare_item.new.self c.host_item.new.self c.args.host e.0 spared.kept e.3)
+    (told_item (state_of_parts i.place i.work) c.spare_item.new.self c.host_item.new.self i.queue.items i.waiting _ c.args.host e.0
+    (roomier c.self.invariant spared.kept) spared.kept.work e.3 spared.room spared.few (rw what (rw (← c.self.view_is) at c.requires.reached)))

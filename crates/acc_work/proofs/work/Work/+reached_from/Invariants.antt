@@ -1,5 +1,5 @@
 use Rattle.std.proofs.Common.{length}
-use Rattle.acc_core.proofs.accelerator.Accelerator.+reached_from.Given as goal
+use Rattle.acc_work.proofs.work.Work.+reached_from.Given as goal
 
 abbrev pub decreases-reached_from : goal.decreases-reached_from
 decreases-reached_from l = length l.counts.now

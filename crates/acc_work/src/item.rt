@@ -1,0 +1,130 @@
+ghost use Rattle.std.specs.Prelude.{◌≡◌, IfOk, IfErr};
+ghost use Rattle.acc_base.specs.declared.fault.Fault.TheVariants as fault;
+ghost use Rattle.acc_work.specs.declared.item.Plain.TheVariants as plain;
+
+use crate::counts::Counts;
+use acc_base::{DeviceId, Fault, MAX_CELLS, Range};
+use std::alloc::Global;
+use std::marker::Model;
+
+/// What an item is to do.
+#[derive(Clone, Copy, Debug, PartialEq, Eq)]
+pub enum Plain {
+    Write { array: u8, cell: u32, value: i64 },
+    Print { range: Range },
+    Seen { device: DeviceId, counts: [u64; 8] },
+    Test { device: DeviceId, counts: [u64; 8] },
+}
+
+/// What a host gets back from an item.
+#[derive(Clone, Copy, Debug, PartialEq, Eq)]
+pub enum Shown {
+    Nothing,
+    /// Whether what a test asks for is performed.
+    Answer { answer: bool },
+}
+
+/// An item that a host is to record, with the memory that recording it takes. Contracts see what it is to do.
+#[derive(Drop)]
+pub struct Item {
+    pub(crate) form: Form,
+}
+
+#[derive(Drop)]
+pub(crate) enum Form {
+    Write { array: u8, cell: u32, value: i64 },
+    // no values yet, and room for them
+    Print { range: Range, values: Vec<i64> },
+    Seen { device: DeviceId, counts: Counts },
+    Test { device: DeviceId, counts: Counts },
+}
+
+impl Model for Item {
+    ghost use Rattle.acc_work.specs.Items.{plain_of, HasRoom};
+    ghost use Rattle.acc_work.specs.declared.item.Plain.{Plain};
+
+    ghost Value = { Plain };
+
+    ghost view = { λ i. plain_of i.form };
+
+    ghost invariant = { λ i. HasRoom i.form };
+}
+
+impl Item {
+    /// A write of a cell of a host array. It takes no memory.
+    pub fn write(array: u8, cell: u32, value: i64) -> Self
+        ensures { result ≡ plain.Write array cell value }
+    {
+        Item {
+            form: Form::Write { array, cell, value },
+        }
+    }
+
+    /// A print of a range of a host array, with room for its values: for 65,536 at most, as no array has more cells.
+    ///
+    /// # Errors
+    ///
+    /// `Memory` where memory is refused.
+    pub fn print(alloc: Global, range: Range) -> Result<Self, Fault>
+        ensures item { IfOk result (λ i. i ≡ plain.Print range) }
+        ensures fault { IfErr result (λ f. f ≡ fault.Memory) }
+    {
+        let room = (range.len as usize).min(MAX_CELLS);
+        let values = Vec::with_capacity(alloc, room)?;
+        Ok(Item {
+            form: Form::Print { range, values },
+        })
+    }
+
+    /// What a host notes when it has waited until each queue of a device had performed so many batches.
+    ///
+    /// # Errors
+    ///
+    /// `Memory` where memory is refused.
+    pub fn seen(alloc: Global, device: DeviceId, counts: [u64; 8]) -> Result<Self, Fault>
+        ensures item { IfOk result (λ i. i ≡ plain.Seen device counts) }
+        ensures fault { IfErr result (λ f. f ≡ fault.Memory) }
+    {
+        let counts = Counts::new(alloc, counts)?;
+        Ok(Item {
+            form: Form::Seen { device, counts },
+        })
+    }
+
+    /// A question whether each queue of a device has performed so many batches.
+    ///
+    /// # Errors
+    ///
+    /// `Memory` where memory is refused.
+    pub fn test(alloc: Global, device: DeviceId, counts: [u64; 8]) -> Result<Self, Fault>
+        ensures item { IfOk result (λ i. i ≡ plain.Test device counts) }
+        ensures fault { IfErr result (λ f. f ≡ fault.Memory) }
+    {
+        let counts = Counts::new(alloc, counts)?;
+        Ok(Item {
+            form: Form::Test { device, counts },
+        })
+    }
+
+    /// What it is to do.
+    pub fn plain(&self) -> Plain
+        ensures { result ≡ self.now }
+    {
+        match &self.form {
+            Form::Write { array, cell, value } => Plain::Write {
+                array: *array,
+                cell: *cell,
+                value: *value,
+            },
+            Form::Print { range, .. } => Plain::Print { range: *range },
+            Form::Seen { device, counts } => Plain::Seen {
+                device: *device,
+                counts: counts.numbers(),
+            },
+            Form::Test { device, counts } => Plain::Test {
+                device: *device,
+                counts: counts.numbers(),
+            },
+        }
+    }
+}
