@@ -1,75 +1,92 @@
--- The steps of a host, by its phase.
-use Rattle.std.proofs.Common.{◌≡◌, ℕ, zero, suc, ◌+◌, false, List, [], ◌∷◌, refl, sym, ap, ◌∙◌, subst, Some, None, Option, Ok, Err, Result}
+-- The step of a host over the accelerator is the machine's.
+use Rattle.std.proofs.Common.{◌≡◌, ℕ, Bool, true, false, List, inl, inr, refl, sym, ap, ◌∙◌, subst, Result, Ok, Err, Some, None}
 use Rattle.std.specs.Prelude.{slice_get, slice_set}
 use Rattle.acc_base.specs.declared.fault.Fault.{Fault}
-use Rattle.acc_core.specs.declared.event.Reply.TheVariants as reply
-use Rattle.acc_core.specs.declared.program.Host.{Host}
-use Rattle.acc_core.specs.declared.program.Phase.{Phase}
-use Rattle.acc_core.specs.declared.program.Phase.TheVariants as phase
-use Rattle.acc_core.specs.declared.program.Statement.{Statement}
-use Rattle.acc_core.specs.declared.world.Awaited.{Awaited}
-use Rattle.acc_work.specs.Logs.{all_done}
-use Rattle.acc_core.specs.Machine.{State, Outcome, standing_of, idle, statement_step, host_step}
-use Rattle.acc_core.specs.Worlds.{after_answer, reply_to, Acts, HostSteps, StandsAt, IsHost}
+use Rattle.acc_base.specs.declared.fault.Fault.TheVariants.{Memory}
+use Rattle.acc_host.specs.declared.state.After.{After}
+use Rattle.acc_host.specs.declared.state.After.TheVariants as go
+use Rattle.acc_host.specs.declared.state.Reply.{Reply}
+use Rattle.acc_host.specs.declared.state.Reply.TheVariants as reply
+use Rattle.acc_host.specs.Hosts.{HostView, Asks, Steps, wants, after_place, after_wait, after_item, replied}
+use Rattle.acc_host.specs.Steps.{Want, stays, sets, refuses, places, awaits, records}
+use Rattle.acc_place.specs.declared.directive.Placed.{Placed}
+use Rattle.acc_place.specs.Directives.{Directive}
+use Rattle.acc_work.specs.declared.item.Plain.{Plain}
+use Rattle.acc_work.specs.declared.item.Shown.{Shown}
+use Rattle.acc_core.specs.declared.event.Event.TheVariants as event
+use Rattle.acc_core.specs.Answers.{Makes}
+use Rattle.acc_core.specs.Legality.{entries_of}
+use Rattle.acc_core.specs.Machine.{State, Outcome, Step, placed_state, waited_state, item_state, goes_on, host_step, named_step}
 
--- a host that is written where it stands changes nothing
-set_same : (hosts : List Host) (h : ℕ) (host : Host) → slice_get hosts h ≡ Some host → slice_set hosts h host ≡ hosts
-set_same [] h host e = refl
-set_same (x ∷ hosts) zero host e = cc
-set_same (x ∷ hosts) (suc h) host e = ap (λ (r : List Host). x ∷ r) (set_same hosts h host e)
+abbrev with_hosts : List HostView → State → State
+with_hosts hosts w = record w { hosts = hosts }
 
--- a step that is not possible
-stays : (old : State) (h : ℕ) (host : Host) → ((hosts : List Host) → host_step false (record old { hosts = hosts }) (standing_of old) h host host.phase ≡ idle (record old { hosts = hosts })) → HostSteps old h host reply.Idle old host
-stays old h host f = (
-  false,
-  λ hosts e. f hosts ∙ ap (λ (r : List Host). idle (record old { hosts = r })) (sym (set_same hosts h host e)),
-)
+-- what a call makes doesn't depend on the hosts
+placed_hosts : (w : State) (hosts : List HostView) (h : ℕ) (d : Directive) (a : Result Placed Fault) → placed_state (with_hosts hosts w) h d a ≡ with_hosts hosts (placed_state w h d a)
+placed_hosts w hosts h d (Ok placed) = refl
+placed_hosts w hosts h d (Err fault) = refl
 
--- no statement is left, in any phase
-idle_at_end : (p : Phase) (old : State) (h : ℕ) (host : Host) (hosts : List Host) → slice_get host.statements host.ended ≡ None → StandsAt (slice_get host.statements host.ended) p → host_step false (record old { hosts = hosts }) (standing_of old) h host p ≡ idle (record old { hosts = hosts })
-idle_at_end phase.Ready old h host hosts e has = rw e refl
-idle_at_end (phase.Waits device counts) old h host hosts e has = absurd (rw e at has)
-idle_at_end (phase.Refused fault) old h host hosts e has = refl
+waited_hosts : (w : State) (hosts : List HostView) (h device : ℕ) (counts : List ℕ) (a : Result Bool Fault) → waited_state (with_hosts hosts w) h device counts a ≡ with_hosts hosts (waited_state w h device counts a)
+waited_hosts w hosts h device counts (Ok true) = refl
+waited_hosts w hosts h device counts (Ok false) = refl
+waited_hosts w hosts h device counts (Err fault) = refl
 
-pub end_stays : (old : State) (h : ℕ) (host : Host) → slice_get host.statements host.ended ≡ None → IsHost host → HostSteps old h host reply.Idle old host
-end_stays old h host e has = stays old h host (λ hosts. idle_at_end host.phase old h host hosts e has.stands)
+item_hosts : (w : State) (hosts : List HostView) (h : ℕ) (item : Plain) (a : Result Shown Fault) → item_state (with_hosts hosts w) h item a ≡ with_hosts hosts (item_state w h item a)
+item_hosts w hosts h item (Ok answer) = refl
+item_hosts w hosts h item (Err fault) = refl
 
--- a host that was refused
-pub refused_stays : (old : State) (h : ℕ) (host : Host) (fault : Fault) → host.phase ≡ phase.Refused fault → HostSteps old h host reply.Idle old host
-refused_stays old h host fault e = stays old h host (λ hosts. rw e refl)
+-- the outcome where the accelerator has become this
+abbrev went : List HostView → ℕ → HostView → Result After Fault → State → Outcome
+went hosts h host goes w = goes_on (with_hosts hosts w) h host goes
 
--- a host that waits
-pub wait_stays : (old : State) (h : ℕ) (host : Host) (device : ℕ) (counts : List ℕ) → host.phase ≡ phase.Waits device counts → all_done (standing_of old).labels old.work device 0 counts ≡ false → HostSteps old h host reply.Idle old host
-wait_stays old h host device counts e f = stays old h host (λ hosts. rw (e, f) refl)
+went_same : (hosts : List HostView) (h : ℕ) (host : HostView) (g goes : Result After Fault) (w new : State) → goes ≡ g → new ≡ w → went hosts h host g w ≡ went hosts h host goes new
+went_same hosts h host g goes w new e f = ap (λ x. went hosts h host x w) (sym e) ∙ ap (went hosts h host goes) (sym f)
 
--- a host that is ready
-pub acts_steps : (old new : State) (h : ℕ) (host : Host) (s : Statement) (answer : Result (Option Awaited) Fault) → host.phase ≡ phase.Ready → slice_get host.statements host.ended ≡ Some s → Acts old h s.act answer new → HostSteps old h host (reply_to answer) new (after_answer answer host)
-acts_steps old new h host s answer e f a = (
-  a.0,
-  λ hosts _.
-      let done : Outcome = record { reply = reply_to answer; state = record new { hosts = slice_set hosts h (after_answer answer host) } } in
-      let w : State = record old { hosts = hosts } in
-      let P : Phase → Type 0 = λ p. host_step a.0 w (standing_of old) h host p ≡ done in
-      let Q : Option Statement → Type 0 = λ n. statement_step a.0 w (standing_of old) h host n ≡ done in
-      subst P (sym e) (subst Q (sym f) (a.1 host hosts)),
-)
+-- what a host's one call makes is the machine's step
+asks_steps : (want : Want) (old new : State) (h : ℕ) (host : HostView) (goes : Result After Fault) (hosts : List HostView) → Asks Makes old h want goes new
+    → (no_memory : Bool) × (host_step no_memory (with_hosts hosts old) h host want ≡ went hosts h host goes new)
+asks_steps stays old new h host goes hosts a = (false, went_same hosts h host (Ok go.Idle) goes old new a.0 a.1)
+asks_steps (sets ids) old new h host goes hosts a = (false, went_same hosts h host (Ok (go.Set ids)) goes old new a.0 a.1)
+asks_steps (refuses fault) old new h host goes hosts a = (false, went_same hosts h host (Err fault) goes old new a.0 a.1)
+asks_steps (places d) old new h host goes hosts a =
+    let answer = a.0 in
+    let w = with_hosts hosts old in (
+      a.1.0,
+      ap (λ x. goes_on (placed_state w h d x) h host (after_place d x)) (sym a.1.1)
+          ∙ (ap (λ x. goes_on x h host (after_place d answer)) (placed_hosts old hosts h d answer)
+          ∙ went_same hosts h host (after_place d answer) goes (placed_state old h d answer) new a.2 a.1.2),
+    )
+asks_steps (awaits device counts) old new h host goes hosts a =
+    let answer = a.0 in
+    let w = with_hosts hosts old in (
+      a.1.0,
+      ap (λ x. goes_on (waited_state w h device counts x) h host (after_wait x)) (sym a.1.1)
+          ∙ (ap (λ x. goes_on x h host (after_wait answer)) (waited_hosts old hosts h device counts answer)
+          ∙ went_same hosts h host (after_wait answer) goes (waited_state old h device counts answer) new a.2 a.1.2),
+    )
+asks_steps (records item) old new h host goes hosts (inl a) = (true, went_same hosts h host (Err Memory) goes old new a.1 a.2)
+asks_steps (records item) old new h host goes hosts (inr a) =
+    let answer = a.0 in
+    let w = with_hosts hosts old in (
+      a.1.0,
+      ap (λ x. goes_on (item_state w h item x) h host (after_item x)) (sym a.1.1)
+          ∙ (ap (λ x. goes_on x h host (after_item answer)) (item_hosts old hosts h item answer)
+          ∙ went_same hosts h host (after_item answer) goes (item_state old h item answer) new a.2 a.1.2),
+    )
 
--- a host that is ready may stand anywhere
-pub ready_stands : (next : Option Statement) → StandsAt next phase.Ready
-ready_stands None = tt
-ready_stands (Some s) = tt
+-- The step of `Host::next` over the accelerator is the machine's.
+pub host_steps : (old new : State) (hosts : List HostView) (h : ℕ) (host after : HostView) (answer : Reply)
+    → slice_get hosts h ≡ Some host → host.host ≡ h → Steps Makes entries_of old.config.devices old host answer new after
+    → Step (with_hosts hosts old) (event.Host h) answer (with_hosts (slice_set hosts h after) new)
+host_steps old new hosts h host after answer here is s =
+    let asks : Asks Makes old h (wants old.config.devices host) s.goes new = subst (λ n. Asks Makes old n (wants old.config.devices host) s.goes new) is s.asks in
+    let m = asks_steps (wants old.config.devices host) old new h host s.goes hosts asks in
+    let done : Outcome = record { reply = answer; state = with_hosts (slice_set hosts h after) new } in
+    let same : went hosts h host s.goes new ≡ done =
+    ap (λ (a : HostView). let o : Outcome = record { reply = replied s.goes; state = with_hosts (slice_set hosts h a) new } in o) (sym s.host_is)
+    ∙ ap (λ (r : Reply). let o : Outcome = record { reply = r; state = with_hosts (slice_set hosts h after) new } in o) (sym s.reply_is) in
+    (m.0, ap (named_step m.0 (with_hosts hosts old) h) here ∙ (m.1 ∙ same))
 
--- a host that stands at a statement stands at one behind its answer, unless it has ended them all
-answered_stands : (answer : Result (Option Awaited) Fault) (host : Host) (s : Statement) → slice_get host.statements host.ended ≡ Some s
-    → StandsAt (slice_get (after_answer answer host).statements (after_answer answer host).ended) (after_answer answer host).phase
-answered_stands (Err fault) host s here = rw here tt
-answered_stands (Ok None) host s here = ready_stands (slice_get host.statements (host.ended + 1))
-answered_stands (Ok (Some awaited)) host s here = rw here tt
-
-same_statements : (answer : Result (Option Awaited) Fault) (host : Host) → (after_answer answer host).statements ≡ host.statements
-same_statements (Err fault) host = refl
-same_statements (Ok None) host = refl
-same_statements (Ok (Some awaited)) host = refl
-
-pub answered_host : (answer : Result (Option Awaited) Fault) (host : Host) (s : Statement) → slice_get host.statements host.ended ≡ Some s → IsHost host → IsHost (after_answer answer host)
-answered_host answer host s here h = record { stands = answered_stands answer host s here; synchronous = rw (same_statements answer host) h.synchronous }
+-- a host that isn't there does nothing
+pub no_host : (w : State) (h : ℕ) → slice_get w.hosts h ≡ None → Step w (event.Host h) reply.Idle w
+no_host w h e = (false, ap (named_step false w h) e)

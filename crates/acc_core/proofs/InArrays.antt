@@ -7,7 +7,7 @@ use Rattle.acc_base.specs.Configurations.{Configuration, is_in_array}
 use Rattle.acc_present.specs.declared.change.Change.{Change}
 use Rattle.acc_present.specs.declared.change.Change.TheVariants.{StructuredDown}
 use Rattle.acc_present.specs.Marks.{Mark}
-use Rattle.acc_place.specs.declared.directive.Directive.{Directive}
+use Rattle.acc_place.specs.Directives.{Directive}
 use Rattle.acc_place.specs.declared.directive.Item.{Item}
 use Rattle.acc_place.specs.declared.directive.Kind.{Kind}
 use Rattle.acc_place.specs.declared.directive.Kind.TheVariants as kind
@@ -44,6 +44,8 @@ ends_in_arrays arrays kind.EnterData change items h = tt
 ends_in_arrays arrays (kind.ExitData finalize) change items h = tt
 ends_in_arrays arrays (kind.Update if_present) change items h = tt
 ends_in_arrays arrays (kind.Loop k) change items h = in_arrays_asked arrays change (Some StructuredDown) items h
+ends_in_arrays arrays kind.Wait change items h = tt
+ends_in_arrays arrays kind.AsyncTest change items h = tt
 ends_in_arrays arrays kind.IsPresent change items h = tt
 
 -- and so do all ranges of a walk

@@ -1,54 +1,41 @@
 -- The histories are legal at the start, and each step keeps them legal.
-use Rattle.std.proofs.Common.{◌≡◌, ℕ, ◌≤◌, true, false, List, [], ◌∷◌, ◌++◌, length, drop, ap, ◌∙◌, arith, None}
-use Rattle.std.specs.Prelude.{IsTrue, ◌==◌}
+use Rattle.std.proofs.Common.{◌≡◌, ℕ, List, [], ◌∷◌, ◌++◌, length, ap, ◌∙◌, arith, None}
+use Rattle.std.specs.Prelude.{IsTrue}
 use Rattle.acc_base.specs.declared.ids.QueueAt.{QueueAt}
-use Rattle.acc_place.specs.declared.directive.Directive.{Directive}
-use Rattle.acc_place.specs.declared.directive.PlaceEntry.{PlaceEntry}
-use Rattle.acc_place.specs.declared.directive.PlaceEntry.TheVariants as noted
+use Rattle.acc_place.specs.Directives.{Directive}
 use Rattle.acc_core.specs.declared.event.Event.{Event}
-use Rattle.acc_core.specs.declared.event.Reply.{Reply}
+use Rattle.acc_host.specs.declared.state.Reply.{Reply}
 use Rattle.acc_work.specs.declared.log.Told.{Told}
-use Rattle.acc_work.specs.declared.log.WorkEntry.{WorkEntry}
-use Rattle.acc_work.specs.declared.log.WorkEntry.TheVariants as entry
 use Rattle.acc_batch.specs.declared.operation.Label.{Label}
 use Rattle.acc_batch.specs.declared.operation.Op.{Op}
-use Rattle.acc_core.specs.declared.program.Host.{Host}
+use Rattle.acc_host.specs.Hosts.{HostView}
 use Rattle.acc_place.specs.Accepting.{refusal}
 use Rattle.acc_place.specs.Batches.{batch_of, next_number, walk_at}
 use Rattle.acc_place.specs.Histories.{standing}
 use Rattle.acc_batch.specs.Labels.{on_queue, ops_of, batch_at}
 use Rattle.acc_work.specs.Orders.{ShowsTruth}
-use Rattle.acc_core.specs.Legality.{CountsAreLow, Legal}
-use Rattle.acc_work.specs.Logs.{if_one, performed, items_of, host_allows}
+use Rattle.acc_core.specs.Legality.{Legal}
+use Rattle.acc_work.specs.Logs.{performed, items_of, host_allows}
 use Rattle.acc_core.specs.Machine.{State, Step, Runs, standing_of, rest, with_item, with_op, accepting}
 use Rattle.acc_place.specs.Standings.{walk_of}
 use Rattle.acc_core.proofs.Changes.{Step-by, step_config}
+use Rattle.acc_core.proofs.Entries.{rise_accept, rise_item}
 use Rattle.acc_core.proofs.Growing.{in_order-more, host_order-more}
 use Rattle.acc_core.proofs.Performing.{next_of_all, in_order_performed, next_uses_live}
 use Rattle.acc_core.proofs.Queues.{added, added_filled, labelled_is}
-use Rattle.acc_core.proofs.Starts.{IsStart}
-
--- counts stay low behind one more entry of the log, by which no host has fewer items
-counts_behind : (history : List PlaceEntry) (counts : List ℕ) (work : List WorkEntry) (e : WorkEntry) → ((h : ℕ) → items_of h work ≤ items_of h (e ∷ work)) → CountsAreLow history counts work → CountsAreLow history counts (e ∷ work)
-counts_behind [] counts work e more low = tt
-counts_behind (noted.Accepted h d ∷ before) counts work e more low =
-    (omega (arith, low.0, more h), counts_behind before (drop 1 counts) work e more low.1)
-
-items_grow : (h k : ℕ) (s : Told) (work : List WorkEntry) → items_of k work ≤ items_of k (entry.Item h s ∷ work)
-items_grow h k s work = elim (h == k) as (λ b. items_of k work ≤ if_one b (items_of k work)) [ true ↦ omega arith | false ↦ omega arith ]
 
 -- the histories are legal before the first event
-pub legal_start : (w : State) → IsStart w → Legal w
-legal_start w s = record {
-  accepted = rw s.history tt;
-  counts = rw s.history tt;
-  prefix = λ at. (let all = ops_of (on_queue at (standing_of w).labels) in (all, ap (λ r. r ++ all) (ap (performed at) s.work)));
-  host_order = rw s.work tt;
-  live_blocks = rw s.work tt;
+pub legal_start : (w : State) → w.history ≡ [] → w.work ≡ [] → Legal w
+legal_start w no_history no_work = record {
+  accepted = rw no_history tt;
+  counts = λ h. rw (no_history, no_work) (omega arith);
+  prefix = λ at. (let all = ops_of (on_queue at (standing_of w).labels) in (all, ap (λ r. r ++ all) (ap (performed at) no_work)));
+  host_order = rw no_work tt;
+  live_blocks = rw no_work tt;
 }
 
 -- other hosts leave them legal
-pub legal_hosts : (w : State) (hosts : List Host) → Legal w → Legal (record w { hosts = hosts })
+pub legal_hosts : (w : State) (hosts : List HostView) → Legal w → Legal (record w { hosts = hosts })
 legal_hosts w hosts l = record { accepted = l.accepted; counts = l.counts; prefix = l.prefix; host_order = l.host_order; live_blocks = l.live_blocks }
 
 -- so do other counts of batches that were taken
@@ -57,7 +44,7 @@ legal_taken w taken l = record { accepted = l.accepted; counts = l.counts; prefi
 
 -- so does one more item that shows what is so
 pub legal_item : (w : State) (h : ℕ) (s : Told) → Legal w → ShowsTruth w.config.arrays (standing_of w).labels s w.work → Legal (with_item w h s)
-legal_item w h s l truth = record { accepted = l.accepted; counts = counts_behind w.history w.counts w.work (entry.Item h s) (λ k. items_grow h k s w.work) l.counts; prefix = l.prefix; host_order = (truth, l.host_order); live_blocks = l.live_blocks }
+legal_item w h s l truth = record { accepted = l.accepted; counts = rise_item w h s l.counts; prefix = l.prefix; host_order = (truth, l.host_order); live_blocks = l.live_blocks }
 
 -- the labels that a directive adds
 abbrev pub more_labels : State → ℕ → Directive → List Label
@@ -65,19 +52,19 @@ more_labels w h d =
     added (walk_at (walk_of (standing_of w) h d)) (next_number (walk_at (walk_of (standing_of w) h d)) (standing_of w).labels) h (items_of h w.work) (batch_of (standing_of w) (walk_of (standing_of w) h d))
 
 -- these labels stand behind all others
-pub labels_accepted : (w : State) (h : ℕ) (host : Host) (d : Directive) → (standing_of (accepting w h host d)).labels ≡ (standing_of w).labels ++ more_labels w h d
+pub labels_accepted : (w : State) (h : ℕ) (d : Directive) → (standing_of (accepting w h d)).labels ≡ (standing_of w).labels ++ more_labels w h d
 unfolding standing
-labels_accepted w h host d =
+labels_accepted w h d =
     labelled_is (walk_at (walk_of (standing_of w) h d)) h (items_of h w.work) (standing_of w).labels (batch_of (standing_of w) (walk_of (standing_of w) h d))
 
 -- one more directive, without a fault, leaves the histories legal
-pub legal_accepted : (w : State) (h : ℕ) (host : Host) (d : Directive) → Legal w → refusal w.config (standing_of w) h d ≡ None → Legal (accepting w h host d)
-legal_accepted w h host d l e =
+pub legal_accepted : (w : State) (h : ℕ) (d : Directive) → Legal w → refusal w.config (standing_of w) h d ≡ None → Legal (accepting w h d)
+legal_accepted w h d l e =
     let labels = (standing_of w).labels in
-    let same = labels_accepted w h host d in
+    let same = labels_accepted w h d in
     record {
       accepted = (e, l.accepted);
-      counts = (omega arith, l.counts);
+      counts = rise_accept w h d l.counts;
       prefix = rw same (in_order-more labels (more_labels w h d) w.work l.prefix);
       host_order = rw same (host_order-more w.config.arrays labels (more_labels w h d) w.work (added_filled (walk_at (walk_of (standing_of w) h d)) (next_number (walk_at (walk_of (standing_of w) h d)) labels) h (items_of h w.work) (batch_of (standing_of w) (walk_of (standing_of w) h d))) l.prefix l.host_order);
       live_blocks = l.live_blocks;
@@ -88,7 +75,7 @@ pub legal_performed : (w : State) (at : QueueAt) (op : Op) (ops : List Op) → w
     → IsTrue (host_allows (batch_at (on_queue at (standing_of w).labels) (length (performed at w.work))) w.work) → Legal (with_op w at op)
 legal_performed w at op ops one l e allowed = record {
   accepted = l.accepted;
-  counts = counts_behind w.history w.counts w.work (entry.Op at op) (λ k. omega arith) l.counts;
+  counts = l.counts;
   prefix = in_order_performed (standing_of w).labels w.work at op l.prefix (next_of_all w at op ops l.prefix e);
   host_order = (allowed, l.host_order);
   live_blocks = (next_uses_live w at op ops one l e, l.live_blocks);
@@ -102,7 +89,7 @@ Step-legal old new e r one l s =
       stays = l;
       hosts = λ hosts. legal_hosts old hosts l;
       item = λ hosts h s truth. legal_item (record old { hosts = hosts }) h s (legal_hosts old hosts l) truth;
-      accepted = λ h host d e. legal_accepted old h host d l e;
+      accepted = λ hosts h d e. legal_accepted (record old { hosts = hosts }) h d (legal_hosts old hosts l) e;
       taken = λ taken. legal_taken old taken l;
       performed = λ at op ops e allowed. legal_performed old at op ops one l e allowed;
     })

@@ -3,16 +3,19 @@ mod Changes
 mod Done
 mod Elsewhere
 mod Ends
+mod Entries
 mod Following
 mod Groups
 mod Growing
 mod Histories
+mod HostLaws
 mod HostSteps
 mod InArrays
 mod Keeping
 mod Lanes
 mod Limits
 mod LiveBlocks
+mod Making
 mod OneDevice
 mod Opening
 mod Performing
@@ -22,7 +25,6 @@ mod Queues
 mod Remembering
 mod Runs
 mod Showing
-mod Starts
 mod Stepping
 mod Taking
 mod Uses

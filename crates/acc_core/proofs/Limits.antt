@@ -5,7 +5,7 @@ use Rattle.std.proofs.lemmas.Bool.{or_parts, leb-false}
 use Rattle.std.proofs.lemmas.List.{length-append}
 use Rattle.acc_base.specs.declared.ids.QueueAt.{QueueAt}
 use Rattle.acc_base.specs.Configurations.{Configuration}
-use Rattle.acc_place.specs.declared.directive.Directive.{Directive}
+use Rattle.acc_place.specs.Directives.{Directive}
 use Rattle.acc_place.specs.declared.directive.PlaceEntry.{PlaceEntry}
 use Rattle.acc_place.specs.declared.directive.PlaceEntry.TheVariants as noted
 use Rattle.acc_place.specs.declared.directive.TheConstants.{MAX_ITEMS, MAX_DIRECTIVES}

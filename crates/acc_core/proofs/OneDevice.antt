@@ -3,7 +3,7 @@ use Rattle.std.proofs.Common.{◌≡◌, ℕ, ◌<◌, true, false, cond, List, 
 use Rattle.std.specs.Prelude.{All, ◌==◌}
 use Rattle.std.proofs.lemmas.List.Elements.{All-cons, All-head, All-tail, All-filter}
 use Rattle.acc_base.specs.Configurations.{Configuration}
-use Rattle.acc_place.specs.declared.directive.Directive.{Directive}
+use Rattle.acc_place.specs.Directives.{Directive}
 use Rattle.acc_place.specs.declared.directive.Kind.{Kind}
 use Rattle.acc_place.specs.declared.directive.Kind.TheVariants as kind
 use Rattle.acc_place.specs.declared.directive.Region.{Region}
@@ -30,6 +30,8 @@ there_after config host d kind.EnterData rs low h = h
 there_after config host d (kind.ExitData finalize) rs low h = h
 there_after config host d (kind.Update if_present) rs low h = h
 there_after config host d (kind.Loop k) rs low h = h
+there_after config host d kind.Wait rs low h = h
+there_after config host d kind.AsyncTest rs low h = h
 there_after config host d kind.IsPresent rs low h = h
 
 -- and so is the device where the construct's end acts
@@ -45,6 +47,8 @@ there_subject config lengths host d kind.EnterData rs low h = low
 there_subject config lengths host d (kind.ExitData finalize) rs low h = low
 there_subject config lengths host d (kind.Update if_present) rs low h = low
 there_subject config lengths host d (kind.Loop k) rs low h = low
+there_subject config lengths host d kind.Wait rs low h = low
+there_subject config lengths host d kind.AsyncTest rs low h = low
 there_subject config lengths host d kind.IsPresent rs low h = low
 
 -- a walk on queue sync of the first device

@@ -50,7 +50,7 @@ pub is_opening : (config : Configuration) (w : State) (v : WorkView) (queue_room
 is_opening config w v queue_room is one room arrays no_rows no_batch =
     rw is (record {
       one_device = one;
-      legal = legal_start (state_at_first config []) (record { one_device = one; history = refl; counts = refl; work = refl; hosts = tt });
+      legal = legal_start (state_at_first config []) refl refl;
       few_items = omega arith;
       held_low = omega arith;
       room = room;

@@ -6,17 +6,15 @@ use Rattle.std.proofs.lemmas.List.{append_assoc, append-nil, length-append}
 use Rattle.std.proofs.lemmas.List.Elements.{All-push}
 use Rattle.acc_base.proofs.Lists.{All-behind}
 use Rattle.acc_base.specs.declared.config.TheConstants.{MAX_HOSTS}
-use Rattle.acc_place.specs.declared.directive.Directive.{Directive}
+use Rattle.acc_place.specs.Directives.{Directive}
 use Rattle.acc_batch.specs.declared.operation.Label.{Label}
 use Rattle.acc_batch.specs.declared.operation.Op.{Op}
-use Rattle.acc_core.specs.declared.program.Host.{Host}
-use Rattle.acc_core.specs.declared.program.Phase.TheVariants as phase
 use Rattle.acc_base.specs.declared.fault.Fault.{Fault}
 use Rattle.acc_base.specs.declared.fault.Fault.TheVariants.{Memory, QueueFull}
 use Rattle.acc_base.specs.declared.ids.QueueAt.{QueueAt}
 use Rattle.acc_base.specs.Queues.{same_queue}
 use Rattle.acc_place.specs.Accepting.{refusal}
-use Rattle.acc_core.specs.Answers.{Places, after_accept, fault_of_place, place_fault, queue_fault}
+use Rattle.acc_core.specs.Answers.{Places}
 use Rattle.acc_place.specs.declared.directive.Placed.{Placed}
 use Rattle.acc_place.specs.Batches.{batch_of, answer_of, next_number, walk_at}
 use Rattle.acc_place.specs.Histories.{standing}
@@ -24,7 +22,7 @@ use Rattle.acc_place.specs.Plans.{PlaceView, PlanView, standing_in, Fits, label_
 use Rattle.acc_batch.specs.Labels.{on_queue, ops_of}
 use Rattle.acc_core.specs.Legality.{Legal}
 use Rattle.acc_work.specs.Logs.{items_of, performed, value}
-use Rattle.acc_core.specs.Machine.{State, standing_of, accepting, is_empty, is_full, held, labels_of}
+use Rattle.acc_core.specs.Machine.{State, standing_of, accepting, fault_of_place, place_fault, queue_fault, is_empty, is_full, held, labels_of}
 use Rattle.acc_place.specs.Standings.{walk_of}
 use Rattle.acc_memory.specs.Memories.{rows_on, room_on}
 use Rattle.acc_memory.proofs.Showing.{shows_same}
@@ -33,30 +31,18 @@ use Rattle.acc_work.specs.Works.{WorkView, KeepsOrder, HasMadeRoom, sync}
 use Rattle.acc_core.proofs.InArrays.{accepted_fits}
 use Rattle.acc_core.proofs.Histories.{placed_use}
 use Rattle.acc_core.proofs.OneDevice.{walk_is}
-use Rattle.acc_core.proofs.Keeping.{legal_accepted, legal_hosts, labels_accepted, more_labels}
+use Rattle.acc_core.proofs.Keeping.{legal_accepted, labels_accepted}
 use Rattle.acc_base.proofs.SameQueue.{same_queue_itself}
 use Rattle.acc_batch.proofs.Labels.{on_queue-append, ops_of-append}
 use Rattle.acc_core.proofs.Queues.{added}
 use Rattle.acc_core.proofs.Lanes.{few_batches}
 use Rattle.acc_core.proofs.Taking.{with_taken, held_is}
 
--- a host that has done nothing
-abbrev nobody : Host
-nobody = record { statements = []; ended = 0; phase = phase.Ready }
-
--- one more directive, without a fault, leaves the histories legal
-legal_placed : (w : State) (host : ℕ) (d : Directive) → Legal w → refusal w.config (standing_of w) host d ≡ None → Legal (after_accept w host d)
-legal_placed w host d l e = legal_hosts (accepting w host nobody d) w.hosts (legal_accepted w host nobody d l e)
-
--- its labels stand behind all others
-labels_placed : (w : State) (host : ℕ) (d : Directive) → labels_of (after_accept w host d) ≡ labels_of w ++ more_labels w host d
-labels_placed w host d = labels_accepted w host nobody d
-
 -- an empty batch adds no label
-labels_empty : (w : State) (host : ℕ) (d : Directive) → batch_of (standing_of w) (walk_of (standing_of w) host d) ≡ [] → labels_of (after_accept w host d) ≡ labels_of w
+labels_empty : (w : State) (host : ℕ) (d : Directive) → batch_of (standing_of w) (walk_of (standing_of w) host d) ≡ [] → labels_of (accepting w host d) ≡ labels_of w
 labels_empty w host d e =
     let at = walk_at (walk_of (standing_of w) host d) in
-    labels_placed w host d
+    labels_accepted w host d
     ∙ (ap (λ ops. labels_of w ++ added at (next_number at (labels_of w)) host (items_of host w.work) ops) e ∙ append-nil (labels_of w))
 
 -- a batch that isn't empty adds one label
@@ -84,10 +70,10 @@ next_label w host d = record {
 
 -- a directive's batch that isn't empty adds that label behind all others
 labels_more : (w : State) (host : ℕ) (d : Directive) → walk_at (walk_of (standing_of w) host d) ≡ sync → 0 < length (batch_of (standing_of w) (walk_of (standing_of w) host d))
-    → labels_of (after_accept w host d) ≡ labels_of w ++ next_label w host d ∷ []
+    → labels_of (accepting w host d) ≡ labels_of w ++ next_label w host d ∷ []
 labels_more w host d at some =
     let ops = batch_of (standing_of w) (walk_of (standing_of w) host d) in
-    labels_placed w host d
+    labels_accepted w host d
     ∙ (ap (λ q. labels_of w ++ added q (next_number q (labels_of w)) host (items_of host w.work) ops) at
     ∙ ap (λ ls. labels_of w ++ ls) (added_one sync (next_number sync (labels_of w)) host (items_of host w.work) ops some))
 
@@ -154,16 +140,16 @@ remembers_room w w' v v' r c f k = record {
 
 -- An accelerator that accepted a directive with an empty batch.
 pub keeps_empty : (w w' : State) (v : WorkView) (queue : List Label) (waiting room host : ℕ) (d : Directive) → IsAccelerator w v queue waiting room
-    → refusal w.config (standing_of w) host d ≡ None → batch_of (standing_of w) (walk_of (standing_of w) host d) ≡ [] → w' ≡ after_accept w host d
+    → refusal w.config (standing_of w) host d ≡ None → batch_of (standing_of w) (walk_of (standing_of w) host d) ≡ [] → w' ≡ accepting w host d
     → IsAccelerator w' v queue waiting room
 keeps_empty w w' v queue waiting room host d a e none is =
     rw is (record {
       one_device = a.one_device;
-      legal = legal_placed w host d a.legal e;
+      legal = legal_accepted w host d a.legal e;
       few_items = a.few_items;
       held_low = a.held_low;
       room = a.room;
-      parts = queued_same w (after_accept w host d) v queue waiting (labels_empty w host d none) refl a.parts;
+      parts = queued_same w (accepting w host d) v queue waiting (labels_empty w host d none) refl a.parts;
       memory = record { shows = a.memory.shows; blocks = a.memory.blocks; lengths = a.memory.lengths };
     })
 
@@ -196,22 +182,22 @@ batch_placed w host d b at is =
 
 -- An accelerator that accepted a directive and put its batch on the queue.
 pub keeps_batch : (w w' : State) (v v' : WorkView) (queue : List Label) (b : Label) (waiting waiting' room room' host : ℕ) (d : Directive)
-    → IsAccelerator w v queue waiting room → refusal w.config (standing_of w) host d ≡ None → w' ≡ after_accept w host d → HasMadeRoom v v'
+    → IsAccelerator w v queue waiting room → refusal w.config (standing_of w) host d ≡ None → w' ≡ accepting w host d → HasMadeRoom v v'
     → Some b ≡ label_in (standing_of w) host (items_of host w.work) (walk_of (standing_of w) host d) → host < MAX_HOSTS → length queue < w.config.room → waiting' ≡ waiting + length b.ops → length w.work + waiting' ≤ v'.room
     → length v'.lane.taken + waiting' ≤ v'.lane.room → length (rows_on v'.memory 0) + waiting' ≤ room_on v'.memory 0 → room ≤ room' → KeepsOrder v.work v.lane → v.work ≡ w.work → IsAccelerator w' v' (queue ++ b ∷ []) waiting' room'
 keeps_batch w w' v v' queue b waiting waiting' room room' host d a e is k named low fits more log_room lane_room block_room wider order same =
     let at = acts_on_sync w host d a.one_device a.legal e in
     let l = batch_placed w host d b at named in
-    let labels : labels_of (after_accept w host d) ≡ labels_of w ++ b ∷ [] = rw l.same (labels_more w host d at l.some) in
+    let labels : labels_of (accepting w host d) ≡ labels_of w ++ b ∷ [] = rw l.same (labels_more w host d at l.some) in
     let here : b.at ≡ sync = ap (λ (x : Label). x.at) l.same in
     rw is (record {
       one_device = a.one_device;
-      legal = legal_placed w host d a.legal e;
+      legal = legal_accepted w host d a.legal e;
       few_items = a.few_items;
       held_low = omega (arith, fits, length-append queue (b ∷ []));
       room = omega (arith, a.room, wider);
-      parts = queued_more w (after_accept w host d) v v' queue b waiting waiting' a.parts labels refl k here (rw l.same low) (rw l.same l.some) more (few_wait w v queue waiting a.parts order same) log_room lane_room block_room;
-      memory = remembers_room w (after_accept w host d) v v' a.memory refl refl k;
+      parts = queued_more w (accepting w host d) v v' queue b waiting waiting' a.parts labels refl k here (rw l.same low) (rw l.same l.some) more (few_wait w v queue waiting a.parts order same) log_room lane_room block_room;
+      memory = remembers_room w (accepting w host d) v v' a.memory refl refl k;
     })
 
 -- operations that are there aren't none
@@ -245,7 +231,7 @@ places_full w w' v queue waiting host d q one l e some full is =
 -- A directive with a batch is answered with the batch's queue and number.
 pub places_batch : (w w' : State) (v : WorkView) (queue : List Label) (waiting host : ℕ) (d : Directive) (placed : Placed) → Queued w v queue waiting → w.config.devices ≡ 1 → Legal w
     → refusal w.config (standing_of w) host d ≡ None → 0 < length (batch_of (standing_of w) (walk_of (standing_of w) host d)) → ¬ length queue ≡ w.config.room
-    → placed ≡ answer_of (standing_of w) d (walk_of (standing_of w) host d) → w' ≡ after_accept (with_taken w v) host d → Places (with_taken w v) host d (Ok placed) w'
+    → placed ≡ answer_of (standing_of w) d (walk_of (standing_of w) host d) → w' ≡ accepting (with_taken w v) host d → Places (with_taken w v) host d (Ok placed) w'
 places_batch w w' v queue waiting host d placed q one l e some room answer is =
     (fault_is w v queue waiting host d q one l e some ∙ ap queue_fault (ne_eqb (length queue) w.config.room room), answer, is)
 

@@ -1,7 +1,7 @@
 -- A run that goes on by one step, and a run that is cut.
 use Rattle.std.proofs.Common.{List, [], ◌∷◌, ◌++◌, length, take, drop, refl, sym}
 use Rattle.acc_core.specs.declared.event.Event.{Event}
-use Rattle.acc_core.specs.declared.event.Reply.{Reply}
+use Rattle.acc_host.specs.declared.state.Reply.{Reply}
 use Rattle.acc_core.specs.Machine.{State, Step, Runs}
 
 -- a run and one step behind it are a run

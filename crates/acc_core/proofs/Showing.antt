@@ -1,25 +1,32 @@
 -- An item of a host joins the log of an accelerator.
-use Rattle.std.proofs.Common.{◌≡◌, ℕ, ◌+◌, ◌<◌, List, ◌∷◌, length, refl, sym, ap, subst, ◌∙◌, arith}
-use Rattle.acc_base.specs.declared.range.Range.{Range}
+use Rattle.std.proofs.Common.{◌≡◌, ℕ, ◌+◌, ◌<◌, ◌≤◌, true, false, cond, List, ◌∷◌, length, refl, sym, ap, subst, ◌∙◌, arith, Some, None, Ok, Err}
+use Rattle.std.specs.Prelude.{ℤ, All, Bool, not, nat_le}
+use Rattle.std.proofs.lemmas.Bool.{lt-leb}
+use Rattle.acc_base.specs.declared.config.TheConstants.{MAX_CELLS}
+use Rattle.acc_base.specs.declared.fault.Fault.{Fault}
+use Rattle.acc_base.specs.declared.fault.Fault.TheVariants.{BadRange, TooMany, Memory}
 use Rattle.acc_batch.specs.declared.operation.Label.{Label}
+use Rattle.acc_host.specs.Engines.{MayRecord}
+use Rattle.acc_work.specs.declared.item.Plain.{Plain}
+use Rattle.acc_work.specs.declared.item.Shown.{Shown}
 use Rattle.acc_work.specs.declared.log.Told.{Told}
-use Rattle.acc_work.specs.declared.log.Told.TheVariants.{Print}
+use Rattle.acc_work.specs.declared.log.Told.TheVariants as told
 use Rattle.acc_work.specs.declared.log.TheConstants.{MAX_HOST_ITEMS}
 use Rattle.acc_work.specs.declared.log.WorkEntry.TheVariants as entry
 use Rattle.acc_work.specs.Orders.{ShowsTruth}
-use Rattle.acc_work.specs.Logs.{all_items, value}
-use Rattle.acc_core.specs.Machine.{State, labels_of}
-use Rattle.acc_memory.specs.Memories.{rows_on}
+use Rattle.acc_work.specs.Items.{shown_by}
+use Rattle.acc_work.specs.Logs.{all_items, all_done, value}
+use Rattle.acc_core.specs.Machine.{State, labels_of, unless, told_of, can_tell, item_answer}
+use Rattle.acc_memory.specs.Memories.{rows_on, lengths_of}
 use Rattle.acc_memory.proofs.Showing.{length_held}
-use Rattle.acc_core.specs.Ties.{IsAccelerator, Remembers}
+use Rattle.acc_core.specs.Ties.{IsAccelerator, Remembers, has_cells}
 use Rattle.acc_work.specs.Lanes.{LaneView}
-use Rattle.acc_work.specs.Works.{WorkView, HasMadeRoom, HasTold, Tells}
+use Rattle.acc_work.specs.Works.{WorkView, HasMadeRoom, HasTold, CanTell, Tells, item_fault}
 use Rattle.acc_work.specs.declared.item.Plain.TheVariants as plain
-use Rattle.acc_memory.specs.Values.{values_of}
 use Rattle.acc_core.proofs.Advancing.{with_work}
 use Rattle.acc_core.proofs.Keeping.{legal_item}
 use Rattle.acc_core.proofs.Placing.{remembers_room}
-use Rattle.acc_core.proofs.Remembering.{remembers_shown}
+use Rattle.acc_core.proofs.Remembering.{has_same, no_longer, remembers_shown}
 
 -- more room leaves an accelerator what it is
 pub roomier : {w : State} {v v' : WorkView} {queue : List Label} {waiting queue_room : ℕ} → IsAccelerator w v queue waiting queue_room → HasMadeRoom v v' → IsAccelerator w v' queue waiting queue_room
@@ -75,11 +82,47 @@ told_item w v v' queue waiting queue_room h item a same s room few truth =
 pub taken_kept : (v spared v' : WorkView) (h : ℕ) (what : Told) → HasMadeRoom v spared → HasTold spared v' h what → length v'.lane.taken ≡ length v.lane.taken
 taken_kept v spared v' h what room told = ap (λ (l : LaneView). length l.taken) told.lane ∙ ap length room.taken
 
--- What a print tells: the values of its cells.
-pub record Printed (w : State) (v v' : WorkView) (h : ℕ) (range : Range) : Type 0 where
-  pub told : HasTold v v' h (Print range (values_of (value w.config.arrays w.work) range))
+-- an item other than a Seen can be told where its cells are there
+pub cells_tell : (w : State) (item : Plain) → MayRecord item → can_tell w item ≡ has_cells w.config.arrays item
+cells_tell w (plain.Write array cell new_value) may = refl
+cells_tell w (plain.Print range) may = refl
+cells_tell w (plain.Seen device counts) may = absurd may
+cells_tell w (plain.Test device counts) may = refl
 
-pub printed : (w : State) (v v' : WorkView) (h : ℕ) (range : Range) (what : Told) → Remembers w v → Tells v (plain.Print range) what → HasTold v v' h what → Printed w v v' h range
-printed w v v' h range what r t s =
-    let is : what ≡ Print range (values_of (value w.config.arrays w.work) range) = t.1 ∙ ap (Print range) (t.2 (value w.config.arrays w.work) r.shows) in
-    record { told = rw is at s }
+pub may_tell : (v : WorkView) (arrays : List (List ℤ)) (item : Plain) → MayRecord item → lengths_of v.memory.arrays ≡ lengths_of arrays
+    → All (λ (cells : List ℤ). (1 ≤ length cells) × (length cells ≤ MAX_CELLS)) arrays → has_cells arrays item ≡ true → CanTell v item
+may_tell v arrays (plain.Write array cell new_value) may same limits there = has_same v.memory arrays (record { array = array; lo = cell; len = 1 }) same there
+may_tell v arrays (plain.Print range) may same limits there = (has_same v.memory arrays range same there, no_longer arrays range MAX_CELLS limits there)
+may_tell v arrays (plain.Seen device counts) may same limits there = absurd may
+may_tell v arrays (plain.Test device counts) may same limits there = tt
+
+-- What an item tells: a print the values of its cells, a test whether each queue has performed its count.
+pub told_is : (w : State) (v : WorkView) (item : Plain) (what : Told) → Remembers w v
+    → ((device : ℕ) (counts : List ℕ) → all_done v.lane.taken v.work device 0 counts ≡ all_done (labels_of w) w.work device 0 counts) → Tells v item what → what ≡ told_of w item
+told_is w v (plain.Write array cell new_value) what r reached t = t
+told_is w v (plain.Print range) what r reached t = t.1 ∙ ap (told.Print range) (t.2 (value w.config.arrays w.work) r.shows)
+told_is w v (plain.Seen device counts) what r reached t = t
+told_is w v (plain.Test device counts) what r reached t = t ∙ ap (told.Test device counts) (reached device counts)
+
+-- An item that can be told is answered, while the run may have one more.
+pub item_given : (w : State) (item : Plain) (answer : Shown) → all_items w.work < MAX_HOST_ITEMS → can_tell w item ≡ true → answer ≡ shown_by (told_of w item) → Ok answer ≡ item_answer false w item
+item_given w item answer few there is =
+    let more : nat_le MAX_HOST_ITEMS (all_items w.work) ≡ false = lt-leb MAX_HOST_ITEMS (all_items w.work) few in
+    rw (more, there, is) refl
+
+-- One whose cells aren't there is refused.
+pub item_refused : (w : State) (item : Plain) → all_items w.work < MAX_HOST_ITEMS → can_tell w item ≡ false → Err BadRange ≡ item_answer false w item
+item_refused w item few none =
+    let more : nat_le MAX_HOST_ITEMS (all_items w.work) ≡ false = lt-leb MAX_HOST_ITEMS (all_items w.work) few in
+    rw (more, none) refl
+
+-- Want of memory and too many items are told before that.
+fault_first : (no_memory many cells : Bool) (fault : Fault) → cond no_memory (Some Memory) (cond many (Some TooMany) None) ≡ Some fault
+    → cond no_memory (Some Memory) (cond many (Some TooMany) (cond (not cells) (Some BadRange) None)) ≡ Some fault
+fault_first true many cells fault e = e
+fault_first false true cells fault e = e
+fault_first false false cells fault e = cc
+
+pub fault_given : {A : Type 0} (no_memory cells : Bool) (w : State) (fault : Fault) (answer : A) → item_fault no_memory w.work true ≡ Some fault → Err fault ≡ unless (item_fault no_memory w.work cells) answer
+fault_given no_memory cells w fault answer e =
+    sym (ap (λ f. unless f answer) (fault_first no_memory (nat_le MAX_HOST_ITEMS (all_items w.work)) cells fault e))

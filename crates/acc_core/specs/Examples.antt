@@ -16,17 +16,17 @@ use Rattle.acc_place.specs.declared.directive.Kind.{Kind}
 use Rattle.acc_place.specs.declared.directive.Kind.TheVariants as kind
 use Rattle.acc_core.specs.declared.event.Event.{Event}
 use Rattle.acc_core.specs.declared.event.Event.TheVariants as event
-use Rattle.acc_core.specs.declared.event.Reply.{Reply}
-use Rattle.acc_core.specs.declared.event.Reply.TheVariants as reply
+use Rattle.acc_host.specs.declared.state.Reply.{Reply}
+use Rattle.acc_host.specs.declared.state.Reply.TheVariants as reply
 use Rattle.acc_work.specs.declared.log.Told.TheVariants as shown
 use Rattle.acc_work.specs.declared.log.WorkEntry.{WorkEntry}
 use Rattle.acc_work.specs.declared.log.WorkEntry.TheVariants as entry
 use Rattle.acc_batch.specs.declared.operation.Op.TheVariants.{Make, CopyIn, CopyOut, Release, Run}
-use Rattle.acc_core.specs.declared.program.Act.{Act}
-use Rattle.acc_core.specs.declared.program.Act.TheVariants as act
-use Rattle.acc_core.specs.declared.program.Host.{Host}
-use Rattle.acc_core.specs.declared.program.Phase.{Phase}
-use Rattle.acc_core.specs.declared.program.Phase.TheVariants as phase
+use Rattle.acc_host.specs.declared.program.Act.{Act}
+use Rattle.acc_host.specs.declared.program.Act.TheVariants as act
+use Rattle.acc_host.specs.declared.state.Phase.{Phase}
+use Rattle.acc_host.specs.declared.state.Phase.TheVariants as phase
+use Rattle.acc_host.specs.Hosts.{HostView}
 use Rattle.acc_core.specs.Machine.{State, Outcome, step, standing_of}
 use Rattle.acc_place.specs.LoopExamples.{shifts, all_x, all_y}
 use Rattle.acc_place.specs.Standings.{Standing}
@@ -83,8 +83,8 @@ look_with r st =
       replies = r.replies;
       present = presences (st.marks 0);
       work = r.state.work;
-      ended = map (λ (h : Host). h.ended) r.state.hosts;
-      phases = map (λ (h : Host). h.phase) r.state.hosts;
+      ended = map (λ (h : HostView). h.ended) r.state.hosts;
+      phases = map (λ (h : HostView). h.phase) r.state.hosts;
     }
 
 abbrev pub look_in : Played → Look

@@ -5,7 +5,6 @@ pub mod Legality
 pub mod Machine
 pub mod Place
 pub mod Present
-pub mod Steps
 pub mod Ties
 pub mod Work
 pub mod Worlds

@@ -1,39 +1,41 @@
 -- The core as a machine. One step is determined but for a refusal of memory, which is the machine's free choice.
-use Rattle.std.specs.Prelude.{◌≡◌, ℕ, ◌+◌, ◌-◌, ◌<◌, Bool, true, false, ◌&&◌, not, nat_lt, nat_le, ◌==◌, List, [], ◌∷◌, length, replicate, take, drop, slice_get, slice_set, slice_index_or, Option, Some, None, if◌then◌else◌}
+use Rattle.std.specs.Prelude.{◌≡◌, ℕ, ◌+◌, ◌-◌, ◌<◌, Bool, true, false, ◌&&◌, not, nat_lt, ◌==◌, List, [], ◌∷◌, length, replicate, take, drop, slice_get, slice_set, slice_index_or, Option, Some, None, Result, Ok, Err, if◌then◌else◌}
 use Rattle.acc_base.specs.declared.ids.QueueAt.{QueueAt}
 use Rattle.acc_base.specs.declared.ids.TheConstants.{QUEUES}
 use Rattle.acc_base.specs.declared.fault.Fault.{Fault}
-use Rattle.acc_base.specs.declared.fault.Fault.TheVariants.{BadRange, TooMany, Memory, QueueFull}
+use Rattle.acc_base.specs.declared.fault.Fault.TheVariants.{Memory, QueueFull}
 use Rattle.acc_base.specs.Configurations.{Configuration, is_in_array}
 use Rattle.acc_base.specs.Queues.{seat, queue_count}
-use Rattle.acc_place.specs.declared.directive.Directive.{Directive}
+use Rattle.acc_place.specs.Directives.{Directive}
 use Rattle.acc_place.specs.declared.directive.PlaceEntry.{PlaceEntry}
 use Rattle.acc_place.specs.declared.directive.PlaceEntry.TheVariants as noted
+use Rattle.acc_place.specs.declared.directive.Placed.{Placed}
 use Rattle.acc_core.specs.declared.event.Event.{Event}
 use Rattle.acc_core.specs.declared.event.Event.TheVariants as event
-use Rattle.acc_core.specs.declared.event.Reply.{Reply}
-use Rattle.acc_core.specs.declared.event.Reply.TheVariants as reply
+use Rattle.acc_host.specs.declared.state.After.{After}
+use Rattle.acc_host.specs.declared.state.After.TheVariants as go
+use Rattle.acc_host.specs.declared.state.Reply.{Reply}
+use Rattle.acc_host.specs.declared.state.Reply.TheVariants as reply
+use Rattle.acc_host.specs.Hosts.{HostView, wants, after_place, after_wait, after_item, gone, replied}
+use Rattle.acc_host.specs.Steps.{Want, stays, sets, refuses, places, awaits, records}
+use Rattle.acc_work.specs.declared.item.Plain.{Plain}
+use Rattle.acc_work.specs.declared.item.Plain.TheVariants as plain
+use Rattle.acc_work.specs.declared.item.Shown.{Shown}
 use Rattle.acc_work.specs.declared.log.Told.{Told}
-use Rattle.acc_work.specs.declared.log.Told.TheVariants as shown
-use Rattle.acc_work.specs.declared.log.TheConstants.{MAX_HOST_ITEMS}
+use Rattle.acc_work.specs.declared.log.Told.TheVariants as told
 use Rattle.acc_work.specs.declared.log.WorkEntry.{WorkEntry}
 use Rattle.acc_work.specs.declared.log.WorkEntry.TheVariants as entry
 use Rattle.acc_batch.specs.declared.operation.Label.{Label}
 use Rattle.acc_batch.specs.declared.operation.Op.{Op}
-use Rattle.acc_core.specs.declared.program.Act.{Act}
-use Rattle.acc_core.specs.declared.program.Act.TheVariants as act
-use Rattle.acc_core.specs.declared.program.Host.{Host}
-use Rattle.acc_core.specs.declared.program.Phase.{Phase}
-use Rattle.acc_core.specs.declared.program.Phase.TheVariants as phase
-use Rattle.acc_core.specs.declared.program.Statement.{Statement}
 use Rattle.acc_place.specs.Accepting.{refusal}
 use Rattle.acc_place.specs.Batches.{batch_of, answer_of, walk_at}
 use Rattle.acc_place.specs.Histories.{standing}
 use Rattle.acc_batch.specs.Labels.{on_queue, ops_of, batch_at}
-use Rattle.acc_work.specs.Logs.{performed, items_of, all_items, value, all_done, host_allows}
+use Rattle.acc_work.specs.Items.{shown_by}
+use Rattle.acc_work.specs.Logs.{performed, items_of, value, all_done, host_allows}
+use Rattle.acc_work.specs.Works.{item_fault}
 use Rattle.acc_memory.specs.Values.{values_of}
 use Rattle.acc_place.specs.Standings.{Standing, Walk, walk_of}
-use Rattle.acc_core.specs.Steps.{Owed, nothing_owed, owes_seen, owed_by}
 
 -- The histories, the latest entry first; the number of batches that were taken, queue by queue of each device; the hosts.
 pub record State : Type 0 where
@@ -42,10 +44,10 @@ pub record State : Type 0 where
   pub counts : List ℕ
   pub work : List WorkEntry
   pub taken : List ℕ
-  pub hosts : List Host
+  pub hosts : List HostView
 
 -- Nothing is accepted, performed, taken or shown yet.
-abbrev pub state_at_first : Configuration → List Host → State
+abbrev pub state_at_first : Configuration → List HostView → State
 state_at_first config hosts =
     record { config = config; history = []; counts = []; work = []; taken = replicate (queue_count config) 0; hosts = hosts }
 
@@ -76,6 +78,79 @@ held w labels at = length (on_queue at labels) - taken_on w at
 abbrev pub rest : State → List Label → QueueAt → List Op
 rest w labels at = drop (length (performed at w.work)) (ops_of (take (taken_on w at) (on_queue at labels)))
 
+abbrev pub is_empty : List Op → Bool
+is_empty [] = true
+is_empty (op ∷ ops) = false
+
+-- the batch isn't empty, and the queue holds its room
+abbrev pub is_full : State → Standing → Walk → Bool
+is_full w st walk = not (is_empty (batch_of st walk)) && (held w st.labels (walk_at walk) == w.config.room)
+
+abbrev pub queue_fault : Bool → Option Fault
+queue_fault true = Some QueueFull
+queue_fault false = None
+
+-- the fault of a host's directive, where memory is refused or not
+abbrev pub place_fault : Bool → State → ℕ → Directive → Option Fault → Option Fault
+place_fault no_memory w host d (Some fault) = Some fault
+place_fault no_memory w host d None =
+    if no_memory then Some Memory else queue_fault (is_full w (standing_of w) (walk_of (standing_of w) host d))
+
+abbrev pub fault_of_place : Bool → State → ℕ → Directive → Option Fault
+fault_of_place no_memory w host d = place_fault no_memory w host d (refusal w.config (standing_of w) host d)
+
+abbrev pub unless : {A : Type 0} → Option Fault → A → Result A Fault
+unless None answer = Ok answer
+unless (Some fault) answer = Err fault
+
+-- what a host's directive is answered
+abbrev pub place_answer : Bool → State → ℕ → Directive → Result Placed Fault
+place_answer no_memory w host d =
+    unless (fault_of_place no_memory w host d) (answer_of (standing_of w) d (walk_of (standing_of w) host d))
+
+abbrev pub accepting : State → ℕ → Directive → State
+accepting w host d = record w { history = noted.Accepted host d ∷ w.history; counts = items_of host w.work ∷ w.counts }
+
+-- the state after that answer; where a call is refused nothing changes
+abbrev pub placed_state : State → ℕ → Directive → Result Placed Fault → State
+placed_state w host d (Ok placed) = accepting w host d
+placed_state w host d (Err fault) = w
+
+abbrev pub with_item : State → ℕ → Told → State
+with_item w host what = record w { work = entry.Item host what ∷ w.work }
+
+-- what an item tells now: a print its values, a test whether each queue has performed its count
+abbrev pub told_of : State → Plain → Told
+told_of w (plain.Write array cell new_value) = told.Write array cell new_value
+told_of w (plain.Print range) = told.Print range (values_of (value w.config.arrays w.work) range)
+told_of w (plain.Seen device counts) = told.Seen device counts
+told_of w (plain.Test device counts) = told.Test device counts (all_done (labels_of w) w.work device 0 counts)
+
+-- its cells are there, and what it tells as seen is performed
+abbrev pub can_tell : State → Plain → Bool
+can_tell w (plain.Write array cell new_value) = is_in_array w.config.arrays (record { array = array; lo = cell; len = 1 })
+can_tell w (plain.Print range) = is_in_array w.config.arrays range
+can_tell w (plain.Seen device counts) = all_done (labels_of w) w.work device 0 counts
+can_tell w (plain.Test device counts) = true
+
+-- what a host's item is answered
+abbrev pub item_answer : Bool → State → Plain → Result Shown Fault
+item_answer no_memory w item = unless (item_fault no_memory w.work (can_tell w item)) (shown_by (told_of w item))
+
+abbrev pub item_state : State → ℕ → Plain → Result Shown Fault → State
+item_state w host item (Ok answer) = with_item w host (told_of w item)
+item_state w host item (Err fault) = w
+
+-- what a host's wait is answered: false while a queue has not performed its count
+abbrev pub wait_answer : Bool → State → ℕ → List ℕ → Result Bool Fault
+wait_answer no_memory w device counts =
+    if all_done (labels_of w) w.work device 0 counts then unless (item_fault no_memory w.work true) true else Ok false
+
+abbrev pub waited_state : State → ℕ → ℕ → List ℕ → Result Bool Fault → State
+waited_state w host device counts (Ok true) = with_item w host (told.Seen device counts)
+waited_state w host device counts (Ok false) = w
+waited_state w host device counts (Err fault) = w
+
 pub record Outcome : Type 0 where
   pub reply : Reply
   pub state : State
@@ -86,79 +161,26 @@ idle w = record { reply = reply.Idle; state = w }
 abbrev pub did : State → Outcome
 did w = record { reply = reply.Did; state = w }
 
-abbrev pub with_host : State → ℕ → Host → State
-with_host w h host = record w { hosts = slice_set w.hosts h host }
+-- A host goes on.
+abbrev pub goes_on : State → ℕ → HostView → Result After Fault → Outcome
+goes_on w h host goes = record { reply = replied goes; state = record w { hosts = slice_set w.hosts h (gone goes host) } }
 
-abbrev pub in_phase : Host → Phase → Host
-in_phase host phase = record host { phase = phase }
+-- a host's step, by what it wants
+abbrev pub host_step : Bool → State → ℕ → HostView → Want → Outcome
+host_step no_memory w h host stays = goes_on w h host (Ok go.Idle)
+host_step no_memory w h host (sets ids) = goes_on w h host (Ok (go.Set ids))
+host_step no_memory w h host (refuses fault) = goes_on w h host (Err fault)
+host_step no_memory w h host (places d) =
+    goes_on (placed_state w h d (place_answer no_memory w h d)) h host (after_place d (place_answer no_memory w h d))
+host_step no_memory w h host (awaits device counts) =
+    goes_on (waited_state w h device counts (wait_answer no_memory w device counts)) h host
+    (after_wait (wait_answer no_memory w device counts))
+host_step no_memory w h host (records item) =
+    goes_on (item_state w h item (item_answer no_memory w item)) h host (after_item (item_answer no_memory w item))
 
-abbrev pub refused : State → ℕ → Host → Fault → Outcome
-refused w h host fault = record { reply = reply.Refused fault; state = with_host w h (in_phase host (phase.Refused fault)) }
-
-abbrev pub next_statement : Host → Host
-next_statement host = record host { ended = host.ended + 1; phase = phase.Ready }
-
-abbrev pub with_item : State → ℕ → Told → State
-with_item w h item = record w { work = entry.Item h item ∷ w.work }
-
--- An item joins the work log.
-abbrev pub item_step : Bool → State → ℕ → Host → Bool → Told → Outcome
-item_step no_memory w h host in_array item =
-    if no_memory then refused w h host Memory
-    else (if nat_le MAX_HOST_ITEMS (all_items w.work) then refused w h host TooMany
-    else (if not in_array then refused w h host BadRange
-    else did (with_item (with_host w h (next_statement host)) h item)))
-
-abbrev pub accepting : State → ℕ → Host → Directive → State
-accepting w h host d =
-    record (with_host w h host) { history = noted.Accepted h d ∷ w.history; counts = items_of h w.work ∷ w.counts }
-
--- the host after a directive that was accepted, by what it owes
-abbrev pub after_place : Owed → Host → Host
-after_place nothing_owed host = next_statement host
-after_place (owes_seen device counts) host = in_phase host (phase.Waits device counts)
-
-abbrev pub is_empty : List Op → Bool
-is_empty [] = true
-is_empty (op ∷ ops) = false
-
--- the batch isn't empty, and the queue holds its room
-abbrev pub is_full : State → Standing → Walk → Bool
-is_full w st walk = not (is_empty (batch_of st walk)) && (held w st.labels (walk_at walk) == w.config.room)
-
--- The batch of an accepted directive is placed.
-abbrev pub placing : State → Standing → ℕ → Host → Directive → Walk → Outcome
-placing w st h host d walk =
-    if is_full w st walk then refused w h host QueueFull
-    else did (accepting w h (after_place (owed_by (answer_of st d walk)) host) d)
-
-abbrev pub place_step : Bool → State → Standing → ℕ → Host → Directive → Option Fault → Outcome
-place_step no_memory w st h host d (Some fault) = refused w h host fault
-place_step no_memory w st h host d None =
-    if no_memory then refused w h host Memory else placing w st h host d (walk_of st h d)
-
-abbrev pub act_step : Bool → State → Standing → ℕ → Host → Act → Outcome
-act_step no_memory w st h host (act.Place d) = place_step no_memory w st h host d (refusal w.config st h d)
-act_step no_memory w st h host (act.Write array cell new_value) =
-    item_step no_memory w h host (is_in_array w.config.arrays (record { array = array; lo = cell; len = 1 }))
-    (shown.Write array cell new_value)
-act_step no_memory w st h host (act.Print range) =
-    item_step no_memory w h host (is_in_array w.config.arrays range)
-    (shown.Print range (values_of (value w.config.arrays w.work) range))
-
-abbrev pub statement_step : Bool → State → Standing → ℕ → Host → Option Statement → Outcome
-statement_step no_memory w st h host None = idle w
-statement_step no_memory w st h host (Some s) = act_step no_memory w st h host s.act
-
-abbrev pub host_step : Bool → State → Standing → ℕ → Host → Phase → Outcome
-host_step no_memory w st h host phase.Ready = statement_step no_memory w st h host (slice_get host.statements host.ended)
-host_step no_memory w st h host (phase.Waits device counts) =
-    if all_done st.labels w.work device 0 counts then item_step no_memory w h host true (shown.Seen device counts) else idle w
-host_step no_memory w st h host (phase.Refused fault) = idle w
-
-abbrev pub named_step : Bool → State → Standing → ℕ → Option Host → Outcome
-named_step no_memory w st h None = idle w
-named_step no_memory w st h (Some host) = host_step no_memory w st h host host.phase
+abbrev pub named_step : Bool → State → ℕ → Option HostView → Outcome
+named_step no_memory w h None = idle w
+named_step no_memory w h (Some host) = host_step no_memory w h host (wants w.config.devices host)
 
 abbrev pub take_step : State → List Label → QueueAt → List Op → Outcome
 take_step w labels at [] =
@@ -177,14 +199,11 @@ abbrev pub queue_step : Bool → State → Outcome → Outcome
 queue_step true w o = o
 queue_step false w o = idle w
 
-abbrev pub step_in : Bool → State → Standing → Event → Outcome
-step_in no_memory w st (event.Host h) = named_step no_memory w st h (slice_get w.hosts h)
-step_in no_memory w st (event.Take at) = queue_step (is_there w at) w (take_step w st.labels at (rest w st.labels at))
-step_in no_memory w st (event.Perform at) = queue_step (is_there w at) w (perform_step w st.labels at (rest w st.labels at))
-
 -- One step, where memory is refused or not.
 abbrev pub step : Bool → State → Event → Outcome
-step no_memory w e = step_in no_memory w (standing_of w) e
+step no_memory w (event.Host h) = named_step no_memory w h (slice_get w.hosts h)
+step no_memory w (event.Take at) = queue_step (is_there w at) w (take_step w (labels_of w) at (rest w (labels_of w) at))
+step no_memory w (event.Perform at) = queue_step (is_there w at) w (perform_step w (labels_of w) at (rest w (labels_of w) at))
 
 -- The machine may answer so.
 abbrev pub Step : State → Event → Reply → State → Type 0

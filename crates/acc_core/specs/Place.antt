@@ -2,7 +2,7 @@
 pub use Rattle.acc_batch.specs.Labels.{on_queue, ops_of}
 pub use Rattle.acc_place.specs.declared.directive.Clause.{Clause}
 pub use Rattle.acc_place.specs.declared.directive.Clause.TheVariants.{Copyin, Copyout, Delete}
-pub use Rattle.acc_place.specs.declared.directive.Directive.{Directive}
+pub use Rattle.acc_place.specs.Directives.{Directive}
 pub use Rattle.acc_place.specs.declared.directive.Item.{Item}
 pub use Rattle.acc_place.specs.declared.directive.Kind.{Kind}
 pub use Rattle.acc_place.specs.declared.directive.Kind.TheVariants.{EnterData, ExitData}

@@ -1,7 +1,10 @@
 -- How the running parts of the core stand to its histories.
-use Rattle.std.specs.Prelude.{◌≡◌, ℕ, ◌+◌, ◌-◌, ◌<◌, ◌≤◌, List, [], ◌∷◌, ◌++◌, length, replicate, All}
+use Rattle.std.specs.Prelude.{◌≡◌, ℕ, ℤ, ◌+◌, ◌-◌, ◌<◌, ◌≤◌, Bool, true, List, [], ◌∷◌, ◌++◌, length, replicate, All}
 use Rattle.acc_base.specs.declared.config.TheConstants.{MAX_HOSTS}
+use Rattle.acc_base.specs.Configurations.{is_in_array}
 use Rattle.acc_base.specs.Queues.{queue_count}
+use Rattle.acc_work.specs.declared.item.Plain.{Plain}
+use Rattle.acc_work.specs.declared.item.Plain.TheVariants as plain
 use Rattle.acc_work.specs.declared.log.WorkEntry.{WorkEntry}
 use Rattle.acc_batch.specs.declared.operation.Label.{Label}
 use Rattle.acc_batch.specs.declared.operation.Op.{Op}
@@ -26,6 +29,13 @@ state_of_parts p v =
       taken = length v.lane.taken ∷ replicate (queue_count p.config - 1) 0;
       hosts = [];
     }
+
+-- the cells of an item are there
+abbrev pub has_cells : List (List ℤ) → Plain → Bool
+has_cells arrays (plain.Write array cell new_value) = is_in_array arrays (record { array = array; lo = cell; len = 1 })
+has_cells arrays (plain.Print range) = is_in_array arrays range
+has_cells arrays (plain.Seen device counts) = true
+has_cells arrays (plain.Test device counts) = true
 
 -- how many operations are performed
 abbrev pub performed_count : State → ℕ

@@ -1,8 +1,10 @@
-ghost use Rattle.std.specs.Prelude.{reverse, ◌≡◌, ◌+◌, ◌<◌, ◌≤◌, [], length, IfOk, IfErr, OnSome, true, false, slice_get, ◌^◌};
+ghost use Rattle.std.specs.Prelude.{reverse, ◌≡◌, ◌+◌, ◌<◌, ◌≤◌, [], length, IfOk, IfErr, OnErr, OnSome, true, false, slice_get, ◌^◌, Ok};
 ghost use Rattle.acc_base.specs.declared.config.TheConstants.{MAX_HOSTS};
-ghost use Rattle.acc_base.specs.Configurations.{is_in_array};
+ghost use Rattle.acc_host.specs.Engines.{Wait, Record, MayRecord, without_item};
 ghost use Rattle.acc_place.specs.Places.{is_synchronous};
-ghost use Rattle.acc_core.specs.Answers.{Places, ItemAnswers, PrintAnswers};
+ghost use Rattle.acc_core.specs.Answers.{Makes, Places};
+ghost use Rattle.acc_core.specs.Legality.{AllRise};
+ghost use Rattle.acc_core.specs.Ties.{has_cells};
 ghost use Rattle.acc_batch.specs.Labels.{on_queue, ops_of};
 ghost use Rattle.acc_work.specs.Logs.{all_done, performed};
 ghost use Rattle.acc_core.specs.Machine.{state_at_first, step, standing_of, labels_of};
@@ -10,13 +12,13 @@ ghost use Rattle.std.specs.Option.{option_map};
 ghost use Rattle.acc_present.specs.Presences.{presences, holder};
 ghost use Rattle.acc_present.specs.Tables.{entry_presence};
 
-use crate::event::Reply;
 use crate::totals::Totals;
-use acc_base::{Config, DeviceId, Fault, HostId, QueueAt, Range, Shared};
+use acc_base::{Config, DeviceId, Fault, HostId, QueueAt, Range};
 use acc_batch::Batch;
+use acc_host::{Engine, Reply};
 use acc_place::{Directive, Place, PlaceEntry, Placed};
 use acc_present::Entry;
-use acc_work::{Done, Item, Work, WorkEntry, sync_queue};
+use acc_work::{Done, Item, Plain, Shown, Work, WorkEntry, sync_queue};
 use std::alloc::Global;
 use std::collections::VecDeque;
 use std::marker::Model;
@@ -51,7 +53,6 @@ impl Model for Accelerator {
 impl Accelerator {
     ghost use Rattle.acc_base.specs.declared.fault.Fault.TheVariants.{Memory as no_memory};
     ghost use Rattle.acc_core.specs.declared.event.Event.TheVariants as event;
-    ghost use Rattle.acc_work.specs.declared.log.Told.TheVariants.{Write, Seen};
 
     /// Nothing is accepted, performed or shown yet.
     pub fn new(alloc: Global, config: Config) -> Result<Accelerator, Fault>
@@ -71,12 +72,8 @@ impl Accelerator {
         })
     }
 
-    /// Accepts a directive, and places its batch on the queue.
-    ///
-    /// # Errors
-    ///
-    /// The directive's first fault; else `Memory` for want of memory, or `QueueFull`.
-    pub fn place(&mut self, host: HostId, directive: &Shared<Directive>) -> Result<Placed, Fault>
+    // Accepts a directive, and places its batch on the queue.
+    fn accept(&mut self, host: HostId, directive: &Directive) -> Result<Placed, Fault>
         requires host { host < MAX_HOSTS }
         requires synchronous { is_synchronous directive.now ≡ true }
         ensures { Places self.old host directive.now result self.new }
@@ -103,64 +100,48 @@ impl Accelerator {
         }
     }
 
-    /// A host writes a cell of a host array.
-    ///
-    /// # Errors
-    ///
-    /// `Memory` for want of memory, `TooMany` behind the last item of a run, `BadRange` for a cell that isn't there.
-    pub fn write(&mut self, host: HostId, array: u8, cell: u32, value: i64) -> Result<(), Fault>
-        requires { host < MAX_HOSTS }
-        ensures { ItemAnswers self.old host (is_in_array self.old.config.arrays (record { array = array; lo = cell; len = 1 })) (Write array cell value) result self.new }
+    // The counts of items that go with the directives rise.
+    fn keeps_counts(&self)
+        ensures { AllRise self.now }
     {
-        let range = Range {
-            array,
-            lo: cell,
-            len: 1,
-        };
-        self.work.spare_item(self.waiting)?;
-        if !self.place.config().is_in_array(range) {
-            return Err(Fault::BadRange);
-        }
-        let item = Item::write(array, cell, value);
-        let _ = self.work.host_item(host, item);
-        Ok(())
+        let _ = &self.work;
     }
 
-    /// A host prints a range of a host array.
-    ///
-    /// # Errors
-    ///
-    /// Those of `write`.
-    pub fn print(&mut self, host: HostId, range: Range) -> Result<(), Fault>
-        requires { host < MAX_HOSTS }
-        ensures { PrintAnswers self.old host range result self.new }
+    // Records an item of a host, any but a Seen.
+    fn record(&mut self, host: HostId, item: Item) -> Result<Shown, (Item, Fault)>
+        requires host { host < MAX_HOSTS }
+        requires item { MayRecord item }
+        ensures makes { Makes self.old host (Record item (without_item result)) self.new }
+        ensures refused { OnErr result (self.new ≡ self.old) }
+        ensures back { IfErr result (λ r. r.0 ≡ item) }
     {
-        let item = Item::print(self.alloc, range)?;
-        self.work.spare_item(self.waiting)?;
+        self.work.keeps_order();
+        if let Err(fault) = self.work.spare_item(self.waiting) {
+            return Err((item, fault));
+        }
         let config = self.place.config();
-        if !config.is_in_array(range) {
-            return Err(Fault::BadRange);
+        if !has_cells(config, item.plain()) {
+            return Err((item, Fault::BadRange));
         }
         config.keeps_limits();
-        let _ = self.work.host_item(host, item);
-        Ok(())
+        Ok(self.work.host_item(host, item))
     }
 
-    /// A host sees that each queue of a device has performed so many batches.
-    ///
-    /// # Errors
-    ///
-    /// `Memory` for want of memory, `TooMany` behind the last item of a run.
-    pub fn see(&mut self, host: HostId, device: DeviceId, counts: [u64; 8]) -> Result<(), Fault>
+    // Records that each queue of a device has performed so many batches, if it has.
+    fn see(&mut self, host: HostId, device: DeviceId, counts: [u64; 8]) -> Result<bool, Fault>
         requires host { host < MAX_HOSTS }
-        requires reached { all_done (labels_of self.old) self.old.work device 0 counts ≡ true }
-        ensures { ItemAnswers self.old host true (Seen device counts) result self.new }
+        ensures makes { Makes self.old host (Wait device counts result) self.new }
+        ensures refused { OnErr result (self.new ≡ self.old) }
+        ensures idle { result ≡ Ok false → self.new ≡ self.old }
     {
+        if !self.reached(device, &counts) {
+            return Ok(false);
+        }
         self.work.keeps_order();
         let item = Item::seen(self.alloc, device, counts)?;
         self.work.spare_item(self.waiting)?;
         let _ = self.work.host_item(host, item);
-        Ok(())
+        Ok(true)
     }
 
     /// The structured and the dynamic counter on a device of the range, or of the present range that contains it.
@@ -271,5 +252,59 @@ impl Accelerator {
         let Accelerator { place, work, .. } = self;
         let (config, history, counts) = place.into_histories();
         (config, history, counts, work.into_log())
+    }
+}
+
+impl Engine for Accelerator {
+    ghost use Rattle.std.specs.Prelude.{◌≡◌, ◌<◌};
+    ghost use Rattle.acc_base.specs.declared.config.TheConstants.{MAX_HOSTS};
+    ghost use Rattle.acc_core.specs.Answers.{Makes};
+    ghost use Rattle.acc_core.specs.Legality.{entries_of};
+
+    ghost devices = { λ w. w.config.devices };
+
+    ghost serves = { λ w h. h < MAX_HOSTS };
+
+    ghost entries = { entries_of };
+
+    ghost makes = { Makes };
+
+    fn place(&mut self, host: HostId, directive: &Directive) -> Result<Placed, Fault> {
+        self.keeps_counts();
+        self.accept(host, directive)
+    }
+
+    fn wait_for(
+        &mut self,
+        host: HostId,
+        device: DeviceId,
+        counts: [u64; 8],
+    ) -> Result<bool, Fault> {
+        self.keeps_counts();
+        self.see(host, device, counts)
+    }
+
+    fn item(&mut self, host: HostId, item: Item) -> Result<Shown, (Item, Fault)> {
+        self.keeps_counts();
+        self.record(host, item)
+    }
+
+    fn ask(&self) -> u8 {
+        self.config().devices()
+    }
+}
+
+// Whether the cells of an item are there.
+fn has_cells(config: &Config, item: Plain) -> bool
+    ensures { result ≡ has_cells config.now.arrays item }
+{
+    match item {
+        Plain::Write { array, cell, .. } => config.is_in_array(Range {
+            array,
+            lo: cell,
+            len: 1,
+        }),
+        Plain::Print { range } => config.is_in_array(range),
+        Plain::Seen { .. } | Plain::Test { .. } => true,
     }
 }

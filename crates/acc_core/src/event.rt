@@ -1,4 +1,4 @@
-use acc_base::{Fault, HostId, QueueAt};
+use acc_base::{HostId, QueueAt};
 
 /// One event of the core.
 #[derive(Clone, Copy, Debug, PartialEq, Eq)]
@@ -9,15 +9,4 @@ pub enum Event {
     Take(QueueAt),
     /// The queue performs one operation.
     Perform(QueueAt),
-}
-
-/// The answer to an event.
-#[derive(Clone, Copy, Debug, PartialEq, Eq)]
-pub enum Reply {
-    /// The step was made.
-    Did,
-    /// The step is not possible now.
-    Idle,
-    /// The host's statement was refused.
-    Refused(Fault),
 }

@@ -4,19 +4,18 @@
 mod accelerator;
 mod event;
 mod laws;
-mod program;
 mod totals;
 mod world;
 
 pub use acc_batch::{Label, Op};
+pub use acc_host::{Act, HostProgram, HostState, Outcome, Reply, Statement};
 pub use acc_place::{
     ASYNC_NOVAL, Clause, Directive, Item, Kind, MAX_DIRECTIVES, MAX_ITEMS, MAX_REGIONS, PlaceEntry,
-    Placed, Region, Target, Waits,
+    Placed, Region, Target, Waits, Written,
 };
 pub use acc_present::Entry;
 pub use acc_work::{Counts, MAX_HOST_ITEMS, Told, WorkEntry};
-pub use event::{Event, Reply};
+pub use event::Event;
 pub use laws::{each_queue_is_counted, worked_programs};
-pub use program::{Act, HostProgram, HostState, Statement};
 pub use totals::Totals;
-pub use world::{Outcome, World};
+pub use world::World;

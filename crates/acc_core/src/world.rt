@@ -5,34 +5,22 @@ ghost use Rattle.acc_present.specs.Tables.{entry_presence};
 ghost use Rattle.acc_base.specs.declared.config.TheConstants.{MAX_HOSTS};
 ghost use Rattle.acc_core.specs.Legality.{AllFollow, Legal};
 ghost use Rattle.acc_core.specs.Machine.{Step, standing_of, labels_of};
-ghost use Rattle.acc_core.specs.declared.event.Reply.{Reply};
+ghost use Rattle.acc_host.specs.declared.state.Reply.{Reply};
+ghost use Rattle.acc_host.specs.Hosts.{ready, state_of};
+ghost use Rattle.acc_host.specs.Steps.{AllSynchronous};
 ghost use Rattle.acc_batch.specs.Labels.{on_queue, ops_of};
-ghost use Rattle.acc_work.specs.Logs.{all_done, performed};
-ghost use Rattle.acc_work.specs.declared.log.Told.TheVariants.{Seen};
-ghost use Rattle.acc_core.specs.Steps.{owed_by};
-ghost use Rattle.acc_core.specs.Worlds.{OnePerHost, world_fault, ready, opening, Ran, owed_in, after_answer, reply_to, Acts, Sees, HostSteps, AllSynchronous, IsHost, gives_synchronous, state_of, line_of};
+ghost use Rattle.acc_work.specs.Logs.{performed};
+ghost use Rattle.acc_core.specs.Worlds.{OnePerHost, AreNumbered, world_fault, opening, Ran};
 
 use crate::accelerator::Accelerator;
-use crate::event::{Event, Reply};
-use crate::program::{Act, Host, HostProgram, HostState, Phase};
+use crate::event::Event;
 use crate::totals::Totals;
-use acc_base::{Config, DeviceId, Fault, HostId, QueueAt, QueueId, Range};
-use acc_place::{PlaceEntry, Placed};
+use acc_base::{Config, DeviceId, Fault, HostId, QueueAt, Range};
+use acc_host::{Host, HostProgram, HostState, Outcome, Reply, hosts_follow};
 use acc_present::Entry;
 use acc_work::WorkEntry;
 use std::alloc::Global;
 use std::marker::Model;
-
-/// What a run leaves: the configuration; the place history, with how many items the host of each directive
-/// had before it, and the work history, the latest entry last; and where each host stands.
-#[derive(Drop)]
-pub struct Outcome {
-    pub config: Config,
-    pub places: Vec<PlaceEntry>,
-    pub counts: Vec<u64>,
-    pub works: Vec<WorkEntry>,
-    pub hosts: Vec<HostState>,
-}
 
 /// The hosts, and the accelerator that they share.
 #[derive(Drop)]
@@ -91,10 +79,12 @@ impl World {
     fn open(alloc: Global, config: Config, programs: Vec<HostProgram>) -> Result<World, Fault>
         requires one_device { config.devices ≡ 1 }
         requires few_hosts { length programs.items ≤ MAX_HOSTS }
+        requires numbered { AreNumbered 0 programs.items }
         requires synchronous { All (λ p. AllSynchronous p.statements) programs.items }
         ensures opened { IfOk result (λ w. w ≡ opening config programs.items) }
         ensures refused { IfErr result (λ fault. fault ≡ Memory) }
     {
+        hosts_follow();
         let states = Vec::with_capacity(alloc, programs.len())?;
         let hosts = ready_hosts(alloc, programs)?;
         let accelerator = Accelerator::new(alloc, config)?;
@@ -111,11 +101,12 @@ impl World {
     pub fn step(&mut self, event: Event) -> Reply
         ensures { Step self.old event result self.new }
     {
+        hosts_follow();
         match event {
             Event::Host(number) => {
                 let index = usize::from(number.number());
                 if index < self.hosts.len() {
-                    host_step(&mut self.accelerator, number, &mut self.hosts[index])
+                    self.hosts[index].next(self.alloc, &mut self.accelerator)
                 } else {
                     Reply::Idle
                 }
@@ -135,6 +126,7 @@ impl World {
         ensures kept { OnErr result (self.new ≡ self.old) }
         ensures refused { IfErr result (λ fault. fault ≡ Memory) }
     {
+        hosts_follow();
         let mut replies = Vec::with_capacity(self.alloc, events.len())?;
         for event in events {
             replies.push_reserved(self.step(*event));
@@ -146,6 +138,7 @@ impl World {
     pub fn advance(&mut self, events: &[Event])
         ensures ran { (replies : List Reply) × Ran self.old events.now replies self.new }
     {
+        hosts_follow();
         let _ = &self.hosts;
         for event in events {
             let _ = self.step(*event);
@@ -198,7 +191,7 @@ impl World {
         ensures { result ≡ option_map state_of (slice_get self.now.hosts host) }
     {
         let host = self.hosts.get(usize::from(host.number()))?;
-        Some(state_of(host))
+        Some(host.state())
     }
 
     /// How many batches were placed on a queue, how many operations they have, and how many of these are
@@ -219,10 +212,10 @@ impl World {
         ensures counts { result.counts.items ≡ reverse self.counts }
         ensures works { result.works.items ≡ reverse self.work }
         ensures hosts { result.hosts.items ≡ map state_of self.hosts }
-        ensures lines { All IsHost self.hosts }
         ensures legal { Legal self }
         ensures follow { AllFollow self 0 self.hosts }
     {
+        hosts_follow();
         let World {
             alloc: _,
             accelerator,
@@ -230,7 +223,7 @@ impl World {
             mut states,
         } = self;
         for host in hosts.iter() {
-            states.push_reserved(state_of(host));
+            states.push_reserved(host.state());
         }
         let (config, places, counts, works) = accelerator.into_histories();
         Outcome {
@@ -243,13 +236,6 @@ impl World {
     }
 }
 
-// What a host waits for: each queue of the device has performed so many batches.
-#[derive(Clone, Copy)]
-struct Awaited {
-    device: DeviceId,
-    counts: [u64; 8],
-}
-
 // The hosts of these programs, each ready for its first statement.
 fn ready_hosts(alloc: Global, programs: Vec<HostProgram>) -> Result<Vec<Host>, Fault>
     ensures hosts { IfOk result (λ hosts. hosts.items ≡ map ready programs.items) }
@@ -257,149 +243,7 @@ fn ready_hosts(alloc: Global, programs: Vec<HostProgram>) -> Result<Vec<Host>, F
 {
     let mut hosts = Vec::with_capacity(alloc, programs.len())?;
     for program in programs {
-        let HostProgram {
-            host: _,
-            statements,
-        } = program;
-        hosts.push_reserved(Host {
-            statements,
-            ended: 0,
-            phase: Phase::Ready,
-        });
+        hosts.push_reserved(Host::new(program));
     }
     Ok(hosts)
-}
-
-// The next step of a host.
-#[inline(never)]
-fn host_step(accelerator: &mut Accelerator, number: HostId, host: &mut Host) -> Reply
-    requires number { number < MAX_HOSTS }
-    requires host { IsHost host.old }
-    ensures steps { HostSteps accelerator.old number host.old result accelerator.new host.new }
-    ensures host { IsHost host.new }
-{
-    if host.ended >= host.statements.as_slice().len() {
-        return Reply::Idle;
-    }
-    match &host.phase {
-        Phase::Ready => {
-            let statement = &host.statements.as_slice()[host.ended];
-            let answer = act(accelerator, number, &statement.act);
-            settle(host, answer)
-        }
-        Phase::Waits { device, counts } => {
-            if !accelerator.reached(*device, counts) {
-                return Reply::Idle;
-            }
-            let answer = see(accelerator, number, *device, *counts);
-            settle(host, answer)
-        }
-        Phase::Refused { .. } => Reply::Idle,
-    }
-}
-
-// A host sees what it waited for.
-fn see(
-    accelerator: &mut Accelerator,
-    number: HostId,
-    device: DeviceId,
-    counts: [u64; 8],
-) -> Result<Option<Awaited>, Fault>
-    requires number { number < MAX_HOSTS }
-    requires reached { all_done (labels_of accelerator.old) accelerator.old.work device 0 counts ≡ true }
-    ensures { Sees accelerator.old number (Seen device counts) result accelerator.new }
-{
-    accelerator.see(number, device, counts)?;
-    Ok(None)
-}
-
-// Does a statement, and says what its host then waits for.
-fn act(accelerator: &mut Accelerator, number: HostId, act: &Act) -> Result<Option<Awaited>, Fault>
-    requires number { number < MAX_HOSTS }
-    requires synchronous { gives_synchronous act.now ≡ true }
-    ensures { Acts accelerator.old number act.now result accelerator.new }
-{
-    match act {
-        Act::Place { directive } => match accelerator.place(number, directive) {
-            Ok(placed) => Ok(owed(placed)),
-            Err(fault) => Err(fault),
-        },
-        Act::Write { array, cell, value } => {
-            accelerator.write(number, *array, *cell, *value)?;
-            Ok(None)
-        }
-        Act::Print { range } => {
-            accelerator.print(number, *range)?;
-            Ok(None)
-        }
-    }
-}
-
-// A batch on queue sync is waited for.
-fn owed(placed: Placed) -> Option<Awaited>
-    ensures { owed_in result ≡ owed_by placed }
-{
-    match placed.batch {
-        Some((at, number)) if at.queue == QueueId::SYNC => {
-            let mut counts = [0; 8];
-            counts[0] = number;
-            Some(Awaited {
-                device: at.device,
-                counts,
-            })
-        }
-        _ => None,
-    }
-}
-
-// A host goes on by the answer to its statement.
-fn settle(host: &mut Host, answer: Result<Option<Awaited>, Fault>) -> Reply
-    requires { host.old.ended + 1 < 2 ^ 64 }
-    ensures host { host.new ≡ after_answer answer host.old }
-    ensures reply { result ≡ reply_to answer }
-{
-    match answer {
-        Ok(None) => {
-            host.ended += 1;
-            host.phase = Phase::Ready;
-            Reply::Did
-        }
-        Ok(Some(awaited)) => {
-            let counts = awaited.counts;
-            host.phase = Phase::Waits {
-                device: awaited.device,
-                counts,
-            };
-            Reply::Did
-        }
-        Err(fault) => {
-            host.phase = Phase::Refused { fault };
-            Reply::Refused(fault)
-        }
-    }
-}
-
-// The line of the statement that a host stands at.
-fn line_at(host: &Host) -> u32
-    ensures { result ≡ line_of (slice_get host.now.statements host.now.ended) }
-{
-    match host.statements.as_slice().get(host.ended) {
-        Some(statement) => statement.line,
-        None => 0,
-    }
-}
-
-// Where a host stands.
-fn state_of(host: &Host) -> HostState
-    ensures { result ≡ state_of host.now }
-{
-    match host.phase {
-        Phase::Ready if host.ended >= host.statements.as_slice().len() => HostState::Finished,
-        Phase::Refused { fault } => HostState::Refused {
-            ended: host.ended,
-            line: line_at(host),
-            fault,
-        },
-        _ => HostState::Running { ended: host.ended },
-    }
 }

@@ -1,8 +1,6 @@
 use crate::fixtures::{Line, act_of, host, operations_of, perform, printed, take, world_over};
 use acc_base::{DeviceId, HostId, Range};
-use acc_core::{
-    ASYNC_NOVAL, Act, Directive, Event, HostState, PlaceEntry, Reply, Totals, WorkEntry, World,
-};
+use acc_core::{Act, Directive, Event, HostState, PlaceEntry, Reply, Totals, WorkEntry, World};
 use acc_forms::{Operation, are_alike, sync};
 use std::alloc::{AllocError, Global};
 use std::process::Abort;
@@ -107,7 +105,7 @@ pub fn check_places(
     let mut count = 0usize;
     for line in lines.iter().take(ended) {
         if let Act::Place { directive } = act_of(alloc, *line)? {
-            check_accepted(rt, places.get(count), directive.get());
+            check_accepted(rt, places.get(count), &directive);
             count = count.wrapping_add(1);
         }
     }
@@ -119,12 +117,10 @@ pub fn check_places(
 fn check_accepted(rt: &impl Abort, entry: Option<&PlaceEntry>, wanted: &Directive) {
     match entry {
         Some(PlaceEntry::Accepted { host, directive }) => {
-            let directive = directive.get();
             assert_eq!(rt; *host, HostId::new(0));
-            assert_eq!(rt; directive.device, DeviceId::new(0));
-            assert_eq!(rt; directive.default, ASYNC_NOVAL);
-            assert!(rt; are_alike(&directive.kind, &wanted.kind));
-            assert_eq!(rt; directive.items.as_slice(), wanted.items.as_slice());
+            assert_eq!(rt; directive.device(), DeviceId::new(0));
+            assert!(rt; are_alike(directive.kind(), wanted.kind()));
+            assert_eq!(rt; directive.items().as_slice(), wanted.items().as_slice());
             assert!(rt; directive.is_synchronous());
         }
         None => panic!(rt; "a directive is missing"),

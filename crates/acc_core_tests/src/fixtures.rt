@@ -1,7 +1,7 @@
-use acc_base::{Config, DeviceId, Fault, Few, HostId, Listed, Range, Shared};
+use acc_base::{Config, DeviceId, Fault, Few, HostId, Listed, Range};
 use acc_core::{
-    ASYNC_NOVAL, Act, Clause, Directive, Event, HostProgram, HostState, Item, Kind, Reply,
-    Statement, Target, Told, Waits, WorkEntry, World,
+    Act, Clause, Directive, Event, HostProgram, HostState, Item, Kind, Reply, Statement, Target,
+    Told, Waits, WorkEntry, World, Written,
 };
 use acc_forms::{Form, Operation, item, kind_of, operation_of, sync};
 use std::alloc::{AllocError, Global};
@@ -91,15 +91,13 @@ fn items_of(alloc: Global, line: Line) -> Result<Vec<Item>, AllocError> {
 
 // A directive without an async clause and a wait clause.
 pub fn place(alloc: Global, kind: Kind, items: &[Item]) -> Result<Act, Fault> {
-    let directive = Directive {
-        device: DeviceId::new(0),
-        default: ASYNC_NOVAL,
+    let written = Written {
         kind,
         items: Few::from_slice(alloc, items)?,
         target: Target::Plain,
         waits: Waits::Nothing,
     };
-    let directive = Shared::new(alloc, directive)?;
+    let directive = Directive::new(alloc, written)?;
     Ok(Act::Place { directive })
 }
 
@@ -128,7 +126,7 @@ pub fn statement(line: u32, act: Act) -> Statement {
 }
 
 // The lines have their numbers from 0 on.
-fn statements_of(alloc: Global, lines: &[Line]) -> Result<Vec<Statement>, Fault> {
+pub fn statements_of(alloc: Global, lines: &[Line]) -> Result<Vec<Statement>, Fault> {
     let mut statements = Vec::new(alloc);
     let mut number = 0u32;
     for line in lines {

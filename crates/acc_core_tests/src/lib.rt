@@ -8,6 +8,8 @@ mod entries;
 #[cfg(test)]
 mod fixtures;
 #[cfg(test)]
+mod hosts;
+#[cfg(test)]
 mod loops;
 #[cfg(test)]
 mod memory;

@@ -2,7 +2,7 @@
 use Rattle.std.proofs.Common.{◌≡◌, ℕ, zero, suc, ◌+◌, ◌*◌, List, [], ◌∷◌, ◌++◌, length, map, append_assoc, length-append, Result, Ok, refl, sym, ap, ◌∙◌, arith}
 use Rattle.std.proofs.lemmas.List.{append-nil, flat_map_more, length-map, map-id}
 use Rattle.std.proofs.Math.Nat.{add-mul}
-use Rattle.acc_core.specs.declared.event.Reply.{Reply}
+use Rattle.acc_host.specs.declared.state.Reply.{Reply}
 use Rattle.acc_core.specs.Machine.{State, Runs}
 use native.Mathlib.Nat.{mul-suc, mul_comm}
 use Rattle.std.proofs.lemmas.List.FromFn.{map-range_with_len_more, length-range_with_len}

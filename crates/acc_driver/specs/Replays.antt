@@ -6,11 +6,12 @@ use Rattle.acc_base.specs.declared.config.TheConstants.{MAX_CAPACITY, MAX_ROOM}
 use Rattle.acc_base.specs.declared.fault.Fault.{Fault}
 use Rattle.acc_base.specs.Configurations.{Configuration, configuration, fault_of}
 use Rattle.acc_core.specs.declared.event.Event.{Event}
-use Rattle.acc_core.specs.declared.event.Reply.{Reply}
-use Rattle.acc_core.specs.declared.program.HostState.{HostState}
-use Rattle.acc_core.specs.declared.program.HostState.TheVariants as state
+use Rattle.acc_host.specs.declared.state.Reply.{Reply}
+use Rattle.acc_host.specs.declared.state.HostState.{HostState}
+use Rattle.acc_host.specs.declared.state.HostState.TheVariants as state
 use Rattle.acc_core.specs.Machine.{State, Runs}
-use Rattle.acc_core.specs.Worlds.{opening, state_of, world_fault}
+use Rattle.acc_core.specs.Worlds.{opening, world_fault}
+use Rattle.acc_host.specs.Hosts.{state_of}
 use Rattle.acc_driver.specs.declared.fault.DriverFault.{DriverFault}
 use Rattle.acc_driver.specs.declared.fault.DriverFault.TheVariants as fault
 use Rattle.acc_driver.specs.declared.fault.ReadFault.{ReadFault}

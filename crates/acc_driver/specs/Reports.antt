@@ -8,12 +8,12 @@ use Rattle.acc_base.specs.declared.ids.QueueAt.{QueueAt}
 use Rattle.acc_base.specs.declared.ids.TheConstants.{QUEUES}
 use Rattle.acc_base.specs.Faults.{number_of, name_of}
 use Rattle.acc_core.specs.Present.{Presence, presences}
-use Rattle.acc_core.specs.declared.program.HostState.{HostState}
-use Rattle.acc_core.specs.declared.program.HostState.TheVariants.{Running, Finished, Refused}
+use Rattle.acc_host.specs.declared.state.HostState.{HostState}
+use Rattle.acc_host.specs.declared.state.HostState.TheVariants.{Running, Finished, Refused}
 use Rattle.acc_core.specs.Place.{on_queue, ops_of}
 use Rattle.acc_core.specs.Machine.{State, standing_of}
 use Rattle.acc_core.specs.Work.{Told, Write, Print, Seen, Test, WorkEntry, Op, Item, performed}
-use Rattle.acc_core.specs.Worlds.{state_of}
+use Rattle.acc_host.specs.Hosts.{state_of}
 
 -- the texts of 0 to n - 1, in order
 abbrev pub each_below : ℕ → (ℕ → List ℕ) → List ℕ

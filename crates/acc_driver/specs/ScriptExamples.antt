@@ -2,9 +2,9 @@
 use Rattle.std.specs.Prelude.{◌≡◌, ℕ, false, List, [], ◌∷◌, Ok, ℤ, pos, negsuc, codes}
 use Rattle.acc_base.specs.declared.range.Range.{Range}
 use Rattle.acc_core.specs.Place.{Clause, Copyin, Copyout, Delete, Item, Kind, EnterData, ExitData}
-use Rattle.acc_core.specs.declared.program.Act.{Act}
-use Rattle.acc_core.specs.declared.program.Act.TheVariants.{Place, Write, Print}
-use Rattle.acc_core.specs.declared.program.Statement.{Statement}
+use Rattle.acc_host.specs.declared.program.Act.{Act}
+use Rattle.acc_host.specs.declared.program.Act.TheVariants.{Place, Write, Print}
+use Rattle.acc_host.specs.declared.program.Statement.{Statement}
 use Rattle.acc_driver.specs.declared.fault.ReadKind.{ReadKind}
 use Rattle.acc_driver.specs.declared.fault.ReadKind.TheVariants.{Text, End, Name, Limit, Form}
 use Rattle.acc_driver.specs.declared.input.TheConstants.{MAX_TEXT}

@@ -1,6 +1,6 @@
 -- What a script says: the arrays, and what each host does.
 use Rattle.std.specs.Prelude.{ℕ, ◌==◌, false, List, [], ◌∷◌, length, Result, Ok, ℤ, codes, if◌then◌else◌}
-use Rattle.acc_core.specs.declared.program.HostProgram.{HostProgram}
+use Rattle.acc_host.specs.declared.program.HostProgram.{HostProgram}
 use Rattle.acc_base.specs.Configurations.{rows}
 use Rattle.acc_driver.specs.declared.fault.ReadFault.{ReadFault}
 use Rattle.acc_driver.specs.declared.script.Script.{Script}

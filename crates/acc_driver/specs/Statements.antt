@@ -2,8 +2,8 @@
 use Rattle.std.specs.Prelude.{ℕ, ◌-◌, Bool, true, false, ◌||◌, ◌==◌, nat_le, List, [], ◌∷◌, ◌++◌, length, Option, Some, None, unwrap_or, Result, Ok, ℤ, negsuc, codes, bytes_eq, if◌then◌else◌}
 use Rattle.acc_base.specs.declared.range.Range.{Range}
 use Rattle.acc_core.specs.Place.{Clause, Copyin, Copyout, Delete, Directive, Item, Kind, EnterData, ExitData, Plain, Nothing}
-use Rattle.acc_core.specs.declared.program.Act.TheVariants.{Place, Write, Print}
-use Rattle.acc_core.specs.declared.program.Statement.{Statement}
+use Rattle.acc_host.specs.declared.program.Act.TheVariants.{Place, Write, Print}
+use Rattle.acc_host.specs.declared.program.Statement.{Statement}
 use Rattle.acc_driver.specs.declared.fault.ReadFault.{ReadFault}
 use Rattle.acc_driver.specs.declared.fault.ReadKind.TheVariants.{Limit}
 use Rattle.acc_driver.specs.Faults.{fails, ◌>>=◌}

@@ -1,6 +1,7 @@
 ghost use Rattle.std.specs.Prelude.{◌≡◌, ◌≤◌, All, IfOk, IfErr, IfSome, length};
 ghost use Rattle.acc_base.specs.Configurations.{rows, configuration};
-ghost use Rattle.acc_core.specs.Worlds.{AllSynchronous, AreNumbered, opening};
+ghost use Rattle.acc_core.specs.Worlds.{AreNumbered, opening};
+ghost use Rattle.acc_host.specs.Steps.{AllSynchronous};
 ghost use Rattle.acc_driver.specs.Arrays.{IsDeclared, texts};
 ghost use Rattle.acc_driver.specs.Inputs.{parts};
 ghost use Rattle.acc_driver.specs.Replays.{Answers, RunAnswers, AreUsable, IsRun, IsOpeningFault, some_refused, is_refused};

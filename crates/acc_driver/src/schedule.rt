@@ -40,7 +40,7 @@ impl Model for Schedule {
 impl Schedule {
     ghost use Rattle.std.specs.Prelude.{List};
     ghost use Rattle.acc_core.specs.Machine.{Runs};
-    ghost use Rattle.acc_core.specs.declared.event.Reply.{Reply};
+    ghost use Rattle.acc_host.specs.declared.state.Reply.{Reply};
 
     /// A world takes a step for each event, in order. It takes no memory.
     pub fn run(&self, world: &mut World)

@@ -1,6 +1,7 @@
 ghost use Rattle.std.specs.Prelude.{◌≡◌, ◌≤◌, ◌∷◌, [], All, length, IfOk};
 ghost use Rattle.acc_base.specs.Configurations.{rows};
-ghost use Rattle.acc_core.specs.Worlds.{AllSynchronous, AreNumbered};
+ghost use Rattle.acc_core.specs.Worlds.{AreNumbered};
+ghost use Rattle.acc_host.specs.Steps.{AllSynchronous};
 ghost use Rattle.acc_driver.specs.Arrays.{texts, IsDeclared};
 ghost use Rattle.acc_driver.specs.Faults.{Gives};
 ghost use Rattle.acc_driver.specs.Scripts.{program, host_of, program_at, script_of, seen};

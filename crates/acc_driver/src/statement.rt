@@ -1,5 +1,5 @@
 ghost use Rattle.std.specs.Prelude.{◌≡◌, ◌+◌, ◌≤◌, ◌<◌, false, true, length, IfOk, OnOk, if◌then◌else◌};
-ghost use Rattle.acc_core.specs.Worlds.{AllSynchronous, gives_synchronous};
+ghost use Rattle.acc_host.specs.Steps.{AllSynchronous, gives_synchronous};
 ghost use Rattle.acc_driver.specs.Faults.{Gives, Reads};
 ghost use Rattle.acc_driver.specs.Statements.{bound_at, range_in, bounds_at, range_behind, range_at, item_behind, item_turn, clause_named, ranges_at, clause_of, ends_line, clause_turn, kind_of, directive_at, print_at, value_at, index_at, write_at, statement_of, statement_turn};
 ghost use Rattle.acc_driver.specs.Tokens.{spot, lexeme};
@@ -11,8 +11,8 @@ use crate::declaration::{array_of, value_of};
 use crate::fault::{ReadError, ReadFault, ReadKind};
 use crate::token::{Token, fault, front, is, is_digit, token_of};
 use crate::word::{exactly, expect, number_of, unwanted};
-use acc_base::{DeviceId, Few, Range, Shared};
-use acc_core::{ASYNC_NOVAL, Act, Clause, Directive, Item, Kind, Statement, Target, Waits};
+use acc_base::{Few, Range};
+use acc_core::{Act, Clause, Directive, Item, Kind, Statement, Target, Waits, Written};
 use std::alloc::Global;
 
 // The greatest number in a range, or of a cell that a host writes.
@@ -186,8 +186,8 @@ fn clause_named(kind: &Kind, word: &[u8]) -> Option<Clause>
                 None
             }
         }
-        Kind::Data | Kind::EndData | Kind::Loop { .. } | Kind::Update { .. } | Kind::IsPresent =>
-            None,
+        Kind::Data | Kind::EndData | Kind::Update { .. } | Kind::Loop { .. } => None,
+        Kind::Wait | Kind::AsyncTest | Kind::IsPresent => None,
     }
 }
 
@@ -312,15 +312,13 @@ fn directive_of<'a>(
     let mut items = Few::new(alloc);
     let at = clauses_of(arrays, &kind, &mut items, at)?;
     items.shrink_to_fit();
-    let directive = Directive {
-        device: DeviceId::new(0),
-        default: ASYNC_NOVAL,
+    let written = Written {
         kind,
         items,
         target: Target::Plain,
         waits: Waits::Nothing,
     };
-    match Shared::new(alloc, directive) {
+    match Directive::new(alloc, written) {
         Ok(directive) => {
             let act = Act::Place { directive };
             Ok((Statement { line, act }, at))

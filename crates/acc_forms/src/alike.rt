@@ -8,6 +8,8 @@ pub fn are_alike(kind: &Kind, other: &Kind) -> bool {
         (Kind::Data, Kind::Data)
         | (Kind::EndData, Kind::EndData)
         | (Kind::EnterData, Kind::EnterData)
+        | (Kind::Wait, Kind::Wait)
+        | (Kind::AsyncTest, Kind::AsyncTest)
         | (Kind::IsPresent, Kind::IsPresent) => true,
         (Kind::ExitData { finalize }, Kind::ExitData { finalize: other }) => *finalize == *other,
         (Kind::Update { if_present }, Kind::Update { if_present: other }) => {

@@ -11,7 +11,9 @@ pub enum Form {
     EnterData,
     ExitData { finalize: bool },
     Update { if_present: bool },
+    Wait,
     Loop(Loop),
+    AsyncTest,
     IsPresent,
 }
 
@@ -40,10 +42,12 @@ pub fn kind_of(alloc: Global, form: Form) -> Result<Kind, Fault> {
         Form::EnterData => Ok(Kind::EnterData),
         Form::ExitData { finalize } => Ok(Kind::ExitData { finalize }),
         Form::Update { if_present } => Ok(Kind::Update { if_present }),
+        Form::Wait => Ok(Kind::Wait),
         Form::Loop(table) => {
             let kernel = Shared::new(alloc, kernel_of(alloc, table)?)?;
             Ok(Kind::Loop { kernel })
         }
+        Form::AsyncTest => Ok(Kind::AsyncTest),
         Form::IsPresent => Ok(Kind::IsPresent),
     }
 }

@@ -22,7 +22,7 @@ use Rattle.acc_batch.specs.declared.operation.Label.{Label}
 use Rattle.acc_batch.specs.declared.operation.Op.{Op}
 use Rattle.acc_batch.specs.Labels.{on_queue, AllAt}
 use Rattle.acc_batch.proofs.OneQueue.{on_queue_all}
-use Rattle.acc_place.specs.declared.directive.Directive.{Directive}
+use Rattle.acc_place.specs.Directives.{Directive}
 use Rattle.acc_place.specs.declared.directive.Item.{Item}
 use Rattle.acc_place.specs.declared.directive.Kind.{Kind}
 use Rattle.acc_place.specs.declared.directive.Kind.TheVariants as kind
@@ -196,6 +196,8 @@ ends_all P kind.EndData items all = All-nil P
 ends_all P kind.EnterData items all = All-nil P
 ends_all P (kind.ExitData finalize) items all = All-nil P
 ends_all P (kind.Update if_present) items all = All-nil P
+ends_all P kind.Wait items all = All-nil P
+ends_all P kind.AsyncTest items all = All-nil P
 ends_all P kind.IsPresent items all = All-nil P
 
 -- what is known of it
@@ -241,6 +243,8 @@ ends_are kind.EndData items = refl
 ends_are kind.EnterData items = refl
 ends_are (kind.ExitData finalize) items = refl
 ends_are (kind.Update if_present) items = refl
+ends_are kind.Wait items = refl
+ends_are kind.AsyncTest items = refl
 ends_are kind.IsPresent items = refl
 
 -- the two walks of a directive
@@ -318,6 +322,8 @@ length-ends kind.EndData items = omega arith
 length-ends kind.EnterData items = omega arith
 length-ends (kind.ExitData finalize) items = omega arith
 length-ends (kind.Update if_present) items = omega arith
+length-ends kind.Wait items = omega arith
+length-ends kind.AsyncTest items = omega arith
 length-ends kind.IsPresent items = omega arith
 
 -- ## After an accepted directive

@@ -12,10 +12,10 @@ use Rattle.acc_present.specs.Presences.{Presence, holder}
 use Rattle.acc_present.specs.Tables.{Present}
 use Rattle.acc_present.specs.declared.change.Change.TheVariants.{StructuredDown}
 use Rattle.acc_present.proofs.Searching.{not_partly}
-use Rattle.acc_place.specs.declared.directive.Directive.{Directive}
+use Rattle.acc_place.specs.Directives.{Directive}
 use Rattle.acc_place.specs.declared.directive.Item.{Item}
 use Rattle.acc_place.specs.declared.directive.Kind.{Kind}
-use Rattle.acc_place.specs.declared.directive.Kind.TheVariants.{Data, EndData, EnterData, ExitData, Update, Loop, IsPresent}
+use Rattle.acc_place.specs.declared.directive.Kind.TheVariants.{Data, EndData, EnterData, ExitData, Update, Loop, Wait, AsyncTest, IsPresent}
 use Rattle.acc_place.specs.declared.directive.PlaceEntry.{PlaceEntry}
 use Rattle.acc_place.specs.declared.directive.PlaceEntry.TheVariants as entry
 use Rattle.acc_place.specs.declared.directive.Region.{Region}
@@ -92,6 +92,8 @@ sound_after config lengths host d EnterData rs short inside all = all
 sound_after config lengths host d (ExitData finalize) rs short inside all = all
 sound_after config lengths host d (Update if_present) rs short inside all = all
 sound_after config lengths host d (Loop kernel) rs short inside all = all
+sound_after config lengths host d Wait rs short inside all = all
+sound_after config lengths host d AsyncTest rs short inside all = all
 sound_after config lengths host d IsPresent rs short inside all = all
 
 all_sound : (config : Configuration) (history : List PlaceEntry) (counts : List ℕ) → config.devices ≡ 1 → AllAccepted config history counts → All (IsSound config) (standing config history counts).regions

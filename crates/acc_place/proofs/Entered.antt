@@ -21,10 +21,10 @@ use Rattle.acc_present.proofs.Entering.{no_overlap, stays}
 use Rattle.acc_present.proofs.Marking.{is_table-after}
 use Rattle.acc_present.proofs.OneMore.{range_contains_itself}
 use Rattle.acc_present.proofs.Searching.{is_present-none, is_present-some, not_partly}
-use Rattle.acc_place.specs.declared.directive.Directive.{Directive}
+use Rattle.acc_place.specs.Directives.{Directive}
 use Rattle.acc_place.specs.declared.directive.Item.{Item}
 use Rattle.acc_place.specs.declared.directive.Kind.{Kind}
-use Rattle.acc_place.specs.declared.directive.Kind.TheVariants.{Data, EndData, EnterData, ExitData, Update, Loop, IsPresent}
+use Rattle.acc_place.specs.declared.directive.Kind.TheVariants.{Data, EndData, EnterData, ExitData, Update, Loop, Wait, AsyncTest, IsPresent}
 use Rattle.acc_place.specs.declared.directive.Region.{Region}
 use Rattle.acc_place.specs.Counts.{IsEnteredBy, count_inside, entered_ranges}
 use Rattle.acc_place.specs.Places.{IsHere}
@@ -394,6 +394,8 @@ entered_subject lengths rs host d (ExitData false) ps n t h = no_entry_needed (S
 entered_subject lengths rs host d (Update if_present) ps n t h = no_entry_needed None (holding ps n) d.items (λ r qs. tt)
 entered_subject lengths rs host d (Loop kernel) ps n t h =
     no_entry_needed (Some StructuredUp) (holding ps n) (d.items ++ implicit_items lengths rs host d kernel) (λ r qs. tt)
+entered_subject lengths rs host d Wait ps n t h = no_entry_needed None (holding ps n) d.items (λ r qs. tt)
+entered_subject lengths rs host d AsyncTest ps n t h = no_entry_needed None (holding ps n) d.items (λ r qs. tt)
 entered_subject lengths rs host d IsPresent ps n t h = no_entry_needed None (holding ps n) d.items (λ r qs. tt)
 
 -- a loop leaves at its end what it entered
@@ -406,6 +408,8 @@ entered_ends capacity EndData h items rs t fine in_all = tt
 entered_ends capacity EnterData h items rs t fine in_all = tt
 entered_ends capacity (ExitData finalize) h items rs t fine in_all = tt
 entered_ends capacity (Update if_present) h items rs t fine in_all = tt
+entered_ends capacity Wait h items rs t fine in_all = tt
+entered_ends capacity AsyncTest h items rs t fine in_all = tt
 entered_ends capacity IsPresent h items rs t fine in_all = tt
 
 -- and meanwhile it is present
@@ -424,6 +428,8 @@ held_between capacity EndData h items rs t fine in_all = tt
 held_between capacity EnterData h items rs t fine in_all = tt
 held_between capacity (ExitData finalize) h items rs t fine in_all = tt
 held_between capacity (Update if_present) h items rs t fine in_all = tt
+held_between capacity Wait h items rs t fine in_all = tt
+held_between capacity AsyncTest h items rs t fine in_all = tt
 held_between capacity IsPresent h items rs t fine in_all = tt
 
 -- what was entered is present
@@ -464,6 +470,8 @@ entered_after capacity lengths rs host d (Update if_present) ps n t fine h =
 entered_after capacity lengths rs host d (Loop kernel) ps n t fine h =
     let items = d.items ++ implicit_items lengths rs host d kernel in
     entered_left (holding_after_all (Some StructuredUp) (holding ps n) items) items (entered_ranges rs) (entered_data capacity (holding ps n) items (entered_ranges rs) t fine h)
+entered_after capacity lengths rs host d Wait ps n t fine h = entered_same capacity None (holding ps n) d.items (entered_ranges rs) (λ qs r b u f g. g) t fine h
+entered_after capacity lengths rs host d AsyncTest ps n t fine h = entered_same capacity None (holding ps n) d.items (entered_ranges rs) (λ qs r b u f g. g) t fine h
 entered_after capacity lengths rs host d IsPresent ps n t fine h = entered_same capacity None (holding ps n) d.items (entered_ranges rs) (λ qs r b u f g. g) t fine h
 
 -- ## The open region is one of them, and the others stay
@@ -500,6 +508,8 @@ subject_device lengths rs host d EnterData here all = here
 subject_device lengths rs host d (ExitData finalize) here all = here
 subject_device lengths rs host d (Update if_present) here all = here
 subject_device lengths rs host d (Loop kernel) here all = here
+subject_device lengths rs host d Wait here all = here
+subject_device lengths rs host d AsyncTest here all = here
 subject_device lengths rs host d IsPresent here all = here
 
 pub regions_kept : (rs : List Region) (host : ℕ) (d : Directive) (k : Kind) → d.device ≡ 0 → All IsHere rs → All IsHere (regions_after host d k rs)
@@ -509,4 +519,6 @@ regions_kept rs host d EnterData here all = all
 regions_kept rs host d (ExitData finalize) here all = all
 regions_kept rs host d (Update if_present) here all = all
 regions_kept rs host d (Loop kernel) here all = all
+regions_kept rs host d Wait here all = all
+regions_kept rs host d AsyncTest here all = all
 regions_kept rs host d IsPresent here all = all

@@ -4,7 +4,7 @@ use Rattle.std.specs.Prelude.{not, nat_le}
 use Rattle.acc_base.specs.declared.fault.Fault.{Fault}
 use Rattle.acc_base.specs.declared.fault.Fault.TheVariants.{BadDevice, TooMany, OutsideRange, NoRegion}
 use Rattle.acc_base.specs.Configurations.{Configuration}
-use Rattle.acc_place.specs.declared.directive.Directive.{Directive}
+use Rattle.acc_place.specs.Directives.{Directive}
 use Rattle.acc_place.specs.Regions.{open_region}
 use Rattle.acc_place.specs.Standings.{Standing, walk_of, visits}
 use Rattle.acc_place.specs.Accepting.{first_fault, fault_where, fault_at, refusal, has_too_many, is_outside, is_past}

@@ -56,6 +56,8 @@ fault-partly config kind.EnterData ps i inside partly = rw (inside, partly) refl
 fault-partly config (kind.ExitData finalize) ps i inside partly = rw (inside, partly) refl
 fault-partly config (kind.Update if_present) ps i inside partly = rw (inside, partly) refl
 fault-partly config (kind.Loop kernel) ps i inside partly = rw (inside, partly) refl
+fault-partly config kind.Wait ps i inside partly = rw (inside, partly) refl
+fault-partly config kind.AsyncTest ps i inside partly = rw (inside, partly) refl
 fault-partly config kind.IsPresent ps i inside partly = rw inside refl
 
 fault-present : (config : Configuration) (k : Kind) (ps : List Presence) (i : Item) → is_in_array config.arrays i.range ≡ true → is_partly_present ps i.range ≡ false
@@ -145,6 +147,8 @@ whole_by kind.EnterData partly h = h
 whole_by (kind.ExitData finalize) partly h = h
 whole_by (kind.Update if_present) partly h = tt
 whole_by (kind.Loop kernel) partly h = h
+whole_by kind.Wait partly h = tt
+whole_by kind.AsyncTest partly h = tt
 whole_by kind.IsPresent partly h = tt
 
 -- such an item is fine

@@ -8,6 +8,7 @@ mod Judging
 mod Looping
 mod PastReach
 mod Planning
+mod Seen
 mod Simple
 mod Trying
 mod Visits

@@ -1,5 +1,5 @@
 -- What a place knows of its standing, as a plan and an accepted directive need it.
-use Rattle.std.proofs.Common.{◌≡◌, ℕ, zero, suc, ◌+◌, ◌-◌, ◌<◌, Bool, true, false, cond, List, [], ◌∷◌, ◌++◌, length, Option, Some, None, refl, sym, ap, ◌∙◌, arith}
+use Rattle.std.proofs.Common.{◌≡◌, ℕ, zero, suc, ◌+◌, ◌-◌, ◌*◌, ◌<◌, ◌≤◌, Bool, true, false, cond, List, [], ◌∷◌, ◌++◌, length, Option, Some, None, refl, sym, ap, ◌∙◌, arith}
 use Rattle.std.specs.Prelude.{reverse, replicate, drop, take, is_some, slice_get, ◌||◌}
 use Rattle.std.specs.Option.{option_map, option_to_list}
 use Rattle.std.proofs.lemmas.List.{length-reverse, length-append, reverse-append}
@@ -19,19 +19,20 @@ use Rattle.acc_batch.proofs.OneQueue.{on_queue_all, on_queue_none}
 use Rattle.acc_present.specs.Lifetimes.{opened, live}
 use Rattle.acc_present.specs.Presences.{Presence, presences, holder, is_present}
 use Rattle.acc_present.specs.Tables.{Present}
-use Rattle.acc_place.specs.declared.directive.Directive.{Directive}
+use Rattle.acc_place.specs.Directives.{Directive}
 use Rattle.acc_place.specs.declared.directive.Item.{Item}
 use Rattle.acc_place.specs.declared.directive.Kind.{Kind}
-use Rattle.acc_place.specs.declared.directive.Kind.TheVariants.{Data, EndData, EnterData, ExitData, Update, Loop, IsPresent}
+use Rattle.acc_place.specs.declared.directive.Kind.TheVariants.{Data, EndData, EnterData, ExitData, Update, Loop, Wait, AsyncTest, IsPresent}
 use Rattle.acc_place.specs.declared.directive.PlaceEntry.{PlaceEntry}
 use Rattle.acc_place.specs.declared.directive.PlaceEntry.TheVariants.{Accepted}
 use Rattle.acc_place.specs.declared.directive.Region.{Region}
+use Rattle.acc_place.specs.declared.directive.TheConstants.{MAX_ITEMS}
 use Rattle.acc_place.specs.declared.judge.Known.{Known}
 use Rattle.acc_place.specs.Accepting.{refusal}
 use Rattle.acc_place.specs.Batches.{answer_of, batch_of, is_answered, next_number, placed_batch, walk_at}
 use Rattle.acc_place.specs.Histories.{standing, after_directive}
 use Rattle.acc_place.specs.Places.{IsPlace, IsHere, nth_batch, sync}
-use Rattle.acc_place.specs.Plans.{KeptByAccepting, KeptByPlanning, KeptByTaking, PlaceView, PlanView, standing_in, IsRefusal, IsPlanOf, Fits, label_for, label_in, opened_region, place_after}
+use Rattle.acc_place.specs.Plans.{KeptByAccepting, KeptByPlanning, KeptByTaking, PlaceView, PlanView, Room, standing_in, IsRefusal, IsRoomy, IsPlanOf, Fits, label_for, label_in, opened_region, place_after}
 use Rattle.acc_place.specs.Loops.{lengths_of}
 use Rattle.acc_place.specs.Regions.{regions_after}
 use Rattle.acc_place.specs.Standings.{Standing, Walk, loop_of, subject_by, walk_of}
@@ -63,7 +64,7 @@ are_put p host d regions rs xs here put =
 
 -- what is known where a place tries a directive
 pub record IsKnownOf (p : PlaceView) (k : Known) (open_regions : List Region) (labels : List Label) : Type 0 where
-  pub place : IsPlace p k.table.now k.opened open_regions labels
+  pub place : IsPlace p.config p.history p.counts k.table.now k.opened open_regions labels
   pub config : k.config.now ≡ p.config
   pub regions : k.regions.now ≡ open_regions
   pub accepted : k.accepted ≡ length p.history
@@ -108,12 +109,16 @@ memory_as given f none is = rw none is
 
 -- ## A directive that is accepted
 
-pub free_in : (p : PlaceView) (q : PlanView) (t : Present) (blocks : ℕ) (regions : List Region) (labels : List Label) → IsPlace p t blocks regions labels → Fits p q
+pub free_in : (p : PlaceView) (q : PlanView) (t : Present) (blocks : ℕ) (regions : List Region) (labels : List Label) → IsPlace p.config p.history p.counts t blocks regions labels → Fits p q
     → IsFree p.config (standing_in p) q.host q.directive t blocks regions
 free_in p q t blocks regions labels h fits = is_free p.config (standing_in p) q.host q.directive t blocks regions labels h.tied h.one fits.accepted
 
+-- the table of a roomy place has room for the items and their ends
+pub table_room : (p : PlaceView) (t : Present) (blocks : ℕ) (regions : List Region) (labels : List Label) → IsPlace p.config p.history p.counts t blocks regions labels → IsRoomy p → length t.presences + 2 * MAX_ITEMS ≤ p.room.ranges
+table_room p t blocks regions labels h roomy = omega (arith, roomy.ranges, ap length h.tied.presences)
+
 -- the items that are put in then are the directive's
-pub put_then : (p : PlaceView) (q : PlanView) (t : Present) (blocks : ℕ) (regions : List Region) (labels : List Label) (xs : List Item) → IsPlace p t blocks regions labels → Fits p q
+pub put_then : (p : PlaceView) (q : PlanView) (t : Present) (blocks : ℕ) (regions : List Region) (labels : List Label) (xs : List Item) → IsPlace p.config p.history p.counts t blocks regions labels → Fits p q
     → ArePut p q.host q.directive regions xs → xs ≡ items_in (standing_in p).lengths regions q.host q.directive
 put_then p q t blocks regions labels xs h fits put =
     put ∙ all_taken (items_in (standing_in p).lengths regions q.host q.directive) (free_in p q t blocks regions labels h fits).within.short
@@ -122,9 +127,9 @@ standing_after : (p : PlaceView) (q : PlanView) → standing_in (place_after p q
 unfolding standing
 standing_after p q = refl
 
-accepted_place : (p : PlaceView) (q : PlanView) (t after : Present) (blocks next : ℕ) (regions : List Region) (labels : List Label) → IsPlace p t blocks regions labels → Fits p q
+accepted_place : (p : PlaceView) (q : PlanView) (t after : Present) (blocks next : ℕ) (regions : List Region) (labels : List Label) → IsPlace p.config p.history p.counts t blocks regions labels → Fits p q
     → holding after.presences next ≡ holding_behind q.directive.kind (holding t.presences blocks) (items_in (standing_in p).lengths regions q.host q.directive) → after.capacity ≡ t.capacity
-    → IsPlace (place_after p q) after next (regions_after q.host q.directive q.directive.kind regions) (labels ++ option_to_list q.label)
+    → IsPlace p.config (Accepted q.host q.directive ∷ p.history) (q.items_done ∷ p.counts) after next (regions_after q.host q.directive q.directive.kind regions) (labels ++ option_to_list q.label)
 accepted_place p q t after blocks next regions labels h fits is same =
     let st = standing_after p q in
     let tied =
@@ -138,26 +143,26 @@ accepted_place p q t after blocks next regions labels h fits is same =
       tied = rw st tied;
     }
 
-abbrev pub viewed : Configuration → List PlaceEntry → List ℕ → Bool → PlaceView
-viewed config history counts is_ready = record { config = config; history = reverse history; counts = reverse counts; is_ready = is_ready }
+abbrev pub viewed : Configuration → List PlaceEntry → List ℕ → Room → PlaceView
+viewed config history counts room = record { config = config; history = reverse history; counts = reverse counts; room = room }
 
 -- the two vectors, which have the latest at their ends
-pub pushed_view : (config : Configuration) (history history2 : List PlaceEntry) (counts counts2 : List ℕ) (is_ready : Bool) (q : PlanView)
-    → history2 ≡ history ++ Accepted q.host q.directive ∷ [] → counts2 ≡ counts ++ q.items_done ∷ [] → viewed config history2 counts2 false ≡ place_after (viewed config history counts is_ready) q
-pushed_view config history history2 counts counts2 is_ready q more_history more_counts =
+pub pushed_view : (config : Configuration) (history history2 : List PlaceEntry) (counts counts2 : List ℕ) (room : Room) (q : PlanView)
+    → history2 ≡ history ++ Accepted q.host q.directive ∷ [] → counts2 ≡ counts ++ q.items_done ∷ [] → viewed config history2 counts2 room ≡ place_after (viewed config history counts room) q
+pushed_view config history history2 counts counts2 room q more_history more_counts =
     let e : reverse history2 ≡ Accepted q.host q.directive ∷ reverse history = ap reverse more_history ∙ reverse-push history (Accepted q.host q.directive) in
     let f : reverse counts2 ≡ q.items_done ∷ reverse counts = ap reverse more_counts ∙ reverse-push counts q.items_done in
     rw (e, f) refl
 
-pub place_pushed : (config : Configuration) (history history2 : List PlaceEntry) (counts counts2 : List ℕ) (is_ready : Bool) (q : PlanView) (t after : Present) (blocks next : ℕ) (regions regions2 : List Region) (labels labels2 : List Label)
+pub place_pushed : (config : Configuration) (history history2 : List PlaceEntry) (counts counts2 : List ℕ) (room : Room) (q : PlanView) (t after : Present) (blocks next : ℕ) (regions regions2 : List Region) (labels labels2 : List Label)
     → history2 ≡ history ++ Accepted q.host q.directive ∷ [] → counts2 ≡ counts ++ q.items_done ∷ [] → regions2 ≡ regions_after q.host q.directive q.directive.kind regions → labels2 ≡ labels ++ option_to_list q.label
-    → IsPlace (viewed config history counts is_ready) t blocks regions labels → Fits (viewed config history counts is_ready) q
-    → holding after.presences next ≡ holding_behind q.directive.kind (holding t.presences blocks) (items_in (standing_in (viewed config history counts is_ready)).lengths regions q.host q.directive) → after.capacity ≡ t.capacity
-    → IsPlace (viewed config history2 counts2 false) after next regions2 labels2
-place_pushed config history history2 counts counts2 is_ready q t after blocks next regions regions2 labels labels2 more_history more_counts more_regions more_labels h fits is same =
+    → IsPlace config (reverse history) (reverse counts) t blocks regions labels → Fits (viewed config history counts room) q
+    → holding after.presences next ≡ holding_behind q.directive.kind (holding t.presences blocks) (items_in (standing_in (viewed config history counts room)).lengths regions q.host q.directive) → after.capacity ≡ t.capacity
+    → IsPlace config (reverse history2) (reverse counts2) after next regions2 labels2
+place_pushed config history history2 counts counts2 room q t after blocks next regions regions2 labels labels2 more_history more_counts more_regions more_labels h fits is same =
     let e : reverse history2 ≡ Accepted q.host q.directive ∷ reverse history = ap reverse more_history ∙ reverse-push history (Accepted q.host q.directive) in
     let f : reverse counts2 ≡ q.items_done ∷ reverse counts = ap reverse more_counts ∙ reverse-push counts q.items_done in
-    rw (e, f, more_regions, more_labels) (accepted_place (viewed config history counts is_ready) q t after blocks next regions labels h fits is same)
+    rw (e, f, more_regions, more_labels) (accepted_place (viewed config history counts room) q t after blocks next regions labels h fits is same)
 
 -- ## The answer
 
@@ -177,9 +182,11 @@ asked_of lengths rs host d EnterData ps = refl
 asked_of lengths rs host d (ExitData finalize) ps = refl
 asked_of lengths rs host d (Update if_present) ps = refl
 asked_of lengths rs host d (Loop kernel) ps = refl
+asked_of lengths rs host d Wait ps = refl
+asked_of lengths rs host d AsyncTest ps = refl
 asked_of lengths rs host d IsPresent ps = refl
 
-pub answer_is : (p : PlaceView) (q : PlanView) (t : Present) (blocks : ℕ) (regions : List Region) (labels : List Label) (batch : Option (QueueAt × ℕ)) (present : Bool) → IsPlace p t blocks regions labels → Fits p q
+pub answer_is : (p : PlaceView) (q : PlanView) (t : Present) (blocks : ℕ) (regions : List Region) (labels : List Label) (batch : Option (QueueAt × ℕ)) (present : Bool) → IsPlace p.config p.history p.counts t blocks regions labels → Fits p q
     → batch ≡ option_map (λ (l : Label). (l.at, l.number)) q.label → present ≡ is_answered q.directive.kind t.presences (items_in (standing_in p).lengths regions q.host q.directive)
     → record { batch = batch; counts = replicate 8 0; present = present } ≡ answer_of (standing_in p) q.directive (walk_of (standing_in p) q.host q.directive)
 unfolding answer_of
@@ -197,7 +204,7 @@ answer_is p q t blocks regions labels batch present h fits is found =
 -- ## Before the first directive
 
 pub first_place : (config : Configuration) (history : List PlaceEntry) (counts : List ℕ) (regions : List Region) (labels : List Label) (t : Present) → history ≡ [] → counts ≡ [] → regions ≡ [] → labels ≡ [] → config.devices ≡ 1
-    → t.presences ≡ [] → t.capacity ≡ config.capacity → IsPlace (viewed config history counts false) t 0 regions labels
+    → t.presences ≡ [] → t.capacity ≡ config.capacity → IsPlace config (reverse history) (reverse counts) t 0 regions labels
 unfolding standing presences live opened
 first_place config history counts regions labels t no_history no_counts no_regions no_labels one none same =
     rw (no_history, no_counts, no_regions, no_labels)
@@ -225,15 +232,10 @@ first_place config history counts regions labels t no_history no_counts no_regio
 
 -- ## A plan
 
--- a place of which each part is known
-pub same_place : (p : PlaceView) (config : Configuration) (history : List PlaceEntry) (counts : List ℕ) (is_ready : Bool) → p.config ≡ config → p.history ≡ history → p.counts ≡ counts → p.is_ready ≡ is_ready
-    → p ≡ record { config = config; history = history; counts = counts; is_ready = is_ready }
-same_place p config history counts is_ready a b c d = rw (← a, ← b, ← c, ← d) refl
-
--- a place with memory for one more directive
-pub ready_place : (config : Configuration) (history : List PlaceEntry) (counts : List ℕ) (is_ready : Bool) (t : Present) (blocks : ℕ) (regions : List Region) (labels : List Label) → IsPlace (viewed config history counts is_ready) t blocks regions labels
-    → IsPlace (viewed config history counts true) t blocks regions labels
-ready_place config history counts is_ready t blocks regions labels h = record { one = h.one; capacity = h.capacity; accepted = h.accepted; counted = h.counted; lawful = h.lawful; tied = h.tied }
+-- a place that shows the same but for its room
+pub same_place : (p : PlaceView) (config : Configuration) (history : List PlaceEntry) (counts : List ℕ) → p.config ≡ config → p.history ≡ history → p.counts ≡ counts
+    → p ≡ record { config = config; history = history; counts = counts; room = p.room }
+same_place p config history counts a b c = rw (← a, ← b, ← c) refl
 
 -- the operations of a directive's two walks
 abbrev ops_in : PlaceView → ℕ → Directive → Present → ℕ → List Region → List Op
@@ -241,10 +243,10 @@ ops_in p host d t blocks regions =
     marked_ops (run_in (loop_of d.kind) (items_in (standing_in p).lengths regions host d) (holding_between d.kind (holding t.presences blocks) (items_in (standing_in p).lengths regions host d)).presences)
     (all_steps d.kind (holding t.presences blocks) (items_in (standing_in p).lengths regions host d))
 
-fits_plan : (p : PlaceView) (host : ℕ) (d : Directive) (t : Present) (blocks : ℕ) (regions : List Region) (labels : List Label) (q : PlanView) → IsPlace p t blocks regions labels → refusal p.config (standing_in p) host d ≡ None
+fits_plan : (p : PlaceView) (host : ℕ) (d : Directive) (t : Present) (blocks : ℕ) (regions : List Region) (labels : List Label) (q : PlanView) → IsPlace p.config p.history p.counts t blocks regions labels → refusal p.config (standing_in p) host d ≡ None
     → q.host ≡ host → q.directive ≡ d → q.region ≡ opened_region host d d.kind
-    → q.label ≡ label_for sync (length labels + 1) host q.items_done (ops_in p host d t blocks regions) → p.is_ready ≡ true → Fits p q
-fits_plan p host d t blocks regions labels q h none by is inside named ready =
+    → q.label ≡ label_for sync (length labels + 1) host q.items_done (ops_in p host d t blocks regions) → IsRoomy p → Fits p q
+fits_plan p host d t blocks regions labels q h none by is inside named roomy =
     let st = standing_in p in
     let free = is_free p.config st host d t blocks regions labels h.tied h.one none in
     let batch = batch_is p.config st host d t blocks regions labels h.tied free in
@@ -259,20 +261,20 @@ fits_plan p host d t blocks regions labels q h none by is inside named ready =
           ∙ (ap (label_for sync (length labels + 1) host q.items_done) (sym batch)
           ∙ (ap (λ n. label_for sync n host q.items_done (batch_of st (walk_of st host d))) (sym number)
           ∙ ap (λ w. label_for w (next_number w st.labels) host q.items_done (batch_of st (walk_of st host d))) (sym here)));
-      ready = ready;
+      roomy = roomy;
     })
 
 -- one for what the place knows
 pub fits_known : (p : PlaceView) (k : Known) (host : ℕ) (d : Directive) (regions : List Region) (labels : List Label) (q : PlanView) → IsKnownOf p k regions labels → fault_by k host d ≡ None
     → q.host ≡ host → q.directive ≡ d → q.region ≡ opened_region host d d.kind
-    → q.label ≡ label_for sync k.next_batch host q.items_done (ops_by k host d) → p.is_ready ≡ true → Fits p q
-fits_known p k host d regions labels q h none by is inside named ready =
+    → q.label ≡ label_for sync k.next_batch host q.items_done (ops_by k host d) → IsRoomy p → Fits p q
+fits_known p k host d regions labels q h none by is inside named roomy =
     let items = items_known p k host d regions labels h in
     fits_plan p host d k.table.now k.opened regions labels q h.place (fault_known p k host d regions labels h ∙ none) by is inside
     (named
     ∙ (ap (λ n. label_for sync n host q.items_done (ops_by k host d)) h.next
     ∙ ap (λ xs. label_for sync (length labels + 1) host q.items_done (marked_ops (run_in (loop_of d.kind) xs (holding_between d.kind (held_by k) xs).presences) (all_steps d.kind (held_by k) xs))) items))
-    ready
+    roomy
 
 -- a plan that was just made
 pub plan_of_now : (p : PlaceView) (q : PlanView) → Fits p q → q.stamp ≡ length p.history → IsPlanOf p q
@@ -282,12 +284,13 @@ plan_of_now p q fits stamped =
       history_since = [];
       counts_then = p.counts;
       counts_since = [];
+      room_then = p.room;
       history = refl;
       counts = refl;
       counted = refl;
       stamped = stamped;
-      fitted = record { accepted = fits.accepted; region = fits.region; labelled = fits.labelled; ready = refl };
-      ready = λ none. fits.ready;
+      fitted = fits;
+      roomy = λ none. fits.roomy;
     }
 
 no_items : {X : Type 0} (xs : List X) → length xs ≡ 0 → xs ≡ []
@@ -307,7 +310,7 @@ still_fits p q h same =
       accepted = ap (λ s. refusal p.config s q.host q.directive) st ∙ h.fitted.accepted;
       region = h.fitted.region;
       labelled = h.fitted.labelled ∙ ap (λ s. label_in s q.host q.items_done (walk_of s q.host q.directive)) (sym st);
-      ready = h.ready none;
+      roomy = h.roomy none;
     }
 
 -- and is one of the place also when another directive was accepted
@@ -318,28 +321,30 @@ plan_kept p q other h =
       history_since = Accepted other.host other.directive ∷ h.history_since;
       counts_then = h.counts_then;
       counts_since = other.items_done ∷ h.counts_since;
+      room_then = h.room_then;
       history = ap (λ xs. Accepted other.host other.directive ∷ xs) h.history;
       counts = ap (λ xs. other.items_done ∷ xs) h.counts;
       counted = omega (arith, h.counted);
       stamped = h.stamped;
       fitted = h.fitted;
-      ready = λ none. absurd (cc);
+      roomy = λ none. absurd (cc);
     }
 
 -- or planned
 pub plan_beside : KeptByPlanning
-plan_beside p after q config history counts ready h =
+plan_beside p after q config history counts roomy h =
     record {
       history_then = h.history_then;
       history_since = h.history_since;
       counts_then = h.counts_then;
       counts_since = h.counts_since;
+      room_then = h.room_then;
       history = history ∙ h.history;
       counts = counts ∙ h.counts;
       counted = h.counted;
       stamped = h.stamped;
       fitted = rw config h.fitted;
-      ready = λ none. ready (h.ready none);
+      roomy = λ none. roomy (h.roomy none);
     }
 
 -- and where its batch is handed out
@@ -350,14 +355,15 @@ plan_without p q = (
     history_since = h.history_since;
     counts_then = h.counts_then;
     counts_since = h.counts_since;
+    room_then = h.room_then;
     history = h.history;
     counts = h.counts;
     counted = h.counted;
     stamped = h.stamped;
-    fitted = record { accepted = h.fitted.accepted; region = h.fitted.region; labelled = h.fitted.labelled; ready = h.fitted.ready };
-    ready = h.ready;
+    fitted = record { accepted = h.fitted.accepted; region = h.fitted.region; labelled = h.fitted.labelled; roomy = h.fitted.roomy };
+    roomy = h.roomy;
   },
-  λ h. record { accepted = h.accepted; region = h.region; labelled = h.labelled; ready = h.ready },
+  λ h. record { accepted = h.accepted; region = h.region; labelled = h.labelled; roomy = h.roomy },
 )
 
 -- ## What is asked of a place
@@ -371,7 +377,7 @@ pub nth_is : (labels : List Label) (n : ℕ) → 0 < n → nth_batch labels n �
 nth_is labels zero some = absurd (omega arith)
 nth_is labels (suc n) some = let e : suc n - 1 ≡ n = omega arith in ap (slice_get labels) (sym e)
 
-pub labels_on : (p : PlaceView) (t : Present) (blocks : ℕ) (regions : List Region) (labels : List Label) (at_queue : QueueAt) (here : Bool) → IsPlace p t blocks regions labels → here ≡ same_queue at_queue sync
+pub labels_on : (p : PlaceView) (t : Present) (blocks : ℕ) (regions : List Region) (labels : List Label) (at_queue : QueueAt) (here : Bool) → IsPlace p.config p.history p.counts t blocks regions labels → here ≡ same_queue at_queue sync
     → cond here labels [] ≡ on_queue at_queue (standing_in p).labels
 labels_on p t blocks regions labels at_queue true h same =
     sym (ap (λ q. on_queue q (standing_in p).labels) (same_queue_is at_queue sync (sym same)) ∙ (ap (on_queue sync) h.tied.labelled ∙ on_queue_all sync labels h.tied.single))

@@ -1,8 +1,7 @@
 -- When a directive is accepted, and its first fault where it is not (OpenACC API 3.0, 2.6.5, Data Construct, 2.6.6, Enter
 -- Data and Exit Data Directives, 2.7, Data Clauses, and 2.14.4, Update Directive).
-use Rattle.std.specs.Prelude.{ℕ, ◌+◌, Bool, true, false, ◌&&◌, ◌||◌, not, nat_lt, nat_le, List, [], ◌∷◌, ◌++◌, length, map, slice_get, Option, Some, None, ℤ, pos, int_lt, int_le}
+use Rattle.std.specs.Prelude.{ℕ, ◌+◌, Bool, true, false, ◌&&◌, ◌||◌, not, nat_lt, nat_le, List, [], ◌∷◌, ◌++◌, length, map, Option, Some, None, pos, int_lt, int_le}
 use Rattle.std.specs.List.{list_any}
-use Rattle.acc_base.specs.declared.range.Range.{Range}
 use Rattle.acc_base.specs.declared.fault.Fault.{Fault}
 use Rattle.acc_base.specs.declared.fault.Fault.TheVariants.{BadDevice, BadRange, TooMany, PartlyPresent, NotPresent, DeviceFull, OutsideRange, NoRegion}
 use Rattle.acc_base.specs.Configurations.{Configuration, is_in_array}
@@ -12,7 +11,7 @@ use Rattle.acc_present.specs.Lifetimes.{opened}
 use Rattle.acc_present.specs.Presences.{presences, is_present, is_partly_present, used_cells}
 use Rattle.acc_place.specs.declared.directive.Clause.{Clause}
 use Rattle.acc_place.specs.declared.directive.Clause.TheVariants as clause
-use Rattle.acc_place.specs.declared.directive.Directive.{Directive}
+use Rattle.acc_place.specs.Directives.{Directive}
 use Rattle.acc_place.specs.declared.directive.Item.{Item}
 use Rattle.acc_place.specs.declared.directive.Kind.{Kind}
 use Rattle.acc_place.specs.declared.directive.Kind.TheVariants as kind

@@ -11,7 +11,7 @@ use Rattle.acc_present.specs.Lifetimes.{Lifetime, opened, live, lives}
 use Rattle.acc_present.specs.Presences.{Presence, presences, holder, is_present}
 use Rattle.acc_place.specs.declared.directive.Clause.{Clause}
 use Rattle.acc_place.specs.declared.directive.Clause.TheVariants.{Copy, Copyin, Copyout, UpdateSelf, UpdateDevice}
-use Rattle.acc_place.specs.declared.directive.Directive.{Directive}
+use Rattle.acc_place.specs.Directives.{Directive}
 use Rattle.acc_place.specs.declared.directive.Item.{Item}
 use Rattle.acc_place.specs.declared.directive.Kind.{Kind}
 use Rattle.acc_place.specs.declared.directive.Kind.TheVariants as kind

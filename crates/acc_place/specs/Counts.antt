@@ -7,7 +7,7 @@ use Rattle.acc_base.specs.Ranges.{range_contains}
 use Rattle.acc_base.specs.Configurations.{Configuration}
 use Rattle.acc_present.specs.Legality.{AllLegal}
 use Rattle.acc_present.specs.Presences.{Presence, presences, is_present}
-use Rattle.acc_place.specs.declared.directive.Directive.{Directive}
+use Rattle.acc_place.specs.Directives.{Directive}
 use Rattle.acc_place.specs.declared.directive.Item.{Item}
 use Rattle.acc_place.specs.declared.directive.Kind.TheVariants.{EndData}
 use Rattle.acc_place.specs.declared.directive.PlaceEntry.{PlaceEntry}

@@ -2,7 +2,7 @@
 -- with its directives: how many items the host of each had before it, the latest first.
 use Rattle.std.specs.Prelude.{◌≡◌, ℕ, ◌+◌, List, [], ◌∷◌, drop, length, map, slice_index_or, None}
 use Rattle.acc_base.specs.Configurations.{Configuration}
-use Rattle.acc_place.specs.declared.directive.Directive.{Directive}
+use Rattle.acc_place.specs.Directives.{Directive}
 use Rattle.acc_place.specs.declared.directive.PlaceEntry.{PlaceEntry}
 use Rattle.acc_place.specs.declared.directive.PlaceEntry.TheVariants as entry
 use Rattle.acc_place.specs.Standings.{Standing, Walk, walk_of, marks_behind, with_marks}

@@ -5,7 +5,7 @@ use Rattle.std.specs.List.{flat_map}
 use Rattle.acc_base.specs.declared.range.Range.{Range}
 use Rattle.acc_kernel.specs.Kernels.{Loop, arrays_of}
 use Rattle.acc_place.specs.declared.directive.Clause.TheVariants.{Copy, Present}
-use Rattle.acc_place.specs.declared.directive.Directive.{Directive}
+use Rattle.acc_place.specs.Directives.{Directive}
 use Rattle.acc_place.specs.declared.directive.Item.{Item}
 use Rattle.acc_place.specs.declared.directive.Region.{Region}
 use Rattle.acc_place.specs.Regions.{regions_of}

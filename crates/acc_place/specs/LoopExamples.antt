@@ -11,7 +11,7 @@ use Rattle.acc_kernel.specs.Kernels.{Loop, loop}
 use Rattle.acc_kernel.specs.Trees.{Tree, Number, Read, Binary}
 use Rattle.acc_present.specs.Presences.{Presence, presences}
 use Rattle.acc_place.specs.declared.directive.Clause.TheVariants as clause
-use Rattle.acc_place.specs.declared.directive.Directive.{Directive}
+use Rattle.acc_place.specs.Directives.{Directive}
 use Rattle.acc_place.specs.declared.directive.Item.{Item}
 use Rattle.acc_place.specs.declared.directive.Kind.TheVariants as kind
 use Rattle.acc_place.specs.declared.directive.PlaceEntry.{PlaceEntry}

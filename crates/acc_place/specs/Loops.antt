@@ -6,7 +6,7 @@ use Rattle.acc_base.specs.Configurations.{Configuration}
 use Rattle.acc_kernel.specs.Jobs.{Use}
 use Rattle.acc_kernel.specs.Kernels.{Loop, Reaches, arrays_of}
 use Rattle.acc_present.specs.Presences.{Presence, holder}
-use Rattle.acc_place.specs.declared.directive.Directive.{Directive}
+use Rattle.acc_place.specs.Directives.{Directive}
 use Rattle.acc_place.specs.declared.directive.Item.{Item}
 use Rattle.acc_place.specs.declared.directive.Region.{Region}
 use Rattle.acc_place.specs.Accepting.{is_past}

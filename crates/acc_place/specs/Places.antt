@@ -1,13 +1,15 @@
 -- What a place keeps between directives.
-use Rattle.std.specs.Prelude.{◌≡◌, ℕ, ◌+◌, ◌*◌, ◌<◌, ◌≤◌, zero, suc, Bool, true, false, ◌&&◌, List, length, All, slice_get, Option, None}
+use Rattle.std.specs.Prelude.{◌≡◌, ℕ, ◌*◌, ◌≤◌, zero, suc, Bool, true, false, ◌&&◌, List, length, All, slice_get, Option, None}
 use Rattle.acc_base.specs.declared.ids.QueueAt.{QueueAt}
+use Rattle.acc_base.specs.Configurations.{Configuration}
 use Rattle.acc_batch.specs.declared.operation.Label.{Label}
 use Rattle.acc_batch.specs.Labels.{AllAt}
 use Rattle.acc_present.specs.Legality.{AllLegal}
 use Rattle.acc_present.specs.Lifetimes.{opened}
 use Rattle.acc_present.specs.Presences.{presences}
 use Rattle.acc_present.specs.Tables.{Present}
-use Rattle.acc_place.specs.declared.directive.Directive.{Directive}
+use Rattle.acc_place.specs.Directives.{Directive}
+use Rattle.acc_place.specs.declared.directive.PlaceEntry.{PlaceEntry}
 use Rattle.acc_place.specs.declared.directive.Region.{Region}
 use Rattle.acc_place.specs.declared.directive.Target.{Target}
 use Rattle.acc_place.specs.declared.directive.Target.TheVariants.{Plain, Unvalued, Value}
@@ -15,8 +17,7 @@ use Rattle.acc_place.specs.declared.directive.TheConstants.{MAX_ITEMS, MAX_DIREC
 use Rattle.acc_place.specs.declared.directive.Waits.{Waits}
 use Rattle.acc_place.specs.declared.directive.Waits.TheVariants as waits
 use Rattle.acc_place.specs.Counts.{IsEnteredBy, entered_ranges}
-use Rattle.acc_place.specs.Histories.{AllAccepted}
-use Rattle.acc_place.specs.Plans.{PlaceView, standing_in}
+use Rattle.acc_place.specs.Histories.{standing, AllAccepted}
 use Rattle.acc_place.specs.Standings.{Standing}
 use Rattle.acc_place.specs.Walks.{AllLow}
 
@@ -60,19 +61,11 @@ pub record IsTied (st : Standing) (t : Present) (blocks : ℕ) (regions : List R
   pub few_blocks : blocks ≤ MAX_ITEMS * st.accepted
   pub low : AllLow (MAX_ITEMS * st.accepted) 0 t.presences
 
-pub record IsPlace (p : PlaceView) (t : Present) (blocks : ℕ) (regions : List Region) (labels : List Label) : Type 0 where
-  pub one : p.config.devices ≡ 1
-  pub capacity : t.capacity ≡ p.config.capacity
-  pub accepted : length p.history ≡ (standing_in p).accepted
-  pub counted : length p.counts ≡ length p.history
-  pub lawful : AllAccepted p.config p.history p.counts
-  pub tied : IsTied (standing_in p) t blocks regions labels
-
--- There is memory for one more directive: in the histories, among the regions and the labels, and in the table for its
--- items and their ends.
-pub record IsRoomy (t : Present) (entries entry_room numbers number_room depth region_room batches batch_room : ℕ) : Type 0 where
-  pub history : entries < entry_room
-  pub counts : numbers < number_room
-  pub regions : depth < region_room
-  pub labels : batches < batch_room
-  pub table : length t.presences + 2 * MAX_ITEMS ≤ t.room
+-- What a place keeps of its configuration and its histories, with their table, regions and labels.
+pub record IsPlace (config : Configuration) (history : List PlaceEntry) (counts : List ℕ) (t : Present) (blocks : ℕ) (regions : List Region) (labels : List Label) : Type 0 where
+  pub one : config.devices ≡ 1
+  pub capacity : t.capacity ≡ config.capacity
+  pub accepted : length history ≡ (standing config history counts).accepted
+  pub counted : length counts ≡ length history
+  pub lawful : AllAccepted config history counts
+  pub tied : IsTied (standing config history counts) t blocks regions labels

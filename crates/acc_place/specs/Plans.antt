@@ -1,33 +1,50 @@
 -- What a place shows and what it answers to a directive; what a plan is, and when it fits.
-use Rattle.std.specs.Prelude.{◌≡◌, ℕ, Bool, true, false, List, [], ◌∷◌, ◌++◌, length, Option, Some, None}
+use Rattle.std.specs.Prelude.{◌≡◌, ℕ, ◌+◌, ◌*◌, ◌<◌, ◌≤◌, List, [], ◌∷◌, ◌++◌, length, Option, Some, None}
 use Rattle.acc_base.specs.declared.fault.Fault.{Fault}
 use Rattle.acc_base.specs.declared.fault.Fault.TheVariants.{Memory}
 use Rattle.acc_base.specs.declared.ids.QueueAt.{QueueAt}
 use Rattle.acc_base.specs.Configurations.{Configuration}
 use Rattle.acc_batch.specs.declared.operation.Label.{Label}
 use Rattle.acc_batch.specs.declared.operation.Op.{Op}
-use Rattle.acc_place.specs.declared.directive.Directive.{Directive}
+use Rattle.acc_present.specs.Presences.{presences}
+use Rattle.acc_place.specs.Directives.{Directive}
 use Rattle.acc_place.specs.declared.directive.Kind.{Kind}
 use Rattle.acc_place.specs.declared.directive.Kind.TheVariants as kind
 use Rattle.acc_place.specs.declared.directive.PlaceEntry.{PlaceEntry}
 use Rattle.acc_place.specs.declared.directive.PlaceEntry.TheVariants.{Accepted}
 use Rattle.acc_place.specs.declared.directive.Region.{Region}
+use Rattle.acc_place.specs.declared.directive.TheConstants.{MAX_ITEMS}
 use Rattle.acc_place.specs.Accepting.{refusal}
 use Rattle.acc_place.specs.Batches.{batch_of, next_number, walk_at}
 use Rattle.acc_place.specs.Histories.{standing}
 use Rattle.acc_place.specs.Regions.{region_of}
 use Rattle.acc_place.specs.Standings.{Standing, Walk, walk_of}
 
--- The configuration, the place history with its counts, the latest first, and whether there is memory for one more
--- directive.
+-- For how many accepted directives, open data constructs, batches and present ranges there is room, those that are there
+-- among them.
+pub record Room : Type 0 where
+  pub directives : ℕ
+  pub regions : ℕ
+  pub batches : ℕ
+  pub ranges : ℕ
+
+-- The configuration, the place history with its counts, the latest first, and the room.
 pub record PlaceView : Type 0 where
   pub config : Configuration
   pub history : List PlaceEntry
   pub counts : List ℕ
-  pub is_ready : Bool
+  pub room : Room
 
 abbrev pub standing_in : PlaceView → Standing
 standing_in p = standing p.config p.history p.counts
+
+-- There is room for one more directive: in the histories, among the regions and the batches, and in the table for its items
+-- and their ends.
+pub record IsRoomy (p : PlaceView) : Type 0 where
+  pub directives : length p.history < p.room.directives
+  pub regions : length (standing_in p).regions < p.room.regions
+  pub batches : length (standing_in p).labels < p.room.batches
+  pub ranges : length (presences ((standing_in p).marks 0)) + 2 * MAX_ITEMS ≤ p.room.ranges
 
 -- the definition's fault, or want of memory where it has none
 abbrev pub IsRefusal : Option Fault → Fault → Type 0
@@ -60,40 +77,41 @@ abbrev pub opened_region : ℕ → Directive → Kind → Option Region
 opened_region host d kind.Data = Some (region_of host d)
 opened_region host d k = None
 
--- The place would accept the directive now, with that region and that label, and has the memory for it.
+-- The place would accept the directive now, with that region and that label, and has the room for it.
 pub record Fits (p : PlaceView) (q : PlanView) : Type 0 where
   pub accepted : refusal p.config (standing_in p) q.host q.directive ≡ None
   pub region : q.region ≡ opened_region q.host q.directive q.directive.kind
   pub labelled : q.label ≡ label_in (standing_in p) q.host q.items_done (walk_of (standing_in p) q.host q.directive)
-  pub ready : p.is_ready ≡ true
+  pub roomy : IsRoomy p
 
--- what accepting adds
+-- What accepting adds. The room is the same, with less of it left.
 abbrev pub place_after : PlaceView → PlanView → PlaceView
 place_after p q =
-    record { config = p.config; history = Accepted q.host q.directive ∷ p.history; counts = q.items_done ∷ p.counts; is_ready = false }
+    record p { history = Accepted q.host q.directive ∷ p.history; counts = q.items_done ∷ p.counts }
 
--- The plan was made of this place, now or before; and if no directive was accepted since, the memory is still there.
+-- The plan was made of this place, now or before; and if no directive was accepted since, the room is still there.
 pub record IsPlanOf (p : PlaceView) (q : PlanView) : Type 0 where
   pub history_then : List PlaceEntry
   pub history_since : List PlaceEntry
   pub counts_then : List ℕ
   pub counts_since : List ℕ
+  pub room_then : Room
   pub history : p.history ≡ history_since ++ history_then
   pub counts : p.counts ≡ counts_since ++ counts_then
   pub counted : length counts_since ≡ length history_since
   pub stamped : q.stamp ≡ length history_then
-  pub fitted : Fits (record { config = p.config; history = history_then; counts = counts_then; is_ready = true }) q
-  pub ready : history_since ≡ [] → p.is_ready ≡ true
+  pub fitted : Fits (record { config = p.config; history = history_then; counts = counts_then; room = room_then }) q
+  pub roomy : history_since ≡ [] → IsRoomy p
 
 -- A plan stays one of its place where another directive is accepted,
 abbrev pub KeptByAccepting : Type 0
 KeptByAccepting = (p : PlaceView) (q other : PlanView) → IsPlanOf p q → IsPlanOf (place_after p other) q
 
--- and where one is planned, which changes spare memory alone.
+-- and where one is planned, which changes the room alone.
 abbrev pub KeptByPlanning : Type 0
 KeptByPlanning =
     (p after : PlaceView) (q : PlanView) → after.config ≡ p.config → after.history ≡ p.history → after.counts ≡ p.counts
-    → (p.is_ready ≡ true → after.is_ready ≡ true) → IsPlanOf p q → IsPlanOf after q
+    → (IsRoomy p → IsRoomy after) → IsPlanOf p q → IsPlanOf after q
 
 -- It stays one, and fits as it did, where its batch is handed out.
 abbrev pub without_batch : PlanView → PlanView

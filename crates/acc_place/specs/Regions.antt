@@ -1,7 +1,7 @@
 -- The data constructs that hosts are inside (OpenACC API 3.0, 2.6.5, Data Construct): one list for all hosts, the latest
 -- first.
 use Rattle.std.specs.Prelude.{ℕ, List, [], ◌∷◌, filter, Option, Some, None, ◌==◌, if◌then◌else◌}
-use Rattle.acc_place.specs.declared.directive.Directive.{Directive}
+use Rattle.acc_place.specs.Directives.{Directive}
 use Rattle.acc_place.specs.declared.directive.Kind.{Kind}
 use Rattle.acc_place.specs.declared.directive.Kind.TheVariants as kind
 use Rattle.acc_place.specs.declared.directive.Region.{Region}

@@ -3,7 +3,7 @@
 use Rattle.std.specs.Prelude.{ℕ, Bool, true, false, List, [], ◌∷◌, ◌++◌, map, Option, Some, None, ◌==◌, if◌then◌else◌}
 use Rattle.acc_base.specs.declared.range.Range.{Range}
 use Rattle.acc_batch.specs.declared.operation.Label.{Label}
-use Rattle.acc_place.specs.declared.directive.Directive.{Directive}
+use Rattle.acc_place.specs.Directives.{Directive}
 use Rattle.acc_place.specs.declared.directive.Item.{Item}
 use Rattle.acc_place.specs.declared.directive.Kind.{Kind}
 use Rattle.acc_place.specs.declared.directive.Kind.TheVariants as kind
@@ -52,6 +52,8 @@ change_by kind.EnterData = Some DynamicUp
 change_by (kind.ExitData finalize) = Some (exit_by finalize)
 change_by (kind.Update if_present) = None
 change_by (kind.Loop k) = Some StructuredUp
+change_by kind.Wait = None
+change_by kind.AsyncTest = None
 change_by kind.IsPresent = None
 
 abbrev pub all_asked : Option Change → List Item → List Asked

@@ -5,7 +5,7 @@ use Rattle.acc_base.specs.declared.fault.Fault.{Fault}
 use Rattle.acc_batch.specs.declared.operation.Op.{Op}
 use Rattle.acc_present.specs.declared.table.TheConstants.{COUNTER_LIMIT}
 use Rattle.acc_present.specs.Drafts.{Drafted, drafted, IsDraft}
-use Rattle.acc_place.specs.declared.directive.Directive.{Directive}
+use Rattle.acc_place.specs.Directives.{Directive}
 use Rattle.acc_place.specs.declared.directive.Item.{Item}
 use Rattle.acc_place.specs.declared.directive.TheConstants.{MAX_ITEMS}
 use Rattle.acc_place.specs.declared.judge.Known.{Known}

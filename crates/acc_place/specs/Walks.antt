@@ -24,7 +24,7 @@ use Rattle.acc_present.specs.Presences.{Presence, holder, is_present, is_partly_
 use Rattle.acc_present.specs.Tables.{Present, counter_of, presences_after, left_of}
 use Rattle.acc_place.specs.declared.directive.Clause.{Clause}
 use Rattle.acc_place.specs.declared.directive.Clause.TheVariants.{UpdateSelf, UpdateDevice}
-use Rattle.acc_place.specs.declared.directive.Directive.{Directive}
+use Rattle.acc_place.specs.Directives.{Directive}
 use Rattle.acc_place.specs.declared.directive.Item.{Item}
 use Rattle.acc_place.specs.declared.directive.Kind.{Kind}
 use Rattle.acc_place.specs.declared.directive.Kind.TheVariants as kind

@@ -4,6 +4,7 @@ use acc_base::{DeviceId, Fault, Few, HostId, Listed, QueueAt, Range, Shared};
 use acc_kernel::Kernel;
 use acc_present::Change;
 use std::alloc::Global;
+use std::marker::Model;
 use std::mem::size_of;
 
 /// The most items of a directive.
@@ -55,9 +56,13 @@ pub enum Kind {
     ExitData { finalize: bool },
     /// `update` (2.14.4, Update Directive); also `acc_update_device` and `acc_update_self`.
     Update { if_present: bool },
+    /// `wait` (2.16.3, Wait Directive); also `acc_wait` and `acc_wait_all`.
+    Wait,
     /// `parallel loop` (2.11, Combined Constructs). It has its own items and an implicit one for each other array that
     /// the loop refers to.
     Loop { kernel: Shared<Kernel> },
+    /// The questions `acc_async_test` and `acc_async_test_all` (3.2).
+    AsyncTest,
     /// The question `acc_is_present`.
     IsPresent,
 }
@@ -81,20 +86,37 @@ pub enum Waits {
     Listed { values: Listed<i64> },
 }
 
-/// A directive as its host gives it: the device that is current, the host's default async value, and the items in
-/// the order of the text.
+/// A directive as it is written, with its items in the order of the text.
 #[derive(Drop)]
-pub struct Directive {
-    pub device: DeviceId,
-    pub default: i64,
+pub struct Written {
     pub kind: Kind,
     pub items: Few<Item>,
     pub target: Target,
     pub waits: Waits,
 }
 
+/// A directive as its host gives it: the device that is current, the host's default async value, and what is written,
+/// which all copies share.
+#[derive(Drop)]
+pub struct Directive {
+    device: DeviceId,
+    default: i64,
+    written: Shared<Written>,
+}
+
+impl Model for Directive {
+    ghost use Rattle.std.specs.Coded.{codes};
+    ghost use Rattle.acc_kernel.specs.contracts.expr.Expr as expr;
+    ghost use Rattle.acc_place.specs.Directives.{Directive};
+
+    ghost Value = { Directive };
+
+    ghost coded = { Prim.hlevel (codes, expr.the_row.coded) };
+
+    ghost view = { λ d. record { device = d.device; default = d.default; kind = d.written.kind; items = d.written.items; target = d.written.target; waits = d.written.waits } };
+}
+
 impl Kind {
-    ghost use Rattle.acc_base.specs.declared.fault.Fault.TheVariants as fault;
     ghost use Rattle.acc_place.specs.Standings.{change_by};
 
     // The change that it asks for at each of its items, if any; a loop's items leave again at its end.
@@ -107,95 +129,101 @@ impl Kind {
             Kind::EnterData => Some(Change::DynamicUp),
             Kind::ExitData { finalize: false } => Some(Change::DynamicDown),
             Kind::ExitData { finalize: true } => Some(Change::DynamicZero),
-            Kind::Update { .. } | Kind::IsPresent => None,
-        }
-    }
-
-    /// An equal kind, which shares a loop. It takes no memory.
-    ///
-    /// # Errors
-    ///
-    /// `Memory` where the count of the loop's owners is full.
-    pub fn try_clone(&self) -> Result<Self, Fault>
-        ensures equal { IfOk result (λ k. k ≡ self.now) }
-        ensures fault { IfErr result (λ f. f ≡ fault.Memory) }
-    {
-        match self {
-            Kind::Data => Ok(Kind::Data),
-            Kind::EndData => Ok(Kind::EndData),
-            Kind::EnterData => Ok(Kind::EnterData),
-            Kind::ExitData { finalize } => Ok(Kind::ExitData {
-                finalize: *finalize,
-            }),
-            Kind::Update { if_present } => Ok(Kind::Update {
-                if_present: *if_present,
-            }),
-            Kind::Loop { kernel } => {
-                let kernel = kernel.try_clone()?;
-                Ok(Kind::Loop { kernel })
-            }
-            Kind::IsPresent => Ok(Kind::IsPresent),
-        }
-    }
-}
-
-impl Waits {
-    ghost use Rattle.acc_base.specs.declared.fault.Fault.TheVariants as fault;
-
-    /// An equal value.
-    ///
-    /// # Errors
-    ///
-    /// `Memory` where memory is refused.
-    pub fn try_clone(&self, alloc: Global) -> Result<Self, Fault>
-        ensures equal { IfOk result (λ w. w ≡ self.now) }
-        ensures fault { IfErr result (λ f. f ≡ fault.Memory) }
-    {
-        match self {
-            Waits::Nothing => Ok(Waits::Nothing),
-            Waits::All => Ok(Waits::All),
-            Waits::Listed { values } => {
-                let values = values.try_clone(alloc)?;
-                Ok(Waits::Listed { values })
-            }
+            Kind::Update { .. } | Kind::Wait | Kind::AsyncTest | Kind::IsPresent => None,
         }
     }
 }
 
 impl Directive {
     ghost use Rattle.acc_base.specs.declared.fault.Fault.TheVariants as fault;
+    ghost use Rattle.acc_place.specs.Directives.{written_first};
     ghost use Rattle.acc_place.specs.Places.{is_synchronous};
+
+    /// What is written, for device 0 and `acc_async_noval`, a host's first ones.
+    ///
+    /// # Errors
+    ///
+    /// `Memory` where memory is refused.
+    pub fn new(alloc: Global, written: Written) -> Result<Self, Fault>
+        ensures given { IfOk result (λ d. d ≡ written_first written) }
+        ensures fault { IfErr result (λ f. f ≡ fault.Memory) }
+    {
+        let written = Shared::new(alloc, written)?;
+        Ok(Directive {
+            device: DeviceId::new(0),
+            default: ASYNC_NOVAL,
+            written,
+        })
+    }
+
+    /// Makes it one for this device and this default async value.
+    pub fn set_ids(&mut self, device: DeviceId, default: i64)
+        ensures { self.new ≡ record self.old { device = device; default = default } }
+    {
+        self.device = device;
+        self.default = default;
+    }
+
+    /// The device that is current.
+    pub fn device(&self) -> DeviceId
+        ensures { result ≡ self.now.device }
+    {
+        self.device
+    }
+
+    /// Which directive it is.
+    pub fn kind(&self) -> &Kind
+        ensures { result.now ≡ self.now.kind }
+    {
+        &self.written.get().kind
+    }
+
+    /// The written items.
+    pub fn items(&self) -> &Few<Item>
+        ensures { result.now ≡ self.now.items }
+    {
+        &self.written.get().items
+    }
+
+    /// Its `async` clause.
+    pub fn target(&self) -> Target
+        ensures { result ≡ self.now.target }
+    {
+        self.written.get().target
+    }
+
+    /// What its `wait` clause names.
+    pub fn waits(&self) -> &Waits
+        ensures { result.now ≡ self.now.waits }
+    {
+        &self.written.get().waits
+    }
 
     /// Whether it has neither an `async` clause nor a `wait` clause.
     pub fn is_synchronous(&self) -> bool
         ensures { result ≡ is_synchronous self.now }
     {
-        let has_no_wait = match &self.waits {
+        let has_no_wait = match self.waits() {
             Waits::Nothing => true,
             Waits::All | Waits::Listed { .. } => false,
         };
-        self.target == Target::Plain && has_no_wait
+        self.target() == Target::Plain && has_no_wait
     }
 
-    /// An equal directive, which shares a loop.
+    /// An equal directive, which shares what is written. It takes no memory.
     ///
     /// # Errors
     ///
-    /// `Memory` where memory is refused.
-    pub fn try_clone(&self, alloc: Global) -> Result<Self, Fault>
+    /// `Memory` where the count of its owners is full.
+    pub fn try_clone(&self) -> Result<Self, Fault>
         ensures equal { IfOk result (λ d. d ≡ self.now) }
         ensures fault { IfErr result (λ f. f ≡ fault.Memory) }
     {
-        let kind = self.kind.try_clone()?;
-        let items = self.items.try_clone()?;
-        let waits = self.waits.try_clone(alloc)?;
+        let written = self.written.try_clone()?;
         Ok(Directive {
             device: self.device,
             default: self.default,
-            kind,
-            items,
-            target: self.target,
-            waits,
+            written,
         })
     }
 }
@@ -222,11 +250,8 @@ pub struct Placed {
 /// An entry of the place history.
 #[derive(Drop)]
 pub enum PlaceEntry {
-    Accepted {
-        host: HostId,
-        directive: Shared<Directive>,
-    },
+    Accepted { host: HostId, directive: Directive },
 }
 
 // The history keeps each.
-const _: () = prove!(size_of::<PlaceEntry>() == 16);
+const _: () = prove!(size_of::<PlaceEntry>() == 32);

@@ -44,16 +44,16 @@ pub struct Marked {
 pub fn limit_of(known: &Known, host: HostId, directive: &Directive, count: usize) -> Option<Fault>
     ensures { result ≡ limit_fault known.now.config.now known.now.accepted known.now.regions.now host directive.now count }
 {
-    if !known.config.has_device(directive.device) {
+    if !known.config.has_device(directive.device()) {
         return Some(Fault::BadDevice);
     }
-    if count > MAX_ITEMS || is_deep(known.regions, host, &directive.kind) {
+    if count > MAX_ITEMS || is_deep(known.regions, host, directive.kind()) {
         return Some(Fault::TooMany);
     }
     if known.accepted as u64 >= MAX_DIRECTIVES {
         return Some(Fault::TooMany);
     }
-    if is_outside(known.regions, host, &directive.kind) {
+    if is_outside(known.regions, host, directive.kind()) {
         return Some(Fault::NoRegion);
     }
     None
@@ -199,7 +199,8 @@ fn wants_presence(kind: &Kind, clause: Clause) -> bool
     match kind {
         Kind::Data | Kind::Loop { .. } => clause == Clause::Present,
         Kind::Update { if_present } => !*if_present,
-        Kind::EndData | Kind::EnterData | Kind::ExitData { .. } | Kind::IsPresent => false,
+        Kind::EndData | Kind::EnterData | Kind::ExitData { .. } => false,
+        Kind::Wait | Kind::AsyncTest | Kind::IsPresent => false,
     }
 }
 

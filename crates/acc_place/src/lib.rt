@@ -13,7 +13,7 @@ mod trial;
 
 pub use directive::{
     ASYNC_NOVAL, Clause, Directive, Item, Kind, MAX_DIRECTIVES, MAX_ITEMS, MAX_REGIONS, PlaceEntry,
-    Placed, Region, Target, Waits,
+    Placed, Region, Target, Waits, Written,
 };
 pub use laws::{
     accepted_directives_are_counted, plans_are_kept, plans_outlast_their_batches, reach_is_judged,

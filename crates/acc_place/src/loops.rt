@@ -38,7 +38,7 @@ pub(crate) fn fill_items(
     ensures room { vec_capacity into.new ≡ vec_capacity into.old }
 {
     into.clear();
-    add_items(directive.items.as_slice(), into);
+    add_items(directive.items().as_slice(), into);
     add_all_implicit(config, regions, host, directive, kernel.arrays(), into);
 }
 
@@ -180,8 +180,8 @@ fn add_implicit(
     ensures items { into.new.items ≡ take (MAX_ITEMS + 1) (into.old.items ++ implicit_among (lengths_of config.now) regions.now host directive.now (array ∷ [])) }
     ensures room { vec_capacity into.new ≡ vec_capacity into.old }
 {
-    if first_of(directive.items.as_slice(), array).is_none() {
-        let item = implicit_item(config, regions, host, directive.device, array);
+    if first_of(directive.items().as_slice(), array).is_none() {
+        let item = implicit_item(config, regions, host, directive.device(), array);
         add_item(item, into);
     }
 }

@@ -1,4 +1,4 @@
-ghost use Rattle.std.specs.Prelude.{All, not, reverse, ◌≡◌, ◌+◌, ◌<◌, ◌==◌, ◌++◌, [], ◌∷◌, length, true, None, IfOk, IfErr, OnOk, OnSome, slice_get, vec_len, vec_capacity, ◌^◌};
+ghost use Rattle.std.specs.Prelude.{All, not, reverse, ◌≡◌, ◌+◌, ◌<◌, ◌==◌, ◌++◌, [], ◌∷◌, length, true, None, IfOk, IfErr, OnOk, OnErr, OnSome, slice_get, vec_len, vec_capacity, ◌^◌};
 ghost use Rattle.std.specs.Option.{option_map, option_to_list};
 ghost use Rattle.acc_base.specs.declared.fault.Fault.TheVariants.{Memory};
 ghost use Rattle.acc_batch.specs.Labels.{on_queue};
@@ -9,7 +9,7 @@ ghost use Rattle.acc_place.specs.Accepting.{refusal};
 ghost use Rattle.acc_place.specs.Batches.{answer_of, is_answered};
 ghost use Rattle.acc_place.specs.Histories.{AllAccepted};
 ghost use Rattle.acc_place.specs.Places.{is_synchronous, nth_batch};
-ghost use Rattle.acc_place.specs.Plans.{standing_in, IsRefusal, IsPlanOf, Fits, place_after};
+ghost use Rattle.acc_place.specs.Plans.{standing_in, IsRefusal, IsPlanOf, IsRoomy, Fits, place_after};
 ghost use Rattle.acc_place.specs.Standings.{walk_of};
 ghost use Rattle.acc_place.specs.Walks.{holding, holding_after, holding_after_all, opened_after, CanEnter, CanMark, HasRoomFor, AllEntered, AllFine};
 
@@ -19,7 +19,7 @@ use crate::plan::{Plan, sync_queue};
 use crate::regions::settle;
 use crate::subject::ends_of;
 use crate::trial::Trial;
-use acc_base::{BlockId, Config, DeviceId, Fault, HostId, QueueAt, Range, Shared};
+use acc_base::{BlockId, Config, DeviceId, Fault, HostId, QueueAt, Range};
 use acc_batch::Label;
 use acc_present::{Change, Counter, Entered, Entry, Table};
 use std::alloc::Global;
@@ -41,26 +41,22 @@ pub struct Place {
     opened: u64,
     // where a directive is tried before it is accepted
     trial: Trial,
-    // whether there is memory for one more directive
-    is_ready: bool,
 }
 
 impl Model for Place {
-    ghost use Rattle.std.specs.Prelude.{All, ◌≡◌, not, reverse, true, vec_len, vec_capacity};
+    ghost use Rattle.std.specs.Prelude.{min, reverse, vec_capacity};
     ghost use Rattle.std.specs.Coded.{codes};
     ghost use Rattle.acc_kernel.specs.contracts.expr.Expr as expr;
     ghost use Rattle.acc_place.specs.Plans.{PlaceView};
-    ghost use Rattle.acc_place.specs.Places.{IsPlace, IsRoomy};
+    ghost use Rattle.acc_place.specs.Places.{IsPlace};
 
     ghost Value = { PlaceView };
 
     ghost coded = { Prim.hlevel (codes, expr.the_row.coded) };
 
-    ghost view = { λ w. record { config = w.config; history = reverse w.history.items; counts = reverse w.counts.items; is_ready = w.is_ready } };
+    ghost view = { λ w. record { config = w.config; history = reverse w.history.items; counts = reverse w.counts.items; room = record { directives = min (vec_capacity w.history) (vec_capacity w.counts); regions = vec_capacity w.regions; batches = vec_capacity w.labels; ranges = w.table.room } } };
 
-    ghost invariant = { λ w.
-        IsPlace (record { config = w.config; history = reverse w.history.items; counts = reverse w.counts.items; is_ready = w.is_ready }) w.table w.opened w.regions.items w.labels.items
-        × (w.is_ready ≡ true → IsRoomy w.table (vec_len w.history) (vec_capacity w.history) (vec_len w.counts) (vec_capacity w.counts) (vec_len w.regions) (vec_capacity w.regions) (vec_len w.labels) (vec_capacity w.labels)) };
+    ghost invariant = { λ w. IsPlace w.config (reverse w.history.items) (reverse w.counts.items) w.table w.opened w.regions.items w.labels.items };
 }
 
 impl Place {
@@ -88,7 +84,6 @@ impl Place {
             labels: Vec::new(alloc),
             opened: 0,
             trial,
-            is_ready: false,
         })
     }
 
@@ -102,13 +97,13 @@ impl Place {
         &mut self,
         host: HostId,
         items_done: u64,
-        directive: &Shared<Directive>,
+        directive: &Directive,
     ) -> Result<Plan, Fault>
         requires synchronous { is_synchronous directive.now ≡ true }
         ensures config { self.new.config ≡ self.old.config }
         ensures history { self.new.history ≡ self.old.history }
         ensures counts { self.new.counts ≡ self.old.counts }
-        ensures ready { self.old.is_ready ≡ true → self.new.is_ready ≡ true }
+        ensures roomy { IsRoomy self.old → IsRoomy self.new }
         ensures refused { IfErr result (λ fault. IsRefusal (refusal self.old.config (standing_in self.old) host directive.now) fault) }
         ensures plan { IfOk result (λ q. (q.host ≡ host) × (q.items_done ≡ items_done) × (q.directive ≡ directive.now)) }
         ensures stamp { IfOk result (λ q. q.stamp ≡ length self.new.history) }
@@ -123,7 +118,7 @@ impl Place {
             opened: self.opened,
             next_batch: self.labels.len() as u64 + 1,
         };
-        if let Some(fault) = self.trial.judge(&known, host, directive.get()) {
+        if let Some(fault) = self.trial.judge(&known, host, directive) {
             return Err(fault);
         }
         let plan = self
@@ -133,21 +128,21 @@ impl Place {
         Ok(plan)
     }
 
-    // Makes room for one more directive.
+    // Makes room for one more directive, where it is missing.
     fn make_room(&mut self) -> Result<(), Fault>
         ensures config { self.new.config ≡ self.old.config }
         ensures history { self.new.history ≡ self.old.history }
         ensures counts { self.new.counts ≡ self.old.counts }
-        ensures ready { self.old.is_ready ≡ true → self.new.is_ready ≡ true }
-        ensures ok { OnOk result (self.new.is_ready ≡ true) }
+        ensures roomy { IsRoomy self.old → IsRoomy self.new }
+        ensures ok { OnOk result (IsRoomy self.new) }
         ensures fault { IfErr result (λ fault. fault ≡ Memory) }
+        ensures missing { OnErr result (¬ IsRoomy self.old) }
     {
         self.history.reserve(1)?;
         self.counts.reserve(1)?;
         self.regions.reserve(1)?;
         self.labels.reserve(1)?;
         self.table.spare(2 * MAX_ITEMS)?;
-        self.is_ready = true;
         Ok(())
     }
 
@@ -165,22 +160,21 @@ impl Place {
             label,
             ..
         } = plan;
-        let given = directive.get();
         self.trial
-            .put_items(&self.config, self.regions.as_slice(), host, given);
+            .put_items(&self.config, self.regions.as_slice(), host, &directive);
+        let kind = directive.kind();
         let items = self.trial.items();
-        let present = is_answered(&self.table, &given.kind, items);
+        let present = is_answered(&self.table, kind, items);
         let opened = self.opened;
-        let between = mark_all(&mut self.table, given.kind.change(), items, opened);
-        let ends = ends_of(&given.kind, items);
+        let between = mark_all(&mut self.table, kind.change(), items, opened);
+        let ends = ends_of(kind, items);
         let down = Some(Change::StructuredDown);
         self.opened = mark_all(&mut self.table, down, ends, between);
-        settle(&mut self.regions, host, given, region);
+        settle(&mut self.regions, host, &directive, region);
         self.history
             .push_reserved(PlaceEntry::Accepted { host, directive });
         self.counts.push_reserved(items_done);
         let batch = push_label(&mut self.labels, label);
-        self.is_ready = false;
         Placed {
             batch,
             counts: [0; 8],

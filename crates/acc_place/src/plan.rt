@@ -32,7 +32,7 @@ pub enum Group {
 pub struct Plan {
     pub(crate) host: HostId,
     pub(crate) items_done: u64,
-    pub(crate) directive: Shared<Directive>,
+    pub(crate) directive: Directive,
     // the data construct that it enters, if it enters one
     pub(crate) region: Option<Region>,
     // the label of its batch, if it has one
@@ -82,7 +82,7 @@ pub fn plan_of(
     known: &Known,
     host: HostId,
     items_done: u64,
-    directive: &Shared<Directive>,
+    directive: &Directive,
     steps: &[Marked],
     run: Option<Op>,
 ) -> Result<Plan, Fault>
@@ -94,7 +94,7 @@ pub fn plan_of(
     ensures batch { IfOk result (λ q. q.batch ≡ q.label) }
     ensures fault { IfErr result (λ fault. fault ≡ Fault.Memory) }
 {
-    let region = opened_by(host, directive.get())?;
+    let region = opened_by(host, directive)?;
     let directive = directive.try_clone()?;
     let ops = ops_of(alloc, steps, run)?;
     let label = label_of(alloc, known, host, items_done, ops)?;

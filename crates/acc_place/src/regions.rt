@@ -27,8 +27,8 @@ pub fn open_place(regions: &[Region], host: HostId) -> Option<usize>
 pub fn items_of<'a>(regions: &'a [Region], host: HostId, directive: &'a Directive) -> &'a [Item]
     ensures { result.now ≡ written_by regions.now host directive.now directive.now.kind }
 {
-    if !matches!(&directive.kind, Kind::EndData) {
-        return directive.items.as_slice();
+    if !matches!(directive.kind(), Kind::EndData) {
+        return directive.items().as_slice();
     }
     match open_place(regions, host) {
         Some(i) => regions[i].items.as_slice(),
@@ -41,13 +41,13 @@ pub fn opened_by(host: HostId, directive: &Directive) -> Result<Option<Region>, 
     ensures region { IfOk result (λ region. region ≡ opened_region host directive.now directive.now.kind) }
     ensures fault { IfErr result (λ fault. fault ≡ Fault.Memory) }
 {
-    if !matches!(&directive.kind, Kind::Data) {
+    if !matches!(directive.kind(), Kind::Data) {
         return Ok(None);
     }
-    let items = directive.items.try_clone()?;
+    let items = directive.items().try_clone()?;
     Ok(Some(Region {
         host,
-        device: directive.device,
+        device: directive.device(),
         items,
     }))
 }
@@ -68,7 +68,7 @@ pub fn settle(
         let _ = regions.insert(0, region);
         return;
     }
-    if matches!(&directive.kind, Kind::EndData) {
+    if matches!(directive.kind(), Kind::EndData) {
         if let Some(i) = open_place(regions.as_slice(), host) {
             let _ = regions.remove(i);
         }

@@ -30,7 +30,7 @@ pub fn put_items(
     ensures items { into.new.items ≡ take (MAX_ITEMS + 1) (subject_by (lengths_of config.now) regions.now host directive.now directive.now.kind).items }
     ensures room { vec_capacity into.new ≡ vec_capacity into.old }
 {
-    if let Kind::Loop { kernel } = &directive.kind {
+    if let Kind::Loop { kernel } = directive.kind() {
         fill_items(config, regions, host, directive, kernel.get(), into);
         return;
     }
@@ -63,7 +63,8 @@ pub fn past_fault(kind: &Kind, items: &[Item]) -> Option<Fault>
             }
         }
         Kind::Data | Kind::EndData | Kind::EnterData => None,
-        Kind::ExitData { .. } | Kind::Update { .. } | Kind::IsPresent => None,
+        Kind::ExitData { .. } | Kind::Update { .. } => None,
+        Kind::Wait | Kind::AsyncTest | Kind::IsPresent => None,
     }
 }
 
@@ -95,6 +96,7 @@ pub fn run_of(
             Ok(Some(Op::Run { kernel, uses }))
         }
         Kind::Data | Kind::EndData | Kind::EnterData => Ok(None),
-        Kind::ExitData { .. } | Kind::Update { .. } | Kind::IsPresent => Ok(None),
+        Kind::ExitData { .. } | Kind::Update { .. } => Ok(None),
+        Kind::Wait | Kind::AsyncTest | Kind::IsPresent => Ok(None),
     }
 }

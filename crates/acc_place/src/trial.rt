@@ -10,7 +10,7 @@ use crate::directive::{Directive, Item, MAX_ITEMS, Region};
 use crate::judge::{Known, Marked, leave_all, limit_of, walk};
 use crate::plan::{Plan, plan_of};
 use crate::subject::{ends_of, past_fault, put_items, run_of};
-use acc_base::{Config, Fault, HostId, Shared};
+use acc_base::{Config, Fault, HostId};
 use acc_present::Draft;
 use std::alloc::Global;
 use std::marker::Model;
@@ -90,7 +90,7 @@ impl Trial {
             directive,
             &mut self.items,
         );
-        let kind = &directive.kind;
+        let kind = directive.kind();
         let items = self.items.as_slice();
         let limit = limit_of(known, host, directive, items.len());
         if limit.is_some() {
@@ -123,7 +123,7 @@ impl Trial {
         known: &Known,
         host: HostId,
         items_done: u64,
-        directive: &Shared<Directive>,
+        directive: &Directive,
     ) -> Result<Plan, Fault>
         requires known { IsKnown known.now }
         requires tried { IsTried known.now host directive.now self.old }
@@ -134,7 +134,7 @@ impl Trial {
         ensures batch { IfOk result (λ q. q.batch ≡ q.label) }
         ensures fault { IfErr result (λ fault. fault ≡ Memory) }
     {
-        let kind = &directive.get().kind;
+        let kind = directive.kind();
         let items = self.items.as_slice();
         let run = run_of(alloc, known.table, &self.draft, kind, items)?;
         let ends = ends_of(kind, items);

@@ -31,7 +31,7 @@ fn accept(
 ) -> Result<(), Fault> {
     let number = place.placed_count(sync()).wrapping_add(1);
     let directive = synchronous(alloc, 0, step.form, step.items)?;
-    assert!(rt; directive.get().is_synchronous());
+    assert!(rt; directive.is_synchronous());
     let mut plan = place.plan(HostId::new(step.host), before.wrapping_add(3), &directive)?;
     let batch = plan.take_batch();
     check_batch(rt, batch, step, number, before);
@@ -84,7 +84,7 @@ fn check_entry(
     match entry {
         PlaceEntry::Accepted { host, directive } => {
             assert_eq!(rt; *host, HostId::new(step.host));
-            check_directive(rt, directive.get(), wanted.get());
+            check_directive(rt, directive, &wanted);
         }
     }
     Ok(())

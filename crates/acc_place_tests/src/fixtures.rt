@@ -1,9 +1,9 @@
 ghost use Rattle.std.specs.Prelude.{◌≡◌};
 
-use acc_base::{BlockId, Config, DeviceId, Fault, Few, HostId, QueueAt, QueueId, Range, Shared};
+use acc_base::{BlockId, Config, DeviceId, Fault, Few, HostId, QueueAt, QueueId, Range};
 use acc_batch::{Batch, Label, Op, Task, Tasks};
 use acc_forms::{Form, Operation, are_alike, kind_of, operation_of, performed_by, sync};
-use acc_place::{ASYNC_NOVAL, Directive, Item, Place, Placed, Plan, Target, Waits};
+use acc_place::{ASYNC_NOVAL, Directive, Item, Place, Placed, Plan, Target, Waits, Written};
 use acc_present::Entry;
 use acc_raw::Cells;
 use std::alloc::Global;
@@ -64,16 +64,16 @@ pub fn synchronous(
     device: u8,
     form: Form,
     items: &[Item],
-) -> Result<Shared<Directive>, Fault> {
-    let directive = Directive {
-        device: DeviceId::new(device),
-        default: ASYNC_NOVAL,
+) -> Result<Directive, Fault> {
+    let written = Written {
         kind: kind_of(alloc, form)?,
         items: Few::from_slice(alloc, items)?,
         target: Target::Plain,
         waits: Waits::Nothing,
     };
-    Shared::new(alloc, directive)
+    let mut directive = Directive::new(alloc, written)?;
+    directive.set_ids(DeviceId::new(device), ASYNC_NOVAL);
+    Ok(directive)
 }
 
 // A place without directives, with eight cells in the first array and four in the second, and two hosts.
@@ -85,8 +85,8 @@ pub fn place_of(alloc: Global, capacity: u64) -> Result<Place, Fault> {
 }
 
 // The plan of a host's directive, which has three items more than its number among the accepted ones.
-pub fn planned(place: &mut Place, host: u8, directive: &Shared<Directive>) -> Result<Plan, Fault> {
-    if !directive.get().is_synchronous() {
+pub fn planned(place: &mut Place, host: u8, directive: &Directive) -> Result<Plan, Fault> {
+    if !directive.is_synchronous() {
         return Err(Fault::BadAsync);
     }
     let count = place.history().len() as u64;
@@ -94,12 +94,8 @@ pub fn planned(place: &mut Place, host: u8, directive: &Shared<Directive>) -> Re
 }
 
 // Accepts a host's directive.
-pub fn accepted(
-    place: &mut Place,
-    host: u8,
-    directive: &Shared<Directive>,
-) -> Result<Placed, Fault> {
-    if !directive.get().is_synchronous() {
+pub fn accepted(place: &mut Place, host: u8, directive: &Directive) -> Result<Placed, Fault> {
+    if !directive.is_synchronous() {
         return Err(Fault::BadAsync);
     }
     let count = place.history().len() as u64;
@@ -144,12 +140,11 @@ pub fn check_waits(rt: &impl Abort, waits: &Waits, wanted: &Waits) {
 }
 
 pub fn check_directive(rt: &impl Abort, directive: &Directive, wanted: &Directive) {
-    assert_eq!(rt; directive.device, wanted.device);
-    assert_eq!(rt; directive.default, wanted.default);
-    assert!(rt; are_alike(&directive.kind, &wanted.kind));
-    assert_eq!(rt; directive.items.as_slice(), wanted.items.as_slice());
-    assert_eq!(rt; directive.target, wanted.target);
-    check_waits(rt, &directive.waits, &wanted.waits);
+    assert_eq!(rt; directive.device(), wanted.device());
+    assert!(rt; are_alike(directive.kind(), wanted.kind()));
+    assert_eq!(rt; directive.items().as_slice(), wanted.items().as_slice());
+    assert_eq!(rt; directive.target(), wanted.target());
+    check_waits(rt, directive.waits(), wanted.waits());
 }
 
 // The label of a step's batch, with its number on queue sync, and with so many directives before it.

@@ -2,7 +2,7 @@ use crate::fixtures::{
     Shown, Step, a, accept_each, accepted, answer, b, check_batch, check_present, entry, place_of,
     planned, shown_by, synchronous,
 };
-use acc_base::{Config, Fault, HostId, Shared};
+use acc_base::{Config, Fault, HostId};
 use acc_forms::{
     EXIT, FINALIZE, Form, UPDATE, copy, copy_in, copy_out, copyin, copyout, create, delete, item,
     make, over, present, release, run, sync, used,
@@ -33,9 +33,9 @@ fn a_new_place_is_refused_until_there_is_memory(rt: HostRuntime) -> Result<(), F
 fn accepted_scarcely(
     alloc: Global,
     place: &mut Place,
-    directive: &Shared<Directive>,
+    directive: &Directive,
 ) -> Result<Placed, Fault> {
-    if !directive.get().is_synchronous() {
+    if !directive.is_synchronous() {
         return Err(Fault::BadAsync);
     }
     let plan = place.plan(HostId::new(0), 0, directive)?;
@@ -76,7 +76,7 @@ fn try_plan(
     rt: &impl Abort,
     place: &mut Place,
     host: u8,
-    directive: &Shared<Directive>,
+    directive: &Directive,
     shown: &Shown,
     tries: &mut Tried,
 ) -> Result<Plan, Fault> {

@@ -3,7 +3,7 @@ ghost use Rattle.acc_place.specs.Places.{is_synchronous};
 ghost use Rattle.acc_place.specs.Plans.{IsPlanOf};
 
 use crate::fixtures::{Step, a, answer, check_batch, check_present, entry, place_of, synchronous};
-use acc_base::{Fault, HostId, Shared};
+use acc_base::{Fault, HostId};
 use acc_forms::{Form, copy_in, copyin, make, sync};
 use acc_place::{Directive, Place, Plan, plans_are_kept};
 use std::process::Abort;
@@ -13,8 +13,8 @@ use std::test::Fail;
 fn left_behind(
     rt: &impl Abort,
     place: &mut Place,
-    first: &Shared<Directive>,
-    second: &Shared<Directive>,
+    first: &Directive,
+    second: &Directive,
 ) -> Result<Plan, Fault>
     requires first { is_synchronous first.now ≡ true }
     requires second { is_synchronous second.now ≡ true }
@@ -34,7 +34,7 @@ fn left_behind(
 fn check_anew(
     rt: &impl Abort,
     place: &mut Place,
-    directive: &Shared<Directive>,
+    directive: &Directive,
     before: &Plan,
     step: &Step,
 ) -> Result<(), Fault>
@@ -56,8 +56,8 @@ fn a_plan_fits_until_another_directive_is_accepted(rt: HostRuntime) -> Result<()
     let alloc = rt.alloc();
     let one = synchronous(alloc, 0, Form::EnterData, &[copyin(a(0, 4))])?;
     let other = synchronous(alloc, 0, Form::EnterData, &[copyin(a(4, 4))])?;
-    assert!(rt; one.get().is_synchronous());
-    assert!(rt; other.get().is_synchronous());
+    assert!(rt; one.is_synchronous());
+    assert!(rt; other.is_synchronous());
     let mut place = place_of(alloc, 12)?;
     let before = left_behind(&rt, &mut place, &one, &other)?;
     let step = Step {

@@ -1,5 +1,5 @@
-use acc_base::{DeviceId, Fault, Few, HostId, QueueAt, QueueId, Range, Shared};
-use acc_core::{ASYNC_NOVAL, Act, Directive, Event, Item, Kind, Statement, Target, Waits};
+use acc_base::{DeviceId, Fault, Few, HostId, QueueAt, QueueId, Range};
+use acc_core::{Act, Directive, Event, Item, Kind, Statement, Target, Waits, Written};
 use std::alloc::Global;
 
 /// The queue that each batch here is placed on.
@@ -33,15 +33,13 @@ impl Script {
     /// Adds a directive whose batch has so many operations: the host places it, the queue takes and performs it, and
     /// the host sees that.
     pub fn place(&mut self, kind: Kind, items: &[Item], operations: u32) -> Result<(), Fault> {
-        let directive = Directive {
-            device: DeviceId::new(0),
-            default: ASYNC_NOVAL,
+        let written = Written {
             kind,
             items: Few::from_slice(self.alloc, items)?,
             target: Target::Plain,
             waits: Waits::Nothing,
         };
-        let directive = Shared::new(self.alloc, directive)?;
+        let directive = Directive::new(self.alloc, written)?;
         self.add(Act::Place { directive })?;
         self.events.push(Event::Take(sync()))?;
         for _ in 0..operations {

@@ -1,6 +1,6 @@
 use Rattle.std.proofs.Common.{◌≡◌, ◌≤◌, ◌++◌, length, map}
 use Rattle.std.specs.Prelude.{vec_capacity}
-use Rattle.acc_core.specs.Worlds.{ready}
+use Rattle.acc_host.specs.Hosts.{ready}
 use Rattle.acc_core.proofs.world.ready_hosts.Given as goal
 
 abbrev pub invariant-loop-program : goal.invariant-loop-program

@@ -1,4 +1,4 @@
-use Rattle.acc_core.specs.Worlds.{AllSynchronous}
+use Rattle.acc_host.specs.Steps.{AllSynchronous}
 use Rattle.acc_driver.proofs.Turns.{TurnsLeft}
 use Rattle.acc_driver.specs.Statements.{statement_turn}
 use Rattle.acc_driver.specs.Tokens.{spot}

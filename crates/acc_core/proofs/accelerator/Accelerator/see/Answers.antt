@@ -1,4 +1,4 @@
-use Rattle.std.proofs.Common.{refl, ◌∙◌}
+use Rattle.std.proofs.Common.{refl, sym, ◌∙◌}
 use Rattle.acc_core.specs.Ties.{state_of_parts}
 use Rattle.acc_core.proofs.Done.{all_done_taken}
 use Rattle.acc_core.proofs.Showing.{roomier, taken_kept, told_item}
@@ -10,7 +10,7 @@ host_item-requires-clause-item c =
     let kept = c.in_ok-spare_item.ensures.kept in
     let w = state_of_parts i.place i.work in
     let same = all_done_taken w i.work i.queue.items i.waiting c.args.device 0 c.args.counts c.self.invariant.parts c.keeps_order.ensures refl c.self.invariant.one_device c.self.invariant.legal in
-    rw (c.in_ok-item.ensures.item, kept.taken, kept.work) (same ∙ rw (← c.self.view_is) at c.requires.reached)
+    rw (c.in_ok-item.ensures.item, kept.taken, kept.work) (same ∙ rw (← c.self.view_is) at (sym c.reached.ensures ∙ c.if-not-reached.false))
 
 pub invariant_of-self-2 : goal.invariant_of-self-2
 invariant_of-self-2 c =
@@ -18,6 +18,7 @@ invariant_of-self-2 c =
     let spared = c.in_ok-spare_item.ensures in
     let e = c.host_item.ensures in
     let what = rw c.in_ok-item.ensures.item at e.1 in
+    let reached = sym c.reached.ensures ∙ c.if-not-reached.false in
     rw (taken_kept i.work c.spare_item.new.self c.host_item.new.self c.args.host e.0 spared.kept e.3)
     (told_item (state_of_parts i.place i.work) c.spare_item.new.self c.host_item.new.self i.queue.items i.waiting _ c.args.host e.0
-    (roomier c.self.invariant spared.kept) spared.kept.work e.3 spared.room spared.few (rw what (rw (← c.self.view_is) at c.requires.reached)))
+    (roomier c.self.invariant spared.kept) spared.kept.work e.3 spared.room spared.few (rw what (rw (← c.self.view_is) at reached)))

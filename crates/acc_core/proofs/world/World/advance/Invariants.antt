@@ -1,5 +1,5 @@
 use Rattle.std.proofs.Common.{List, take}
-use Rattle.acc_core.specs.declared.event.Reply.{Reply}
+use Rattle.acc_host.specs.declared.state.Reply.{Reply}
 use Rattle.acc_core.specs.Machine.{Runs}
 use Rattle.acc_core.proofs.world.World.advance.Given as goal
 

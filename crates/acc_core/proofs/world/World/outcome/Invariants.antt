@@ -1,6 +1,6 @@
 use Rattle.std.proofs.Common.{◌≡◌, ◌≤◌, length, map, take}
 use Rattle.std.specs.Prelude.{vec_capacity}
-use Rattle.acc_core.specs.Worlds.{state_of}
+use Rattle.acc_host.specs.Hosts.{state_of}
 use Rattle.acc_core.proofs.world.World.outcome.Given as goal
 
 abbrev pub invariant-loop-host : goal.invariant-loop-host

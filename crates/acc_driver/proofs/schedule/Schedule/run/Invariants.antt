@@ -1,5 +1,5 @@
 use Rattle.std.proofs.Common.{List}
-use Rattle.acc_core.specs.declared.event.Reply.{Reply}
+use Rattle.acc_host.specs.declared.state.Reply.{Reply}
 use Rattle.acc_core.specs.Machine.{Runs}
 use Rattle.acc_driver.specs.Schedules.{repeated}
 use Rattle.acc_driver.proofs.schedule.Schedule.run.Given as goal

@@ -48,7 +48,7 @@ walk-found-requires-clause-entered c =
     let put : xs ≡ take 17 (items_by k host d) = c.as_slice-items.ensures.value ∙ c.put_items.ensures.items in
     let none : is_some c.limit_of-limit.result ≡ false = cc in
     let own = all_put k host d xs put (sym c.limit_of-limit.ensures ∙ none_of c.limit_of-limit.result none) in
-    rw (c.begin.ensures.drafted, own)
+    rw (c.kind-kind.ensures, c.begin.ensures.drafted, own)
     (entered_subject (lengths_of k.config.now) k.regions.now host d d.kind k.table.now.presences k.opened c.begin.ensures.draft.table c.requires.entered)
 
 pub returns-then-is_some-2-clause-fault : goal.returns-then-is_some-2-clause-fault
@@ -63,7 +63,7 @@ returns-then-is_some-2-clause-fault c =
     let none = sym c.limit_of-limit.ensures ∙ none_of c.limit_of-limit.result no_limit in
     let own = all_put k host d xs put none in
     let some : is_some c.walk-found.result ≡ true = cc in
-    let found : c.walk-found.result ≡ first_fault_in k.config.now d.kind (held_by k) items = rw (c.begin.ensures.drafted, own) at c.walk-found.ensures.fault in
+    let found : c.walk-found.result ≡ first_fault_in k.config.now d.kind (held_by k) items = rw (c.kind-kind.ensures, c.begin.ensures.drafted, own) at c.walk-found.ensures.fault in
     first_or c.walk-found.result (first_fault_in k.config.now d.kind (held_by k) items) (past_fault (loop_of d.kind) items) found some
     ∙ sym (none_first (limit_fault k.config.now k.accepted k.regions.now host d (length items)) (items_fault k host d) (sym (limit_put k host d xs put) ∙ none))
 
@@ -79,8 +79,8 @@ returns-clause-fault c =
     let none = sym c.limit_of-limit.ensures ∙ none_of c.limit_of-limit.result no_limit in
     let own = all_put k host d xs put none in
     let no_fault : is_some c.walk-found.result ≡ false = cc in
-    let found : c.walk-found.result ≡ first_fault_in k.config.now d.kind (held_by k) items = rw (c.begin.ensures.drafted, own) at c.walk-found.ensures.fault in
-    let past : c.past_fault.result ≡ past_fault (loop_of d.kind) items = c.past_fault.ensures.fault ∙ ap (past_fault (loop_of d.kind)) own in
+    let found : c.walk-found.result ≡ first_fault_in k.config.now d.kind (held_by k) items = rw (c.kind-kind.ensures, c.begin.ensures.drafted, own) at c.walk-found.ensures.fault in
+    let past : c.past_fault.result ≡ past_fault (loop_of d.kind) items = (rw c.kind-kind.ensures at c.past_fault.ensures.fault) ∙ ap (past_fault (loop_of d.kind)) own in
     past
     ∙ (sym (none_first (first_fault_in k.config.now d.kind (held_by k) items) (past_fault (loop_of d.kind) items) (sym found ∙ none_of c.walk-found.result no_fault))
     ∙ sym (none_first (limit_fault k.config.now k.accepted k.regions.now host d (length items)) (items_fault k host d) (sym (limit_put k host d xs put) ∙ none)))
@@ -103,14 +103,14 @@ returns-clause-tried c =
     let walked = c.walk-found.ensures in
     let after = c.walk-found.new.draft in
     let before = holding (drafted t c.begin.new.self) k.opened in
-    let marks = given_none (drafted t after ≡ (holding_after_all (change_by d.kind) before xs).presences) c.walk-found.result found walked.drafted in
+    let marks = given_none (drafted t after ≡ (holding_after_all (change_by d.kind) before xs).presences) c.walk-found.result found (rw c.kind-kind.ensures at walked.drafted) in
     let changed = given_none _ c.walk-found.result found walked.changed in
-    let became = given_none _ c.walk-found.result found walked.steps in
+    let became = given_none _ c.walk-found.result found (rw c.kind-kind.ensures at walked.steps) in
     if_none (IsTried k host d (record { draft = after; steps = c.walk-found.new.steps.items; items = c.put_items.new.into.items })) c.past_fault.result
     (λ no_past. record {
       faultless = sym (returns-clause-fault c) ∙ no_past;
       whole = sym here ∙ own;
-      stays = rw (← here) (given_none (StaysBy d.kind xs) c.past_fault.result no_past c.past_fault.ensures.stays);
+      stays = rw (← here) (given_none (StaysBy d.kind xs) c.past_fault.result no_past (rw c.kind-kind.ensures at c.past_fault.ensures.stays));
       draft = given_none (IsDraft t after) c.walk-found.result found walked.draft;
       marks = rw (← here) (rw c.begin.ensures.drafted at marks);
       changed = omega (arith, changed, ap length c.begin.ensures.changed, ap length here);

@@ -32,7 +32,7 @@ run_of-requires-clause-held c =
     let host = c.args.host in
     let d = c.args.directive.now in
     let tried : IsTried k host d (seen c.self.inside) = rw (← c.self.view_is) at c.requires.tried in
-    rw (c.get.ensures, c.as_slice-items.ensures.value, tried.marks, tried.whole) (is_clean k host d c.requires.known tried.draft.table tried.faultless).held
+    rw (c.kind-kind.ensures, c.as_slice-items.ensures.value, tried.marks, tried.whole) (is_clean k host d c.requires.known tried.draft.table tried.faultless).held
 
 pub leave_all-requires-clause-draft_room : goal.leave_all-requires-clause-draft_room
 leave_all-requires-clause-draft_room c =
@@ -42,7 +42,7 @@ leave_all-requires-clause-draft_room c =
     let xs = c.as_slice-items.result.now in
     let tried : IsTried k host d (seen c.self.inside) = rw (← c.self.view_is) at c.requires.tried in
     let clean = is_clean k host d c.requires.known tried.draft.table tried.faultless in
-    let ends : c.ends_of-ends.result.now ≡ ends_of d.kind xs = (rw c.get.ensures at c.ends_of-ends.ensures) in
+    let ends : c.ends_of-ends.result.now ≡ ends_of d.kind xs = (rw c.kind-kind.ensures at c.ends_of-ends.ensures) in
     omega (arith, tried.changed, ap length tried.whole, ap length c.as_slice-items.ensures.value, clean.short, ap length ends, length-ends d.kind xs, c.self.invariant.0)
 
 pub leave_all-requires-clause-step_room : goal.leave_all-requires-clause-step_room
@@ -54,7 +54,7 @@ leave_all-requires-clause-step_room c =
     let xs = c.as_slice-items.result.now in
     let tried : IsTried k host d (seen w) = rw (← c.self.view_is) at c.requires.tried in
     let clean = is_clean k host d c.requires.known tried.draft.table tried.faultless in
-    let ends : c.ends_of-ends.result.now ≡ ends_of d.kind xs = (rw c.get.ensures at c.ends_of-ends.ensures) in
+    let ends : c.ends_of-ends.result.now ≡ ends_of d.kind xs = (rw c.kind-kind.ensures at c.ends_of-ends.ensures) in
     let made = length-marked (change_by d.kind) (held_by k) w.items.items in
     omega (arith, w.steps.ok.0, ap length tried.became, made, ap length tried.whole, ap length c.as_slice-items.ensures.value, clean.short, ap length ends, length-ends d.kind xs, c.self.invariant.1)
 
@@ -65,7 +65,7 @@ leave_all-requires-clause-cells c =
     let d = c.args.directive.now in
     let tried : IsTried k host d (seen c.self.inside) = rw (← c.self.view_is) at c.requires.tried in
     let own : c.as_slice-items.result.now ≡ items_by k host d = c.as_slice-items.ensures.value ∙ tried.whole in
-    let ends : c.ends_of-ends.result.now ≡ ends_of d.kind c.as_slice-items.result.now = (rw c.get.ensures at c.ends_of-ends.ensures) in
+    let ends : c.ends_of-ends.result.now ≡ ends_of d.kind c.as_slice-items.result.now = (rw c.kind-kind.ensures at c.ends_of-ends.ensures) in
     rw (ends, own) (is_clean k host d c.requires.known tried.draft.table tried.faultless).ends_cells
 
 pub leave_all-requires-clause-entered : goal.leave_all-requires-clause-entered
@@ -75,7 +75,7 @@ leave_all-requires-clause-entered c =
     let d = c.args.directive.now in
     let items = items_by k host d in
     let tried : IsTried k host d (seen c.self.inside) = rw (← c.self.view_is) at c.requires.tried in
-    let ends : c.ends_of-ends.result.now ≡ ends_of d.kind c.as_slice-items.result.now = (rw c.get.ensures at c.ends_of-ends.ensures) in
+    let ends : c.ends_of-ends.result.now ≡ ends_of d.kind c.as_slice-items.result.now = (rw c.kind-kind.ensures at c.ends_of-ends.ensures) in
     let clean = is_clean k host d c.requires.known tried.draft.table tried.faultless in
     rw (ends, c.as_slice-items.ensures.value, tried.marks, tried.whole) (entered_alike (holding_between d.kind (held_by k) items) 0 (ends_of d.kind items) clean.ends_entered)
 
@@ -90,11 +90,11 @@ returns-clause-label c =
     let here = c.as_slice-items.ensures.value in
     let tried : IsTried k host d (seen w) = rw (← c.self.view_is) at c.requires.tried in
     let ps = drafted k.table.now w.draft in
-    let ends : c.ends_of-ends.result.now ≡ ends_of d.kind w.items.items = (rw c.get.ensures at c.ends_of-ends.ensures) ∙ ap (ends_of d.kind) here in
+    let ends : c.ends_of-ends.result.now ≡ ends_of d.kind w.items.items = (rw c.kind-kind.ensures at c.ends_of-ends.ensures) ∙ ap (ends_of d.kind) here in
     let steps : c.as_slice.result.now ≡ all_steps d.kind h items =
     steps_made d.kind h ps w.items.items items c.ends_of-ends.result.now w.steps.items c.as_slice.result.now
     tried.became tried.marks ends tried.whole (c.as_slice.ensures.value ∙ c.leave_all.ensures.steps) in
-    let made = (rw c.get.ensures at c.in_ok-run.ensures.run) ∙ ap (λ ys. run_in (loop_of d.kind) ys ps) here in
+    let made = (rw c.kind-kind.ensures at c.in_ok-run.ensures.run) ∙ ap (λ ys. run_in (loop_of d.kind) ys ps) here in
     let run : option_to_list c.in_ok-run.run' ≡ run_in (loop_of d.kind) items (holding_between d.kind h items).presences =
     run_made d.kind h ps w.items.items items (option_to_list c.in_ok-run.run') tried.marks tried.whole made in
     let ops : marked_ops (option_to_list c.in_ok-run.run') c.as_slice.result.now ≡ ops_by k host d =

@@ -1,0 +1,4 @@
+mod Bareness
+mod Examples
+mod Standing
+mod Staying

@@ -1,0 +1,21 @@
+use Rattle.acc_host.proofs.Standing.{ready_stands, Stands-follow, refused_stands, stands_on}
+use Rattle.acc_host.proofs.Bareness.{follows_bare, bare_synchronous}
+use Rattle.acc_host.proofs.laws.hosts_follow.Goals as goal
+
+pub returns-clause-first : goal.returns-clause-first
+returns-clause-first c = ready_stands
+
+pub returns-clause-follow : goal.returns-clause-follow
+returns-clause-follow c = Stands-follow
+
+pub returns-clause-refused : goal.returns-clause-refused
+returns-clause-refused c = refused_stands
+
+pub returns-clause-bare : goal.returns-clause-bare
+returns-clause-bare c = follows_bare
+
+pub returns-clause-steps : goal.returns-clause-steps
+returns-clause-steps c = stands_on
+
+pub returns-clause-synchronous : goal.returns-clause-synchronous
+returns-clause-synchronous c = λ program h. bare_synchronous program.statements h

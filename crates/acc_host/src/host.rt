@@ -1,0 +1,173 @@
+ghost use Rattle.std.specs.Prelude.{◌≡◌, ◌+◌, ◌<◌, ◌^◌, map, slice_get, Some};
+ghost use Rattle.acc_host.specs.Following.{Stands};
+ghost use Rattle.acc_host.specs.Engines.{Keeps};
+ghost use Rattle.acc_host.specs.Hosts.{ready, bare, Steps, gone, replied, state_of, line_of, refused_at, ended_after, ids_gone, phase_after};
+ghost use Rattle.acc_host.specs.Steps.{AllSynchronous};
+
+use crate::engine::Engine;
+use crate::program::{HostProgram, Statement};
+use crate::state::{After, HostState, Ids, Phase, Reply};
+use crate::turn::turn_at;
+use acc_base::{DeviceId, Fault, HostId};
+use acc_place::ASYNC_NOVAL;
+use std::alloc::Global;
+use std::marker::Model;
+
+/// A host: a program, and where it stands.
+#[derive(Drop)]
+pub struct Host {
+    host: HostId,
+    statements: Vec<Statement>,
+    ended: usize,
+    ids: Ids,
+    phase: Phase,
+}
+
+impl Model for Host {
+    ghost use Rattle.std.specs.Coded.{codes};
+    ghost use Rattle.std.specs.Prelude.{map, ◌≤◌, length};
+    ghost use Rattle.acc_host.specs.Hosts.{HostView, bare, IsHost};
+    ghost use Rattle.acc_kernel.specs.contracts.expr.Expr as expr;
+
+    ghost Value = { HostView };
+
+    ghost coded = { Prim.hlevel (codes, expr.the_row.coded) };
+
+    ghost view = { λ a. record { host = a.host; statements = map bare a.statements.items; ended = a.ended; ids = a.ids; phase = a.phase } };
+
+    ghost invariant = { λ a. IsHost (record { host = a.host; statements = map bare a.statements.items; ended = a.ended; ids = a.ids; phase = a.phase }) };
+}
+
+impl Host {
+    /// Before its first statement. Takes no memory.
+    pub fn new(program: HostProgram) -> Self
+        ensures { result ≡ ready program }
+    {
+        let HostProgram { host, statements } = program;
+        Host {
+            host,
+            statements: statements.into_vec(),
+            ended: 0,
+            ids: Ids {
+                device: DeviceId::new(0),
+                default: ASYNC_NOVAL,
+            },
+            phase: Phase::Ready,
+        }
+    }
+
+    /// One step over an engine that serves it: at most one call of it. All its statements are synchronous, by
+    /// `HostProgram::is_synchronous`.
+    pub fn next<E: Engine>(&mut self, alloc: Global, engine: &mut E) -> Reply
+        requires host { E.serves engine.old self.old.host }
+        requires synchronous { AllSynchronous self.old.statements }
+        ensures steps { Steps E.makes E.entries (E.devices engine.old) engine.old self.old result engine.new self.new }
+        ensures follows { Stands (E.devices engine.old) self.old (E.entries engine.old self.old.host) → Stands (E.devices engine.new) self.new (E.entries engine.new self.new.host) }
+        ensures keeps { Keeps E.devices E.serves E.entries self.old.host engine.old engine.new }
+    {
+        self.go_on(alloc, engine)
+    }
+
+    // The same, without the law on its list.
+    fn go_on<E: Engine>(&mut self, alloc: Global, engine: &mut E) -> Reply
+        requires host { E.serves engine.old self.old.host }
+        requires synchronous { AllSynchronous self.old.statements }
+        ensures steps { Steps E.makes E.entries (E.devices engine.old) engine.old self.old result engine.new self.new }
+        ensures keeps { Keeps E.devices E.serves E.entries self.old.host engine.old engine.new }
+    {
+        if self.ended >= self.statements.len() {
+            return Reply::Idle;
+        }
+        let goes = turn_at(
+            engine,
+            alloc,
+            self.host,
+            self.statements.as_mut_slice(),
+            self.ended,
+            &self.ids,
+            &self.phase,
+        );
+        settle(&mut self.ended, &mut self.ids, &mut self.phase, goes)
+    }
+
+    /// A running host is refused at its next statement; any other host stays as it is.
+    pub fn refuse(&mut self, fault: Fault)
+        ensures { self.new ≡ refused_at (state_of self.old) fault self.old }
+    {
+        if self.ended < self.statements.len() {
+            match self.phase {
+                Phase::Refused { .. } => {}
+                _ => self.phase = Phase::Refused { fault },
+            }
+        }
+    }
+
+    /// Where it stands.
+    pub fn state(&self) -> HostState
+        ensures { result ≡ state_of self.now }
+    {
+        match self.phase {
+            Phase::Ready if self.ended >= self.statements.len() => HostState::Finished,
+            Phase::Refused { fault } => HostState::Refused {
+                ended: self.ended,
+                line: line_at(&self.statements, self.ended),
+                fault,
+            },
+            _ => HostState::Running { ended: self.ended },
+        }
+    }
+}
+
+// The line of a statement, or 0.
+fn line_at(statements: &[Statement], at: usize) -> u32
+    ensures { result ≡ line_of (slice_get (map bare statements.now) at) }
+{
+    match statements.get(at) {
+        Some(statement) => statement.line,
+        None => 0,
+    }
+}
+
+// A host goes on.
+fn settle(ended: &mut usize, ids: &mut Ids, phase: &mut Phase, goes: Result<After, Fault>) -> Reply
+    requires { ended.old + 1 < 2 ^ 64 }
+    ensures ended { ended.new ≡ ended_after goes ended.old }
+    ensures ids { ids.new ≡ ids_gone goes ids.old }
+    ensures phase { phase.new ≡ phase_after goes phase.old }
+    ensures reply { result ≡ replied goes }
+{
+    match goes {
+        Ok(After::Idle) => Reply::Idle,
+        Ok(After::Ended) => {
+            *ended += 1;
+            *phase = Phase::Ready;
+            Reply::Did
+        }
+        Ok(After::Set { ids: set }) => {
+            *ended += 1;
+            *ids = set;
+            *phase = Phase::Ready;
+            Reply::Did
+        }
+        Ok(After::Waits { what }) => {
+            let counts = what.counts;
+            *phase = Phase::Waits {
+                device: what.device,
+                counts,
+            };
+            Reply::Did
+        }
+        Ok(After::Asks { what }) => {
+            let counts = what.counts;
+            *phase = Phase::Asks {
+                device: what.device,
+                counts,
+            };
+            Reply::Did
+        }
+        Err(fault) => {
+            *phase = Phase::Refused { fault };
+            Reply::Refused(fault)
+        }
+    }
+}

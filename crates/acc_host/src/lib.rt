@@ -1,0 +1,17 @@
+//! Programs of hosts, and their steps over an engine.
+#![tactic(auto)]
+
+mod engine;
+mod host;
+mod laws;
+mod outcome;
+mod program;
+mod state;
+mod turn;
+
+pub use engine::Engine;
+pub use host::Host;
+pub use laws::{hosts_follow, worked_hosts};
+pub use outcome::Outcome;
+pub use program::{Act, HostProgram, Statement};
+pub use state::{HostState, Reply};

@@ -1,0 +1,20 @@
+-- What a place shows of its parts.
+use Rattle.std.specs.Prelude.{min, vec_capacity}
+use Rattle.acc_place.specs.declared.place.Place.TheInside.{Inside}
+use Rattle.acc_place.specs.Plans.{PlaceView, Room}
+use Rattle.acc_place.proofs.Planning.{viewed}
+
+abbrev pub room_of : Inside → Room
+room_of w =
+    record {
+      directives = min (vec_capacity w.history) (vec_capacity w.counts);
+      regions = vec_capacity w.regions;
+      batches = vec_capacity w.labels;
+      ranges = w.table.room;
+    }
+
+abbrev pub seen_with : Inside → Room → PlaceView
+seen_with w room = viewed w.config w.history.items w.counts.items room
+
+abbrev pub seen : Inside → PlaceView
+seen w = seen_with w (room_of w)
