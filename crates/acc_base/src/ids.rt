@@ -143,3 +143,14 @@ pub struct QueueAt {
     pub device: DeviceId,
     pub queue: QueueId,
 }
+
+impl QueueAt {
+    ghost use Rattle.acc_base.specs.Queues.{seat};
+
+    /// Its place among the queues of all devices, by device, then in queue order, from 0.
+    pub fn seat(self) -> usize
+        ensures { result ≡ seat self }
+    {
+        usize::from(self.device.number()) * usize::from(QUEUES) + usize::from(self.queue.number())
+    }
+}

@@ -1,8 +1,9 @@
 -- What a directive is refused for, what it places, and what holds of a place once it is accepted.
-use Rattle.std.proofs.Common.{◌≡◌, ℕ, ◌+◌, ◌*◌, ◌<◌, ◌≤◌, Bool, true, false, List, [], ◌∷◌, ◌++◌, length, map, Option, Some, None, refl, sym, ap, ◌∙◌, arith}
-use Rattle.std.specs.Prelude.{◌||◌, nat_lt, nat_le, All}
+use Rattle.std.proofs.Common.{inl, inr, subst, ◌≡◌, ℕ, ◌+◌, ◌*◌, ◌<◌, ◌≤◌, Bool, true, false, List, [], ◌∷◌, ◌++◌, length, map, Option, Some, None, refl, sym, ap, ◌∙◌, arith}
+use Rattle.std.specs.Prelude.{◌||◌, ◌==◌, nat_lt, nat_le, All, IfSome}
 use Rattle.std.specs.Option.{option_to_list}
-use Rattle.std.proofs.lemmas.Bool.{or_parts, ltb-false, leb-false}
+use Rattle.std.proofs.lemmas.Bool.{eq-eqb, or_parts, ltb-false, leb-false, le-leb, lt-leb}
+use Rattle.std.proofs.lemmas.Bool.Decides.{eqb_tells}
 use Rattle.std.proofs.lemmas.List.{length-map, append-nil}
 use Rattle.std.proofs.lemmas.List.Elements.{All-cons, All-nil}
 use Rattle.acc_base.specs.declared.fault.Fault.{Fault}
@@ -15,13 +16,12 @@ use Rattle.acc_present.specs.Legality.{AllLegal}
 use Rattle.acc_present.specs.declared.change.Change.{Change}
 use Rattle.acc_present.specs.declared.change.Change.TheVariants.{StructuredDown}
 use Rattle.acc_present.specs.Marks.{Mark}
+use Rattle.acc_present.specs.Lifetimes.{opened}
 use Rattle.acc_present.specs.Presences.{presences}
 use Rattle.acc_present.specs.Tables.{Present, is_table}
 use Rattle.acc_present.proofs.Balancing.{legal}
 use Rattle.acc_batch.specs.declared.operation.Label.{Label}
 use Rattle.acc_batch.specs.declared.operation.Op.{Op}
-use Rattle.acc_batch.specs.Labels.{on_queue, AllAt}
-use Rattle.acc_batch.proofs.OneQueue.{on_queue_all}
 use Rattle.acc_place.specs.Directives.{Directive}
 use Rattle.acc_place.specs.declared.directive.Item.{Item}
 use Rattle.acc_place.specs.declared.directive.Kind.{Kind}
@@ -29,37 +29,44 @@ use Rattle.acc_place.specs.declared.directive.Kind.TheVariants as kind
 use Rattle.acc_place.specs.declared.directive.Region.{Region}
 use Rattle.acc_place.specs.declared.directive.TheConstants.{MAX_ITEMS, MAX_DIRECTIVES}
 use Rattle.acc_place.specs.Accepting.{fault_at, first_fault, fault_where, is_deep, is_outside, refusal}
-use Rattle.acc_place.specs.Batches.{batch_of, grouped, labelled, next_number, runs, runs_by, walk_at}
-use Rattle.acc_place.specs.Counts.{entered_ranges}
+use Rattle.acc_place.specs.Batches.{batch_of, grouped, labelled, next_number, runs, runs_by}
+use Rattle.acc_place.specs.Counts.{IsEnteredBy, entered_ranges}
 use Rattle.acc_place.specs.Histories.{after_directive}
-use Rattle.acc_place.specs.Places.{IsTied, sync}
-use Rattle.acc_place.specs.Plans.{label_for, label_in}
-use Rattle.acc_place.specs.Regions.{open_region, regions_after}
+use Rattle.acc_place.specs.Places.{IsTiedOn}
+use Rattle.acc_place.specs.Plans.{label_for}
+use Rattle.acc_place.specs.Regions.{open_region, regions_on}
 use Rattle.acc_place.specs.Standings.{Asked, Standing, Subject, Walk, all_asked, all_visits, change_by, ends_by, loop_of, marks_after, marks_behind, subject_by, visits, walk_of, walk_on, with_marks}
-use Rattle.acc_place.specs.Walks.{Holding, holding, holding_after, holding_after_all, holding_between, holding_behind, ends_of, opens_one, fault_or, limit_fault, first_fault_in, past_fault, all_steps, run_in, marked_ops, AllHeldFor, AllLow, HasRoomFor, AllEntered, AllFine}
-use Rattle.acc_place.proofs.Entered.{entered_after, entered_ends, entered_subject, fine_left, held_between, regions_kept, subject_device}
+use Rattle.acc_place.specs.Walks.{Holding, device_by, holding, holding_after, holding_after_all, holding_between, holding_behind, ends_of, opens_one, fault_or, limit_fault, first_fault_in, past_fault, all_steps, run_in, marked_ops, AllHeldFor, AllLow, HasRoomFor, AllEntered, AllFine}
+use Rattle.acc_place.proofs.Entered.{entered_after, entered_ends, entered_subject, fine_left, held_between}
+use Rattle.acc_place.proofs.RegionsOn.{regions_beside, subject_device}
 use Rattle.acc_place.proofs.Visits.{holding_of, faults_are, all_fine, marks_are, legal_all, ops_are, IsWalk}
 use Rattle.acc_place.proofs.Walking.{AllLow-by, AllLow-fewer, low_left, opened_left, opened-most}
 
--- what a directive acts on, where these data constructs are open
-abbrev pub subject_in : List ℕ → List Region → ℕ → Directive → Subject
-subject_in lengths rs host d = subject_by lengths rs host d d.kind
+-- what a directive acts on
+abbrev pub subject_of : Standing → ℕ → Directive → Subject
+subject_of st host d = subject_by st.lengths st.regions host d d.kind
 
-abbrev pub items_in : List ℕ → List Region → ℕ → Directive → List Item
-items_in lengths rs host d = (subject_in lengths rs host d).items
+abbrev pub items_in : Standing → ℕ → Directive → List Item
+items_in st host d = (subject_of st host d).items
 
-walk_is : (st : Standing) (host : ℕ) (d : Directive) (t : Present) (blocks : ℕ) (regions : List Region) (labels : List Label) → IsTied st t blocks regions labels → walk_of st host d ≡ walk_on (subject_in st.lengths regions host d) d.kind
+abbrev pub device_in : Standing → ℕ → Directive → ℕ
+device_in st host d = (subject_of st host d).device
+
+-- What a device has that is tied to its marks.
+abbrev pub IsTiedAt : Configuration → Standing → ℕ → Directive → Present → ℕ → Type 0
+IsTiedAt config st host d t blocks = IsTiedOn config st (device_in st host d) t blocks
+
+walk_is : (st : Standing) (host : ℕ) (d : Directive) → walk_of st host d ≡ walk_on (subject_of st host d) d.kind
 unfolding walk_of
-walk_is st host d t blocks regions labels tied = ap (λ rs. walk_on (subject_in st.lengths rs host d) d.kind) tied.inside
+walk_is st host d = refl
 
 -- ## Refusals
 
-three_first : (a b c : Bool) (fs : List (Option Fault)) → first_fault (fault_where a BadDevice ∷ fault_where b TooMany ∷ fault_where c NoRegion ∷ fs)
-    ≡ fault_or (first_fault (fault_where a BadDevice ∷ fault_where b TooMany ∷ fault_where c NoRegion ∷ [])) (first_fault fs)
-three_first true b c fs = refl
-three_first false true c fs = refl
-three_first false false true fs = refl
-three_first false false false fs = refl
+two_first : (b c : Bool) (fs : List (Option Fault)) → first_fault (fault_where b TooMany ∷ fault_where c NoRegion ∷ fs)
+    ≡ fault_or (first_fault (fault_where b TooMany ∷ fault_where c NoRegion ∷ [])) (first_fault fs)
+two_first true c fs = refl
+two_first false true fs = refl
+two_first false false fs = refl
 
 -- the faults of the items before that of the loop
 first_one : (f : Option Fault) → first_fault (f ∷ []) ≡ f
@@ -75,108 +82,93 @@ items_asked : (change : Option Change) (items : List Item) → map (λ (a : Aske
 items_asked change [] = refl
 items_asked change (i ∷ is) = ap (λ xs. i ∷ xs) (items_asked change is)
 
-abbrev limit_in : Configuration → ℕ → List ℕ → List Region → ℕ → Directive → Option Fault
-limit_in config accepted lengths rs host d = limit_fault config accepted rs host d (length (items_in lengths rs host d))
+abbrev limit_in : Standing → ℕ → Directive → Option Fault
+limit_in st host d = limit_fault st.accepted st.regions host d (length (items_in st host d))
 
 abbrev faults_in : Configuration → Standing → Subject → Kind → Option Fault
 faults_in config st s k = first_fault (map (fault_at config k) (visits (st.marks s.device) (all_asked (change_by k) s.items)))
 
-refusal_is : (config : Configuration) (st : Standing) (host : ℕ) (d : Directive) (t : Present) (blocks : ℕ) (regions : List Region) (labels : List Label) → IsTied st t blocks regions labels
-    → refusal config st host d ≡ fault_or (limit_in config st.accepted st.lengths regions host d) (fault_or (faults_in config st (subject_in st.lengths regions host d) d.kind) (past_fault (loop_of d.kind) (items_in st.lengths regions host d)))
+-- the device before everything else
+pub refused_device : (config : Configuration) (st : Standing) (host : ℕ) (d : Directive) → config.devices ≤ d.device → refusal config st host d ≡ Some BadDevice
+unfolding refusal
+refused_device config st host d past = rw (le-leb config.devices d.device past) refl
+
+device_first : (bad : Bool) (fs : List (Option Fault)) → first_fault (fault_where bad BadDevice ∷ fs) ≡ None → bad ≡ false
+device_first true fs none = absurd cc
+device_first false fs none = refl
+
+pub accepted_device : (config : Configuration) (st : Standing) (host : ℕ) (d : Directive) → refusal config st host d ≡ None → d.device < config.devices
+unfolding refusal
+accepted_device config st host d none = leb-false config.devices d.device (device_first (nat_le config.devices d.device) _ none)
+
+refusal_is : (config : Configuration) (st : Standing) (host : ℕ) (d : Directive) → d.device < config.devices
+    → refusal config st host d ≡ fault_or (limit_in st host d) (fault_or (faults_in config st (subject_of st host d) d.kind) (past_fault (loop_of d.kind) (items_in st host d)))
 unfolding refusal limit_fault walk_of
-refusal_is config st host d t blocks regions labels tied =
-    let s = subject_in st.lengths regions host d in
+refusal_is config st host d here =
+    let s = subject_of st host d in
     let faults = map (fault_at config d.kind) (visits (st.marks s.device) (all_asked (change_by d.kind) s.items)) in
     let past = past_fault (loop_of d.kind) s.items in
-    rw (tied.inside, length-map s.items, items_asked (change_by d.kind) s.items)
-    (three_first (nat_le config.devices d.device) (nat_lt MAX_ITEMS (length s.items) || (is_deep d.kind host regions || nat_le MAX_DIRECTIVES st.accepted)) (is_outside d.kind (open_region host regions)) (faults ++ past ∷ [])
-    ∙ ap (fault_or (limit_in config st.accepted st.lengths regions host d)) (first_behind faults (past ∷ []) ∙ ap (fault_or (first_fault faults)) (first_one past)))
-
-refused_by_limit : (config : Configuration) (st : Standing) (host : ℕ) (d : Directive) (t : Present) (blocks : ℕ) (regions : List Region) (labels : List Label) (f : Fault) → IsTied st t blocks regions labels
-    → limit_fault config st.accepted regions host d (length (items_in st.lengths regions host d)) ≡ Some f → refusal config st host d ≡ Some f
-refused_by_limit config st host d t blocks regions labels f tied is = refusal_is config st host d t blocks regions labels tied ∙ rw is refl
+    rw (lt-leb config.devices d.device here, length-map s.items, items_asked (change_by d.kind) s.items)
+    (two_first (nat_lt MAX_ITEMS (length s.items) || (is_deep d.kind host st.regions || nat_le MAX_DIRECTIVES st.accepted)) (is_outside d.kind (open_region host st.regions)) (faults ++ past ∷ [])
+    ∙ ap (fault_or (limit_in st host d)) (first_behind faults (past ∷ []) ∙ ap (fault_or (first_fault faults)) (first_one past)))
 
 -- a directive that passes no limit
-pub record IsWithin (config : Configuration) (accepted count : ℕ) (d : Directive) : Type 0 where
-  pub here : d.device < config.devices
+pub record IsWithin (accepted count : ℕ) : Type 0 where
   pub short : count ≤ MAX_ITEMS
   pub few : accepted < MAX_DIRECTIVES
 
-none_of_two : (a b c : Bool) → first_fault (fault_where a BadDevice ∷ fault_where b TooMany ∷ fault_where c NoRegion ∷ []) ≡ None → (a ≡ false) × (b ≡ false)
-none_of_two true b c h = absurd (cc)
-none_of_two false true c h = absurd (cc)
-none_of_two false false c h = (refl, refl)
+none_of_two : (b c : Bool) → first_fault (fault_where b TooMany ∷ fault_where c NoRegion ∷ []) ≡ None → b ≡ false
+none_of_two true c h = absurd cc
+none_of_two false c h = refl
 
-pub is_within : (config : Configuration) (accepted : ℕ) (rs : List Region) (host : ℕ) (d : Directive) (count : ℕ) → limit_fault config accepted rs host d count ≡ None → IsWithin config accepted count d
+pub is_within : (accepted : ℕ) (rs : List Region) (host : ℕ) (d : Directive) (count : ℕ) → limit_fault accepted rs host d count ≡ None → IsWithin accepted count
 unfolding limit_fault
-is_within config accepted rs host d count none =
-    let parts = none_of_two (nat_le config.devices d.device) (nat_lt MAX_ITEMS count || (is_deep d.kind host rs || nat_le MAX_DIRECTIVES accepted)) (is_outside d.kind (open_region host rs)) none in
-    let counts = or_parts (nat_lt MAX_ITEMS count) (is_deep d.kind host rs || nat_le MAX_DIRECTIVES accepted) parts.1 in
+is_within accepted rs host d count none =
+    let many = none_of_two (nat_lt MAX_ITEMS count || (is_deep d.kind host rs || nat_le MAX_DIRECTIVES accepted)) (is_outside d.kind (open_region host rs)) none in
+    let counts = or_parts (nat_lt MAX_ITEMS count) (is_deep d.kind host rs || nat_le MAX_DIRECTIVES accepted) many in
     let others = or_parts (is_deep d.kind host rs) (nat_le MAX_DIRECTIVES accepted) counts.1 in
     record {
-      here = leb-false config.devices d.device parts.0;
       short = ltb-false MAX_ITEMS count counts.0;
       few = leb-false MAX_DIRECTIVES accepted others.1;
     }
 
-only_device : (n devices : ℕ) → devices ≡ 1 → n < devices → n ≡ 0
-only_device n devices one low = omega arith
+table_in : {config : Configuration} {device : ℕ} (st : Standing) (t : Present) (blocks : ℕ) → IsTiedOn config st device t blocks → is_table t.presences ≡ true
+table_in {device = device} st t blocks tied = ap is_table tied.presences ∙ (legal (st.marks device) tied.legal).table
 
-table_in : (st : Standing) (t : Present) (blocks : ℕ) (regions : List Region) (labels : List Label) → IsTied st t blocks regions labels → is_table t.presences ≡ true
-table_in st t blocks regions labels tied = ap is_table tied.presences ∙ (legal (st.marks 0) tied.legal).table
+-- what the open regions of its device have entered is present
+on_device : {config : Configuration} (st : Standing) (host : ℕ) (d : Directive) (t : Present) (blocks : ℕ) → IsTiedAt config st host d t blocks
+    → IsEnteredBy (entered_ranges (regions_on (device_by st.regions host d d.kind) st.regions)) t.presences
+on_device st host d t blocks tied = subst (λ n. IsEnteredBy (entered_ranges (regions_on n st.regions)) t.presences) (subject_device st.lengths st.regions host d d.kind) tied.entered
 
 -- each item of a region's end was entered
-pub entered_in : (st : Standing) (host : ℕ) (d : Directive) (t : Present) (blocks : ℕ) (regions : List Region) (labels : List Label) → IsTied st t blocks regions labels
-    → AllEntered (change_by d.kind) (holding t.presences blocks) (items_in st.lengths regions host d)
-entered_in st host d t blocks regions labels tied = entered_subject st.lengths regions host d d.kind t.presences blocks (table_in st t blocks regions labels tied) tied.entered
+pub entered_in : {config : Configuration} (st : Standing) (host : ℕ) (d : Directive) (t : Present) (blocks : ℕ) → IsTiedAt config st host d t blocks
+    → AllEntered (change_by d.kind) (holding t.presences blocks) (items_in st host d)
+entered_in st host d t blocks tied = entered_subject st.lengths st.regions host d d.kind t.presences blocks (table_in st t blocks tied) (on_device st host d t blocks tied)
 
 -- What the subject's device has, and that its marks are legal.
-record IsSubject (st : Standing) (host : ℕ) (d : Directive) (t : Present) (blocks : ℕ) (regions : List Region) : Type 0 where
-  here : d.device ≡ 0
-  device : (subject_in st.lengths regions host d).device ≡ 0
-  held : holding t.presences blocks ≡ holding_of (st.marks (subject_in st.lengths regions host d).device)
-  legal : AllLegal (st.marks (subject_in st.lengths regions host d).device)
-  entered : AllEntered (change_by d.kind) (holding_of (st.marks (subject_in st.lengths regions host d).device)) (items_in st.lengths regions host d)
+record IsSubject (st : Standing) (host : ℕ) (d : Directive) (t : Present) (blocks : ℕ) : Type 0 where
+  held : holding t.presences blocks ≡ holding_of (st.marks (device_in st host d))
+  legal : AllLegal (st.marks (device_in st host d))
+  entered : AllEntered (change_by d.kind) (holding_of (st.marks (device_in st host d))) (items_in st host d)
 
-is_subject : (st : Standing) (host : ℕ) (d : Directive) (t : Present) (blocks : ℕ) (regions : List Region) (labels : List Label) → IsTied st t blocks regions labels → d.device ≡ 0 → IsSubject st host d t blocks regions
-is_subject st host d t blocks regions labels tied here =
-    let device = subject_device st.lengths regions host d d.kind here tied.all_here in
-    let held : holding t.presences blocks ≡ holding_of (st.marks (subject_in st.lengths regions host d).device) =
-    ap (λ ps. holding ps blocks) tied.presences ∙ (ap (holding (presences (st.marks 0))) tied.opened ∙ ap (λ k. holding_of (st.marks k)) (sym device)) in
-    record {
-      here = here;
-      device = device;
-      held = held;
-      legal = rw device tied.legal;
-      entered = rw (← held) (entered_in st host d t blocks regions labels tied);
-    }
+is_subject : {config : Configuration} (st : Standing) (host : ℕ) (d : Directive) (t : Present) (blocks : ℕ) → IsTiedAt config st host d t blocks → IsSubject st host d t blocks
+is_subject st host d t blocks tied =
+    let held : holding t.presences blocks ≡ holding_of (st.marks (device_in st host d)) =
+    ap (λ ps. holding ps blocks) tied.presences ∙ ap (holding (presences (st.marks (device_in st host d)))) tied.opened in
+    record { held = held; legal = tied.legal; entered = rw (← held) (entered_in st host d t blocks tied) }
 
-pub refused_by_items : (config : Configuration) (st : Standing) (host : ℕ) (d : Directive) (t : Present) (blocks : ℕ) (regions : List Region) (labels : List Label) → IsTied st t blocks regions labels → config.devices ≡ 1
-    → limit_fault config st.accepted regions host d (length (items_in st.lengths regions host d)) ≡ None → refusal config st host d ≡ fault_or (first_fault_in config d.kind (holding t.presences blocks) (items_in st.lengths regions host d)) (past_fault (loop_of d.kind) (items_in st.lengths regions host d))
-refused_by_items config st host d t blocks regions labels tied one none =
-    let s = subject_in st.lengths regions host d in
-    let past = past_fault (loop_of d.kind) s.items in
-    let zero = only_device d.device config.devices one (is_within config st.accepted regions host d (length s.items) none).here in
-    let sub = is_subject st host d t blocks regions labels tied zero in
-    refusal_is config st host d t blocks regions labels tied
-    ∙ (ap (λ f. fault_or f (fault_or (faults_in config st s d.kind) past)) none
-    ∙ ap (λ f. fault_or f past) (faults_are config d.kind (st.marks s.device) s.items sub.legal sub.entered ∙ ap (λ h. first_fault_in config d.kind h s.items) (sym sub.held)))
+-- the faults of the items, and then of the loop
+abbrev items_faults : Configuration → Standing → ℕ → Directive → Present → ℕ → Option Fault
+items_faults config st host d t blocks =
+    fault_or (first_fault_in config d.kind (holding t.presences blocks) (items_in st host d)) (past_fault (loop_of d.kind) (items_in st host d))
 
--- the limits before the items, and these before the loop
-abbrev items_faults : Configuration → List ℕ → Directive → ℕ → Present → ℕ → List Region → Option Fault
-items_faults config lengths d host t blocks regions =
-    fault_or (first_fault_in config d.kind (holding t.presences blocks) (items_in lengths regions host d)) (past_fault (loop_of d.kind) (items_in lengths regions host d))
-
-pub refused_by : (config : Configuration) (st : Standing) (host : ℕ) (d : Directive) (t : Present) (blocks : ℕ) (regions : List Region) (labels : List Label) → IsTied st t blocks regions labels → config.devices ≡ 1
-    → refusal config st host d ≡ fault_or (limit_in config st.accepted st.lengths regions host d) (items_faults config st.lengths d host t blocks regions)
-refused_by config st host d t blocks regions labels tied one = by_limit (limit_in config st.accepted st.lengths regions host d) refl
-  where
-    by_limit : (o : Option Fault) → limit_in config st.accepted st.lengths regions host d ≡ o
-        → refusal config st host d ≡ fault_or (limit_in config st.accepted st.lengths regions host d) (items_faults config st.lengths d host t blocks regions)
-    by_limit None is =
-        refused_by_items config st host d t blocks regions labels tied one is ∙ sym (ap (λ f. fault_or f (items_faults config st.lengths d host t blocks regions)) is)
-    by_limit (Some fault) is =
-        refused_by_limit config st host d t blocks regions labels fault tied is ∙ sym (ap (λ f. fault_or f (items_faults config st.lengths d host t blocks regions)) is)
+pub refused_by : (config : Configuration) (st : Standing) (host : ℕ) (d : Directive) (t : Present) (blocks : ℕ) → IsTiedAt config st host d t blocks → d.device < config.devices
+    → refusal config st host d ≡ fault_or (limit_in st host d) (items_faults config st host d t blocks)
+refused_by config st host d t blocks tied here =
+    let s = subject_of st host d in
+    let sub = is_subject st host d t blocks tied in
+    refusal_is config st host d here
+    ∙ ap (λ f. fault_or (limit_in st host d) (fault_or f (past_fault (loop_of d.kind) s.items))) (faults_are config d.kind (st.marks s.device) s.items sub.legal sub.entered ∙ ap (λ h. first_fault_in config d.kind h s.items) (sym sub.held))
 
 none_or : (a b : Option Fault) → fault_or a b ≡ None → a ≡ None
 none_or None b h = refl
@@ -201,37 +193,41 @@ ends_all P kind.AsyncTest items all = All-nil P
 ends_all P kind.IsPresent items all = All-nil P
 
 -- what is known of it
-pub record IsFree (config : Configuration) (st : Standing) (host : ℕ) (d : Directive) (t : Present) (blocks : ℕ) (regions : List Region) : Type 0 where
-  pub within : IsWithin config st.accepted (length (items_in st.lengths regions host d)) d
-  pub faultless : first_fault_in config d.kind (holding t.presences blocks) (items_in st.lengths regions host d) ≡ None
-  pub fine : AllFine config.capacity (change_by d.kind) (holding t.presences blocks) (items_in st.lengths regions host d)
-  pub held : AllHeldFor d.kind (holding_between d.kind (holding t.presences blocks) (items_in st.lengths regions host d)).presences (items_in st.lengths regions host d)
-  pub ends_entered : AllEntered (Some StructuredDown) (holding_between d.kind (holding t.presences blocks) (items_in st.lengths regions host d)) (ends_of d.kind (items_in st.lengths regions host d))
-  pub ends_cells : All (λ (i : Item). 0 < i.range.len) (ends_of d.kind (items_in st.lengths regions host d))
-  pub ends_fine : AllFine config.capacity (Some StructuredDown) (holding_between d.kind (holding t.presences blocks) (items_in st.lengths regions host d)) (ends_of d.kind (items_in st.lengths regions host d))
-  subject : IsSubject st host d t blocks regions
+pub record IsFree (config : Configuration) (st : Standing) (host : ℕ) (d : Directive) (t : Present) (blocks : ℕ) : Type 0 where
+  pub here : d.device < config.devices
+  pub within : IsWithin st.accepted (length (items_in st host d))
+  pub faultless : first_fault_in config d.kind (holding t.presences blocks) (items_in st host d) ≡ None
+  pub fine : AllFine config.capacity (change_by d.kind) (holding t.presences blocks) (items_in st host d)
+  pub held : AllHeldFor d.kind (holding_between d.kind (holding t.presences blocks) (items_in st host d)).presences (items_in st host d)
+  pub ends_entered : AllEntered (Some StructuredDown) (holding_between d.kind (holding t.presences blocks) (items_in st host d)) (ends_of d.kind (items_in st host d))
+  pub ends_cells : All (λ (i : Item). 0 < i.range.len) (ends_of d.kind (items_in st host d))
+  pub ends_fine : AllFine config.capacity (Some StructuredDown) (holding_between d.kind (holding t.presences blocks) (items_in st host d)) (ends_of d.kind (items_in st host d))
+  subject : IsSubject st host d t blocks
 
-pub is_free : (config : Configuration) (st : Standing) (host : ℕ) (d : Directive) (t : Present) (blocks : ℕ) (regions : List Region) (labels : List Label) → IsTied st t blocks regions labels → config.devices ≡ 1
-    → refusal config st host d ≡ None → IsFree config st host d t blocks regions
-is_free config st host d t blocks regions labels tied one accepted =
-    let none = none_or (limit_in config st.accepted st.lengths regions host d) _ (sym (refusal_is config st host d t blocks regions labels tied) ∙ accepted) in
-    let items = items_in st.lengths regions host d in
-    let within = is_within config st.accepted regions host d (length items) none in
-    let faultless = none_or (first_fault_in config d.kind (holding t.presences blocks) items) _ (sym (refused_by_items config st host d t blocks regions labels tied one none) ∙ accepted) in
+pub is_free : (config : Configuration) (st : Standing) (host : ℕ) (d : Directive) (t : Present) (blocks : ℕ) → IsTiedAt config st host d t blocks
+    → refusal config st host d ≡ None → IsFree config st host d t blocks
+is_free config st host d t blocks tied accepted =
+    let here = accepted_device config st host d accepted in
+    let is = sym (refused_by config st host d t blocks tied here) ∙ accepted in
+    let none = none_or (limit_in st host d) _ is in
+    let items = items_in st host d in
+    let within = is_within st.accepted st.regions host d (length items) none in
     let h = holding t.presences blocks in
+    let faultless = none_or (first_fault_in config d.kind h items) _ (ap (λ f. fault_or f (items_faults config st host d t blocks)) (sym none) ∙ is) in
     let fine = all_fine config d.kind h items faultless in
-    let table = table_in st t blocks regions labels tied in
-    let entered = entered_ends config.capacity d.kind h items (entered_ranges regions) table fine tied.entered in
+    let table = table_in st t blocks tied in
+    let entered = entered_ends config.capacity d.kind h items (entered_ranges (regions_on (device_in st host d) st.regions)) table fine tied.entered in
     let cells = ends_all (λ (i : Item). 0 < i.range.len) d.kind items (all_cells config.capacity (change_by d.kind) h items fine) in
     record {
+      here = here;
       within = within;
       faultless = faultless;
       fine = fine;
-      held = held_between config.capacity d.kind h items (entered_ranges regions) table fine tied.entered;
+      held = held_between config.capacity d.kind h items (entered_ranges (regions_on (device_in st host d) st.regions)) table fine tied.entered;
       ends_entered = entered;
       ends_cells = cells;
       ends_fine = fine_left config.capacity (holding_between d.kind h items) (ends_of d.kind items) cells entered;
-      subject = is_subject st host d t blocks regions labels tied (only_device d.device config.devices one within.here);
+      subject = is_subject st host d t blocks tied;
     }
 
 -- ## The batch
@@ -248,14 +244,14 @@ ends_are kind.AsyncTest items = refl
 ends_are kind.IsPresent items = refl
 
 -- the two walks of a directive
-record IsWalked (config : Configuration) (st : Standing) (host : ℕ) (d : Directive) (t : Present) (blocks : ℕ) (regions : List Region) : Type 0 where
-  first : IsWalk config.capacity (change_by d.kind) (st.marks (subject_in st.lengths regions host d).device) (items_in st.lengths regions host d)
-  between : holding_of (marks_after (st.marks (subject_in st.lengths regions host d).device) (all_asked (change_by d.kind) (items_in st.lengths regions host d))) ≡ holding_between d.kind (holding t.presences blocks) (items_in st.lengths regions host d)
-  later : IsWalk config.capacity (Some StructuredDown) (marks_after (st.marks (subject_in st.lengths regions host d).device) (all_asked (change_by d.kind) (items_in st.lengths regions host d))) (ends_of d.kind (items_in st.lengths regions host d))
+record IsWalked (config : Configuration) (st : Standing) (host : ℕ) (d : Directive) (t : Present) (blocks : ℕ) : Type 0 where
+  first : IsWalk config.capacity (change_by d.kind) (st.marks (device_in st host d)) (items_in st host d)
+  between : holding_of (marks_after (st.marks (device_in st host d)) (all_asked (change_by d.kind) (items_in st host d))) ≡ holding_between d.kind (holding t.presences blocks) (items_in st host d)
+  later : IsWalk config.capacity (Some StructuredDown) (marks_after (st.marks (device_in st host d)) (all_asked (change_by d.kind) (items_in st host d))) (ends_of d.kind (items_in st host d))
 
-is_walked : (config : Configuration) (st : Standing) (host : ℕ) (d : Directive) (t : Present) (blocks : ℕ) (regions : List Region) → IsFree config st host d t blocks regions → IsWalked config st host d t blocks regions
-is_walked config st host d t blocks regions free =
-    let s = subject_in st.lengths regions host d in
+is_walked : (config : Configuration) (st : Standing) (host : ℕ) (d : Directive) (t : Present) (blocks : ℕ) → IsFree config st host d t blocks → IsWalked config st host d t blocks
+is_walked config st host d t blocks free =
+    let s = subject_of st host d in
     let sub = free.subject in
     let change = change_by d.kind in
     let ms = st.marks s.device in
@@ -278,23 +274,23 @@ run_is : (k : Option Loop) (items : List Item) (marks : List Mark) → runs_by k
 run_is None items marks = refl
 run_is (Some k) items marks = refl
 
-pub batch_is : (config : Configuration) (st : Standing) (host : ℕ) (d : Directive) (t : Present) (blocks : ℕ) (regions : List Region) (labels : List Label) → IsTied st t blocks regions labels
-    → IsFree config st host d t blocks regions
+pub batch_is : (config : Configuration) (st : Standing) (host : ℕ) (d : Directive) (t : Present) (blocks : ℕ) → IsTiedAt config st host d t blocks
+    → IsFree config st host d t blocks
     → batch_of st (walk_of st host d)
-    ≡ marked_ops (run_in (loop_of d.kind) (items_in st.lengths regions host d) (holding_between d.kind (holding t.presences blocks) (items_in st.lengths regions host d)).presences)
-    (all_steps d.kind (holding t.presences blocks) (items_in st.lengths regions host d))
+    ≡ marked_ops (run_in (loop_of d.kind) (items_in st host d) (holding_between d.kind (holding t.presences blocks) (items_in st host d)).presences)
+    (all_steps d.kind (holding t.presences blocks) (items_in st host d))
 unfolding batch_of
-batch_is config st host d t blocks regions labels tied free =
-    let s = subject_in st.lengths regions host d in
+batch_is config st host d t blocks tied free =
+    let s = subject_of st host d in
     let sub = free.subject in
     let change = change_by d.kind in
     let ms = st.marks s.device in
     let between = marks_after ms (all_asked change s.items) in
-    let walked = is_walked config st host d t blocks regions free in
+    let walked = is_walked config st host d t blocks free in
     let run : runs_by (loop_of d.kind) (map (λ (a : Asked). a.item) (all_asked change s.items)) between ≡ run_in (loop_of d.kind) s.items (holding_between d.kind (holding t.presences blocks) s.items).presences =
     ap (λ is. runs_by (loop_of d.kind) is between) (items_asked change s.items)
     ∙ (run_is (loop_of d.kind) s.items between ∙ ap (λ (h : Holding). run_in (loop_of d.kind) s.items h.presences) walked.between) in
-    ap (λ (w : Walk). grouped (runs w (st.marks w.device)) (all_visits (st.marks w.device) w)) (walk_is st host d t blocks regions labels tied)
+    ap (λ (w : Walk). grouped (runs w (st.marks w.device)) (all_visits (st.marks w.device) w)) (walk_is st host d)
     ∙ (ap (λ r. grouped r (visits ms (all_asked change s.items) ++ visits between (ends_by d.kind s.items))) run
     ∙ (ap (λ es. grouped (run_in (loop_of d.kind) s.items (holding_between d.kind (holding t.presences blocks) s.items).presences) (visits ms (all_asked change s.items) ++ visits between es)) (ends_are d.kind s.items)
     ∙ (ops_are config.capacity change (Some StructuredDown) ms s.items (ends_of d.kind s.items) _ walked.first walked.later
@@ -303,17 +299,17 @@ batch_is config st host d t blocks regions labels tied free =
 -- ## Room
 
 -- what judging so many items needs of the counters
-pub low_for : (st : Standing) (t : Present) (blocks n : ℕ) (regions : List Region) (labels : List Label) → IsTied st t blocks regions labels → n ≤ 2 * MAX_ITEMS → AllLow COUNTER_LIMIT n t.presences
-low_for st t blocks n regions labels tied short =
+pub low_for : {config : Configuration} {device : ℕ} (st : Standing) (t : Present) (blocks n : ℕ) → IsTiedOn config st device t blocks → n ≤ 2 * MAX_ITEMS → AllLow COUNTER_LIMIT n t.presences
+low_for st t blocks n tied short =
     AllLow-fewer (16 * st.accepted) COUNTER_LIMIT 0 n t.presences (omega (arith, tied.few)) tied.low
 
-pub few_for : (st : Standing) (t : Present) (blocks n : ℕ) (regions : List Region) (labels : List Label) → IsTied st t blocks regions labels → n ≤ 2 * MAX_ITEMS → blocks + n ≤ COUNTER_LIMIT
-few_for st t blocks n regions labels tied short = omega (arith, tied.few_blocks, tied.few)
+pub few_for : {config : Configuration} {device : ℕ} (st : Standing) (t : Present) (blocks n : ℕ) → IsTiedOn config st device t blocks → n ≤ 2 * MAX_ITEMS → blocks + n ≤ COUNTER_LIMIT
+few_for st t blocks n tied short = omega (arith, tied.few_blocks, tied.few)
 
 -- and what marking them, and their ends, needs
-pub room_for : (st : Standing) (t : Present) (blocks n : ℕ) (regions : List Region) (labels : List Label) → IsTied st t blocks regions labels → n ≤ 2 * MAX_ITEMS → length t.presences + 2 * MAX_ITEMS ≤ t.room → HasRoomFor n t blocks
-room_for st t blocks n regions labels tied short room =
-    record { room = omega arith; low = low_for st t blocks n regions labels tied short; few = few_for st t blocks n regions labels tied short }
+pub room_for : {config : Configuration} {device : ℕ} (st : Standing) (t : Present) (blocks n : ℕ) → IsTiedOn config st device t blocks → n ≤ 2 * MAX_ITEMS → length t.presences + 2 * MAX_ITEMS ≤ t.room → HasRoomFor n t blocks
+room_for st t blocks n tied short room =
+    record { room = omega arith; low = low_for st t blocks n tied short; few = few_for st t blocks n tied short }
 
 pub length-ends : (k : Kind) (items : List Item) → length (ends_of k items) ≤ length items
 length-ends (kind.Loop kernel) items = omega arith
@@ -340,76 +336,79 @@ opened-all change h [] = omega arith
 opened-all change h (i ∷ is) =
     omega (arith, opened-all change (holding_after change i.range h) is, opened-most (opens_one change h.presences i.range) h.opened)
 
-own_marks : (others : ℕ → List Mark) (ms : List Mark) (device : ℕ) → device ≡ 0 → with_marks device ms others 0 ≡ ms
-own_marks others ms device zero = ap (λ k. with_marks k ms others 0) zero
+own_marks : (others : ℕ → List Mark) (ms : List Mark) (device : ℕ) → with_marks device ms others device ≡ ms
+own_marks others ms device = rw (eq-eqb device device refl) refl
 
 -- one label more, if the batch isn't empty
-labels_after : (at_queue : QueueAt) (host items_done : ℕ) (labels : List Label) (ops : List Op)
+pub labels_after : (at_queue : QueueAt) (host items_done : ℕ) (labels : List Label) (ops : List Op)
     → labelled at_queue host items_done labels ops ≡ labels ++ option_to_list (label_for at_queue (next_number at_queue labels) host items_done ops)
 labels_after at_queue host items_done labels [] = sym (append-nil labels)
 labels_after at_queue host items_done labels (op ∷ ops) = refl
 
-at_queue_of : (at_queue : QueueAt) (number host items_done : ℕ) (ops : List Op) (labels : List Label) → at_queue ≡ sync → AllAt sync labels
-    → AllAt sync (labels ++ option_to_list (label_for at_queue number host items_done ops))
-at_queue_of at_queue number host items_done [] labels is single = rw (append-nil labels) single
-at_queue_of at_queue number host items_done (op ∷ ops) labels is single = one_more labels single
-  where
-    one_more : (ls : List Label) → AllAt sync ls → AllAt sync (ls ++ record { at = at_queue; number = number; host = host; items_done = items_done; ops = op ∷ ops } ∷ [])
-    one_more [] h = (is, tt)
-    one_more (x ∷ ls) h = (h.0, one_more ls h.1)
+-- the label of the batch is on its queue
+pub label_at : (P : QueueAt → Type 0) (at_queue : QueueAt) (number host items_done : ℕ) (ops : List Op) → P at_queue → IfSome (label_for at_queue number host items_done ops) (λ l. P l.at)
+label_at P at_queue number host items_done [] holds = tt
+label_at P at_queue number host items_done (op ∷ ops) holds = holds
 
--- a directive that isn't refused places its batch on queue sync
-pub at_sync : (config : Configuration) (st : Standing) (host : ℕ) (d : Directive) (t : Present) (blocks : ℕ) (regions : List Region) (labels : List Label) → IsTied st t blocks regions labels
-    → IsFree config st host d t blocks regions → walk_at (walk_of st host d) ≡ sync
-at_sync config st host d t blocks regions labels tied free =
-    ap walk_at (walk_is st host d t blocks regions labels tied) ∙ ap (λ n. record { device = n; queue = 0 }) free.subject.device
-
-pub tied_after : (config : Configuration) (st : Standing) (d : Directive) (host items_done : ℕ) (t after : Present) (blocks next : ℕ) (regions : List Region) (labels : List Label) (label : Option Label)
-    → IsTied st t blocks regions labels → IsFree config st host d t blocks regions
-    → holding after.presences next ≡ holding_behind d.kind (holding t.presences blocks) (items_in st.lengths regions host d)
-    → label ≡ label_in st host items_done (walk_of st host d)
-    → IsTied (after_directive st host items_done d) after next (regions_after host d d.kind regions) (labels ++ option_to_list label)
-tied_after config st d host items_done t after blocks next regions labels label tied free is named =
-    let s = subject_in st.lengths regions host d in
-    let sub = free.subject in
+-- the table of the device where it acts
+pub tied_after : (config : Configuration) (st : Standing) (d : Directive) (host items_done : ℕ) (t after : Present) (blocks next : ℕ) → IsTiedAt config st host d t blocks → IsFree config st host d t blocks
+    → holding after.presences next ≡ holding_behind d.kind (holding t.presences blocks) (items_in st host d) → after.capacity ≡ t.capacity
+    → IsTiedOn config (after_directive st host items_done d) (device_in st host d) after next
+tied_after config st d host items_done t after blocks next tied free is same =
+    let s = subject_of st host d in
     let change = change_by d.kind in
     let before = holding t.presences blocks in
     let ends = ends_of d.kind s.items in
     let down = Some StructuredDown in
     let mid = marks_after (st.marks s.device) (all_asked change s.items) in
     let ms = marks_after mid (all_asked down ends) in
-    let walked = is_walked config st host d t blocks regions free in
+    let walked = is_walked config st host d t blocks free in
     let later = walked.later in
     let held : holding after.presences next ≡ holding_of ms =
     is ∙ (ap (λ h. holding_after_all down h ends) (sym walked.between) ∙ sym (marks_are config.capacity down mid ends later.allowed later.entered later.fine)) in
-    let own : (after_directive st host items_done d).marks 0 ≡ ms =
-    ap (λ (w : Walk). with_marks w.device (marks_behind (st.marks w.device) w) st.marks 0) (walk_is st host d t blocks regions labels tied)
-    ∙ (ap (λ es. with_marks s.device (marks_after mid es) st.marks 0) (ends_are d.kind s.items) ∙ own_marks st.marks ms s.device sub.device) in
+    let own : (after_directive st host items_done d).marks s.device ≡ ms =
+    ap (λ (w : Walk). with_marks w.device (marks_behind (st.marks w.device) w) st.marks s.device) (walk_is st host d)
+    ∙ (ap (λ es. with_marks s.device (marks_after mid es) st.marks s.device) (ends_are d.kind s.items) ∙ own_marks st.marks ms s.device) in
     let all = held ∙ ap holding_of (sym own) in
     let short = free.within.short in
     let low = AllLow-all (MAX_ITEMS * st.accepted + MAX_ITEMS) change before s.items (omega (arith, short))
     (AllLow-fewer (MAX_ITEMS * st.accepted) (MAX_ITEMS * st.accepted + MAX_ITEMS) 0 (length s.items) t.presences (omega (arith, short)) tied.low) in
     let low2 : AllLow (MAX_ITEMS * st.accepted + MAX_ITEMS) 0 after.presences =
     rw (ap (λ (h : Holding). h.presences) is) (low_left (MAX_ITEMS * st.accepted + MAX_ITEMS) 0 (holding_between d.kind before s.items) ends low) in
-    let walk = walk_of st host d in
-    let ops = batch_of st walk in
-    let here = at_sync config st host d t blocks regions labels tied free in
+    let device = subject_device st.lengths st.regions host d d.kind in
     record {
+      capacity = same ∙ tied.capacity;
       presences = ap (λ (h : Holding). h.presences) all;
       legal = rw own (legal_all config.capacity down mid ends later.allowed later.entered later.fine);
       opened = ap (λ (h : Holding). h.opened) all;
-      inside = ap (regions_after host d d.kind) tied.inside;
-      all_here = regions_kept regions host d d.kind sub.here tied.all_here;
-      entered = rw (ap (λ (h : Holding). h.presences) is) (entered_after config.capacity st.lengths regions host d d.kind t.presences blocks (table_in st t blocks regions labels tied) free.fine tied.entered);
-      labelled = labels_after (walk_at walk) host items_done st.labels ops ∙ (ap (λ ls. ls ++ option_to_list (label_in st host items_done walk)) tied.labelled ∙ ap (λ o. labels ++ option_to_list o) (sym named));
-      single = rw named (at_queue_of (walk_at walk) (next_number (walk_at walk) st.labels) host items_done ops labels here tied.single);
+      entered =
+          rw (ap (λ (h : Holding). h.presences) is, device)
+          (entered_after config.capacity st.lengths st.regions host d d.kind t.presences blocks (table_in st t blocks tied) free.fine (on_device st host d t blocks tied));
       few = omega (arith, free.within.few);
       few_blocks = omega (arith, ap (λ (h : Holding). h.opened) is, opened_left (holding_between d.kind before s.items) ends, opened-all change before s.items, short, tied.few_blocks);
       low = AllLow-fewer (MAX_ITEMS * st.accepted + MAX_ITEMS) (MAX_ITEMS * (st.accepted + 1)) 0 0 after.presences (omega arith) low2;
     }
 
--- ## Labels
-
--- the number of the next batch
-pub next_is : (st : Standing) (t : Present) (blocks : ℕ) (regions : List Region) (labels : List Label) → IsTied st t blocks regions labels → next_number sync st.labels ≡ length labels + 1
-next_is st t blocks regions labels tied = ap (λ ls. length (on_queue sync ls) + 1) tied.labelled ∙ ap (λ ls. length ls + 1) (on_queue_all sync labels tied.single)
+-- and that of every other device
+pub tied_beside : (config : Configuration) (st : Standing) (d : Directive) (host items_done device : ℕ) (t : Present) (blocks : ℕ) → (device_in st host d ≡ device → ⊥) → st.accepted < MAX_DIRECTIVES
+    → IsTiedOn config st device t blocks → IsTiedOn config (after_directive st host items_done d) device t blocks
+tied_beside config st d host items_done device t blocks other few tied =
+    let s = subject_of st host d in
+    let away : (device == s.device) ≡ false = not_eqb device s.device (λ e. other (sym e)) in
+    let beside : (s.device == device) ≡ false = not_eqb s.device device other in
+    let same : (after_directive st host items_done d).marks device ≡ st.marks device =
+    ap (λ (w : Walk). with_marks w.device (marks_behind (st.marks w.device) w) st.marks device) (walk_is st host d) ∙ rw away refl in
+    let regions = regions_beside st.regions host d d.kind device (ap (λ n. n == device) (sym (subject_device st.lengths st.regions host d d.kind)) ∙ beside) in
+    record {
+      capacity = tied.capacity;
+      presences = tied.presences ∙ ap presences (sym same);
+      legal = rw same tied.legal;
+      opened = tied.opened ∙ ap (λ ms. length (opened ms)) (sym same);
+      entered = rw regions tied.entered;
+      few = omega (arith, few);
+      few_blocks = omega (arith, tied.few_blocks);
+      low = AllLow-fewer (MAX_ITEMS * st.accepted) (MAX_ITEMS * (st.accepted + 1)) 0 0 t.presences (omega arith) tied.low;
+    }
+  where
+    not_eqb : (a b : ℕ) → (a ≡ b → ⊥) → (a == b) ≡ false
+    not_eqb a b differ = elim (eqb_tells a b) [ inl one ↦ absurd (differ one.1) | inr two ↦ two.0 ]

@@ -1,12 +1,10 @@
 -- The counters after accepted directives, and a region's end.
-use Rattle.std.proofs.Common.{◌≡◌, ℕ, ◌<◌, ◌≤◌, true, false, List, [], ◌∷◌, ◌++◌, length, Option, Some, None, refl, ap, ◌∙◌, arith}
+use Rattle.std.proofs.Common.{inl, inr, subst, ◌≡◌, ℕ, ◌<◌, ◌≤◌, true, false, List, [], ◌∷◌, length, Option, Some, None, refl, ap, ◌∙◌, arith}
 use Rattle.std.specs.Prelude.{All, nat_lt, nat_le, drop, slice_index_or}
-use Rattle.std.specs.Option.{option_to_list}
-use Rattle.std.proofs.lemmas.Bool.Decides.{nat_tests}
+use Rattle.std.proofs.lemmas.Bool.Decides.{eqb_tells, nat_tests}
 use Rattle.std.proofs.lemmas.List.Elements.{All-cons, All-nil, All-head, All-tail}
 use Rattle.acc_base.specs.declared.fault.Fault.{Fault}
 use Rattle.acc_base.specs.Configurations.{Configuration, is_in_array}
-use Rattle.acc_batch.specs.declared.operation.Label.{Label}
 use Rattle.acc_present.specs.Legality.{IsEntered}
 use Rattle.acc_present.specs.Presences.{Presence, holder}
 use Rattle.acc_present.specs.Tables.{Present}
@@ -21,48 +19,47 @@ use Rattle.acc_place.specs.declared.directive.PlaceEntry.TheVariants as entry
 use Rattle.acc_place.specs.declared.directive.Region.{Region}
 use Rattle.acc_place.specs.declared.directive.TheConstants.{MAX_ITEMS, MAX_DIRECTIVES}
 use Rattle.acc_place.specs.Counts.{AcceptedAreCounted, EnteredCanBeLeft}
-use Rattle.acc_place.specs.Histories.{AllAccepted, standing}
-use Rattle.acc_place.specs.Places.{IsTied}
-use Rattle.acc_place.specs.Plans.{label_in}
+use Rattle.acc_place.specs.Histories.{AllAccepted, after_directive, standing}
+use Rattle.acc_place.specs.Places.{IsTiedOn}
 use Rattle.acc_place.specs.Regions.{open_region, region_of, regions_after}
-use Rattle.acc_place.specs.Standings.{Standing, change_by, left_by, loop_of, subject_by, walk_of}
+use Rattle.acc_place.specs.Standings.{Standing, change_by, left_by, loop_of, subject_by}
 use Rattle.acc_place.specs.Walks.{Holding, holding, holding_after, holding_behind, fault_in, fault_or, first_fault_in, limit_fault, past_fault, AllEntered}
-use Rattle.acc_place.proofs.Accepted.{items_in, is_free, refused_by_items, entered_in, tied_after}
+use Rattle.acc_place.proofs.Accepted.{device_in, items_in, is_free, refused_by, entered_in, tied_after, tied_beside}
 use Rattle.acc_place.proofs.Entered.{is_held, open_has, without_all}
 use Rattle.acc_place.proofs.Judging.{inside_item}
-use Rattle.acc_place.proofs.Planning.{first_place}
+use Rattle.acc_place.proofs.Planning.{first_tied}
 
--- ## The table of a history
+-- ## The tables of a history
 
-record HasTable (st : Standing) : Type 0 where
+record HasTable (config : Configuration) (st : Standing) (device : ℕ) : Type 0 where
   table : Present
   blocks : ℕ
-  labels : List Label
-  tied : IsTied st table blocks st.regions labels
+  tied : IsTiedOn config st device table blocks
 
-tables : (config : Configuration) (history : List PlaceEntry) (counts : List ℕ) → config.devices ≡ 1 → AllAccepted config history counts → HasTable (standing config history counts)
+tables : (config : Configuration) (history : List PlaceEntry) (counts : List ℕ) (device : ℕ) → AllAccepted config history counts → HasTable config (standing config history counts) device
 unfolding standing
-tables config [] counts one all =
+tables config [] counts device all =
     let empty : Present = record { presences = []; notes = []; capacity = config.capacity; room = 0 } in
-    record { table = empty; blocks = 0; labels = []; tied = (first_place config [] [] [] [] empty refl refl refl refl one refl refl).tied }
-tables config (entry.Accepted host d ∷ before) counts one all =
+    record { table = empty; blocks = 0; tied = first_tied config device empty 0 refl refl refl }
+tables config (entry.Accepted host d ∷ before) counts device all =
     let st = standing config before (drop 1 counts) in
-    let h = tables config before (drop 1 counts) one all.1 in
+    let h = tables config before (drop 1 counts) (device_in st host d) all.1 in
     let items_done = slice_index_or counts 0 0 in
-    let free = is_free config st host d h.table h.blocks st.regions h.labels h.tied one all.0 in
-    let next = holding_behind d.kind (holding h.table.presences h.blocks) (items_in st.lengths st.regions host d) in
-    let after : Present = record { presences = next.presences; notes = []; capacity = config.capacity; room = 0 } in
-    let label = label_in st host items_done (walk_of st host d) in
-    record {
-      table = after;
-      blocks = next.opened;
-      labels = h.labels ++ option_to_list label;
-      tied = tied_after config st d host items_done h.table after h.blocks next.opened st.regions h.labels label h.tied free refl refl;
-    }
+    let free = is_free config st host d h.table h.blocks h.tied all.0 in
+    let next = holding_behind d.kind (holding h.table.presences h.blocks) (items_in st host d) in
+    let after : Present = record { presences = next.presences; notes = []; capacity = h.table.capacity; room = 0 } in
+    elim (eqb_tells (device_in st host d) device) [
+      | inl here ↦
+          let own = tied_after config st d host items_done h.table after h.blocks next.opened h.tied free refl refl in
+          record { table = after; blocks = next.opened; tied = subst (λ n. IsTiedOn config (after_directive st host items_done d) n after next.opened) here.1 own }
+      | inr away ↦
+          let other = tables config before (drop 1 counts) device all.1 in
+          record { table = other.table; blocks = other.blocks; tied = tied_beside config st d host items_done device other.table other.blocks away.1 free.within.few other.tied }
+    ]
 
 pub accepted_counted : AcceptedAreCounted
-accepted_counted config history counts one all =
-    let h = tables config history counts one all in
+accepted_counted config history counts device all =
+    let h = tables config history counts device all in
     record { legal = h.tied.legal; entered = rw (← h.tied.presences) h.tied.entered }
 
 -- ## The items of an open region
@@ -96,16 +93,16 @@ sound_after config lengths host d Wait rs short inside all = all
 sound_after config lengths host d AsyncTest rs short inside all = all
 sound_after config lengths host d IsPresent rs short inside all = all
 
-all_sound : (config : Configuration) (history : List PlaceEntry) (counts : List ℕ) → config.devices ≡ 1 → AllAccepted config history counts → All (IsSound config) (standing config history counts).regions
+all_sound : (config : Configuration) (history : List PlaceEntry) (counts : List ℕ) → AllAccepted config history counts → All (IsSound config) (standing config history counts).regions
 unfolding standing
-all_sound config [] counts one all = All-nil (IsSound config)
-all_sound config (entry.Accepted host d ∷ before) counts one all =
+all_sound config [] counts all = All-nil (IsSound config)
+all_sound config (entry.Accepted host d ∷ before) counts all =
     let st = standing config before (drop 1 counts) in
-    let h = tables config before (drop 1 counts) one all.1 in
-    let free = is_free config st host d h.table h.blocks st.regions h.labels h.tied one all.0 in
-    let inside = all_inside config d.kind (holding h.table.presences h.blocks) (items_in st.lengths st.regions host d) free.faultless in
+    let h = tables config before (drop 1 counts) (device_in st host d) all.1 in
+    let free = is_free config st host d h.table h.blocks h.tied all.0 in
+    let inside = all_inside config d.kind (holding h.table.presences h.blocks) (items_in st host d) free.faultless in
     sound_after config st.lengths host d d.kind st.regions free.within.short inside
-    (all_sound config before (drop 1 counts) one all.1)
+    (all_sound config before (drop 1 counts) all.1)
 
 -- ## A region's end
 
@@ -120,27 +117,28 @@ no_faults config h (i ∷ is) inside entered =
     ap (λ f. fault_or f (first_fault_in config EndData (holding_after (Some StructuredDown) i.range h) is)) (no_fault config h.presences i (All-head P i is inside) entered.0)
     ∙ no_faults config (holding_after (Some StructuredDown) i.range h) is (All-tail P i is inside) entered.1
 
-no_limit : (config : Configuration) (accepted : ℕ) (rs : List Region) (host : ℕ) (d : Directive) (count : ℕ) (r : Region) → config.devices ≡ 1 → accepted < MAX_DIRECTIVES → d.kind ≡ EndData → d.device ≡ 0
-    → open_region host rs ≡ Some r → count ≤ MAX_ITEMS → limit_fault config accepted rs host d count ≡ None
+no_limit : (accepted : ℕ) (rs : List Region) (host : ℕ) (d : Directive) (count : ℕ) (r : Region) → accepted < MAX_DIRECTIVES → d.kind ≡ EndData
+    → open_region host rs ≡ Some r → count ≤ MAX_ITEMS → limit_fault accepted rs host d count ≡ None
 unfolding limit_fault
-no_limit config accepted rs host d count r one few end here inside short =
+no_limit accepted rs host d count r few end inside short =
     let short_test : nat_lt MAX_ITEMS count ≡ false = grind (arith, nat_tests, short) in
     let few_test : nat_le MAX_DIRECTIVES accepted ≡ false = grind (arith, nat_tests, few) in
-    rw (one, here, end, inside, short_test, few_test) refl
+    rw (end, inside, short_test, few_test) refl
 
 at_end : (k : Kind) (h : Holding) (items : List Item) → k ≡ EndData → AllEntered (change_by k) h items → AllEntered (Some StructuredDown) h items
 at_end k h items is entered = rw is at entered
 
 pub entered_left : EnteredCanBeLeft
-entered_left config history counts host d r one all few end here inside =
+entered_left config history counts host d r all few end here inside =
     let st = standing config history counts in
-    let h = tables config history counts one all in
-    let sound = open_has (IsSound config) host st.regions r inside (all_sound config history counts one all) in
-    let items : items_in st.lengths st.regions host d ≡ r.items =
-    ap (λ k. (subject_by st.lengths st.regions host d k).items) end ∙ ap (λ o. (left_by d o).items) inside in
-    let limit = no_limit config st.accepted st.regions host d (length (items_in st.lengths st.regions host d)) r one few end here inside (rw items sound.0) in
-    let entered : AllEntered (Some StructuredDown) (holding h.table.presences h.blocks) (items_in st.lengths st.regions host d) =
-    at_end d.kind (holding h.table.presences h.blocks) (items_in st.lengths st.regions host d) end (entered_in st host d h.table h.blocks st.regions h.labels h.tied) in
-    refused_by_items config st host d h.table h.blocks st.regions h.labels h.tied one limit
-    ∙ (ap (λ k. fault_or (first_fault_in config k (holding h.table.presences h.blocks) (items_in st.lengths st.regions host d)) (past_fault (loop_of k) (items_in st.lengths st.regions host d))) end
-    ∙ ap (λ f. fault_or f None) (no_faults config (holding h.table.presences h.blocks) (items_in st.lengths st.regions host d) (rw items sound.1) entered))
+    let h = tables config history counts (device_in st host d) all in
+    let xs = items_in st host d in
+    let sound = open_has (IsSound config) host st.regions r inside (all_sound config history counts all) in
+    let items : xs ≡ r.items = ap (λ k. (subject_by st.lengths st.regions host d k).items) end ∙ ap (λ o. (left_by d o).items) inside in
+    let limit = no_limit st.accepted st.regions host d (length xs) r few end inside (rw items sound.0) in
+    let held = holding h.table.presences h.blocks in
+    let entered : AllEntered (Some StructuredDown) held xs = at_end d.kind held xs end (entered_in st host d h.table h.blocks h.tied) in
+    refused_by config st host d h.table h.blocks h.tied here
+    ∙ (ap (λ f. fault_or f (fault_or (first_fault_in config d.kind held xs) (past_fault (loop_of d.kind) xs))) limit
+    ∙ (ap (λ k. fault_or (first_fault_in config k held xs) (past_fault (loop_of k) xs)) end
+    ∙ ap (λ f. fault_or f None) (no_faults config held xs (rw items sound.1) entered)))

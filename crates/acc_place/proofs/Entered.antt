@@ -1,12 +1,13 @@
 -- What the open regions have entered: it is present, and counted, through each walk.
 use Rattle.std.proofs.Common.{◌≡◌, ℕ, zero, suc, ◌+◌, ◌<◌, Bool, true, false, cond, List, [], ◌∷◌, ◌++◌, length, map, get_or, Option, Some, None, refl, sym, ap, ◌∙◌, arith, inl, inr}
 use Rattle.std.specs.Prelude.{◌||◌, ◌==◌, not, All, filter}
-use Rattle.std.proofs.lemmas.Bool.{cases_Bool, or_parts, or_left, or_right, lt-ltb}
+use Rattle.std.proofs.lemmas.Bool.{cases_Bool, eq-eqb, or_parts, or_left, or_right, lt-ltb}
 use Rattle.std.proofs.lemmas.Bool.Decides.{nat_tests}
 use Rattle.std.proofs.lemmas.List.{length-append}
 use Rattle.std.proofs.lemmas.List.Elements.{All-append, All-cons, All-filter, All-head, All-map, All-nil, All-tail, All-weaker, filter-append}
 use Rattle.std.proofs.lemmas.List.Folds.{list_any-append}
 use Rattle.acc_base.specs.declared.range.Range.{Range}
+use Rattle.acc_base.specs.Configurations.{Configuration}
 use Rattle.acc_base.specs.Ranges.{range_contains, range_overlaps}
 use Rattle.acc_present.specs.Legality.{IsEntered}
 use Rattle.acc_present.specs.Lifetimes.{is_before}
@@ -27,12 +28,13 @@ use Rattle.acc_place.specs.declared.directive.Kind.{Kind}
 use Rattle.acc_place.specs.declared.directive.Kind.TheVariants.{Data, EndData, EnterData, ExitData, Update, Loop, Wait, AsyncTest, IsPresent}
 use Rattle.acc_place.specs.declared.directive.Region.{Region}
 use Rattle.acc_place.specs.Counts.{IsEnteredBy, count_inside, entered_ranges}
-use Rattle.acc_place.specs.Places.{IsHere}
+use Rattle.acc_place.specs.Places.{IsThere}
 use Rattle.acc_place.specs.Implicit.{implicit_items}
-use Rattle.acc_place.specs.Regions.{open_region, region_of, regions_after, without_open}
+use Rattle.acc_place.specs.Regions.{open_region, region_of, regions_after, regions_on, without_open}
 use Rattle.acc_place.specs.Standings.{change_by, exit_by, left_by, subject_by}
-use Rattle.acc_place.specs.Walks.{Holding, holding, holding_after, holding_after_all, holding_between, holding_behind, ends_of, mark_by, presences_by, AllHeldFor, HasEntered, AllEntered, AllFine, IsFine}
+use Rattle.acc_place.specs.Walks.{Holding, device_by, holding, holding_after, holding_after_all, holding_between, holding_behind, ends_of, mark_by, presences_by, AllHeldFor, HasEntered, AllEntered, AllFine, IsFine}
 use Rattle.acc_place.proofs.Inside.{none_without}
+use Rattle.acc_place.proofs.RegionsOn.{open_on, without_on}
 
 abbrev IsHeld : List Presence → Range → Type 0
 IsHeld ps r = (0 < r.len) × (is_present ps r ≡ true)
@@ -380,14 +382,16 @@ entered_open host rs x ps some h =
 -- ## What a directive's items need, and what they leave
 
 -- a region's end is about what the region has entered
-pub entered_subject : (lengths : List ℕ) (rs : List Region) (host : ℕ) (d : Directive) (k : Kind) (ps : List Presence) (n : ℕ) → is_table ps ≡ true → IsEnteredBy (entered_ranges rs) ps
+pub entered_subject : (lengths : List ℕ) (rs : List Region) (host : ℕ) (d : Directive) (k : Kind) (ps : List Presence) (n : ℕ) → is_table ps ≡ true → IsEnteredBy (entered_ranges (regions_on (device_by rs host d k) rs)) ps
     → AllEntered (change_by k) (holding ps n) (subject_by lengths rs host d k).items
 entered_subject lengths rs host d Data ps n t h = no_entry_needed (Some StructuredUp) (holding ps n) d.items (λ r qs. tt)
-entered_subject lengths rs host d EndData ps n t h = by_open (open_region host rs) refl
+entered_subject lengths rs host d EndData ps n t h = by_open (open_region host rs) refl h
   where
-    by_open : (o : Option Region) → open_region host rs ≡ o → AllEntered (Some StructuredDown) (holding ps n) (left_by d o).items
-    by_open None none = tt
-    by_open (Some x) some = entered_items ps n x.items (entered_ranges (without_open host rs)) t (entered_open host rs x ps some h)
+    by_open : (o : Option Region) → open_region host rs ≡ o → IsEnteredBy (entered_ranges (regions_on (left_by d o).device rs)) ps → AllEntered (Some StructuredDown) (holding ps n) (left_by d o).items
+    by_open None none h = tt
+    by_open (Some x) some h =
+        let on = regions_on x.device rs in
+        entered_items ps n x.items (entered_ranges (without_open host on)) t (entered_open host on x ps (open_on x.device host rs x some (eq-eqb x.device x.device refl)) h)
 entered_subject lengths rs host d EnterData ps n t h = no_entry_needed (Some DynamicUp) (holding ps n) d.items (λ r qs. tt)
 entered_subject lengths rs host d (ExitData true) ps n t h = no_entry_needed (Some DynamicZero) (holding ps n) d.items (λ r qs. tt)
 entered_subject lengths rs host d (ExitData false) ps n t h = no_entry_needed (Some DynamicDown) (holding ps n) d.items (λ r qs. tt)
@@ -454,25 +458,32 @@ fine_left capacity h (i ∷ is) cells entered = (
 
 -- the open regions after a directive have entered what is present then
 pub entered_after : (capacity : ℕ) (lengths : List ℕ) (rs : List Region) (host : ℕ) (d : Directive) (k : Kind) (ps : List Presence) (n : ℕ) → is_table ps ≡ true → AllFine capacity (change_by k) (holding ps n) (subject_by lengths rs host d k).items
-    → IsEnteredBy (entered_ranges rs) ps → IsEnteredBy (entered_ranges (regions_after host d k rs)) (holding_behind k (holding ps n) (subject_by lengths rs host d k).items).presences
-entered_after capacity lengths rs host d Data ps n t fine h = entered_data capacity (holding ps n) d.items (entered_ranges rs) t fine h
-entered_after capacity lengths rs host d EndData ps n t fine h = by_open (open_region host rs) refl
+    → IsEnteredBy (entered_ranges (regions_on (device_by rs host d k) rs)) ps
+    → IsEnteredBy (entered_ranges (regions_on (device_by rs host d k) (regions_after host d k rs))) (holding_behind k (holding ps n) (subject_by lengths rs host d k).items).presences
+entered_after capacity lengths rs host d Data ps n t fine h =
+    rw (eq-eqb d.device d.device refl) (entered_data capacity (holding ps n) d.items (entered_ranges (regions_on d.device rs)) t fine h)
+entered_after capacity lengths rs host d EndData ps n t fine h = by_open (open_region host rs) refl h
   where
-    by_open : (o : Option Region) → open_region host rs ≡ o → IsEnteredBy (entered_ranges (without_open host rs)) (holding_after_all (Some StructuredDown) (holding ps n) (left_by d o).items).presences
-    by_open None none = rw (none_without host rs none) h
-    by_open (Some x) some = entered_left (holding ps n) x.items (entered_ranges (without_open host rs)) (entered_open host rs x ps some h)
+    by_open : (o : Option Region) → open_region host rs ≡ o → IsEnteredBy (entered_ranges (regions_on (left_by d o).device rs)) ps
+        → IsEnteredBy (entered_ranges (regions_on (left_by d o).device (without_open host rs))) (holding_after_all (Some StructuredDown) (holding ps n) (left_by d o).items).presences
+    by_open None none h = rw (none_without host rs none) h
+    by_open (Some x) some h =
+        let on = regions_on x.device rs in
+        let here = eq-eqb x.device x.device refl in
+        rw (← without_on x.device host rs x some here)
+        (entered_left (holding ps n) x.items (entered_ranges (without_open host on)) (entered_open host on x ps (open_on x.device host rs x some here) h))
 entered_after capacity lengths rs host d EnterData ps n t fine h =
-    entered_same capacity (Some DynamicUp) (holding ps n) d.items (entered_ranges rs) (λ qs r b u f g. entered_enter r b (entered_ranges rs) qs u f.cells f.whole g) t fine h
+    entered_same capacity (Some DynamicUp) (holding ps n) d.items (entered_ranges (regions_on d.device rs)) (λ qs r b u f g. entered_enter r b (entered_ranges (regions_on d.device rs)) qs u f.cells f.whole g) t fine h
 entered_after capacity lengths rs host d (ExitData finalize) ps n t fine h =
-    entered_same capacity (Some (exit_by finalize)) (holding ps n) d.items (entered_ranges rs) (λ qs r b u f g. entered_exit finalize r b (entered_ranges rs) qs g) t fine h
+    entered_same capacity (Some (exit_by finalize)) (holding ps n) d.items (entered_ranges (regions_on d.device rs)) (λ qs r b u f g. entered_exit finalize r b (entered_ranges (regions_on d.device rs)) qs g) t fine h
 entered_after capacity lengths rs host d (Update if_present) ps n t fine h =
-    entered_same capacity None (holding ps n) d.items (entered_ranges rs) (λ qs r b u f g. g) t fine h
+    entered_same capacity None (holding ps n) d.items (entered_ranges (regions_on d.device rs)) (λ qs r b u f g. g) t fine h
 entered_after capacity lengths rs host d (Loop kernel) ps n t fine h =
     let items = d.items ++ implicit_items lengths rs host d kernel in
-    entered_left (holding_after_all (Some StructuredUp) (holding ps n) items) items (entered_ranges rs) (entered_data capacity (holding ps n) items (entered_ranges rs) t fine h)
-entered_after capacity lengths rs host d Wait ps n t fine h = entered_same capacity None (holding ps n) d.items (entered_ranges rs) (λ qs r b u f g. g) t fine h
-entered_after capacity lengths rs host d AsyncTest ps n t fine h = entered_same capacity None (holding ps n) d.items (entered_ranges rs) (λ qs r b u f g. g) t fine h
-entered_after capacity lengths rs host d IsPresent ps n t fine h = entered_same capacity None (holding ps n) d.items (entered_ranges rs) (λ qs r b u f g. g) t fine h
+    entered_left (holding_after_all (Some StructuredUp) (holding ps n) items) items (entered_ranges (regions_on d.device rs)) (entered_data capacity (holding ps n) items (entered_ranges (regions_on d.device rs)) t fine h)
+entered_after capacity lengths rs host d Wait ps n t fine h = entered_same capacity None (holding ps n) d.items (entered_ranges (regions_on d.device rs)) (λ qs r b u f g. g) t fine h
+entered_after capacity lengths rs host d AsyncTest ps n t fine h = entered_same capacity None (holding ps n) d.items (entered_ranges (regions_on d.device rs)) (λ qs r b u f g. g) t fine h
+entered_after capacity lengths rs host d IsPresent ps n t fine h = entered_same capacity None (holding ps n) d.items (entered_ranges (regions_on d.device rs)) (λ qs r b u f g. g) t fine h
 
 -- ## The open region is one of them, and the others stay
 
@@ -496,29 +507,30 @@ without_all P host (r ∷ rs) all =
       | inr another ↦ rw another (All-cons P r (without_open host rs) first (without_all P host rs rest))
     ]
 
--- a directive acts on the one device
-pub subject_device : (lengths : List ℕ) (rs : List Region) (host : ℕ) (d : Directive) (k : Kind) → d.device ≡ 0 → All IsHere rs → (subject_by lengths rs host d k).device ≡ 0
-subject_device lengths rs host d Data here all = here
-subject_device lengths rs host d EndData here all = by_open (open_region host rs) refl
-  where
-    by_open : (o : Option Region) → open_region host rs ≡ o → (left_by d o).device ≡ 0
-    by_open None none = here
-    by_open (Some x) some = open_has IsHere host rs x some all
-subject_device lengths rs host d EnterData here all = here
-subject_device lengths rs host d (ExitData finalize) here all = here
-subject_device lengths rs host d (Update if_present) here all = here
-subject_device lengths rs host d (Loop kernel) here all = here
-subject_device lengths rs host d Wait here all = here
-subject_device lengths rs host d AsyncTest here all = here
-subject_device lengths rs host d IsPresent here all = here
+-- every region is on a device that is there, after a directive on such a one
+pub there_after : (config : Configuration) (host : ℕ) (d : Directive) (k : Kind) (rs : List Region) → d.device < config.devices → All (IsThere config) rs → All (IsThere config) (regions_after host d k rs)
+there_after config host d Data rs low all = All-cons (IsThere config) (region_of host d) rs low all
+there_after config host d EndData rs low all = without_all (IsThere config) host rs all
+there_after config host d EnterData rs low all = all
+there_after config host d (ExitData finalize) rs low all = all
+there_after config host d (Update if_present) rs low all = all
+there_after config host d (Loop kernel) rs low all = all
+there_after config host d Wait rs low all = all
+there_after config host d AsyncTest rs low all = all
+there_after config host d IsPresent rs low all = all
 
-pub regions_kept : (rs : List Region) (host : ℕ) (d : Directive) (k : Kind) → d.device ≡ 0 → All IsHere rs → All IsHere (regions_after host d k rs)
-regions_kept rs host d Data here all = All-cons IsHere (region_of host d) rs here all
-regions_kept rs host d EndData here all = without_all IsHere host rs all
-regions_kept rs host d EnterData here all = all
-regions_kept rs host d (ExitData finalize) here all = all
-regions_kept rs host d (Update if_present) here all = all
-regions_kept rs host d (Loop kernel) here all = all
-regions_kept rs host d Wait here all = all
-regions_kept rs host d AsyncTest here all = all
-regions_kept rs host d IsPresent here all = all
+-- and so is the device where the directive acts
+pub there_device : (config : Configuration) (host : ℕ) (d : Directive) (k : Kind) (rs : List Region) → d.device < config.devices → All (IsThere config) rs → device_by rs host d k < config.devices
+there_device config host d Data rs low all = low
+there_device config host d EndData rs low all = by_open (open_region host rs) refl
+  where
+    by_open : (o : Option Region) → open_region host rs ≡ o → (left_by d o).device < config.devices
+    by_open None none = low
+    by_open (Some x) some = open_has (IsThere config) host rs x some all
+there_device config host d EnterData rs low all = low
+there_device config host d (ExitData finalize) rs low all = low
+there_device config host d (Update if_present) rs low all = low
+there_device config host d (Loop kernel) rs low all = low
+there_device config host d Wait rs low all = low
+there_device config host d AsyncTest rs low all = low
+there_device config host d IsPresent rs low all = low

@@ -8,7 +8,10 @@ mod Judging
 mod Looping
 mod PastReach
 mod Planning
+mod Queues
+mod RegionsOn
 mod Seen
+mod Setting
 mod Simple
 mod Trying
 mod Visits

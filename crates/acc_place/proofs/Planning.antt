@@ -1,24 +1,27 @@
 -- What a place knows of its standing, as a plan and an accepted directive need it.
-use Rattle.std.proofs.Common.{◌≡◌, ℕ, zero, suc, ◌+◌, ◌-◌, ◌*◌, ◌<◌, ◌≤◌, Bool, true, false, cond, List, [], ◌∷◌, ◌++◌, length, Option, Some, None, refl, sym, ap, ◌∙◌, arith}
-use Rattle.std.specs.Prelude.{reverse, replicate, drop, take, is_some, slice_get, ◌||◌}
+use Rattle.std.proofs.Common.{inl, inr, subst, ◌≡◌, ℕ, zero, suc, ◌+◌, ◌-◌, ◌*◌, ◌<◌, ◌≤◌, Bool, true, false, cond, List, [], ◌∷◌, ◌++◌, length, map, get_or, Option, Some, None, refl, sym, ap, ◌∙◌, arith}
+use Rattle.std.specs.Prelude.{All, IfSome, reverse, replicate, drop, take, is_some, slice_get, slice_index_or, slice_set, ◌||◌}
 use Rattle.std.specs.Option.{option_map, option_to_list}
-use Rattle.std.proofs.lemmas.List.{length-reverse, length-append, reverse-append}
-use Rattle.std.proofs.lemmas.List.Elements.{All-nil}
+use Rattle.std.proofs.lemmas.Bool.Decides.{eqb_tells}
+use Rattle.std.proofs.lemmas.List.{length-reverse, length-append, length-set, reverse-append}
+use Rattle.std.proofs.lemmas.List.Elements.{All-head, All-nil, All-tail}
+use Rattle.std.proofs.lemmas.Option.{slice_get-get_or, slice_get_read, slice_get_within}
 use Rattle.acc_base.specs.declared.fault.Fault.{Fault}
 use Rattle.acc_base.specs.declared.fault.Fault.TheVariants.{Memory}
 use Rattle.acc_base.specs.declared.ids.QueueAt.{QueueAt}
 use Rattle.acc_base.specs.declared.range.Range.{Range}
 use Rattle.acc_base.specs.Configurations.{Configuration}
-use Rattle.acc_base.specs.Queues.{same_queue}
+use Rattle.acc_base.specs.Queues.{queue_count, seat}
 use Rattle.acc_base.specs.Ranges.{range_contains}
-use Rattle.acc_base.proofs.SameQueue.{same_queue_is, same_queue_turned}
 use Rattle.acc_batch.specs.declared.operation.Label.{Label}
 use Rattle.acc_batch.specs.declared.operation.Op.{Op}
 use Rattle.acc_batch.specs.Labels.{on_queue}
-use Rattle.acc_batch.proofs.OneQueue.{on_queue_all, on_queue_none}
+use Rattle.acc_batch.proofs.Seats.{set_here, set_there}
 use Rattle.acc_present.specs.Lifetimes.{opened, live}
 use Rattle.acc_present.specs.Presences.{Presence, presences, holder, is_present}
 use Rattle.acc_present.specs.Tables.{Present}
+use Rattle.acc_place.specs.declared.device.Device.{Device}
+use Rattle.acc_place.specs.Devices.{held_on, IsEmpty}
 use Rattle.acc_place.specs.Directives.{Directive}
 use Rattle.acc_place.specs.declared.directive.Item.{Item}
 use Rattle.acc_place.specs.declared.directive.Kind.{Kind}
@@ -30,15 +33,19 @@ use Rattle.acc_place.specs.declared.directive.TheConstants.{MAX_ITEMS}
 use Rattle.acc_place.specs.declared.judge.Known.{Known}
 use Rattle.acc_place.specs.Accepting.{refusal}
 use Rattle.acc_place.specs.Batches.{answer_of, batch_of, is_answered, next_number, placed_batch, walk_at}
-use Rattle.acc_place.specs.Histories.{standing, after_directive}
-use Rattle.acc_place.specs.Places.{IsPlace, IsHere, nth_batch, sync}
-use Rattle.acc_place.specs.Plans.{KeptByAccepting, KeptByPlanning, KeptByTaking, PlaceView, PlanView, Room, standing_in, IsRefusal, IsRoomy, IsPlanOf, Fits, label_for, label_in, opened_region, place_after}
+use Rattle.acc_place.specs.Histories.{at_first, standing, after_directive}
+use Rattle.acc_place.specs.Places.{IsPlace, IsQueue, IsThere, IsTied, IsTiedOn, nth_batch, queue_in, queues_after}
+use Rattle.acc_place.specs.Plans.{KeptByAccepting, KeptByPlanning, KeptByTaking, PlaceView, PlanView, Room, standing_in, IsRefusal, IsRoomy, IsPlanOf, Fits, label_for, label_in, opened_region, place_after, queue_for}
 use Rattle.acc_place.specs.Loops.{lengths_of}
 use Rattle.acc_place.specs.Regions.{regions_after}
 use Rattle.acc_place.specs.Standings.{Standing, Walk, loop_of, subject_by, walk_of}
 use Rattle.acc_place.specs.Trials.{fault_by, held_by, items_by, ops_by, IsKnown}
-use Rattle.acc_place.specs.Walks.{holding, holding_between, holding_behind, limit_fault, fault_or, first_fault_in, past_fault, run_in, marked_ops, all_steps}
-use Rattle.acc_place.proofs.Accepted.{IsFree, few_for, items_in, low_for, refused_by, is_free, tied_after, batch_is, next_is, at_sync}
+use Rattle.acc_place.specs.Walks.{Holding, device_by, holding, holding_between, holding_behind, limit_fault, fault_or, first_fault_in, past_fault, run_in, marked_ops, all_steps}
+use Rattle.acc_place.proofs.Accepted.{IsFree, IsTiedAt, accepted_device, device_in, few_for, items_in, label_at, labels_after, low_for, refused_by, is_free, tied_after, tied_beside, batch_is}
+use Rattle.acc_place.proofs.Entered.{there_after, there_device}
+use Rattle.acc_place.proofs.Queues.{none_placed, one_more, queue_there, seat_low}
+use Rattle.acc_place.proofs.RegionsOn.{subject_device}
+use Rattle.acc_place.proofs.Setting.{shown_at}
 use Rattle.acc_place.proofs.Trying.{all_taken}
 
 reverse-push : {X : Type 0} (xs : List X) (x : X) → reverse (xs ++ x ∷ []) ≡ x ∷ reverse xs
@@ -55,50 +62,87 @@ lengths_kept config [] counts = refl
 lengths_kept config (Accepted host d ∷ before) counts = lengths_kept config before (drop 1 counts)
 
 -- the items that were put in, and those of the directive
-abbrev pub ArePut : PlaceView → ℕ → Directive → List Region → List Item → Type 0
-ArePut p host d regions xs = xs ≡ take 17 (items_in (standing_in p).lengths regions host d)
+abbrev pub ArePut : PlaceView → ℕ → Directive → List Item → Type 0
+ArePut p host d xs = xs ≡ take 17 (items_in (standing_in p) host d)
 
-pub are_put : (p : PlaceView) (host : ℕ) (d : Directive) (regions rs : List Region) (xs : List Item) → rs ≡ regions → xs ≡ take 17 (items_in (lengths_of p.config) rs host d) → ArePut p host d regions xs
-are_put p host d regions rs xs here put =
-    put ∙ (ap (λ qs. take 17 (items_in (lengths_of p.config) qs host d)) here ∙ ap (λ ls. take 17 (items_in ls regions host d)) (sym (lengths_kept p.config p.history p.counts)))
+pub are_put : (p : PlaceView) (host : ℕ) (d : Directive) (regions : List Region) (xs : List Item) → (standing_in p).regions ≡ regions → xs ≡ take 17 (subject_by (lengths_of p.config) regions host d d.kind).items → ArePut p host d xs
+are_put p host d regions xs here put =
+    put ∙ (ap (λ rs. take 17 (subject_by (lengths_of p.config) rs host d d.kind).items) (sym here) ∙ ap (λ ls. take 17 (subject_by ls (standing_in p).regions host d d.kind).items) (sym (lengths_kept p.config p.history p.counts)))
 
--- what is known where a place tries a directive
-pub record IsKnownOf (p : PlaceView) (k : Known) (open_regions : List Region) (labels : List Label) : Type 0 where
-  pub place : IsPlace p.config p.history p.counts k.table.now k.opened open_regions labels
+-- What is known where a place tries a directive, on a device that is there.
+pub record IsKnownOf (p : PlaceView) (host : ℕ) (d : Directive) (k : Known) : Type 0 where
+  pub here : d.device < p.config.devices
+  pub tied : IsTiedAt p.config (standing_in p) host d k.table.now k.opened
   pub config : k.config.now ≡ p.config
-  pub regions : k.regions.now ≡ open_regions
-  pub accepted : k.accepted ≡ length p.history
-  pub next : k.next_batch ≡ length labels + 1
+  pub regions : k.regions.now ≡ (standing_in p).regions
+  pub accepted : k.accepted ≡ (standing_in p).accepted
+  pub at_queue : k.at ≡ queue_for p host d
+  pub next : k.next_batch ≡ next_number (queue_for p host d) (standing_in p).labels
 
-pub known_in : (p : PlaceView) (k : Known) (regions : List Region) (labels : List Label) → IsKnownOf p k regions labels → IsKnown k
-known_in p k regions labels h =
-    let tied = h.place.tied in
+device_at : (p : PlaceView) (host : ℕ) (d : Directive) → (queue_for p host d).device ≡ device_in (standing_in p) host d
+unfolding walk_of
+device_at p host d = refl
+
+-- where it acts
+pub queue_is : (p : PlaceView) (host : ℕ) (d : Directive) → queue_for p host d ≡ record { device = device_by (standing_in p).regions host d d.kind; queue = 0 }
+unfolding walk_of
+queue_is p host d =
+    let st = standing_in p in
+    ap (λ n. record { device = n; queue = 0 }) (device_at p host d ∙ subject_device st.lengths st.regions host d d.kind)
+
+pub known_in : (p : PlaceView) (host : ℕ) (d : Directive) (k : Known) → IsKnownOf p host d k → IsKnown k
+known_in p host d k h =
+    let st = standing_in p in
+    let device : k.at.device ≡ device_in st host d = ap (λ (q : QueueAt). q.device) h.at_queue ∙ device_at p host d in
     record {
-      capacity = h.place.capacity ∙ ap (λ (config : Configuration). config.capacity) (sym h.config);
-      low = low_for (standing_in p) k.table.now k.opened 16 regions labels tied (omega arith);
-      few = few_for (standing_in p) k.table.now k.opened 16 regions labels tied (omega arith);
-      entered = rw h.regions tied.entered;
+      capacity = h.tied.capacity ∙ ap (λ (config : Configuration). config.capacity) (sym h.config);
+      low = low_for st k.table.now k.opened 16 h.tied (omega arith);
+      few = few_for st k.table.now k.opened 16 h.tied (omega arith);
+      entered = rw (h.regions, device) h.tied.entered;
+    }
+
+pub own_device : (p : PlaceView) (host : ℕ) (d : Directive) (k : Known) → IsKnownOf p host d k → k.at.device ≡ device_by k.regions.now host d d.kind
+own_device p host d k h =
+    let st = standing_in p in
+    ap (λ (q : QueueAt). q.device) h.at_queue
+    ∙ (device_at p host d ∙ (subject_device st.lengths st.regions host d d.kind ∙ ap (λ rs. device_by rs host d d.kind) (sym h.regions)))
+
+-- what the place has, from its parts
+pub known_of : (p : PlaceView) (host : ℕ) (d : Directive) (k : Known) (devices : List Device) (regions : List Region) (queues : List (List Label)) (n : ℕ) (v : Device) (at_queue : QueueAt)
+    → IsPlace p.config p.history p.counts devices regions queues → d.device < p.config.devices → at_queue ≡ queue_for p host d → IsQueue p.config at_queue
+    → n ≡ at_queue.device → v ≡ slice_index_or devices n v → k.config.now ≡ p.config → k.table.now ≡ v.table → k.opened ≡ v.opened → k.regions.now ≡ regions → k.accepted ≡ length p.history → k.at ≡ at_queue
+    → k.next_batch ≡ length (queue_in queues at_queue) + 1 → IsKnownOf p host d k
+known_of p host d k devices regions queues n v at_queue h here is there device found config table blocks open_regions accepted at_k next =
+    let st = standing_in p in
+    let get = slice_get_read devices (length devices) n v refl (omega (arith, device, there.0, h.tied.all_devices)) found in
+    let own : IsTiedOn p.config st n v.table v.opened = h.tied.on_devices n v get in
+    let acts : n ≡ device_in st host d = device ∙ (ap (λ (q : QueueAt). q.device) is ∙ device_at p host d) in
+    record {
+      here = here;
+      tied = rw (table, blocks) (subst (λ m. IsTiedOn p.config st m v.table v.opened) acts own);
+      config = config;
+      regions = open_regions ∙ sym h.tied.inside;
+      accepted = accepted ∙ h.accepted;
+      at_queue = at_k ∙ is;
+      next = next ∙ (ap (λ ls. length ls + 1) (h.tied.labelled at_queue) ∙ ap (λ q. length (on_queue q st.labels) + 1) is);
     }
 
 -- its items are the directive's
-items_known : (p : PlaceView) (k : Known) (host : ℕ) (d : Directive) (regions : List Region) (labels : List Label) → IsKnownOf p k regions labels
-    → items_by k host d ≡ items_in (standing_in p).lengths regions host d
-items_known p k host d regions labels h =
-    ap (λ rs. items_in (lengths_of k.config.now) rs host d) h.regions
-    ∙ ap (λ ls. items_in ls regions host d) (ap lengths_of h.config ∙ sym (lengths_kept p.config p.history p.counts))
+items_known : (p : PlaceView) (host : ℕ) (d : Directive) (k : Known) → IsKnownOf p host d k → items_by k host d ≡ items_in (standing_in p) host d
+items_known p host d k h =
+    ap (λ rs. (subject_by (lengths_of k.config.now) rs host d d.kind).items) h.regions
+    ∙ ap (λ ls. (subject_by ls (standing_in p).regions host d d.kind).items) (ap lengths_of h.config ∙ sym (lengths_kept p.config p.history p.counts))
 
 -- and so is the fault that is found
-pub fault_known : (p : PlaceView) (k : Known) (host : ℕ) (d : Directive) (regions : List Region) (labels : List Label) → IsKnownOf p k regions labels
-    → refusal p.config (standing_in p) host d ≡ fault_by k host d
-fault_known p k host d regions labels h =
+pub fault_known : (p : PlaceView) (host : ℕ) (d : Directive) (k : Known) → IsKnownOf p host d k → refusal p.config (standing_in p) host d ≡ fault_by k host d
+fault_known p host d k h =
     let st = standing_in p in
-    let accepted : st.accepted ≡ k.accepted = sym (h.accepted ∙ h.place.accepted) in
     let items = items_by k host d in
     let fault : Configuration → ℕ → List Region → List Item → Option Fault =
-    λ config n rs xs. fault_or (limit_fault config n rs host d (length xs)) (fault_or (first_fault_in config d.kind (held_by k) xs) (past_fault (loop_of d.kind) xs)) in
-    refused_by p.config st host d k.table.now k.opened regions labels h.place.tied h.place.one
-    ∙ (ap (fault p.config st.accepted regions) (sym (items_known p k host d regions labels h))
-    ∙ (ap (λ n. fault p.config n regions items) accepted
+    λ config n rs xs. fault_or (limit_fault n rs host d (length xs)) (fault_or (first_fault_in config d.kind (held_by k) xs) (past_fault (loop_of d.kind) xs)) in
+    refused_by p.config st host d k.table.now k.opened h.tied h.here
+    ∙ (ap (fault p.config st.accepted st.regions) (sym (items_known p host d k h))
+    ∙ (ap (λ n. fault p.config n st.regions items) (sym h.accepted)
     ∙ (ap (λ rs. fault p.config k.accepted rs items) (sym h.regions) ∙ ap (λ config. fault config k.accepted k.regions.now items) (sym h.config))))
 
 pub refused_as : (given : Option Fault) (f : Fault) → given ≡ Some f → IsRefusal given f
@@ -109,38 +153,142 @@ memory_as given f none is = rw none is
 
 -- ## A directive that is accepted
 
-pub free_in : (p : PlaceView) (q : PlanView) (t : Present) (blocks : ℕ) (regions : List Region) (labels : List Label) → IsPlace p.config p.history p.counts t blocks regions labels → Fits p q
-    → IsFree p.config (standing_in p) q.host q.directive t blocks regions
-free_in p q t blocks regions labels h fits = is_free p.config (standing_in p) q.host q.directive t blocks regions labels h.tied h.one fits.accepted
-
--- the table of a roomy place has room for the items and their ends
-pub table_room : (p : PlaceView) (t : Present) (blocks : ℕ) (regions : List Region) (labels : List Label) → IsPlace p.config p.history p.counts t blocks regions labels → IsRoomy p → length t.presences + 2 * MAX_ITEMS ≤ p.room.ranges
-table_room p t blocks regions labels h roomy = omega (arith, roomy.ranges, ap length h.tied.presences)
+pub free_in : (p : PlaceView) (q : PlanView) (t : Present) (blocks : ℕ) → IsTiedAt p.config (standing_in p) q.host q.directive t blocks → Fits p q
+    → IsFree p.config (standing_in p) q.host q.directive t blocks
+free_in p q t blocks tied fits = is_free p.config (standing_in p) q.host q.directive t blocks tied fits.accepted
 
 -- the items that are put in then are the directive's
-pub put_then : (p : PlaceView) (q : PlanView) (t : Present) (blocks : ℕ) (regions : List Region) (labels : List Label) (xs : List Item) → IsPlace p.config p.history p.counts t blocks regions labels → Fits p q
-    → ArePut p q.host q.directive regions xs → xs ≡ items_in (standing_in p).lengths regions q.host q.directive
-put_then p q t blocks regions labels xs h fits put =
-    put ∙ all_taken (items_in (standing_in p).lengths regions q.host q.directive) (free_in p q t blocks regions labels h fits).within.short
+pub put_then : (p : PlaceView) (q : PlanView) (t : Present) (blocks : ℕ) (xs : List Item) → IsTiedAt p.config (standing_in p) q.host q.directive t blocks → Fits p q
+    → ArePut p q.host q.directive xs → xs ≡ items_in (standing_in p) q.host q.directive
+put_then p q t blocks xs tied fits put =
+    put ∙ all_taken (items_in (standing_in p) q.host q.directive) (free_in p q t blocks tied fits).within.short
+
+-- Where the directive of a plan that fits leaves its marks, and what is known there of its items.
+pub record IsActedOn (p : PlaceView) (q : PlanView) (devices : List Device) (n : ℕ) (v : Device) (xs : List Item) : Type 0 where
+  pub device : n ≡ device_in (standing_in p) q.host q.directive
+  pub there : slice_get devices n ≡ Some v
+  pub tied : IsTiedAt p.config (standing_in p) q.host q.directive v.table v.opened
+  pub free : IsFree p.config (standing_in p) q.host q.directive v.table v.opened
+  pub room : length v.table.presences + 2 * MAX_ITEMS ≤ v.table.room
+  pub own : xs ≡ items_in (standing_in p) q.host q.directive
+
+pub device_low : (p : PlaceView) (host : ℕ) (d : Directive) (devices : List Device) (regions rs : List Region) (queues : List (List Label)) (n : ℕ) → IsTied p.config (standing_in p) devices regions queues
+    → d.device < p.config.devices → rs ≡ regions → n ≡ device_by rs host d d.kind → n < length devices
+device_low p host d devices regions rs queues n tied here same is =
+    let low = there_device p.config host d d.kind regions here tied.there in
+    omega (arith, is ∙ ap (λ r. device_by r host d d.kind) same, low, tied.all_devices)
+
+pub acted_on : (p : PlaceView) (q : PlanView) (devices : List Device) (regions rs : List Region) (queues : List (List Label)) (n : ℕ) (v : Device) (xs : List Item) → IsTied p.config (standing_in p) devices regions queues → Fits p q
+    → p.room.ranges ≡ map (λ (w : Device). w.table.room) devices → rs ≡ regions → n ≡ device_by rs q.host q.directive q.directive.kind → v ≡ slice_index_or devices n v → ArePut p q.host q.directive xs
+    → IsActedOn p q devices n v xs
+acted_on p q devices regions rs queues n v xs tied fits rooms same is found put =
+    let st = standing_in p in
+    let d = q.directive in
+    let low = device_low p q.host d devices regions rs queues n tied (accepted_device p.config st q.host d fits.accepted) same is in
+    let device : n ≡ device_in st q.host d =
+    is ∙ (ap (λ r. device_by r q.host d d.kind) (same ∙ sym tied.inside) ∙ sym (subject_device st.lengths st.regions q.host d d.kind)) in
+    let there = slice_get_read devices (length devices) n v refl low found in
+    let own : IsTiedAt p.config st q.host d v.table v.opened = subst (λ k. IsTiedOn p.config st k v.table v.opened) device (tied.on_devices n v there) in
+    let at_room : slice_index_or p.room.ranges (queue_for p q.host d).device 0 ≡ v.table.room =
+    ap (λ k. slice_index_or p.room.ranges k 0) (device_at p q.host d ∙ sym device) ∙ (ap (λ rs. slice_index_or rs n 0) rooms ∙ shown_at (λ (w : Device). w.table.room) devices n v 0 low found) in
+    let presences_at : t_presences v ≡ presences (st.marks (queue_for p q.host d).device) = own.presences ∙ ap (λ k. presences (st.marks k)) (sym (device_at p q.host d)) in
+    record {
+      device = device;
+      there = there;
+      tied = own;
+      free = is_free p.config st q.host d v.table v.opened own fits.accepted;
+      room = omega (arith, fits.roomy.ranges, at_room, ap length presences_at);
+      own = put_then p q v.table v.opened xs own fits put;
+    }
+  where
+    t_presences : Device → List Presence
+    t_presences w = w.table.presences
+
+-- there is room for the label of its batch
+pub label_room : (p : PlaceView) (q : PlanView) (devices : List Device) (regions : List Region) (queues : List (List Label)) → IsTied p.config (standing_in p) devices regions queues → Fits p q
+    → IfSome q.label (λ l. (seat l.at < length queues) × (length (slice_index_or queues (seat l.at) []) < slice_index_or p.room.batches (seat l.at) 0))
+label_room p q devices regions queues tied fits =
+    let st = standing_in p in
+    let d = q.directive in
+    let at_queue = queue_for p q.host d in
+    let here = accepted_device p.config st q.host d fits.accepted in
+    let low : device_by regions q.host d d.kind < p.config.devices = there_device p.config q.host d d.kind regions here tied.there in
+    let same : at_queue ≡ record { device = device_by regions q.host d d.kind; queue = 0 } =
+    queue_is p q.host d ∙ ap (λ r. record { device = device_by r q.host d d.kind; queue = 0 }) tied.inside in
+    let there : IsQueue p.config at_queue = subst (λ a. IsQueue p.config a) (sym same) (low, omega arith) in
+    let listed : on_queue at_queue st.labels ≡ slice_index_or queues (seat at_queue) [] = sym (tied.labelled at_queue) ∙ queue_there queues at_queue there.1 in
+    rw fits.labelled
+    (label_at (λ a. (seat a < length queues) × (length (slice_index_or queues (seat a) []) < slice_index_or p.room.batches (seat a) 0)) at_queue (next_number at_queue st.labels) q.host q.items_done (batch_of st (walk_of st q.host d))
+    (seat_low p.config at_queue (length queues) there tied.all_queues, omega (arith, fits.roomy.batches, ap length listed)))
 
 standing_after : (p : PlaceView) (q : PlanView) → standing_in (place_after p q) ≡ after_directive (standing_in p) q.host q.items_done q.directive
 unfolding standing
 standing_after p q = refl
 
-accepted_place : (p : PlaceView) (q : PlanView) (t after : Present) (blocks next : ℕ) (regions : List Region) (labels : List Label) → IsPlace p.config p.history p.counts t blocks regions labels → Fits p q
-    → holding after.presences next ≡ holding_behind q.directive.kind (holding t.presences blocks) (items_in (standing_in p).lengths regions q.host q.directive) → after.capacity ≡ t.capacity
-    → IsPlace p.config (Accepted q.host q.directive ∷ p.history) (q.items_done ∷ p.counts) after next (regions_after q.host q.directive q.directive.kind regions) (labels ++ option_to_list q.label)
-accepted_place p q t after blocks next regions labels h fits is same =
-    let st = standing_after p q in
-    let tied =
-    tied_after p.config (standing_in p) q.directive q.host q.items_done t after blocks next regions labels q.label h.tied (free_in p q t blocks regions labels h fits) is fits.labelled in
+-- the devices, one of which has changed
+devices_after : (config : Configuration) (before after : Standing) (devices : List Device) (device : ℕ) (v : Device)
+    → ((n : ℕ) (w : Device) → slice_get devices n ≡ Some w → IsTiedOn config before n w.table w.opened) → IsTiedOn config after device v.table v.opened
+    → ((n : ℕ) (w : Device) → (device ≡ n → ⊥) → IsTiedOn config before n w.table w.opened → IsTiedOn config after n w.table w.opened)
+    → (n : ℕ) (w : Device) → slice_get (slice_set devices device v) n ≡ Some w → IsTiedOn config after n w.table w.opened
+devices_after config before after devices device v all own others n w is = elim (eqb_tells device n) [
+  | inl here ↦
+      let low : n < length devices = omega (arith, slice_get_within (slice_set devices device v) n w is, length-set devices device v) in
+      let old = slice_get-get_or devices n v low in
+      let set : slice_get (slice_set devices device v) n ≡ Some v = subst (λ k. slice_get (slice_set devices device v) k ≡ Some v) here.1 (set_here devices device (get_or devices n v) v (ap (slice_get devices) here.1 ∙ old)) in
+      let same : v ≡ w = some_is v w (sym set ∙ is) in
+      subst (λ x. IsTiedOn config after n x.table x.opened) same (subst (λ k. IsTiedOn config after k v.table v.opened) here.1 own)
+  | inr away ↦ others n w away.1 (all n w (sym (set_there devices device n v away.1) ∙ is))
+]
+  where
+    some_is : (a b : Device) → Some a ≡ Some b → a ≡ b
+    some_is a b h = cc
+
+-- the devices, regions and labels after a directive
+tied_all : (p : PlaceView) (q : PlanView) (devices : List Device) (regions : List Region) (queues : List (List Label)) (v after : Device) → IsTied p.config (standing_in p) devices regions queues → Fits p q
+    → slice_get devices (device_in (standing_in p) q.host q.directive) ≡ Some v
+    → holding after.table.presences after.opened ≡ holding_behind q.directive.kind (holding v.table.presences v.opened) (items_in (standing_in p) q.host q.directive) → after.table.capacity ≡ v.table.capacity
+    → IsTied p.config (after_directive (standing_in p) q.host q.items_done q.directive) (slice_set devices (device_in (standing_in p) q.host q.directive) after) (regions_after q.host q.directive q.directive.kind regions) (queues_after queues q.label)
+unfolding walk_of
+tied_all p q devices regions queues v after tied fits at_device is same =
+    let st = standing_in p in
+    let d = q.directive in
+    let device = device_in st q.host d in
+    let own = tied.on_devices device v at_device in
+    let free = free_in p q v.table v.opened own fits in
+    let walk = walk_of st q.host d in
+    let low : device < p.config.devices = omega (arith, slice_get_within devices device v at_device, tied.all_devices) in
+    let there : IsQueue p.config (walk_at walk) = (low, omega arith) in
+    let labels : (after_directive st q.host q.items_done d).labels ≡ st.labels ++ option_to_list q.label =
+    labels_after (walk_at walk) q.host q.items_done st.labels (batch_of st walk) ∙ ap (λ o. st.labels ++ option_to_list o) (sym fits.labelled) in
+    let queued : IfSome q.label (λ l. IsQueue p.config l.at) =
+    rw fits.labelled (label_at (IsQueue p.config) (walk_at walk) (next_number (walk_at walk) st.labels) q.host q.items_done (batch_of st walk) there) in
     record {
-      one = h.one;
-      capacity = same ∙ h.capacity;
+      all_devices = length-set devices device after ∙ tied.all_devices;
+      on_devices =
+          devices_after p.config st (after_directive st q.host q.items_done d) devices device after tied.on_devices
+          (tied_after p.config st d q.host q.items_done v.table after.table v.opened after.opened own free is same)
+          (λ n w away on. tied_beside p.config st d q.host q.items_done n w.table w.opened away free.within.few on);
+      inside = ap (regions_after q.host d d.kind) tied.inside;
+      there = there_after p.config q.host d d.kind regions free.here tied.there;
+      all_queues = queues_count queues q.label ∙ tied.all_queues;
+      labelled = λ at_queue. one_more p.config queues st.labels q.label at_queue tied.all_queues queued (tied.labelled at_queue) ∙ ap (on_queue at_queue) (sym labels);
+    }
+  where
+    queues_count : (qs : List (List Label)) (o : Option Label) → length (queues_after qs o) ≡ length qs
+    queues_count qs None = refl
+    queues_count qs (Some l) = length-set qs (seat l.at) _
+
+accepted_place : (p : PlaceView) (q : PlanView) (devices : List Device) (regions : List Region) (queues : List (List Label)) (v after : Device) → IsPlace p.config p.history p.counts devices regions queues → Fits p q
+    → slice_get devices (device_in (standing_in p) q.host q.directive) ≡ Some v
+    → holding after.table.presences after.opened ≡ holding_behind q.directive.kind (holding v.table.presences v.opened) (items_in (standing_in p) q.host q.directive) → after.table.capacity ≡ v.table.capacity
+    → IsPlace p.config (Accepted q.host q.directive ∷ p.history) (q.items_done ∷ p.counts) (slice_set devices (device_in (standing_in p) q.host q.directive) after) (regions_after q.host q.directive q.directive.kind regions) (queues_after queues q.label)
+accepted_place p q devices regions queues v after h fits at_device is same =
+    let st = standing_after p q in
+    record {
       accepted = omega (arith, h.accepted, ap (λ (k : Standing). k.accepted) st);
       counted = omega (arith, h.counted);
       lawful = (fits.accepted, h.lawful);
-      tied = rw st tied;
+      tied = rw st (tied_all p q devices regions queues v after h.tied fits at_device is same);
     }
 
 abbrev pub viewed : Configuration → List PlaceEntry → List ℕ → Room → PlaceView
@@ -154,15 +302,17 @@ pushed_view config history history2 counts counts2 room q more_history more_coun
     let f : reverse counts2 ≡ q.items_done ∷ reverse counts = ap reverse more_counts ∙ reverse-push counts q.items_done in
     rw (e, f) refl
 
-pub place_pushed : (config : Configuration) (history history2 : List PlaceEntry) (counts counts2 : List ℕ) (room : Room) (q : PlanView) (t after : Present) (blocks next : ℕ) (regions regions2 : List Region) (labels labels2 : List Label)
-    → history2 ≡ history ++ Accepted q.host q.directive ∷ [] → counts2 ≡ counts ++ q.items_done ∷ [] → regions2 ≡ regions_after q.host q.directive q.directive.kind regions → labels2 ≡ labels ++ option_to_list q.label
-    → IsPlace config (reverse history) (reverse counts) t blocks regions labels → Fits (viewed config history counts room) q
-    → holding after.presences next ≡ holding_behind q.directive.kind (holding t.presences blocks) (items_in (standing_in (viewed config history counts room)).lengths regions q.host q.directive) → after.capacity ≡ t.capacity
-    → IsPlace config (reverse history2) (reverse counts2) after next regions2 labels2
-place_pushed config history history2 counts counts2 room q t after blocks next regions regions2 labels labels2 more_history more_counts more_regions more_labels h fits is same =
+pub place_pushed : (config : Configuration) (history history2 : List PlaceEntry) (counts counts2 : List ℕ) (room : Room) (q : PlanView) (devices devices2 : List Device) (regions regions2 : List Region) (queues queues2 : List (List Label)) (v after : Device)
+    → history2 ≡ history ++ Accepted q.host q.directive ∷ [] → counts2 ≡ counts ++ q.items_done ∷ [] → regions2 ≡ regions_after q.host q.directive q.directive.kind regions → queues2 ≡ queues_after queues q.label
+    → devices2 ≡ slice_set devices (device_in (standing_in (viewed config history counts room)) q.host q.directive) after
+    → IsPlace config (reverse history) (reverse counts) devices regions queues → Fits (viewed config history counts room) q
+    → slice_get devices (device_in (standing_in (viewed config history counts room)) q.host q.directive) ≡ Some v
+    → holding after.table.presences after.opened ≡ holding_behind q.directive.kind (holding v.table.presences v.opened) (items_in (standing_in (viewed config history counts room)) q.host q.directive) → after.table.capacity ≡ v.table.capacity
+    → IsPlace config (reverse history2) (reverse counts2) devices2 regions2 queues2
+place_pushed config history history2 counts counts2 room q devices devices2 regions regions2 queues queues2 v after more_history more_counts more_regions more_queues more_devices h fits at_device is same =
     let e : reverse history2 ≡ Accepted q.host q.directive ∷ reverse history = ap reverse more_history ∙ reverse-push history (Accepted q.host q.directive) in
     let f : reverse counts2 ≡ q.items_done ∷ reverse counts = ap reverse more_counts ∙ reverse-push counts q.items_done in
-    rw (e, f, more_regions, more_labels) (accepted_place (viewed config history counts room) q t after blocks next regions labels h fits is same)
+    rw (e, f, more_regions, more_queues, more_devices) (accepted_place (viewed config history counts room) q devices regions queues v after h fits at_device is same)
 
 -- ## The answer
 
@@ -186,49 +336,134 @@ asked_of lengths rs host d Wait ps = refl
 asked_of lengths rs host d AsyncTest ps = refl
 asked_of lengths rs host d IsPresent ps = refl
 
-pub answer_is : (p : PlaceView) (q : PlanView) (t : Present) (blocks : ℕ) (regions : List Region) (labels : List Label) (batch : Option (QueueAt × ℕ)) (present : Bool) → IsPlace p.config p.history p.counts t blocks regions labels → Fits p q
-    → batch ≡ option_map (λ (l : Label). (l.at, l.number)) q.label → present ≡ is_answered q.directive.kind t.presences (items_in (standing_in p).lengths regions q.host q.directive)
+pub answer_is : (p : PlaceView) (q : PlanView) (t : Present) (blocks : ℕ) (batch : Option (QueueAt × ℕ)) (present : Bool) → IsTiedAt p.config (standing_in p) q.host q.directive t blocks → Fits p q
+    → batch ≡ option_map (λ (l : Label). (l.at, l.number)) q.label → present ≡ is_answered q.directive.kind t.presences (items_in (standing_in p) q.host q.directive)
     → record { batch = batch; counts = replicate 8 0; present = present } ≡ answer_of (standing_in p) q.directive (walk_of (standing_in p) q.host q.directive)
-unfolding answer_of
-answer_is p q t blocks regions labels batch present h fits is found =
+unfolding answer_of walk_of
+answer_is p q t blocks batch present tied fits is found =
     let st = standing_in p in
     let d = q.directive in
     let walk = walk_of st q.host d in
-    let free = free_in p q t blocks regions labels h fits in
-    let device : walk.device ≡ 0 = ap (λ (at_queue : QueueAt). at_queue.device) (at_sync p.config st q.host d t blocks regions labels h.tied free) in
-    let same : t.presences ≡ presences (st.marks walk.device) = h.tied.presences ∙ ap (λ k. presences (st.marks k)) (sym device) in
-    let told : present ≡ is_answered d.kind (presences (st.marks walk.device)) d.items = found ∙ (asked_of (standing_in p).lengths regions q.host d d.kind t.presences ∙ ap (λ ps. is_answered d.kind ps d.items) same) in
+    let told : present ≡ is_answered d.kind (presences (st.marks walk.device)) d.items = found ∙ (asked_of st.lengths st.regions q.host d d.kind t.presences ∙ ap (λ ps. is_answered d.kind ps d.items) tied.presences) in
     ap (λ b. record { batch = b; counts = replicate 8 0; present = present }) (is ∙ answered st q.host q.items_done walk q.label fits.labelled)
     ∙ ap (λ v. record { batch = placed_batch (walk_at walk) st.labels (batch_of st walk); counts = replicate 8 0; present = v }) told
 
 -- ## Before the first directive
 
-pub first_place : (config : Configuration) (history : List PlaceEntry) (counts : List ℕ) (regions : List Region) (labels : List Label) (t : Present) → history ≡ [] → counts ≡ [] → regions ≡ [] → labels ≡ [] → config.devices ≡ 1
-    → t.presences ≡ [] → t.capacity ≡ config.capacity → IsPlace config (reverse history) (reverse counts) t 0 regions labels
-unfolding standing presences live opened
-first_place config history counts regions labels t no_history no_counts no_regions no_labels one none same =
-    rw (no_history, no_counts, no_regions, no_labels)
-    (record {
-      one = one;
+pub first_tied : (config : Configuration) (device : ℕ) (t : Present) (blocks : ℕ) → t.presences ≡ [] → t.capacity ≡ config.capacity → blocks ≡ 0 → IsTiedOn config (at_first config) device t blocks
+unfolding presences live opened
+first_tied config device t blocks none same no_blocks =
+    record {
       capacity = same;
+      presences = none;
+      legal = tt;
+      opened = no_blocks;
+      entered = record { present = All-nil _; counted = rw none (All-nil _) };
+      few = omega arith;
+      few_blocks = omega (arith, no_blocks);
+      low = rw none tt;
+    }
+
+pub first_place : (config : Configuration) (history : List PlaceEntry) (counts : List ℕ) (devices : List Device) (regions : List Region) (queues : List (List Label)) → history ≡ [] → counts ≡ [] → regions ≡ []
+    → length devices ≡ config.devices → All (IsEmpty config) devices → length queues ≡ queue_count config → All (λ labels. labels ≡ []) queues → IsPlace config (reverse history) (reverse counts) devices regions queues
+unfolding standing
+first_place config history counts devices regions queues no_history no_counts no_regions all_devices empty all_queues none =
+    rw (no_history, no_counts, no_regions)
+    (record {
       accepted = refl;
       counted = refl;
       lawful = tt;
       tied =
           record {
-            presences = none;
-            legal = tt;
-            opened = refl;
+            all_devices = all_devices;
+            on_devices = λ n v is. on_first n v (at_place devices n v empty is);
             inside = refl;
-            all_here = All-nil IsHere;
-            entered = record { present = All-nil _; counted = rw none (All-nil _) };
-            labelled = refl;
-            single = tt;
-            few = omega arith;
-            few_blocks = omega arith;
-            low = rw none tt;
+            there = All-nil (IsThere config);
+            all_queues = all_queues;
+            labelled = λ at_queue. none_placed queues at_queue none;
           };
     })
+  where
+    at_place : (vs : List Device) (n : ℕ) (v : Device) → All (IsEmpty config) vs → slice_get vs n ≡ Some v → IsEmpty config v
+    at_place [] n v all is = absurd cc
+    at_place (w ∷ vs) zero v all is = (let same : w ≡ v = cc in rw (← same) (All-head (IsEmpty config) w vs all))
+    at_place (w ∷ vs) (suc n) v all is = at_place vs n v (All-tail (IsEmpty config) w vs all) is
+
+    on_first : (n : ℕ) (v : Device) → IsEmpty config v → IsTiedOn config (at_first config) n v.table v.opened
+    on_first n v e = first_tied config n v.table v.opened e.presences e.capacity e.opened
+
+-- ## More room
+
+tied_like : (config : Configuration) (st : Standing) (device : ℕ) (v w : Device) → held_on w ≡ held_on v → w.table.capacity ≡ v.table.capacity → IsTiedOn config st device v.table v.opened → IsTiedOn config st device w.table w.opened
+tied_like config st device v w held same tied =
+    let presences_are : w.table.presences ≡ v.table.presences = ap (λ (h : Holding). h.presences) held in
+    let opened_are : w.opened ≡ v.opened = ap (λ (h : Holding). h.opened) held in
+    record {
+      capacity = same ∙ tied.capacity;
+      presences = presences_are ∙ tied.presences;
+      legal = tied.legal;
+      opened = opened_are ∙ tied.opened;
+      entered = rw presences_are tied.entered;
+      few = tied.few;
+      few_blocks = omega (arith, opened_are, tied.few_blocks);
+      low = rw presences_are tied.low;
+    }
+
+-- a device that has more room
+pub place_spared : (config : Configuration) (history : List PlaceEntry) (counts : List ℕ) (devices : List Device) (regions : List Region) (queues : List (List Label)) (n : ℕ) (v w : Device) → IsPlace config history counts devices regions queues
+    → n < config.devices → v ≡ slice_index_or devices n v → held_on w ≡ held_on v → w.table.capacity ≡ v.table.capacity → IsPlace config history counts (slice_set devices n w) regions queues
+place_spared config history counts devices regions queues n v w h low found held same =
+    let st = standing config history counts in
+    let there = slice_get_read devices (length devices) n v refl (omega (arith, low, h.tied.all_devices)) found in
+    let own = tied_like config st n v w held same (h.tied.on_devices n v there) in
+    record {
+      accepted = h.accepted;
+      counted = h.counted;
+      lawful = h.lawful;
+      tied =
+          record {
+            all_devices = length-set devices n w ∙ h.tied.all_devices;
+            on_devices = devices_after config st st devices n w h.tied.on_devices own (λ k x away on. on);
+            inside = h.tied.inside;
+            there = h.tied.there;
+            all_queues = h.tied.all_queues;
+            labelled = h.tied.labelled;
+          };
+    }
+
+-- what is roomy for as much as there is
+pub roomy_by : (p q : PlaceView) (at_queue : QueueAt) → q.config ≡ p.config → q.history ≡ p.history → q.counts ≡ p.counts → length p.history < q.room.directives → length (standing_in p).regions < q.room.regions
+    → length (on_queue at_queue (standing_in p).labels) < slice_index_or q.room.batches (seat at_queue) 0
+    → length (presences ((standing_in p).marks at_queue.device)) + 2 * MAX_ITEMS ≤ slice_index_or q.room.ranges at_queue.device 0 → IsRoomy q at_queue
+roomy_by p q at_queue config history counts directives regions batches ranges =
+    let st : standing_in q ≡ standing_in p =
+    ap (λ c. standing c q.history q.counts) config ∙ (ap (λ xs. standing p.config xs q.counts) history ∙ ap (standing p.config p.history) counts) in
+    record {
+      directives = omega (arith, directives, ap length history);
+      regions = omega (arith, regions, ap (λ (s : Standing). length s.regions) st);
+      batches = omega (arith, batches, ap (λ (s : Standing). length (on_queue at_queue s.labels)) st);
+      ranges = omega (arith, ranges, ap (λ (s : Standing). length (presences (s.marks at_queue.device))) st);
+    }
+
+-- what is roomy stays so where no room falls
+pub roomier : (p q : PlaceView) (at_queue : QueueAt) → q.config ≡ p.config → q.history ≡ p.history → q.counts ≡ p.counts → p.room.directives ≤ q.room.directives → p.room.regions ≤ q.room.regions
+    → slice_index_or p.room.batches (seat at_queue) 0 ≤ slice_index_or q.room.batches (seat at_queue) 0 → slice_index_or p.room.ranges at_queue.device 0 ≤ slice_index_or q.room.ranges at_queue.device 0
+    → IsRoomy p at_queue → IsRoomy q at_queue
+roomier p q at_queue config history counts directives regions batches ranges h =
+    roomy_by p q at_queue config history counts (omega (arith, h.directives, directives)) (omega (arith, h.regions, regions)) (omega (arith, h.batches, batches)) (omega (arith, h.ranges, ranges))
+
+-- what is present on a device of a queue
+pub present_there : (p : PlaceView) (devices : List Device) (regions : List Region) (queues : List (List Label)) (n : ℕ) (v : Device) (at_queue : QueueAt) → IsTied p.config (standing_in p) devices regions queues
+    → n ≡ at_queue.device → at_queue.device < p.config.devices → v ≡ slice_index_or devices n v → length (presences ((standing_in p).marks at_queue.device)) ≡ length v.table.presences
+present_there p devices regions queues n v at_queue tied is low found =
+    let there = slice_get_read devices (length devices) n v refl (omega (arith, is, low, tied.all_devices)) found in
+    let own = tied.on_devices n v there in
+    ap (λ k. length (presences ((standing_in p).marks k))) (sym is) ∙ ap length (sym own.presences)
+
+-- and what was placed on it
+pub placed_there : (p : PlaceView) (devices : List Device) (regions : List Region) (queues : List (List Label)) (at_queue : QueueAt) → IsTied p.config (standing_in p) devices regions queues
+    → IsQueue p.config at_queue → on_queue at_queue (standing_in p).labels ≡ slice_index_or queues (seat at_queue) []
+placed_there p devices regions queues at_queue tied there = sym (tied.labelled at_queue) ∙ queue_there queues at_queue there.1
 
 -- ## A plan
 
@@ -237,44 +472,28 @@ pub same_place : (p : PlaceView) (config : Configuration) (history : List PlaceE
     → p ≡ record { config = config; history = history; counts = counts; room = p.room }
 same_place p config history counts a b c = rw (← a, ← b, ← c) refl
 
--- the operations of a directive's two walks
-abbrev ops_in : PlaceView → ℕ → Directive → Present → ℕ → List Region → List Op
-ops_in p host d t blocks regions =
-    marked_ops (run_in (loop_of d.kind) (items_in (standing_in p).lengths regions host d) (holding_between d.kind (holding t.presences blocks) (items_in (standing_in p).lengths regions host d)).presences)
-    (all_steps d.kind (holding t.presences blocks) (items_in (standing_in p).lengths regions host d))
-
-fits_plan : (p : PlaceView) (host : ℕ) (d : Directive) (t : Present) (blocks : ℕ) (regions : List Region) (labels : List Label) (q : PlanView) → IsPlace p.config p.history p.counts t blocks regions labels → refusal p.config (standing_in p) host d ≡ None
+-- one for what the place knows
+pub fits_known : (p : PlaceView) (host : ℕ) (d : Directive) (k : Known) (q : PlanView) → IsKnownOf p host d k → fault_by k host d ≡ None
     → q.host ≡ host → q.directive ≡ d → q.region ≡ opened_region host d d.kind
-    → q.label ≡ label_for sync (length labels + 1) host q.items_done (ops_in p host d t blocks regions) → IsRoomy p → Fits p q
-fits_plan p host d t blocks regions labels q h none by is inside named roomy =
+    → q.label ≡ label_for k.at k.next_batch host q.items_done (ops_by k host d) → IsRoomy p (queue_for p host d) → Fits p q
+fits_known p host d k q h none by is inside named roomy =
     let st = standing_in p in
-    let free = is_free p.config st host d t blocks regions labels h.tied h.one none in
-    let batch = batch_is p.config st host d t blocks regions labels h.tied free in
-    let number = next_is st t blocks regions labels h.tied in
-    let here = at_sync p.config st host d t blocks regions labels h.tied free in
+    let refused = fault_known p host d k h ∙ none in
+    let free = is_free p.config st host d k.table.now k.opened h.tied refused in
+    let batch = batch_is p.config st host d k.table.now k.opened h.tied free in
+    let ops : ops_by k host d ≡ batch_of st (walk_of st host d) =
+    ap (λ xs. marked_ops (run_in (loop_of d.kind) xs (holding_between d.kind (held_by k) xs).presences) (all_steps d.kind (held_by k) xs)) (items_known p host d k h) ∙ sym batch in
     rw (by, is)
     (record {
-      accepted = none;
+      accepted = refused;
       region = inside;
       labelled =
           named
-          ∙ (ap (label_for sync (length labels + 1) host q.items_done) (sym batch)
-          ∙ (ap (λ n. label_for sync n host q.items_done (batch_of st (walk_of st host d))) (sym number)
-          ∙ ap (λ w. label_for w (next_number w st.labels) host q.items_done (batch_of st (walk_of st host d))) (sym here)));
+          ∙ (ap (label_for k.at k.next_batch host q.items_done) ops
+          ∙ (ap (λ n. label_for k.at n host q.items_done (batch_of st (walk_of st host d))) h.next
+          ∙ ap (λ w. label_for w (next_number (queue_for p host d) st.labels) host q.items_done (batch_of st (walk_of st host d))) h.at_queue));
       roomy = roomy;
     })
-
--- one for what the place knows
-pub fits_known : (p : PlaceView) (k : Known) (host : ℕ) (d : Directive) (regions : List Region) (labels : List Label) (q : PlanView) → IsKnownOf p k regions labels → fault_by k host d ≡ None
-    → q.host ≡ host → q.directive ≡ d → q.region ≡ opened_region host d d.kind
-    → q.label ≡ label_for sync k.next_batch host q.items_done (ops_by k host d) → IsRoomy p → Fits p q
-fits_known p k host d regions labels q h none by is inside named roomy =
-    let items = items_known p k host d regions labels h in
-    fits_plan p host d k.table.now k.opened regions labels q h.place (fault_known p k host d regions labels h ∙ none) by is inside
-    (named
-    ∙ (ap (λ n. label_for sync n host q.items_done (ops_by k host d)) h.next
-    ∙ ap (λ xs. label_for sync (length labels + 1) host q.items_done (marked_ops (run_in (loop_of d.kind) xs (holding_between d.kind (held_by k) xs).presences) (all_steps d.kind (held_by k) xs))) items))
-    roomy
 
 -- a plan that was just made
 pub plan_of_now : (p : PlaceView) (q : PlanView) → Fits p q → q.stamp ≡ length p.history → IsPlanOf p q
@@ -333,6 +552,8 @@ plan_kept p q other h =
 -- or planned
 pub plan_beside : KeptByPlanning
 plan_beside p after q config history counts roomy h =
+    let st : standing_in after ≡ standing_in p =
+    ap (λ c. standing c after.history after.counts) config ∙ (ap (λ xs. standing p.config xs after.counts) history ∙ ap (standing p.config p.history) counts) in
     record {
       history_then = h.history_then;
       history_since = h.history_since;
@@ -344,7 +565,7 @@ plan_beside p after q config history counts roomy h =
       counted = h.counted;
       stamped = h.stamped;
       fitted = rw config h.fitted;
-      roomy = λ none. roomy (h.roomy none);
+      roomy = λ none. subst (λ s. IsRoomy after (walk_at (walk_of s q.host q.directive))) (sym st) (roomy (queue_for p q.host q.directive) (h.roomy none));
     }
 
 -- and where its batch is handed out
@@ -376,10 +597,3 @@ held_is_present f (p ∷ ps) r =
 pub nth_is : (labels : List Label) (n : ℕ) → 0 < n → nth_batch labels n ≡ slice_get labels (n - 1)
 nth_is labels zero some = absurd (omega arith)
 nth_is labels (suc n) some = let e : suc n - 1 ≡ n = omega arith in ap (slice_get labels) (sym e)
-
-pub labels_on : (p : PlaceView) (t : Present) (blocks : ℕ) (regions : List Region) (labels : List Label) (at_queue : QueueAt) (here : Bool) → IsPlace p.config p.history p.counts t blocks regions labels → here ≡ same_queue at_queue sync
-    → cond here labels [] ≡ on_queue at_queue (standing_in p).labels
-labels_on p t blocks regions labels at_queue true h same =
-    sym (ap (λ q. on_queue q (standing_in p).labels) (same_queue_is at_queue sync (sym same)) ∙ (ap (on_queue sync) h.tied.labelled ∙ on_queue_all sync labels h.tied.single))
-labels_on p t blocks regions labels at_queue false h same =
-    sym (ap (on_queue at_queue) h.tied.labelled ∙ on_queue_none sync at_queue labels h.tied.single (same_queue_turned at_queue sync (sym same)))

@@ -1,5 +1,5 @@
 -- What a place shows of its parts.
-use Rattle.std.specs.Prelude.{min, vec_capacity}
+use Rattle.std.specs.Prelude.{map, min, vec_capacity}
 use Rattle.acc_place.specs.declared.place.Place.TheInside.{Inside}
 use Rattle.acc_place.specs.Plans.{PlaceView, Room}
 use Rattle.acc_place.proofs.Planning.{viewed}
@@ -9,8 +9,8 @@ room_of w =
     record {
       directives = min (vec_capacity w.history) (vec_capacity w.counts);
       regions = vec_capacity w.regions;
-      batches = vec_capacity w.labels;
-      ranges = w.table.room;
+      batches = w.labels.room;
+      ranges = map (λ v. v.table.room) w.devices.items;
     }
 
 abbrev pub seen_with : Inside → Room → PlaceView

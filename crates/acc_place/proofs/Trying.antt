@@ -3,8 +3,7 @@ use Rattle.std.proofs.Common.{◌≡◌, ℕ, ◌≤◌, ◌<◌, true, false, L
 use Rattle.std.specs.Prelude.{All, IfNone, take, is_some, nat_le, ◌||◌}
 use Rattle.std.proofs.lemmas.List.{take_all}
 use Rattle.acc_base.specs.declared.fault.Fault.{Fault}
-use Rattle.acc_base.specs.declared.fault.Fault.TheVariants.{BadDevice, NoRegion, TooMany}
-use Rattle.acc_base.specs.Configurations.{Configuration}
+use Rattle.acc_base.specs.declared.fault.Fault.TheVariants.{NoRegion, TooMany}
 use Rattle.acc_batch.specs.declared.operation.Op.{Op}
 use Rattle.acc_present.specs.declared.change.Change.TheVariants.{StructuredDown}
 use Rattle.acc_present.specs.Presences.{Presence}
@@ -18,7 +17,7 @@ use Rattle.acc_place.specs.declared.judge.Known.{Known}
 use Rattle.acc_place.specs.declared.judge.Marked.{Marked}
 use Rattle.acc_place.specs.Accepting.{first_fault, fault_where, is_deep, is_outside}
 use Rattle.acc_place.specs.Counts.{entered_ranges}
-use Rattle.acc_place.specs.Regions.{open_region}
+use Rattle.acc_place.specs.Regions.{open_region, regions_on}
 use Rattle.acc_place.specs.Standings.{change_by, loop_of}
 use Rattle.acc_place.specs.Trials.{fault_by, held_by, items_by, items_fault, IsKnown}
 use Rattle.acc_place.specs.Walks.{Holding, holding, holding_between, ends_of, all_marked, all_steps, limit_fault, fault_or, first_fault_in, past_fault, run_in, AllEntered, AllHeldFor}
@@ -56,23 +55,22 @@ none_or (Some f) b h = absurd (cc)
 -- ## The items that were put in
 
 -- whether there are too many is seen in one more than there may be
-limit_taken : (config : Configuration) (n : ℕ) (regions : List Region) (host : ℕ) (d : Directive) (items : List Item)
-    → limit_fault config n regions host d (length (take 17 items)) ≡ limit_fault config n regions host d (length items)
+limit_taken : (n : ℕ) (regions : List Region) (host : ℕ) (d : Directive) (items : List Item)
+    → limit_fault n regions host d (length (take 17 items)) ≡ limit_fault n regions host d (length items)
 unfolding limit_fault
-limit_taken config n regions host d items =
+limit_taken n regions host d items =
     ap (λ many. first_fault (
-    fault_where (nat_le config.devices d.device) BadDevice
-    ∷ fault_where (many || (is_deep d.kind host regions || nat_le MAX_DIRECTIVES n)) TooMany
+    fault_where (many || (is_deep d.kind host regions || nat_le MAX_DIRECTIVES n)) TooMany
     ∷ fault_where (is_outside d.kind (open_region host regions)) NoRegion
     ∷ []
     ))
     (long_taken 16 items)
 
 abbrev limit_by : Known → ℕ → Directive → List Item → Option Fault
-limit_by k host d items = limit_fault k.config.now k.accepted k.regions.now host d (length items)
+limit_by k host d items = limit_fault k.accepted k.regions.now host d (length items)
 
 pub limit_put : (k : Known) (host : ℕ) (d : Directive) (xs : List Item) → xs ≡ take 17 (items_by k host d) → limit_by k host d xs ≡ limit_by k host d (items_by k host d)
-limit_put k host d xs put = ap (limit_by k host d) put ∙ limit_taken k.config.now k.accepted k.regions.now host d (items_by k host d)
+limit_put k host d xs put = ap (limit_by k host d) put ∙ limit_taken k.accepted k.regions.now host d (items_by k host d)
 
 pub all_taken : (items : List Item) → length items ≤ MAX_ITEMS → take 17 items ≡ items
 all_taken items short = take_all 17 items (omega arith)
@@ -81,7 +79,7 @@ all_taken items short = take_all 17 items (omega arith)
 pub all_put : (k : Known) (host : ℕ) (d : Directive) (xs : List Item) → xs ≡ take 17 (items_by k host d) → limit_by k host d xs ≡ None → xs ≡ items_by k host d
 all_put k host d xs put none =
     let items = items_by k host d in
-    put ∙ all_taken items (is_within k.config.now k.accepted k.regions.now host d (length items) (sym (limit_put k host d xs put) ∙ none)).short
+    put ∙ all_taken items (is_within k.accepted k.regions.now host d (length items) (sym (limit_put k host d xs put) ∙ none)).short
 
 -- ## A directive without a fault
 
@@ -100,11 +98,11 @@ is_clean k host d known table faultless =
     let fine = all_fine k.config.now d.kind (held_by k) items (none_or (first_fault_in k.config.now d.kind (held_by k) items) (past_fault (loop_of d.kind) items) none.1).0 in
     let cells = all_cells capacity (change_by d.kind) (held_by k) items fine in
     record {
-      short = (is_within k.config.now k.accepted k.regions.now host d (length items) none.0).short;
+      short = (is_within k.accepted k.regions.now host d (length items) none.0).short;
       cells = cells;
-      held = held_between capacity d.kind (held_by k) items (entered_ranges k.regions.now) table fine known.entered;
+      held = held_between capacity d.kind (held_by k) items (entered_ranges (regions_on k.at.device k.regions.now)) table fine known.entered;
       ends_cells = ends_all (λ (i : Item). 0 < i.range.len) d.kind items cells;
-      ends_entered = entered_ends capacity d.kind (held_by k) items (entered_ranges k.regions.now) table fine known.entered;
+      ends_entered = entered_ends capacity d.kind (held_by k) items (entered_ranges (regions_on k.at.device k.regions.now)) table fine known.entered;
     }
 
 -- the steps of its two walks

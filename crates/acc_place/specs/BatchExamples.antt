@@ -2,7 +2,6 @@
 use Rattle.std.specs.Prelude.{◌≡◌, false, [], ◌∷◌, replicate, Some, None}
 use Rattle.acc_batch.specs.declared.operation.Op.TheVariants.{Make, CopyIn, CopyOut, Release}
 use Rattle.acc_place.specs.Examples.{cells, first_four, copyin, copyout, batch_after, answer_after}
-use Rattle.acc_place.specs.Places.{sync}
 
 -- of two items, both blocks are made before the first is copied
 abbrev pub GroupByGroup : Type 0
@@ -29,4 +28,4 @@ EntersAgain =
 abbrev pub EmptyBatch : Type 0
 EmptyBatch =
     (answer_after (first_four ∷ []) first_four ≡ record { batch = None; counts = replicate 8 0; present = false })
-    × (answer_after (first_four ∷ first_four ∷ []) (copyin (cells 4 2 ∷ [])) ≡ record { batch = Some (sync, 2); counts = replicate 8 0; present = false })
+    × (answer_after (first_four ∷ first_four ∷ []) (copyin (cells 4 2 ∷ [])) ≡ record { batch = Some (record { device = 0; queue = 0 }, 2); counts = replicate 8 0; present = false })

@@ -15,7 +15,7 @@ use Rattle.acc_place.specs.declared.directive.Region.{Region}
 use Rattle.acc_place.specs.declared.directive.TheConstants.{MAX_DIRECTIVES}
 use Rattle.acc_place.specs.Accepting.{refusal}
 use Rattle.acc_place.specs.Histories.{AllAccepted, standing}
-use Rattle.acc_place.specs.Regions.{open_region}
+use Rattle.acc_place.specs.Regions.{open_region, regions_on}
 use Rattle.acc_place.specs.Standings.{Standing}
 
 -- the ranges that the regions of all hosts have entered, as often as they did
@@ -31,21 +31,21 @@ pub record IsEnteredBy (rs : List Range) (ps : List Presence) : Type 0 where
   pub present : All (λ (r : Range). (0 < r.len) × (is_present ps r ≡ true)) rs
   pub counted : All (λ (p : Presence). p.s ≡ count_inside p.range rs) ps
 
--- On the one device the marks are legal, and the structured counters are those of the open regions.
-pub record IsCounted (st : Standing) : Type 0 where
-  pub legal : AllLegal (st.marks 0)
-  pub entered : IsEnteredBy (entered_ranges st.regions) (presences (st.marks 0))
+-- On a device the marks are legal, and the structured counters are those of the open regions there.
+pub record IsCountedOn (device : ℕ) (st : Standing) : Type 0 where
+  pub legal : AllLegal (st.marks device)
+  pub entered : IsEnteredBy (entered_ranges (regions_on device st.regions)) (presences (st.marks device))
 
--- Accepted directives keep it so,
+-- Accepted directives keep it so on each device,
 abbrev pub AcceptedAreCounted : Type 0
 AcceptedAreCounted =
-    (config : Configuration) (history : List PlaceEntry) (counts : List ℕ)
-    → config.devices ≡ 1 → AllAccepted config history counts → IsCounted (standing config history counts)
+    (config : Configuration) (history : List PlaceEntry) (counts : List ℕ) (device : ℕ)
+    → AllAccepted config history counts → IsCountedOn device (standing config history counts)
 
 -- and a data construct that a host is inside can be left, until the last directive of a run.
 abbrev pub EnteredCanBeLeft : Type 0
 EnteredCanBeLeft =
     (config : Configuration) (history : List PlaceEntry) (counts : List ℕ) (host : ℕ) (d : Directive) (r : Region)
-    → config.devices ≡ 1 → AllAccepted config history counts → (standing config history counts).accepted < MAX_DIRECTIVES
-    → d.kind ≡ EndData → d.device ≡ 0 → open_region host (standing config history counts).regions ≡ Some r
+    → AllAccepted config history counts → (standing config history counts).accepted < MAX_DIRECTIVES
+    → d.kind ≡ EndData → d.device < config.devices → open_region host (standing config history counts).regions ≡ Some r
     → refusal config (standing config history counts) host d ≡ None

@@ -2,6 +2,7 @@ pub mod Accepting
 pub mod BatchExamples
 pub mod Batches
 pub mod Counts
+pub mod Devices
 pub mod Directives
 pub mod Examples
 pub mod Histories

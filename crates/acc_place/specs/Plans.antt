@@ -1,11 +1,13 @@
 -- What a place shows and what it answers to a directive; what a plan is, and when it fits.
-use Rattle.std.specs.Prelude.{◌≡◌, ℕ, ◌+◌, ◌*◌, ◌<◌, ◌≤◌, List, [], ◌∷◌, ◌++◌, length, Option, Some, None}
+use Rattle.std.specs.Prelude.{◌≡◌, ℕ, ◌+◌, ◌*◌, ◌<◌, ◌≤◌, List, [], ◌∷◌, ◌++◌, length, slice_index_or, Option, Some, None}
 use Rattle.acc_base.specs.declared.fault.Fault.{Fault}
 use Rattle.acc_base.specs.declared.fault.Fault.TheVariants.{Memory}
 use Rattle.acc_base.specs.declared.ids.QueueAt.{QueueAt}
 use Rattle.acc_base.specs.Configurations.{Configuration}
+use Rattle.acc_base.specs.Queues.{seat}
 use Rattle.acc_batch.specs.declared.operation.Label.{Label}
 use Rattle.acc_batch.specs.declared.operation.Op.{Op}
+use Rattle.acc_batch.specs.Labels.{on_queue}
 use Rattle.acc_present.specs.Presences.{presences}
 use Rattle.acc_place.specs.Directives.{Directive}
 use Rattle.acc_place.specs.declared.directive.Kind.{Kind}
@@ -20,13 +22,13 @@ use Rattle.acc_place.specs.Histories.{standing}
 use Rattle.acc_place.specs.Regions.{region_of}
 use Rattle.acc_place.specs.Standings.{Standing, Walk, walk_of}
 
--- For how many accepted directives, open data constructs, batches and present ranges there is room, those that are there
--- among them.
+-- For how many accepted directives, open data constructs, batches of each queue, by device, then in queue order, and
+-- present ranges of each device there is room, those that are there among them.
 pub record Room : Type 0 where
   pub directives : ℕ
   pub regions : ℕ
-  pub batches : ℕ
-  pub ranges : ℕ
+  pub batches : List ℕ
+  pub ranges : List ℕ
 
 -- The configuration, the place history with its counts, the latest first, and the room.
 pub record PlaceView : Type 0 where
@@ -38,13 +40,17 @@ pub record PlaceView : Type 0 where
 abbrev pub standing_in : PlaceView → Standing
 standing_in p = standing p.config p.history p.counts
 
--- There is room for one more directive: in the histories, among the regions and the batches, and in the table for its items
--- and their ends.
-pub record IsRoomy (p : PlaceView) : Type 0 where
+-- There is room for one more directive with a batch on this queue: in the histories, among the regions and the queue's
+-- batches, and in the device's table for its items and their ends.
+pub record IsRoomy (p : PlaceView) (at : QueueAt) : Type 0 where
   pub directives : length p.history < p.room.directives
   pub regions : length (standing_in p).regions < p.room.regions
-  pub batches : length (standing_in p).labels < p.room.batches
-  pub ranges : length (presences ((standing_in p).marks 0)) + 2 * MAX_ITEMS ≤ p.room.ranges
+  pub batches : length (on_queue at (standing_in p).labels) < slice_index_or p.room.batches (seat at) 0
+  pub ranges : length (presences ((standing_in p).marks at.device)) + 2 * MAX_ITEMS ≤ slice_index_or p.room.ranges at.device 0
+
+-- the queue of a host's directive
+abbrev pub queue_for : PlaceView → ℕ → Directive → QueueAt
+queue_for p host d = walk_at (walk_of (standing_in p) host d)
 
 -- the definition's fault, or want of memory where it has none
 abbrev pub IsRefusal : Option Fault → Fault → Type 0
@@ -82,7 +88,7 @@ pub record Fits (p : PlaceView) (q : PlanView) : Type 0 where
   pub accepted : refusal p.config (standing_in p) q.host q.directive ≡ None
   pub region : q.region ≡ opened_region q.host q.directive q.directive.kind
   pub labelled : q.label ≡ label_in (standing_in p) q.host q.items_done (walk_of (standing_in p) q.host q.directive)
-  pub roomy : IsRoomy p
+  pub roomy : IsRoomy p (queue_for p q.host q.directive)
 
 -- What accepting adds. The room is the same, with less of it left.
 abbrev pub place_after : PlaceView → PlanView → PlaceView
@@ -101,7 +107,7 @@ pub record IsPlanOf (p : PlaceView) (q : PlanView) : Type 0 where
   pub counted : length counts_since ≡ length history_since
   pub stamped : q.stamp ≡ length history_then
   pub fitted : Fits (record { config = p.config; history = history_then; counts = counts_then; room = room_then }) q
-  pub roomy : history_since ≡ [] → IsRoomy p
+  pub roomy : history_since ≡ [] → IsRoomy p (queue_for p q.host q.directive)
 
 -- A plan stays one of its place where another directive is accepted,
 abbrev pub KeptByAccepting : Type 0
@@ -111,7 +117,7 @@ KeptByAccepting = (p : PlaceView) (q other : PlanView) → IsPlanOf p q → IsPl
 abbrev pub KeptByPlanning : Type 0
 KeptByPlanning =
     (p after : PlaceView) (q : PlanView) → after.config ≡ p.config → after.history ≡ p.history → after.counts ≡ p.counts
-    → (IsRoomy p → IsRoomy after) → IsPlanOf p q → IsPlanOf after q
+    → ((at : QueueAt) → IsRoomy p at → IsRoomy after at) → IsPlanOf p q → IsPlanOf after q
 
 -- It stays one, and fits as it did, where its batch is handed out.
 abbrev pub without_batch : PlanView → PlanView

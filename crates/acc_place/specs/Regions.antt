@@ -14,6 +14,10 @@ abbrev pub first_region : List Region → Option Region
 first_region [] = None
 first_region (r ∷ rs) = Some r
 
+-- those on a device
+abbrev pub regions_on : ℕ → List Region → List Region
+regions_on device rs = filter (λ r. r.device == device) rs
+
 -- the one that the host is inside, the innermost
 abbrev pub open_region : ℕ → List Region → Option Region
 open_region host rs = first_region (regions_of host rs)

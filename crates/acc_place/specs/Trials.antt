@@ -12,6 +12,7 @@ use Rattle.acc_place.specs.declared.judge.Known.{Known}
 use Rattle.acc_place.specs.declared.judge.Marked.{Marked}
 use Rattle.acc_place.specs.Counts.{IsEnteredBy, entered_ranges}
 use Rattle.acc_place.specs.Loops.{lengths_of}
+use Rattle.acc_place.specs.Regions.{regions_on}
 use Rattle.acc_place.specs.Standings.{change_by, loop_of, subject_by}
 use Rattle.acc_place.specs.Walks.{Holding, holding, holding_between, limit_fault, fault_or, first_fault_in, past_fault, all_marked, all_steps, run_in, marked_ops, AllLow, StaysBy}
 
@@ -34,10 +35,10 @@ abbrev pub items_fault : Known → ℕ → Directive → Option Fault
 items_fault k host d =
     fault_or (first_fault_in k.config.now d.kind (held_by k) (items_by k host d)) (past_fault (loop_of d.kind) (items_by k host d))
 
--- its first fault
+-- its first fault, where its device is there
 abbrev pub fault_by : Known → ℕ → Directive → Option Fault
 fault_by k host d =
-    fault_or (limit_fault k.config.now k.accepted k.regions.now host d (length (items_by k host d))) (items_fault k host d)
+    fault_or (limit_fault k.accepted k.regions.now host d (length (items_by k host d))) (items_fault k host d)
 
 -- the operations of its batch, where it has none
 abbrev pub ops_by : Known → ℕ → Directive → List Op
@@ -46,12 +47,12 @@ ops_by k host d =
     (all_steps d.kind (held_by k) (items_by k host d))
 
 -- The table is one of the configuration; its counters can take the items of one more directive; and what the open regions
--- have entered is present.
+-- of the device have entered is present.
 pub record IsKnown (k : Known) : Type 0 where
   pub capacity : k.table.now.capacity ≡ k.config.now.capacity
   pub low : AllLow COUNTER_LIMIT MAX_ITEMS k.table.now.presences
   pub few : k.opened + MAX_ITEMS ≤ COUNTER_LIMIT
-  pub entered : IsEnteredBy (entered_ranges k.regions.now) k.table.now.presences
+  pub entered : IsEnteredBy (entered_ranges (regions_on k.at.device k.regions.now)) k.table.now.presences
 
 -- A host's directive was tried, and has no fault: the draft has the marks of its items, and the steps say what became of them.
 pub record IsTried (k : Known) (host : ℕ) (d : Directive) (w : TrialView) : Type 0 where

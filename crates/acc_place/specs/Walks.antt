@@ -5,7 +5,7 @@ use Rattle.std.specs.List.{flat_map}
 use Rattle.std.specs.Option.{option_and_then, option_to_list}
 use Rattle.acc_base.specs.declared.range.Range.{Range}
 use Rattle.acc_base.specs.declared.fault.Fault.{Fault}
-use Rattle.acc_base.specs.declared.fault.Fault.TheVariants.{BadDevice, BadRange, TooMany, PartlyPresent, NotPresent, DeviceFull, OutsideRange, NoRegion}
+use Rattle.acc_base.specs.declared.fault.Fault.TheVariants.{BadRange, TooMany, PartlyPresent, NotPresent, DeviceFull, OutsideRange, NoRegion}
 use Rattle.acc_base.specs.Configurations.{Configuration, is_in_array}
 use Rattle.acc_kernel.specs.Kernels.{Loop}
 use Rattle.acc_present.specs.declared.table.Counter.{Counter}
@@ -83,6 +83,11 @@ abbrev pub written_by : List Region → ℕ → Directive → Kind → List Item
 written_by rs host d kind.EndData = (left_by d (open_region host rs)).items
 written_by rs host d k = d.items
 
+-- the device where it acts: its own, or that of the data construct
+abbrev pub device_by : List Region → ℕ → Directive → Kind → ℕ
+device_by rs host d kind.EndData = (left_by d (open_region host rs)).device
+device_by rs host d k = d.device
+
 -- the items that leave once more at a directive's end: all of a loop's
 abbrev pub ends_of : Kind → List Item → List Item
 ends_of (kind.Loop k) items = items
@@ -123,12 +128,11 @@ found_fault k i look.Absent free =
     ∷ []
     )
 
--- The faults of a directive that don't depend on its ranges.
-unfoldable pub limit_fault : Configuration → ℕ → List Region → ℕ → Directive → ℕ → Option Fault
-limit_fault config accepted rs host d count =
+-- The faults of a directive on a device that is there that don't depend on its ranges.
+unfoldable pub limit_fault : ℕ → List Region → ℕ → Directive → ℕ → Option Fault
+limit_fault accepted rs host d count =
     first_fault (
-    fault_where (nat_le config.devices d.device) BadDevice
-    ∷ fault_where (nat_lt MAX_ITEMS count || (is_deep d.kind host rs || nat_le MAX_DIRECTIVES accepted)) TooMany
+    fault_where (nat_lt MAX_ITEMS count || (is_deep d.kind host rs || nat_le MAX_DIRECTIVES accepted)) TooMany
     ∷ fault_where (is_outside d.kind (open_region host rs)) NoRegion
     ∷ []
     )

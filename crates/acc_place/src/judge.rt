@@ -14,11 +14,12 @@ use crate::directive::{
     Clause, Directive, Item, Kind, MAX_DIRECTIVES, MAX_ITEMS, MAX_REGIONS, Region,
 };
 use crate::regions::{depth, open_place};
-use acc_base::{BlockId, Config, Fault, HostId, Range};
+use acc_base::{BlockId, Config, Fault, HostId, QueueAt, Range};
 use acc_present::{Change, Counter, Draft, Entered, Left, Look, Table};
 
 /// What is known where a directive is judged: the configuration, the device's table, the data constructs that the hosts
-/// are inside, how many directives were accepted and how many lifetimes opened, and the number of the next batch.
+/// are inside, how many directives were accepted and how many lifetimes opened, and the directive's queue with the number
+/// of the next batch there.
 #[derive(Clone, Copy)]
 pub struct Known<'a> {
     pub config: &'a Config,
@@ -26,6 +27,7 @@ pub struct Known<'a> {
     pub regions: &'a [Region],
     pub accepted: usize,
     pub opened: u64,
+    pub at: QueueAt,
     pub next_batch: u64,
 }
 
@@ -39,14 +41,12 @@ pub struct Marked {
     pub ended: Option<u64>,
 }
 
-/// The first fault of a host's directive on so many items that does not depend on their ranges.
+/// The first fault of a host's directive on so many items, on a device that is there, that does not depend on their
+/// ranges.
 #[tactic(auto, unfolding(crate::specs::Walks::limit_fault))]
 pub fn limit_of(known: &Known, host: HostId, directive: &Directive, count: usize) -> Option<Fault>
-    ensures { result ≡ limit_fault known.now.config.now known.now.accepted known.now.regions.now host directive.now count }
+    ensures { result ≡ limit_fault known.now.accepted known.now.regions.now host directive.now count }
 {
-    if !known.config.has_device(directive.device()) {
-        return Some(Fault::BadDevice);
-    }
     if count > MAX_ITEMS || is_deep(known.regions, host, directive.kind()) {
         return Some(Fault::TooMany);
     }

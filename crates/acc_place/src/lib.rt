@@ -1,8 +1,10 @@
 //! What directives mean: the marks that they leave on a device, the faults that refuse them, and their batches.
 #![tactic(auto)]
 
+mod device;
 mod directive;
 mod judge;
+mod labels;
 mod laws;
 mod loops;
 mod place;

@@ -1,50 +1,51 @@
-ghost use Rattle.std.specs.Prelude.{All, not, reverse, ◌≡◌, ◌+◌, ◌<◌, ◌==◌, ◌++◌, [], ◌∷◌, length, true, None, IfOk, IfErr, OnOk, OnErr, OnSome, slice_get, vec_len, vec_capacity, ◌^◌};
+ghost use Rattle.std.specs.Prelude.{All, reverse, ◌≡◌, ◌+◌, ◌<◌, ◌==◌, ◌++◌, [], ◌∷◌, length, true, None, IfOk, IfErr, OnOk, OnErr, OnSome, IfSome, slice_get, slice_index_or, ◌^◌};
 ghost use Rattle.std.specs.Option.{option_map, option_to_list};
 ghost use Rattle.acc_base.specs.declared.fault.Fault.TheVariants.{Memory};
+ghost use Rattle.acc_base.specs.declared.ids.QueueAt.{QueueAt};
+ghost use Rattle.acc_base.specs.Queues.{seat};
 ghost use Rattle.acc_batch.specs.Labels.{on_queue};
-ghost use Rattle.acc_present.specs.declared.table.TheConstants.{COUNTER_LIMIT};
 ghost use Rattle.acc_present.specs.Presences.{presences, holder, is_present};
-ghost use Rattle.acc_present.specs.Tables.{entry_mark, entry_presence, presences_after};
+ghost use Rattle.acc_present.specs.Tables.{entry_presence};
 ghost use Rattle.acc_place.specs.Accepting.{refusal};
 ghost use Rattle.acc_place.specs.Batches.{answer_of, is_answered};
 ghost use Rattle.acc_place.specs.Histories.{AllAccepted};
-ghost use Rattle.acc_place.specs.Places.{is_synchronous, nth_batch};
-ghost use Rattle.acc_place.specs.Plans.{standing_in, IsRefusal, IsPlanOf, IsRoomy, Fits, place_after};
+ghost use Rattle.acc_place.specs.Places.{is_synchronous, nth_batch, queues_after, IsQueue};
+ghost use Rattle.acc_place.specs.Plans.{standing_in, IsRefusal, IsPlanOf, IsRoomy, Fits, place_after, queue_for};
 ghost use Rattle.acc_place.specs.Standings.{walk_of};
-ghost use Rattle.acc_place.specs.Walks.{holding, holding_after, holding_after_all, opened_after, CanEnter, CanMark, HasRoomFor, AllEntered, AllFine};
 
-use crate::directive::{Directive, Item, Kind, MAX_ITEMS, PlaceEntry, Placed, Region};
+use crate::device::{Device, devices_of};
+use crate::directive::{Directive, Item, Kind, PlaceEntry, Placed, Region};
 use crate::judge::Known;
-use crate::plan::{Plan, sync_queue};
-use crate::regions::settle;
+use crate::labels::Labels;
+use crate::plan::Plan;
+use crate::regions::{device_of, settle};
 use crate::subject::ends_of;
 use crate::trial::Trial;
-use acc_base::{BlockId, Config, DeviceId, Fault, HostId, QueueAt, Range};
+use acc_base::{Config, DeviceId, Fault, HostId, QueueAt, QueueId, Range};
 use acc_batch::Label;
-use acc_present::{Change, Counter, Entered, Entry, Table};
+use acc_present::{Change, Entry, Table};
 use std::alloc::Global;
 use std::marker::Model;
 
-/// Where directives are judged and accepted: the device's table, the data constructs that the hosts are inside, and the
+/// Where directives are judged and accepted: the devices' tables, the data constructs that the hosts are inside, and the
 /// place history with its counts and labels.
 #[derive(Drop)]
 pub struct Place {
     alloc: Global,
     config: Config,
-    table: Table,
+    // by number
+    devices: Vec<Device>,
     history: Vec<PlaceEntry>,
     counts: Vec<u64>,
     // the data constructs that the hosts are inside, the latest first
     regions: Vec<Region>,
-    labels: Vec<Label>,
-    // how many lifetimes have been opened
-    opened: u64,
+    labels: Labels,
     // where a directive is tried before it is accepted
     trial: Trial,
 }
 
 impl Model for Place {
-    ghost use Rattle.std.specs.Prelude.{min, reverse, vec_capacity};
+    ghost use Rattle.std.specs.Prelude.{map, min, reverse, vec_capacity};
     ghost use Rattle.std.specs.Coded.{codes};
     ghost use Rattle.acc_kernel.specs.contracts.expr.Expr as expr;
     ghost use Rattle.acc_place.specs.Plans.{PlaceView};
@@ -54,35 +55,34 @@ impl Model for Place {
 
     ghost coded = { Prim.hlevel (codes, expr.the_row.coded) };
 
-    ghost view = { λ w. record { config = w.config; history = reverse w.history.items; counts = reverse w.counts.items; room = record { directives = min (vec_capacity w.history) (vec_capacity w.counts); regions = vec_capacity w.regions; batches = vec_capacity w.labels; ranges = w.table.room } } };
+    ghost view = { λ w. record { config = w.config; history = reverse w.history.items; counts = reverse w.counts.items; room = record { directives = min (vec_capacity w.history) (vec_capacity w.counts); regions = vec_capacity w.regions; batches = w.labels.room; ranges = map (λ v. v.table.room) w.devices.items } } };
 
-    ghost invariant = { λ w. IsPlace w.config (reverse w.history.items) (reverse w.counts.items) w.table w.opened w.regions.items w.labels.items };
+    ghost invariant = { λ w. IsPlace w.config (reverse w.history.items) (reverse w.counts.items) w.devices.items w.regions.items w.labels.queues };
 }
 
 impl Place {
-    /// A place without directives, for a configuration of one device.
+    /// A place without directives.
     ///
     /// # Errors
     ///
     /// `Memory` where memory is refused.
     pub fn new(alloc: Global, config: Config) -> Result<Self, Fault>
-        requires { config.devices ≡ 1 }
         ensures config { IfOk result (λ p. p.config ≡ config) }
         ensures history { IfOk result (λ p. p.history ≡ []) }
         ensures counts { IfOk result (λ p. p.counts ≡ []) }
         ensures fault { IfErr result (λ fault. fault ≡ Memory) }
     {
-        let table = Table::new(alloc, config.capacity());
+        let devices = devices_of(alloc, &config)?;
+        let labels = Labels::new(alloc, config.devices())?;
         let trial = Trial::new(alloc)?;
         Ok(Place {
             alloc,
             config,
-            table,
+            devices,
             history: Vec::new(alloc),
             counts: Vec::new(alloc),
             regions: Vec::new(alloc),
-            labels: Vec::new(alloc),
-            opened: 0,
+            labels,
             trial,
         })
     }
@@ -103,20 +103,24 @@ impl Place {
         ensures config { self.new.config ≡ self.old.config }
         ensures history { self.new.history ≡ self.old.history }
         ensures counts { self.new.counts ≡ self.old.counts }
-        ensures roomy { IsRoomy self.old → IsRoomy self.new }
+        ensures roomy { (at : QueueAt) → IsRoomy self.old at → IsRoomy self.new at }
         ensures refused { IfErr result (λ fault. IsRefusal (refusal self.old.config (standing_in self.old) host directive.now) fault) }
         ensures plan { IfOk result (λ q. (q.host ≡ host) × (q.items_done ≡ items_done) × (q.directive ≡ directive.now)) }
         ensures stamp { IfOk result (λ q. q.stamp ≡ length self.new.history) }
         ensures fits { IfOk result (λ q. Fits self.new q × IsPlanOf self.new q) }
         ensures batch { IfOk result (λ q. q.batch ≡ q.label) }
     {
+        let QueueAt { device, queue } = self.queue_for(host, directive)?;
+        let next_batch = self.labels.on(QueueAt { device, queue }).len() as u64 + 1;
+        let there = &self.devices[usize::from(device.number())];
         let known = Known {
             config: &self.config,
-            table: &self.table,
+            table: &there.table,
             regions: self.regions.as_slice(),
             accepted: self.history.len(),
-            opened: self.opened,
-            next_batch: self.labels.len() as u64 + 1,
+            opened: there.opened,
+            at: QueueAt { device, queue },
+            next_batch,
         };
         if let Some(fault) = self.trial.judge(&known, host, directive) {
             return Err(fault);
@@ -124,25 +128,44 @@ impl Place {
         let plan = self
             .trial
             .plan(self.alloc, &known, host, items_done, directive)?;
-        self.make_room()?;
+        self.make_room(QueueAt { device, queue })?;
         Ok(plan)
     }
 
-    // Makes room for one more directive, where it is missing.
-    fn make_room(&mut self) -> Result<(), Fault>
+    // The queue of a host's directive, if its device is there.
+    fn queue_for(&self, host: HostId, directive: &Directive) -> Result<QueueAt, Fault>
+        ensures refused { IfErr result (λ fault. refusal self.now.config (standing_in self.now) host directive.now ≡ Some fault) }
+        ensures device { OnOk result (directive.now.device < self.now.config.devices) }
+        ensures at { IfOk result (λ at. at ≡ queue_for self.now host directive.now) }
+        ensures there { IfOk result (λ at. IsQueue self.now.config at) }
+    {
+        if !self.config.has_device(directive.device()) {
+            return Err(Fault::BadDevice);
+        }
+        let device = device_of(self.regions.as_slice(), host, directive);
+        Ok(QueueAt {
+            device,
+            queue: QueueId::SYNC,
+        })
+    }
+
+    // Makes room for one more directive with a batch on this queue, where it is missing.
+    fn make_room(&mut self, at: QueueAt) -> Result<(), Fault>
+        requires there { IsQueue self.old.config at }
         ensures config { self.new.config ≡ self.old.config }
         ensures history { self.new.history ≡ self.old.history }
         ensures counts { self.new.counts ≡ self.old.counts }
-        ensures roomy { IsRoomy self.old → IsRoomy self.new }
-        ensures ok { OnOk result (IsRoomy self.new) }
+        ensures roomy { (other : QueueAt) → IsRoomy self.old other → IsRoomy self.new other }
+        ensures ok { OnOk result (IsRoomy self.new at) }
         ensures fault { IfErr result (λ fault. fault ≡ Memory) }
-        ensures missing { OnErr result (¬ IsRoomy self.old) }
+        ensures missing { OnErr result (¬ IsRoomy self.old at) }
     {
+        let device = usize::from(at.device.number());
         self.history.reserve(1)?;
         self.counts.reserve(1)?;
         self.regions.reserve(1)?;
-        self.labels.reserve(1)?;
-        self.table.spare(2 * MAX_ITEMS)?;
+        self.labels.spare(at)?;
+        self.devices[device].spare()?;
         Ok(())
     }
 
@@ -164,12 +187,11 @@ impl Place {
             .put_items(&self.config, self.regions.as_slice(), host, &directive);
         let kind = directive.kind();
         let items = self.trial.items();
-        let present = is_answered(&self.table, kind, items);
-        let opened = self.opened;
-        let between = mark_all(&mut self.table, kind.change(), items, opened);
-        let ends = ends_of(kind, items);
-        let down = Some(Change::StructuredDown);
-        self.opened = mark_all(&mut self.table, down, ends, between);
+        let number = device_of(self.regions.as_slice(), host, &directive).number();
+        let device = &mut self.devices[usize::from(number)];
+        let present = is_answered(&device.table, kind, items);
+        device.mark_all(kind.change(), items);
+        device.mark_all(Some(Change::StructuredDown), ends_of(kind, items));
         settle(&mut self.regions, host, &directive, region);
         self.history
             .push_reserved(PlaceEntry::Accepted { host, directive });
@@ -198,8 +220,9 @@ impl Place {
         requires cells { 0 < range.len }
         ensures { result ≡ option_map (λ p. (p.s, p.d)) (holder (presences ((standing_in self.now).marks device)) range) }
     {
-        let _ = device;
-        self.table.counters(range)
+        self.devices[usize::from(device.number())]
+            .table
+            .counters(range)
     }
 
     /// The entry of the device's table with this index, from 0, by array, then by lower bound.
@@ -208,15 +231,14 @@ impl Place {
         ensures entry { option_map (λ e. entry_presence e.now) result ≡ slice_get (presences ((standing_in self.now).marks device)) index }
         ensures next { OnSome result (index + 1 < 2 ^ 64) }
     {
-        let _ = device;
-        self.table.nth(index)
+        self.devices[usize::from(device.number())].table.nth(index)
     }
 
     /// How many batches were placed on a queue.
     pub fn placed_count(&self, at: QueueAt) -> u64
         ensures { result ≡ length (on_queue at (standing_in self.now).labels) }
     {
-        self.placed_on(at).len() as u64
+        self.labels.on(at).len() as u64
     }
 
     /// The label of the batch with this number on a queue, from 1.
@@ -227,18 +249,7 @@ impl Place {
         if number == 0 {
             return None;
         }
-        self.placed_on(at).get(number as usize - 1)
-    }
-
-    // The labels of the batches on a queue, in their order.
-    fn placed_on(&self, at: QueueAt) -> &[Label]
-        ensures { result.now ≡ on_queue at (standing_in self.now).labels }
-    {
-        if at == sync_queue() {
-            self.labels.as_slice()
-        } else {
-            &[]
-        }
+        self.labels.on(at).get(number as usize - 1)
     }
 
     /// The directives that were accepted, in order, each after those before it.
@@ -283,81 +294,18 @@ fn is_answered(table: &Table, kind: &Kind, items: &[Item]) -> bool
             .all(|item| table.counters(item.range).is_some())
 }
 
-// Leaves the items' marks in the table, and says how many lifetimes have been opened then.
-fn mark_all(table: &mut Table, change: Option<Change>, items: &[Item], opened: u64) -> u64
-    requires fine { AllFine table.old.capacity change (holding table.old.presences opened) items.now }
-    requires entered { AllEntered change (holding table.old.presences opened) items.now }
-    requires room { HasRoomFor (length items.now) table.old opened }
-    ensures holding { holding table.new.presences result ≡ holding_after_all change (holding table.old.presences opened) items.now }
-    ensures capacity { table.new.capacity ≡ table.old.capacity }
-    ensures room { table.new.room ≡ table.old.room }
-{
-    match items {
-        [] => opened,
-        [first, rest @ ..] => {
-            let next = mark(table, change, first.range, opened);
-            mark_all(table, change, rest, next)
-        }
-    }
-}
-
-// Leaves one mark in the table, and says how many lifetimes have been opened then.
-#[tactic(auto, unfolding(crate::specs::Walks::holding_after))]
-fn mark(table: &mut Table, change: Option<Change>, range: Range, opened: u64) -> u64
-    requires can { CanMark change range table.old.presences table.old.capacity }
-    requires room { length table.old.presences < table.old.room }
-    requires few { opened < COUNTER_LIMIT }
-    ensures holding { holding table.new.presences result ≡ holding_after change range (holding table.old.presences opened) }
-    ensures capacity { table.new.capacity ≡ table.old.capacity }
-    ensures room { table.new.room ≡ table.old.room }
-{
-    match change {
-        Some(Change::StructuredUp) => enter(table, range, Counter::Structured, opened),
-        Some(Change::StructuredDown) => {
-            let _ = table.leave(range, Counter::Structured);
-            opened
-        }
-        Some(Change::DynamicUp) => enter(table, range, Counter::Dynamic, opened),
-        Some(Change::DynamicDown) => {
-            let _ = table.leave(range, Counter::Dynamic);
-            opened
-        }
-        Some(Change::DynamicZero) => {
-            let _ = table.finalize(range);
-            opened
-        }
-        None => opened,
-    }
-}
-
-// Enters a range in the table, and says how many lifetimes have been opened then.
-fn enter(table: &mut Table, range: Range, counter: Counter, opened: u64) -> u64
-    requires can { CanEnter counter range table.old.presences table.old.capacity }
-    requires room { length table.old.presences < table.old.room }
-    requires few { opened < COUNTER_LIMIT }
-    ensures presences { table.new.presences ≡ presences_after (entry_mark counter range) (opened + 1) table.old.presences }
-    ensures capacity { table.new.capacity ≡ table.old.capacity }
-    ensures room { table.new.room ≡ table.old.room }
-    ensures result { result ≡ opened_after (not (is_present table.old.presences range)) opened }
-{
-    match table.enter(range, counter, BlockId::new(opened + 1)) {
-        Entered::Counted => opened,
-        Entered::Opened => opened + 1,
-    }
-}
-
 // Adds the label of a batch, if there is one, and says where that batch is.
-fn push_label(labels: &mut Vec<Label>, label: Option<Label>) -> Option<(QueueAt, u64)>
-    requires { vec_len labels.old < vec_capacity labels.old }
-    ensures labels { labels.new.items ≡ labels.old.items ++ option_to_list label }
-    ensures room { vec_capacity labels.new ≡ vec_capacity labels.old }
+fn push_label(labels: &mut Labels, label: Option<Label>) -> Option<(QueueAt, u64)>
+    requires { IfSome label (λ l. (seat l.at < length labels.old.queues) × (length (slice_index_or labels.old.queues (seat l.at) []) < slice_index_or labels.old.room (seat l.at) 0)) }
+    ensures queues { labels.new.queues ≡ queues_after labels.old.queues label }
+    ensures room { labels.new.room ≡ labels.old.room }
     ensures result { result ≡ option_map (λ l. (l.at, l.number)) label }
 {
     match label {
         None => None,
         Some(label) => {
             let placed = (label.at, label.number);
-            labels.push_reserved(label);
+            labels.push(label);
             Some(placed)
         }
     }

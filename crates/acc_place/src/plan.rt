@@ -4,7 +4,6 @@ ghost use Rattle.std.specs.Option.{option_to_list};
 ghost use Rattle.acc_batch.specs.declared.operation.Op.TheVariants as op;
 ghost use Rattle.acc_batch.specs.Tasks.{HasItsCells};
 ghost use Rattle.acc_place.specs.Batches.{copies_in, copies_out};
-ghost use Rattle.acc_place.specs.Places.{sync};
 ghost use Rattle.acc_place.specs.Plans.{Fits, IsPlanOf, label_for, opened_region};
 ghost use Rattle.acc_place.specs.Walks.{block_of, op_of, op_for, update_for, group_ops, marked_ops};
 
@@ -12,7 +11,7 @@ use crate::directive::{Clause, Directive, Region};
 use crate::judge::{Known, Marked};
 use crate::place::Place;
 use crate::regions::opened_by;
-use acc_base::{BlockId, DeviceId, Fault, Few, HostId, QueueAt, QueueId, Range, Shared};
+use acc_base::{BlockId, Fault, Few, HostId, Range, Shared};
 use acc_batch::{Batch, Label, Op};
 use std::alloc::Global;
 use std::marker::Model;
@@ -75,8 +74,7 @@ impl Plan {
     }
 }
 
-/// A plan for a host's directive with these steps, that runs this loop, if any. Its batch is the next one of the queue
-/// that synchronous directives use.
+/// A plan for a host's directive with these steps, that runs this loop, if any.
 pub fn plan_of(
     alloc: Global,
     known: &Known,
@@ -90,7 +88,7 @@ pub fn plan_of(
     ensures host { IfOk result (λ q. (q.host ≡ host) × (q.items_done ≡ items_done) × (q.stamp ≡ known.now.accepted)) }
     ensures directive { IfOk result (λ q. q.directive ≡ directive.now) }
     ensures region { IfOk result (λ q. q.region ≡ opened_region host directive.now directive.now.kind) }
-    ensures label { IfOk result (λ q. q.label ≡ label_for sync known.now.next_batch host items_done (marked_ops (option_to_list run) steps.now)) }
+    ensures label { IfOk result (λ q. q.label ≡ label_for known.now.at known.now.next_batch host items_done (marked_ops (option_to_list run) steps.now)) }
     ensures batch { IfOk result (λ q. q.batch ≡ q.label) }
     ensures fault { IfErr result (λ fault. fault ≡ Fault.Memory) }
 {
@@ -118,7 +116,7 @@ fn label_of(
     items_done: u64,
     ops: Few<Op>,
 ) -> Result<Option<Label>, Fault>
-    ensures label { IfOk result (λ label. label ≡ label_for sync known.now.next_batch host items_done ops) }
+    ensures label { IfOk result (λ label. label ≡ label_for known.now.at known.now.next_batch host items_done ops) }
     ensures fault { IfErr result (λ fault. fault ≡ Fault.Memory) }
 {
     if ops.as_slice().is_empty() {
@@ -126,7 +124,7 @@ fn label_of(
     }
     let ops = Shared::new(alloc, ops)?;
     Ok(Some(Label {
-        at: sync_queue(),
+        at: known.at,
         number: known.next_batch,
         host,
         items_done,
@@ -147,16 +145,6 @@ fn batch_of(alloc: Global, label: &Option<Label>) -> Result<Option<Batch>, Fault
             let batch = Batch::new(alloc, copy)?;
             Ok(Some(batch))
         }
-    }
-}
-
-/// The queue that synchronous directives use.
-pub fn sync_queue() -> QueueAt
-    ensures { result ≡ sync }
-{
-    QueueAt {
-        device: DeviceId::new(0),
-        queue: QueueId::SYNC,
     }
 }
 

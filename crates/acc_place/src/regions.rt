@@ -2,10 +2,10 @@ ghost use Rattle.std.specs.Prelude.{◌≡◌, ◌<◌, [], length, remove, slic
 ghost use Rattle.std.specs.Option.{option_and_then};
 ghost use Rattle.acc_place.specs.Plans.{opened_region};
 ghost use Rattle.acc_place.specs.Regions.{regions_of, open_region, without_open, regions_after};
-ghost use Rattle.acc_place.specs.Walks.{written_by};
+ghost use Rattle.acc_place.specs.Walks.{device_by, written_by};
 
 use crate::directive::{Directive, Item, Kind, Region};
-use acc_base::{Fault, HostId};
+use acc_base::{DeviceId, Fault, HostId};
 
 /// How many data constructs a host is inside.
 pub fn depth(regions: &[Region], host: HostId) -> usize
@@ -21,6 +21,19 @@ pub fn open_place(regions: &[Region], host: HostId) -> Option<usize>
     ensures within { IfSome result (λ i. i < length regions.now) }
 {
     regions.iter().position(|region| region.host == host)
+}
+
+/// The device where a host's directive acts: the end of a data construct acts where that was entered.
+pub fn device_of(regions: &[Region], host: HostId, directive: &Directive) -> DeviceId
+    ensures { result ≡ device_by regions.now host directive.now directive.now.kind }
+{
+    if !matches!(directive.kind(), Kind::EndData) {
+        return directive.device();
+    }
+    match open_place(regions, host) {
+        Some(i) => regions[i].device,
+        None => directive.device(),
+    }
 }
 
 /// The items that are written: the directive's own, or those of the data construct that it ends.

@@ -1,10 +1,10 @@
 ghost use Rattle.std.specs.Prelude.{◌≡◌, ◌+◌, ◌≤◌, take, IfNone, IfOk, IfErr};
 ghost use Rattle.acc_base.specs.declared.fault.Fault.TheVariants.{Memory};
 ghost use Rattle.acc_place.specs.Loops.{lengths_of};
-ghost use Rattle.acc_place.specs.Places.{sync};
 ghost use Rattle.acc_place.specs.Plans.{label_for, opened_region};
 ghost use Rattle.acc_place.specs.Standings.{subject_by};
 ghost use Rattle.acc_place.specs.Trials.{fault_by, ops_by, IsKnown, IsTried};
+ghost use Rattle.acc_place.specs.Walks.{device_by};
 
 use crate::directive::{Directive, Item, MAX_ITEMS, Region};
 use crate::judge::{Known, Marked, leave_all, limit_of, walk};
@@ -76,10 +76,11 @@ impl Trial {
         put_items(config, regions, host, directive, &mut self.items);
     }
 
-    /// The first fault of a host's directive; where it has none, its items, their marks and what became of them are here.
+    /// The first fault of a host's directive on a device that is there; where it has none, its items, their marks and what became of them are here.
     /// The table isn't changed: the marks stand in the draft.
     pub fn judge(&mut self, known: &Known, host: HostId, directive: &Directive) -> Option<Fault>
-        requires { IsKnown known.now }
+        requires known { IsKnown known.now }
+        requires device { known.now.at.device ≡ device_by known.now.regions.now host directive.now directive.now.kind }
         ensures fault { result ≡ fault_by known.now host directive.now }
         ensures tried { IfNone result (IsTried known.now host directive.now self.new) }
     {
@@ -130,7 +131,7 @@ impl Trial {
         ensures host { IfOk result (λ q. (q.host ≡ host) × (q.items_done ≡ items_done) × (q.stamp ≡ known.now.accepted)) }
         ensures directive { IfOk result (λ q. q.directive ≡ directive.now) }
         ensures region { IfOk result (λ q. q.region ≡ opened_region host directive.now directive.now.kind) }
-        ensures label { IfOk result (λ q. q.label ≡ label_for sync known.now.next_batch host items_done (ops_by known.now host directive.now)) }
+        ensures label { IfOk result (λ q. q.label ≡ label_for known.now.at known.now.next_batch host items_done (ops_by known.now host directive.now)) }
         ensures batch { IfOk result (λ q. q.batch ≡ q.label) }
         ensures fault { IfErr result (λ fault. fault ≡ Memory) }
     {

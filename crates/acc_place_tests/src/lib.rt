@@ -8,6 +8,8 @@ mod batch;
 #[cfg(test)]
 mod copies;
 #[cfg(test)]
+mod devices;
+#[cfg(test)]
 mod fixtures;
 #[cfg(test)]
 mod loops;

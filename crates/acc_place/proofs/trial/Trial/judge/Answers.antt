@@ -19,7 +19,7 @@ returns-then-is_some-clause-fault c =
     let d = c.args.directive.now in
     let xs = c.as_slice-items.result.now in
     let put : xs ≡ take 17 (items_by k host d) = c.as_slice-items.ensures.value ∙ c.put_items.ensures.items in
-    let limit = limit_fault k.config.now k.accepted k.regions.now host d (length (items_by k host d)) in
+    let limit = limit_fault k.accepted k.regions.now host d (length (items_by k host d)) in
     let some : is_some c.limit_of-limit.result ≡ true = cc in
     first_or c.limit_of-limit.result limit (items_fault k host d) (c.limit_of-limit.ensures ∙ limit_put k host d xs put) some
 
@@ -28,16 +28,16 @@ walk-found-requires-clause-low c =
     let k = c.args.known.now in
     let xs = c.as_slice-items.result.now in
     let none : is_some c.limit_of-limit.result ≡ false = cc in
-    let within = is_within k.config.now k.accepted k.regions.now c.args.host c.args.directive.now (length xs) (sym c.limit_of-limit.ensures ∙ none_of c.limit_of-limit.result none) in
-    rw c.begin.ensures.drafted (AllLow-fewer COUNTER_LIMIT COUNTER_LIMIT 16 (length xs) k.table.now.presences (omega (arith, within.short)) c.requires.low)
+    let within = is_within k.accepted k.regions.now c.args.host c.args.directive.now (length xs) (sym c.limit_of-limit.ensures ∙ none_of c.limit_of-limit.result none) in
+    rw c.begin.ensures.drafted (AllLow-fewer COUNTER_LIMIT COUNTER_LIMIT 16 (length xs) k.table.now.presences (omega (arith, within.short)) c.requires.known.low)
 
 pub walk-found-requires-clause-few : goal.walk-found-requires-clause-few
 walk-found-requires-clause-few c =
     let k = c.args.known.now in
     let xs = c.as_slice-items.result.now in
     let none : is_some c.limit_of-limit.result ≡ false = cc in
-    let within = is_within k.config.now k.accepted k.regions.now c.args.host c.args.directive.now (length xs) (sym c.limit_of-limit.ensures ∙ none_of c.limit_of-limit.result none) in
-    omega (arith, within.short, c.requires.few)
+    let within = is_within k.accepted k.regions.now c.args.host c.args.directive.now (length xs) (sym c.limit_of-limit.ensures ∙ none_of c.limit_of-limit.result none) in
+    omega (arith, within.short, c.requires.known.few)
 
 pub walk-found-requires-clause-entered : goal.walk-found-requires-clause-entered
 walk-found-requires-clause-entered c =
@@ -49,7 +49,8 @@ walk-found-requires-clause-entered c =
     let none : is_some c.limit_of-limit.result ≡ false = cc in
     let own = all_put k host d xs put (sym c.limit_of-limit.ensures ∙ none_of c.limit_of-limit.result none) in
     rw (c.kind-kind.ensures, c.begin.ensures.drafted, own)
-    (entered_subject (lengths_of k.config.now) k.regions.now host d d.kind k.table.now.presences k.opened c.begin.ensures.draft.table c.requires.entered)
+    (entered_subject (lengths_of k.config.now) k.regions.now host d d.kind k.table.now.presences k.opened c.begin.ensures.draft.table
+    (rw (← c.requires.device) c.requires.known.entered))
 
 pub returns-then-is_some-2-clause-fault : goal.returns-then-is_some-2-clause-fault
 returns-then-is_some-2-clause-fault c =
@@ -65,7 +66,7 @@ returns-then-is_some-2-clause-fault c =
     let some : is_some c.walk-found.result ≡ true = cc in
     let found : c.walk-found.result ≡ first_fault_in k.config.now d.kind (held_by k) items = rw (c.kind-kind.ensures, c.begin.ensures.drafted, own) at c.walk-found.ensures.fault in
     first_or c.walk-found.result (first_fault_in k.config.now d.kind (held_by k) items) (past_fault (loop_of d.kind) items) found some
-    ∙ sym (none_first (limit_fault k.config.now k.accepted k.regions.now host d (length items)) (items_fault k host d) (sym (limit_put k host d xs put) ∙ none))
+    ∙ sym (none_first (limit_fault k.accepted k.regions.now host d (length items)) (items_fault k host d) (sym (limit_put k host d xs put) ∙ none))
 
 pub returns-clause-fault : goal.returns-clause-fault
 returns-clause-fault c =
@@ -83,7 +84,7 @@ returns-clause-fault c =
     let past : c.past_fault.result ≡ past_fault (loop_of d.kind) items = (rw c.kind-kind.ensures at c.past_fault.ensures.fault) ∙ ap (past_fault (loop_of d.kind)) own in
     past
     ∙ (sym (none_first (first_fault_in k.config.now d.kind (held_by k) items) (past_fault (loop_of d.kind) items) (sym found ∙ none_of c.walk-found.result no_fault))
-    ∙ sym (none_first (limit_fault k.config.now k.accepted k.regions.now host d (length items)) (items_fault k host d) (sym (limit_put k host d xs put) ∙ none)))
+    ∙ sym (none_first (limit_fault k.accepted k.regions.now host d (length items)) (items_fault k host d) (sym (limit_put k host d xs put) ∙ none)))
 
 pub returns-clause-tried : goal.returns-clause-tried
 returns-clause-tried c =

@@ -4,7 +4,6 @@ use Rattle.std.specs.Option.{option_to_list}
 use Rattle.acc_batch.specs.declared.operation.Op.{Op}
 use Rattle.acc_present.specs.Drafts.{drafted}
 use Rattle.acc_place.specs.declared.trial.Trial.TheInside.{Inside}
-use Rattle.acc_place.specs.Places.{sync}
 use Rattle.acc_place.specs.Plans.{label_for}
 use Rattle.acc_place.specs.Standings.{change_by, loop_of}
 use Rattle.acc_place.specs.Trials.{held_by, items_by, ops_by, IsTried, TrialView}
@@ -99,4 +98,4 @@ returns-clause-label c =
     run_made d.kind h ps w.items.items items (option_to_list c.in_ok-run.run') tried.marks tried.whole made in
     let ops : marked_ops (option_to_list c.in_ok-run.run') c.as_slice.result.now ≡ ops_by k host d =
     ap (λ r. marked_ops r c.as_slice.result.now) run ∙ ap (marked_ops (run_in (loop_of d.kind) items (holding_between d.kind h items).presences)) steps in
-    subst (λ (os : List Op). IfOk c.plan_of.result (λ q. q.label ≡ label_for sync k.next_batch host c.args.items_done os)) ops c.plan_of.ensures.label
+    subst (λ (os : List Op). IfOk c.plan_of.result (λ q. q.label ≡ label_for k.at k.next_batch host c.args.items_done os)) ops c.plan_of.ensures.label

@@ -1,0 +1,118 @@
+ghost use Rattle.std.specs.Prelude.{All, not, ◌≡◌, ◌+◌, ◌*◌, ◌<◌, ◌≤◌, length, IfOk, IfErr, OnOk, OnErr};
+ghost use Rattle.acc_present.specs.Presences.{is_present};
+ghost use Rattle.acc_present.specs.Tables.{entry_mark, presences_after};
+ghost use Rattle.acc_present.specs.declared.table.TheConstants.{COUNTER_LIMIT};
+ghost use Rattle.acc_place.specs.declared.directive.TheConstants.{MAX_ITEMS};
+ghost use Rattle.acc_place.specs.Devices.{held_on, IsEmpty};
+ghost use Rattle.acc_place.specs.Walks.{holding_after, holding_after_all, opened_after, CanEnter, CanMark, HasRoomFor, AllEntered, AllFine};
+
+use crate::directive::{Item, MAX_ITEMS};
+use acc_base::{BlockId, Config, Fault, Range};
+use acc_present::{Change, Counter, Entered, Table};
+use std::alloc::Global;
+
+/// What a place keeps of a device: its table, and how many lifetimes have been opened there.
+#[derive(Drop)]
+pub struct Device {
+    pub table: Table,
+    pub opened: u64,
+}
+
+impl Device {
+    /// Makes room in the table for the items of a directive and their ends, where it is missing.
+    ///
+    /// # Errors
+    ///
+    /// `Memory` where memory is refused.
+    pub fn spare(&mut self) -> Result<(), Fault>
+        ensures held { held_on self.new ≡ held_on self.old }
+        ensures capacity { self.new.table.capacity ≡ self.old.table.capacity }
+        ensures room { self.old.table.room ≤ self.new.table.room }
+        ensures ok { OnOk result (length self.new.table.presences + 2 * MAX_ITEMS ≤ self.new.table.room) }
+        ensures fault { IfErr result (λ fault. fault ≡ Fault.Memory) }
+        ensures missing { OnErr result (self.old.table.room < length self.old.table.presences + 2 * MAX_ITEMS) }
+    {
+        self.table.spare(2 * MAX_ITEMS)
+    }
+
+    /// Leaves the items' marks.
+    pub fn mark_all(&mut self, change: Option<Change>, items: &[Item])
+        requires fine { AllFine self.old.table.capacity change (held_on self.old) items.now }
+        requires entered { AllEntered change (held_on self.old) items.now }
+        requires room { HasRoomFor (length items.now) self.old.table self.old.opened }
+        ensures holding { held_on self.new ≡ holding_after_all change (held_on self.old) items.now }
+        ensures capacity { self.new.table.capacity ≡ self.old.table.capacity }
+        ensures room { self.new.table.room ≡ self.old.table.room }
+    {
+        match items {
+            [] => {}
+            [first, rest @ ..] => {
+                self.mark(change, first.range);
+                self.mark_all(change, rest);
+            }
+        }
+    }
+
+    // Leaves one mark.
+    #[tactic(auto, unfolding(crate::specs::Walks::holding_after))]
+    fn mark(&mut self, change: Option<Change>, range: Range)
+        requires can { CanMark change range self.old.table.presences self.old.table.capacity }
+        requires room { length self.old.table.presences < self.old.table.room }
+        requires few { self.old.opened < COUNTER_LIMIT }
+        ensures holding { held_on self.new ≡ holding_after change range (held_on self.old) }
+        ensures capacity { self.new.table.capacity ≡ self.old.table.capacity }
+        ensures room { self.new.table.room ≡ self.old.table.room }
+    {
+        match change {
+            Some(Change::StructuredUp) => self.enter(range, Counter::Structured),
+            Some(Change::StructuredDown) => {
+                let _ = self.table.leave(range, Counter::Structured);
+            }
+            Some(Change::DynamicUp) => self.enter(range, Counter::Dynamic),
+            Some(Change::DynamicDown) => {
+                let _ = self.table.leave(range, Counter::Dynamic);
+            }
+            Some(Change::DynamicZero) => {
+                let _ = self.table.finalize(range);
+            }
+            None => {}
+        }
+    }
+
+    // Enters a range.
+    fn enter(&mut self, range: Range, counter: Counter)
+        requires can { CanEnter counter range self.old.table.presences self.old.table.capacity }
+        requires room { length self.old.table.presences < self.old.table.room }
+        requires few { self.old.opened < COUNTER_LIMIT }
+        ensures presences { self.new.table.presences ≡ presences_after (entry_mark counter range) (self.old.opened + 1) self.old.table.presences }
+        ensures opened { self.new.opened ≡ opened_after (not (is_present self.old.table.presences range)) self.old.opened }
+        ensures capacity { self.new.table.capacity ≡ self.old.table.capacity }
+        ensures room { self.new.table.room ≡ self.old.table.room }
+    {
+        let next = self.opened + 1;
+        match self.table.enter(range, counter, BlockId::new(next)) {
+            Entered::Counted => {}
+            Entered::Opened => self.opened = next,
+        }
+    }
+}
+
+/// Devices without directives, for a configuration.
+///
+/// # Errors
+///
+/// `Memory` where memory is refused.
+pub fn devices_of(alloc: Global, config: &Config) -> Result<Vec<Device>, Fault>
+    ensures count { IfOk result (λ devices. length devices.items ≡ config.now.devices) }
+    ensures empty { IfOk result (λ devices. All (IsEmpty config.now) devices.items) }
+    ensures fault { IfErr result (λ f. f ≡ Fault.Memory) }
+{
+    let mut devices = Vec::new(alloc);
+    for _ in 0..config.devices() {
+        devices.push(Device {
+            table: Table::new(alloc, config.capacity()),
+            opened: 0,
+        })?;
+    }
+    Ok(devices)
+}

@@ -1,0 +1,90 @@
+ghost use Rattle.std.specs.Prelude.{ℕ, All, ◌≡◌, ◌*◌, ◌<◌, ◌≤◌, ◌++◌, [], ◌∷◌, length, slice_index_or, slice_set, IfOk, IfErr, OnOk, OnErr};
+ghost use Rattle.acc_base.specs.declared.fault.Fault.TheVariants.{Memory};
+ghost use Rattle.acc_base.specs.declared.ids.TheConstants.{QUEUES};
+ghost use Rattle.acc_base.specs.Queues.{seat};
+ghost use Rattle.acc_place.specs.Places.{queue_in};
+
+use acc_base::{Fault, QUEUES, QueueAt};
+use acc_batch::Label;
+use std::alloc::Global;
+use std::marker::Model;
+
+/// The labels of the batches on each queue of each device.
+#[derive(Drop)]
+pub struct Labels {
+    // by device, then in queue order
+    queues: Vec<Vec<Label>>,
+}
+
+impl Model for Labels {
+    ghost use Rattle.std.specs.Prelude.{map, vec_capacity};
+    ghost use Rattle.std.specs.Coded.{codes};
+    ghost use Rattle.acc_kernel.specs.contracts.expr.Expr as expr;
+    ghost use Rattle.acc_place.specs.Places.{LabelsView};
+
+    ghost Value = { LabelsView };
+
+    ghost coded = { Prim.hlevel (codes, expr.the_row.coded) };
+
+    ghost view = { λ w. record { queues = map (λ v. v.items) w.queues.items; room = map (λ v. vec_capacity v) w.queues.items } };
+}
+
+impl Labels {
+    /// No labels, for so many devices.
+    ///
+    /// # Errors
+    ///
+    /// `Memory` where memory is refused.
+    pub fn new(alloc: Global, devices: u8) -> Result<Self, Fault>
+        ensures count { IfOk result (λ w. length w.queues ≡ devices * QUEUES) }
+        ensures none { IfOk result (λ w. All (λ labels. labels ≡ []) w.queues) }
+        ensures fault { IfErr result (λ fault. fault ≡ Memory) }
+    {
+        let mut queues = Vec::new(alloc);
+        for _ in 0..u16::from(devices) * u16::from(QUEUES) {
+            queues.push(Vec::new(alloc))?;
+        }
+        Ok(Labels { queues })
+    }
+
+    /// The labels of a queue's batches, in their order.
+    pub fn on(&self, at: QueueAt) -> &[Label]
+        ensures { result.now ≡ queue_in self.now.queues at }
+    {
+        if at.queue.number() >= QUEUES {
+            return &[];
+        }
+        match self.queues.get(at.seat()) {
+            Some(labels) => labels.as_slice(),
+            None => &[],
+        }
+    }
+
+    /// Makes room for one more label of a queue, where it is missing.
+    ///
+    /// # Errors
+    ///
+    /// `Memory` where memory is refused.
+    pub fn spare(&mut self, at: QueueAt) -> Result<(), Fault>
+        requires { seat at < length self.old.queues }
+        ensures queues { self.new.queues ≡ self.old.queues }
+        ensures room { (i : ℕ) → slice_index_or self.old.room i 0 ≤ slice_index_or self.new.room i 0 }
+        ensures ok { OnOk result (length (slice_index_or self.new.queues (seat at) []) < slice_index_or self.new.room (seat at) 0) }
+        ensures fault { IfErr result (λ fault. fault ≡ Memory) }
+        ensures missing { OnErr result (¬ (length (slice_index_or self.old.queues (seat at) []) < slice_index_or self.old.room (seat at) 0)) }
+    {
+        self.queues[at.seat()].reserve(1)?;
+        Ok(())
+    }
+
+    /// Adds a label to its queue. Takes no memory.
+    pub fn push(&mut self, label: Label)
+        requires seat { seat label.at < length self.old.queues }
+        requires room { length (slice_index_or self.old.queues (seat label.at) []) < slice_index_or self.old.room (seat label.at) 0 }
+        ensures queues { self.new.queues ≡ slice_set self.old.queues (seat label.at) (slice_index_or self.old.queues (seat label.at) [] ++ label ∷ []) }
+        ensures room { self.new.room ≡ self.old.room }
+    {
+        let seat = label.at.seat();
+        self.queues[seat].push_reserved(label);
+    }
+}
