@@ -123,6 +123,11 @@ pub record Present : Type 0 where
   pub capacity : ℕ
   pub room : ℕ
 
+-- each present range has its note, in the same order
+abbrev pub AreNoted : List Presence → List Noted → Type 0
+AreNoted ps ns =
+    map {B = Range × ℕ} (λ (n : Noted). (n.range, n.block)) ns ≡ map {B = Range × ℕ} (λ (p : Presence). (p.range, p.block)) ps
+
 -- the answer of a look at a range
 abbrev pub IsLook : List Presence → Range → Look → Type 0
 IsLook ps r look.Absent = (holder ps r ≡ None) × (is_partly_present ps r ≡ false)

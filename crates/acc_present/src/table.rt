@@ -9,7 +9,7 @@ ghost use Rattle.acc_present.specs.declared.change.Change.TheVariants.{DynamicZe
 ghost use Rattle.acc_present.specs.Presences.{holder, is_present, is_partly_present, overlaps_any, used_cells};
 ghost use Rattle.acc_present.specs.Drafts.{beside};
 ghost use Rattle.acc_present.specs.Legality.{MeetsCondition};
-ghost use Rattle.acc_present.specs.Tables.{entry_mark, exit_mark, finalize_mark, entry_change, exit_change, counter_of, changed_counter, stepped, opening, presences_after, kept_after, has_count, entry_presence, is_table, IsLook, left_of};
+ghost use Rattle.acc_present.specs.Tables.{entry_mark, exit_mark, finalize_mark, entry_change, exit_change, counter_of, changed_counter, stepped, opening, presences_after, kept_after, has_count, entry_presence, is_table, AreNoted, IsLook, left_of};
 ghost use Rattle.acc_present.specs.Notes.{Note, entry_note, entry_noted, HasNotes, IsNoted, no_note, used_by, made_by, changed_at};
 
 use crate::change::Change;
@@ -321,9 +321,10 @@ impl Table {
         self.entries.get(place)
     }
 
-    /// Every table's presences are in order and apart, each with a cell and a count, and fit the capacity.
+    /// Every table's presences are in order and apart, each with a cell and a count, and with its note; and fit the capacity.
     pub fn keeps_order(&self)
         ensures table { is_table self.now.presences ≡ true }
+        ensures noted { AreNoted self.now.presences self.now.notes }
         ensures capacity { used_cells self.now.presences ≤ self.now.capacity }
         ensures limit { self.now.capacity < 2 ^ 64 }
     {
