@@ -1,7 +1,6 @@
 mod Backs
 pub mod Labels
 pub mod NextOperation
-pub mod OneQueue
 pub mod Ordered
 pub mod Seats
 pub mod Wholes

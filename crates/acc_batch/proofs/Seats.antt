@@ -1,8 +1,10 @@
 -- A list with one thing for each queue of each device, of which one changes.
-use Rattle.std.proofs.Common.{inl, inr, ◌≡◌, ℕ, zero, suc, ◌<◌, true, false, List, [], ◌∷◌, refl, sym, ap, subst, ◌∙◌, arith, Some}
-use Rattle.std.specs.Prelude.{slice_get, slice_set}
-use Rattle.std.proofs.lemmas.Bool.{cases_Bool}
+use Rattle.std.proofs.Common.{inl, inr, ◌≡◌, ℕ, zero, suc, ◌<◌, ◌≤◌, true, false, cond, List, [], ◌∷◌, length, refl, sym, ap, subst, ◌∙◌, arith, Some}
+use Rattle.std.specs.Prelude.{nat_lt, slice_get, slice_index_or, slice_set}
+use Rattle.std.proofs.lemmas.Bool.{cases_Bool, ltb-true, lt-ltb, le-ltb}
+use Rattle.std.proofs.lemmas.List.{get_or_default, get_or-set_same, get_or-set_other}
 use Rattle.acc_base.specs.declared.ids.QueueAt.{QueueAt}
+use Rattle.acc_base.specs.declared.ids.TheConstants.{QUEUES}
 use Rattle.acc_base.specs.Queues.{seat, same_queue}
 use Rattle.acc_base.proofs.SameQueue.{same_queue_itself, same_queue_is}
 
@@ -56,3 +58,40 @@ seat_changed P Q devices xs at new there low all mine others = λ other device q
 
     by_one : (other : QueueAt) → at ≡ other → StandsAt Q (slice_set xs (seat at) new) other
     by_one other e = subst (λ q. StandsAt Q (slice_set xs (seat at) new) q) e (record { it = new; at_seat = set_here xs (seat at) (all at there low).it new (all at there low).at_seat; holds = mine })
+
+-- ## What stands at a queue's seat, or something else where the queue isn't there
+
+abbrev pub at_seat : {X : Type 0} → X → List X → QueueAt → X
+at_seat none xs at = cond (nat_lt at.queue QUEUES) (slice_index_or xs (seat at) none) none
+
+-- what stands at the seat of a queue that is there
+pub seat_there : {X : Type 0} (none : X) (xs : List X) (at : QueueAt) → at.queue < QUEUES → at_seat none xs at ≡ slice_index_or xs (seat at) none
+seat_there none xs at low = rw (lt-ltb at.queue QUEUES low) refl
+
+pub seat_absent : {X : Type 0} (none : X) (xs : List X) (at : QueueAt) → QUEUES ≤ at.queue → at_seat none xs at ≡ none
+seat_absent none xs at past = rw (le-ltb at.queue QUEUES past) refl
+
+-- what was read there, whatever would be read where nothing stands
+pub seat_found : {X : Type 0} (none : X) (xs : List X) (at : QueueAt) (x : X) → at.queue < QUEUES → seat at < length xs → x ≡ slice_index_or xs (seat at) x → x ≡ at_seat none xs at
+seat_found none xs at x low there is = is ∙ (get_or_default xs (seat at) x none there ∙ sym (seat_there none xs at low))
+
+-- it is what was set
+pub seat_set : {X : Type 0} (none : X) (xs : List X) (at : QueueAt) (x : X) → at.queue < QUEUES → seat at < length xs → at_seat none (slice_set xs (seat at) x) at ≡ x
+seat_set none xs at x low there = seat_there none (slice_set xs (seat at) x) at low ∙ get_or-set_same xs (seat at) x none there
+
+-- and what stands at the seat of another queue stays
+pub seat_kept : {X : Type 0} (none : X) (xs : List X) (at other : QueueAt) (x : X) → at.queue < QUEUES → same_queue at other ≡ false → at_seat none (slice_set xs (seat at) x) other ≡ at_seat none xs other
+seat_kept none xs at other x low differ = elim (cases_Bool (nat_lt other.queue QUEUES)) [
+  | inl there ↦
+      let apart : seat other ≡ seat at → ⊥ = λ e. (let w : true ≡ false = sym (one_seat at other low (ltb-true other.queue QUEUES there) (sym e)) ∙ differ in cc) in
+      rw there (get_or-set_other xs (seat at) (seat other) x none apart)
+  | inr past ↦ rw past refl
+]
+
+-- One queue's is set, and the others go on to have what is wanted.
+pub each_seat : {X : Type 0} (P Q : QueueAt → X → Type 0) (none : X) (xs : List X) (at : QueueAt) (new : X) → at.queue < QUEUES → seat at < length xs → ((other : QueueAt) → P other (at_seat none xs other))
+    → Q at new → ((other : QueueAt) → same_queue at other ≡ false → (x : X) → P other x → Q other x) → (other : QueueAt) → Q other (at_seat none (slice_set xs (seat at) new) other)
+each_seat P Q none xs at new low there all mine others other = elim (cases_Bool (same_queue at other)) [
+  | inl same ↦ subst (λ q. Q q (at_seat none (slice_set xs (seat at) new) q)) (same_queue_is at other same) (subst (Q at) (sym (seat_set none xs at new low there)) mine)
+  | inr differ ↦ subst (Q other) (sym (seat_kept none xs at other new low differ)) (others other differ (at_seat none xs other) (all other))
+]

@@ -1,11 +1,12 @@
 -- Short lists of labels, of which one is in order and others aren't.
-use Rattle.std.specs.Prelude.{◌≡◌, ℕ, true, false, List, [], ◌∷◌}
+use Rattle.std.specs.Prelude.{◌≡◌, ℕ, ℤ, true, false, List, [], ◌∷◌}
 use Rattle.acc_base.specs.declared.ids.QueueAt.{QueueAt}
 use Rattle.acc_base.specs.declared.range.Range.{Range}
 use Rattle.acc_batch.specs.declared.operation.Op.{Op}
 use Rattle.acc_batch.specs.declared.operation.Op.TheVariants.{Make, CopyIn, Release, Await}
 use Rattle.acc_batch.specs.declared.operation.Label.{Label}
-use Rattle.acc_batch.specs.Awaits.{behind_awaits, IsOrdered}
+use Rattle.acc_batch.specs.Awaits.{behind_awaits, IsOrdered, AllOrdered}
+use Rattle.acc_batch.specs.Lives.{IsSound}
 
 abbrev pub queue : ℕ → QueueAt
 queue q = record { device = 0; queue = q }
@@ -36,9 +37,14 @@ AwaitsAsNeeded =
     × (behind_awaits false (4 ∷ []) (queue 2) (maker ∷ user ∷ []) [] ≡ [])
     × (behind_awaits true (4 ∷ []) (queue 2) (maker ∷ user ∷ []) [] ≡ Await 4 1 ∷ [])
 
--- A use that awaits no maker isn't in order, and no batch awaits one that isn't placed.
+-- A maker, and behind it a use that awaits it, are in order.
+abbrev pub AreInOrder : Type 0
+AreInOrder = AllOrdered [] (maker ∷ user ∷ [])
+
+-- A use that awaits no maker isn't in order, nor are labels with it sound; and no batch awaits one that isn't placed.
 abbrev pub AreRefused : Type 0
 AreRefused =
     ¬ IsOrdered (maker ∷ []) (first_batch 4 (CopyIn 1 cells ∷ []))
+    × ((arrays : List (List ℤ)) → ¬ IsSound arrays (maker ∷ first_batch 4 (CopyIn 1 cells ∷ []) ∷ []))
     × (¬ IsOrdered (maker ∷ user ∷ []) (first_batch 3 (Await 2 1 ∷ Release 1 ∷ [])))
     × (¬ IsOrdered [] user)

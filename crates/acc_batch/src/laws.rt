@@ -1,4 +1,4 @@
-ghost use Rattle.acc_batch.specs.AwaitExamples.{AwaitsAsNeeded, AreRefused};
+ghost use Rattle.acc_batch.specs.AwaitExamples.{AwaitsAsNeeded, AreInOrder, AreRefused};
 ghost use Rattle.acc_batch.specs.Awaits.{BatchesAreOrdered, ClosesAreOrdered};
 
 /// A batch that is placed behind its awaits stands behind every earlier batch that it needs for a block: it is on the same
@@ -8,8 +8,9 @@ pub fn batches_are_ordered()
     ensures closes { ClosesAreOrdered }
 {}
 
-/// Awaits computed behind short lists of labels, and labels that don't stand behind what they need.
+/// Awaits computed behind short lists of labels, a label that stands behind what it needs, and labels that don't.
 pub fn worked_awaits()
     ensures awaits { AwaitsAsNeeded }
+    ensures ordered { AreInOrder }
     ensures refused { AreRefused }
 {}

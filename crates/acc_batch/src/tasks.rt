@@ -1,4 +1,5 @@
-ghost use Rattle.std.specs.Prelude.{◌≡◌, [], ◌∷◌, length, reverse, All, IfOk, IfErr, IfSome, IfNone};
+ghost use Rattle.std.specs.Prelude.{◌≡◌, [], ◌∷◌, length, reverse, slice_get, All, IfOk, IfErr, IfSome, IfNone};
+ghost use Rattle.std.specs.Option.{option_map};
 ghost use Rattle.acc_batch.specs.Tasks.{ops_in, HasItsCells, AllReady};
 
 use crate::operation::Op;
@@ -59,6 +60,13 @@ impl Tasks {
         ensures { result ≡ length self.now }
     {
         self.tasks.as_slice().len()
+    }
+
+    /// The next task.
+    pub fn first(&self) -> Option<&Task>
+        ensures next { option_map (λ t. t.now) result ≡ slice_get self.now 0 }
+    {
+        self.tasks.as_slice().last()
     }
 
     /// Takes the next task out. Takes no memory.

@@ -1,14 +1,32 @@
-use Rattle.std.proofs.Common.{◌≡◌, ℕ, ◌≤◌, [], ◌∷◌, refl, arith, inl, inr}
-use Rattle.std.specs.Prelude.{Contains}
-use Rattle.acc_base.proofs.Members.{no_member, member_first, member_rest, member_cases}
-use Rattle.acc_batch.specs.declared.operation.Op.TheVariants.{CopyIn, Release, Await}
+use Rattle.std.proofs.Common.{◌≡◌, ℕ, ◌<◌, ◌≤◌, false, [], ◌∷◌, refl, subst, arith, inl, inr}
+use Rattle.std.specs.Prelude.{All, Contains}
+use Rattle.std.proofs.lemmas.List.Elements.{All-nil, All-cons}
+use Rattle.acc_base.proofs.Members.{no_member, member_first, member_rest, member_one, member_cases}
+use Rattle.acc_base.specs.declared.ids.TheConstants.{QUEUES}
+use Rattle.acc_batch.specs.declared.operation.Op.TheVariants.{Make, CopyIn, Release, Await}
 use Rattle.acc_batch.specs.declared.operation.Label.{Label}
-use Rattle.acc_batch.specs.Awaits.{IsOrdered, StandsBehind, one_queue, awaited, uses_made, releases_used}
-use Rattle.acc_batch.specs.AwaitExamples.{cells, first_batch, maker, user}
+use Rattle.acc_batch.specs.Awaits.{is_await, IsOrdered, IsNumbered, StandsBehind, one_queue, awaited, uses_made, releases_used}
+use Rattle.acc_batch.specs.AwaitExamples.{queue, cells, first_batch, maker, user}
+use Rattle.acc_batch.proofs.Ordered.{label_ordered}
 use Rattle.acc_batch.proofs.laws.worked_awaits.Goals as goal
 
 pub returns-clause-awaits : goal.returns-clause-awaits
 returns-clause-awaits c = (refl, refl, refl, refl, refl, refl, refl)
+
+pub returns-clause-ordered : goal.returns-clause-ordered
+returns-clause-ordered c = (maker_ordered, (label_ordered false [] (queue 4) (maker ∷ []) 0 0 (CopyIn 1 cells ∷ []) numbered (maker_ordered, tt) own_use, tt))
+  where
+    own_use : All (λ op. is_await op ≡ false) (CopyIn 1 cells ∷ [])
+    own_use = All-cons (λ op. is_await op ≡ false) (CopyIn 1 cells) [] refl (All-nil (λ op. is_await op ≡ false))
+
+    own_make : All (λ op. is_await op ≡ false) (Make 1 cells ∷ CopyIn 1 cells ∷ [])
+    own_make = All-cons (λ op. is_await op ≡ false) (Make 1 cells) (CopyIn 1 cells ∷ []) refl own_use
+
+    maker_ordered : IsOrdered [] maker
+    maker_ordered = label_ordered false [] (queue 2) [] 0 0 (Make 1 cells ∷ CopyIn 1 cells ∷ []) (λ m h. absurd (no_member m h)) tt own_make
+
+    numbered : IsNumbered (maker ∷ [])
+    numbered m h = subst (λ (l : Label). (0 < l.number) × (l.at.queue < QUEUES)) (member_one m maker h) (omega arith, omega arith)
 
 -- a batch that awaits nothing stands only behind those of its queue
 alone_behind : (l m : Label) → StandsBehind l m → ((q n : ℕ) → Contains l.ops (Await q n) → q ≡ m.at.queue → ⊥) → m.at ≡ l.at
@@ -16,7 +34,7 @@ alone_behind l m (one_queue same) none = same
 alone_behind l m (awaited n low there) none = absurd (none m.at.queue n there refl)
 
 pub returns-clause-refused : goal.returns-clause-refused
-returns-clause-refused c = (no_maker, no_use, not_placed)
+returns-clause-refused c = (no_maker, λ arrays s. no_maker s.ordered.1.0, no_use, not_placed)
   where
     no_maker : IsOrdered (maker ∷ []) (first_batch 4 (CopyIn 1 cells ∷ [])) → ⊥
     no_maker o =
