@@ -1,8 +1,10 @@
-//! Tests of the memory: what no contract says.
+//! Tests of the memory, and of items that hosts record: what no contract says.
 #![tactic(auto)]
 
 #[cfg(test)]
 mod allowed;
+#[cfg(test)]
+mod items;
 #[cfg(test)]
 mod memory;
 #[cfg(test)]

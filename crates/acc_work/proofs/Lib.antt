@@ -1,9 +1,12 @@
 pub mod Counters
+pub mod Keeping
+pub mod Lanes
 pub mod Logged
 pub mod Members
 pub mod Next
 pub mod Places
 pub mod Splits
+pub mod Steps
 pub mod Taken
 pub mod Waits
 pub mod Wholes

@@ -1,23 +1,19 @@
 -- The batches that a queue took.
-use Rattle.std.proofs.Common.{◌≡◌, ℕ, zero, suc, ◌+◌, ◌-◌, ◌<◌, ◌≤◌, false, List, [], ◌∷◌, ◌++◌, length, refl, sym, ap, subst, ◌∙◌, arith, Some}
+use Rattle.std.proofs.Common.{◌≡◌, ℕ, zero, suc, ◌+◌, ◌-◌, ◌<◌, ◌≤◌, List, [], ◌∷◌, ◌++◌, length, refl, sym, ap, subst, ◌∙◌, arith, Some}
 use Rattle.std.specs.Prelude.{ℤ, slice_get, if◌then◌else◌}
 use Rattle.std.proofs.lemmas.Bool.{lt-ltb}
 use Rattle.std.proofs.lemmas.List.Elements.{All-push}
 use Rattle.std.proofs.lemmas.List.{append-nil, length-append}
 use Rattle.acc_base.specs.declared.ids.QueueAt.{QueueAt}
-use Rattle.acc_base.specs.Queues.{same_queue}
 use Rattle.acc_batch.specs.declared.operation.Label.{Label}
 use Rattle.acc_batch.specs.declared.operation.Op.{Op}
 use Rattle.acc_batch.specs.Labels.{ops_of, whole, AllAt}
 use Rattle.acc_batch.proofs.Labels.{ops_of-append}
-use Rattle.acc_batch.proofs.OneQueue.{on_queue_all, on_queue_none}
 use Rattle.acc_batch.proofs.Wholes.{whole_behind, none_whole}
 use Rattle.acc_base.specs.declared.config.TheConstants.{MAX_HOSTS}
-use Rattle.acc_base.proofs.SameQueue.{same_queue_turned}
-use Rattle.acc_work.specs.declared.log.WorkEntry.{WorkEntry}
 use Rattle.acc_work.specs.Lanes.{LaneView, IsLane, filled, nth_taken, last_of, ops_of_last, lane_done}
 use Rattle.acc_work.specs.Logs.{performed, done, after_item}
-use Rattle.acc_work.specs.Works.{sync, WorkView, HasTold}
+use Rattle.acc_work.specs.Works.{WorkView, HasTold, KeepsOrder, lane_at, taken_labels}
 use Rattle.acc_work.specs.declared.log.Told.{Told}
 use Rattle.acc_work.specs.declared.log.WorkEntry.TheVariants as entry
 use Rattle.acc_memory.specs.Memories.{Shows}
@@ -75,17 +71,10 @@ lane_tells lane ops h e = by_left lane.left refl
         whole_begun lane.taken (length ops) (length lane.left) count more h.begun
         ∙ sym (ap (λ b. if b then length lane.taken - 1 else length lane.taken) (lt-ltb 0 (length lane.left) more))
 
--- how many of its batches a queue has performed, where only queue sync took some
-pub done_on_sync : (lane : LaneView) (work : List WorkEntry) → IsLane lane → AllAt sync lane.taken → performed sync work ++ lane.left ≡ ops_of lane.taken → done lane.taken work sync ≡ lane_done lane
-done_on_sync lane work h here e = ap (λ ls. whole ls (length (performed sync work))) (on_queue_all sync lane.taken here) ∙ lane_tells lane (performed sync work) h e
-
-pub done_elsewhere : (lane : LaneView) (work : List WorkEntry) (at : QueueAt) → AllAt sync lane.taken → same_queue at sync ≡ false → done lane.taken work at ≡ 0
-done_elsewhere lane work at here differ = ap (λ ls. whole ls (length (performed at work))) (on_queue_none sync at lane.taken here (same_queue_turned at sync differ))
-
 -- one more batch
-pub all_at_more : (ls : List Label) (l : Label) → AllAt sync ls → l.at ≡ sync → AllAt sync (ls ++ l ∷ [])
-all_at_more [] l all at = (at, tt)
-all_at_more (k ∷ ls) l all at = (all.0, all_at_more ls l all.1 at)
+pub all_at_more : (at : QueueAt) (ls : List Label) (l : Label) → AllAt at ls → l.at ≡ at → AllAt at (ls ++ l ∷ [])
+all_at_more at [] l all here = (here, tt)
+all_at_more at (k ∷ ls) l all here = (all.0, all_at_more at ls l all.1 here)
 
 last_more : (ls : List Label) (l : Label) → last_of (ls ++ l ∷ []) ≡ Some l
 last_more [] l = refl
@@ -119,10 +108,15 @@ length_from at lo (suc len) = ap suc (length_from at (lo + 1) len)
 pub told_quiet : (w : WorkView) (host : ℕ) (what : Told) → ((was : Cell → ℤ) → after_item what was ≡ was) → HasTold w (record w { work = entry.Item host what ∷ w.work }) host what
 told_quiet w host what quiet = record {
   shows = λ was h. subst (Shows w.memory) (sym (quiet was)) h;
-  blocks = refl;
+  devices = refl;
   lengths = refl;
-  block_room = refl;
   work = refl;
   room = refl;
-  lane = refl;
+  lanes = refl;
 }
+
+-- How many batches a queue has performed, by its lane.
+pub done_is : (w : WorkView) (at : QueueAt) → KeepsOrder w → done (taken_labels w) w.work at ≡ lane_done (lane_at w at)
+done_is w at h =
+    let o = h.order at in
+    ap (λ ls. whole ls (length (performed at w.work))) (h.taken at) ∙ lane_tells (lane_at w at) (performed at w.work) o.batches o.in_order

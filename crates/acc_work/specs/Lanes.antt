@@ -1,17 +1,42 @@
--- The batches that a queue took, and what is left of the last one.
-use Rattle.std.specs.Prelude.{ℕ, zero, suc, ◌-◌, ◌<◌, ◌≤◌, nat_lt, List, [], ◌∷◌, ◌++◌, length, All, slice_get, Option, Some, None, if◌then◌else◌}
+-- The batches that queues took, and what is left of the last one of each (OpenACC API 3.0, 2.16, Asynchronous Behavior).
+use Rattle.std.specs.Prelude.{◌≡◌, ℕ, zero, suc, ◌+◌, ◌-◌, ◌<◌, ◌≤◌, nat_lt, List, [], ◌∷◌, ◌++◌, length, All, slice_get, slice_index_or, slice_set, Option, Some, None, if◌then◌else◌}
+use Rattle.std.specs.List.{flat_map}
 use Rattle.acc_base.specs.declared.config.TheConstants.{MAX_HOSTS}
+use Rattle.acc_base.specs.declared.ids.QueueAt.{QueueAt}
+use Rattle.acc_base.specs.declared.ids.TheConstants.{QUEUES}
+use Rattle.acc_base.specs.Queues.{seat}
 use Rattle.acc_batch.specs.declared.operation.Op.{Op}
 use Rattle.acc_batch.specs.declared.operation.Label.{Label}
 
--- The labels of the batches that were taken, in order, and for how many there is room; and what isn't performed of the last.
+-- Of a queue: the labels of the batches that it took, in order, and for how many there is room; how many operations it has
+-- performed; and those that aren't performed, of the last batch.
 pub record LaneView : Type 0 where
   pub taken : List Label
   pub room : ℕ
+  pub performed : ℕ
   pub left : List Op
+
+abbrev pub no_lane : LaneView
+no_lane = record { taken = []; room = 0; performed = 0; left = [] }
+
+-- The lane of a queue among those of all, which stand by device, then in queue order. A queue that isn't there takes no batch.
+abbrev pub lane_in : List LaneView → QueueAt → LaneView
+lane_in lanes at = if nat_lt at.queue QUEUES then slice_index_or lanes (seat at) no_lane else no_lane
+
+-- with another lane for a queue that is there
+abbrev pub lanes_with : List LaneView → QueueAt → LaneView → List LaneView
+lanes_with lanes at lane = slice_set lanes (seat at) lane
+
+-- the batches that were taken, queue by queue
+abbrev pub all_taken : List LaneView → List Label
+all_taken lanes = flat_map (λ lane. lane.taken) lanes
 
 abbrev pub filled : LaneView → Label → LaneView
 filled lane label = record lane { taken = lane.taken ++ label ∷ []; left = label.ops }
+
+-- one more operation is performed, and these are left
+abbrev pub advanced : LaneView → List Op → LaneView
+advanced lane ops = record lane { performed = lane.performed + 1; left = ops }
 
 abbrev pub last_of : List Label → Option Label
 last_of labels = slice_get labels (length labels - 1)
@@ -34,3 +59,9 @@ pub record IsLane (lane : LaneView) : Type 0 where
   pub filled : All (λ (l : Label). 0 < length l.ops) lane.taken
   pub hosts : All (λ (l : Label). l.host < MAX_HOSTS) lane.taken
   pub begun : length lane.left ≤ ops_of_last (last_of lane.taken)
+
+-- A lane that took no batch yet.
+pub record IsFresh (lane : LaneView) : Type 0 where
+  pub taken : lane.taken ≡ []
+  pub performed : lane.performed ≡ 0
+  pub left : lane.left ≡ []

@@ -7,7 +7,6 @@ use Rattle.acc_work.specs.declared.log.Told.TheVariants.{Write}
 use Rattle.acc_work.specs.declared.log.WorkEntry.{WorkEntry}
 use Rattle.acc_work.specs.declared.log.WorkEntry.TheVariants as entry
 use Rattle.acc_work.specs.Logs.{value, done}
-use Rattle.acc_work.specs.Works.{sync}
 use Rattle.acc_memory.specs.Values.{values_of}
 use Rattle.acc_base.specs.declared.range.Range.{Range}
 use Rattle.acc_kernel.specs.Kernels.{Loop}
@@ -19,6 +18,9 @@ use Rattle.acc_batch.specs.declared.operation.Label.{Label}
 -- cells of the only array
 abbrev pub cells : ℕ → ℕ → Range
 cells lo len = record { array = 0; lo = lo; len = len }
+
+abbrev pub sync : QueueAt
+sync = record { device = 0; queue = 0 }
 
 -- a batch of the first host, on queue sync
 abbrev pub batch : ℕ → List Op → Label

@@ -7,6 +7,7 @@ use Rattle.acc_work.specs.declared.log.Told.TheVariants.{Write, Print, Seen, Tes
 use Rattle.acc_work.specs.declared.log.WorkEntry.{WorkEntry}
 use Rattle.acc_work.specs.declared.log.WorkEntry.TheVariants as entry
 use Rattle.acc_batch.specs.declared.operation.Op.{Op}
+use Rattle.acc_batch.specs.declared.operation.Op.TheVariants.{Await}
 use Rattle.acc_batch.specs.declared.operation.Label.{Label}
 use Rattle.acc_batch.specs.Labels.{on_queue, whole}
 use Rattle.acc_memory.specs.Values.{Cell, Host_cell, Block_cell, or_empty, or_zero, after_op, after_write}
@@ -70,3 +71,8 @@ all_done labels work device q (n ∷ ns) =
 abbrev pub host_allows : Option Label → List WorkEntry → Bool
 host_allows None work = false
 host_allows (Some l) work = nat_le l.items_done (items_of l.host work)
+
+-- an await waits until so many batches of a queue of the same device are performed
+abbrev pub await_allows : List Label → List WorkEntry → ℕ → Op → Bool
+await_allows labels work device (Await q n) = nat_le n (done labels work (record { device = device; queue = q }))
+await_allows labels work device op = true

@@ -1,13 +1,14 @@
--- What a work side shows: the memory, the log, and the lane of the queue.
-use Rattle.std.specs.Prelude.{◌≡◌, ◌⊎◌, ℕ, ◌+◌, ◌<◌, ◌≤◌, nat_le, Bool, true, not, IsTrue, MatchBool, List, [], ◌∷◌, ◌++◌, length, slice_index_or, Option, Some, None, ℤ, if◌then◌else◌}
+-- What a work side shows: the memory, the log, and the lanes of the queues.
+use Rattle.std.specs.Prelude.{◌≡◌, ◌⊎◌, ℕ, ◌+◌, ◌*◌, ◌<◌, ◌≤◌, nat_le, Bool, true, false, ◌&&◌, not, IsTrue, MatchBool, List, [], ◌∷◌, ◌++◌, length, map, slice_index_or, Option, Some, None, ℤ, if◌then◌else◌}
 use Rattle.acc_base.specs.declared.config.TheConstants.{MAX_CELLS, MAX_HOSTS}
 use Rattle.acc_base.specs.declared.fault.Fault.{Fault}
 use Rattle.acc_base.specs.declared.fault.Fault.TheVariants.{BadRange, TooMany, Memory}
 use Rattle.acc_base.specs.declared.ids.QueueAt.{QueueAt}
+use Rattle.acc_base.specs.declared.ids.TheConstants.{QUEUES}
 use Rattle.acc_base.specs.declared.range.Range.{Range}
-use Rattle.acc_base.specs.Queues.{same_queue}
+use Rattle.acc_batch.specs.declared.operation.Label.{Label}
 use Rattle.acc_batch.specs.declared.operation.Op.{Op}
-use Rattle.acc_batch.specs.Labels.{ops_of, AllAt}
+use Rattle.acc_batch.specs.Labels.{on_queue, ops_of, AllAt}
 use Rattle.acc_work.specs.declared.item.Plain.{Plain}
 use Rattle.acc_work.specs.declared.item.Plain.TheVariants as plain
 use Rattle.acc_work.specs.declared.log.TheConstants.{MAX_HOST_ITEMS}
@@ -17,69 +18,81 @@ use Rattle.acc_work.specs.declared.log.WorkEntry.{WorkEntry}
 use Rattle.acc_work.specs.declared.log.WorkEntry.TheVariants as entry
 use Rattle.acc_work.specs.declared.work.Done.{Done}
 use Rattle.acc_work.specs.declared.work.Done.TheVariants as done
-use Rattle.acc_work.specs.Lanes.{LaneView, IsLane, last_of}
-use Rattle.acc_work.specs.Logs.{performed, items_of, all_items, all_done, host_allows, after_item}
-use Rattle.acc_memory.specs.Memories.{MemoryView, Shows, rows_on, room_on, held_blocks, blocks_after, lengths_of, has_array, MayPerform}
-use Rattle.acc_memory.specs.Values.{Cell, values_of, after_op}
+use Rattle.acc_work.specs.Lanes.{LaneView, IsLane, lane_in, lanes_with, all_taken, advanced, last_of}
+use Rattle.acc_work.specs.Logs.{performed, items_of, all_items, all_done, await_allows, host_allows, after_item}
+use Rattle.acc_memory.specs.Memories.{MemoryView, PerformsOn, Shows, rows_on, room_on, lengths_of, has_array, MayPerform}
+use Rattle.acc_memory.specs.Values.{Cell, values_of}
 
-abbrev pub sync : QueueAt
-sync = record { device = 0; queue = 0 }
-
--- The memory; the log, the latest entry first, and how many entries there is room for; and the lane.
+-- The memory; the log, the latest entry first, and how many entries there is room for; and the lanes, by device, then in queue
+-- order.
 pub record WorkView : Type 0 where
   pub memory : MemoryView
   pub work : List WorkEntry
   pub room : ℕ
-  pub lane : LaneView
+  pub lanes : List LaneView
 
--- the host of the batch in the lane has the items that stand before it
-abbrev pub lane_allows : WorkView → Bool
-lane_allows w = host_allows (last_of w.lane.taken) w.work
+abbrev pub lane_at : WorkView → QueueAt → LaneView
+lane_at w at = lane_in w.lanes at
 
--- The lane's next operation may be performed, and there is room for it.
-pub record MayFollow (w : WorkView) (op : Op) : Type 0 where
-  pub allowed : MayPerform w.memory 0 op
+-- the labels of the batches that were taken, queue by queue
+abbrev pub taken_labels : WorkView → List Label
+taken_labels w = all_taken w.lanes
+
+-- how many batches each queue took, by device, then in queue order
+abbrev pub taken_counts : WorkView → List ℕ
+taken_counts w = map (λ lane. length lane.taken) w.lanes
+
+-- a queue of a device that is there
+abbrev pub HasQueue : WorkView → QueueAt → Type 0
+HasQueue w at = (at.device < length w.memory.devices) × (at.queue < QUEUES)
+
+-- A queue's next operation is performed where there is one, what it awaits is performed, and the host of its batch has the items
+-- that stand before the batch.
+abbrev pub goes_on : WorkView → QueueAt → List Op → Bool
+goes_on w at [] = false
+goes_on w at (op ∷ ops) = await_allows (taken_labels w) w.work at.device op && host_allows (last_of (lane_at w at).taken) w.work
+
+-- The queue's next operation may be performed on its device, and there is room for it in the log.
+pub record MayFollow (w : WorkView) (at : QueueAt) (op : Op) : Type 0 where
+  pub allowed : MayPerform w.memory at.device op
   pub room : length w.work < w.room
 
-abbrev pub NextMayFollow : WorkView → List Op → Type 0
-NextMayFollow w [] = Unit {0}
-NextMayFollow w (op ∷ ops) = MayFollow w op
+abbrev pub NextMayFollow : WorkView → QueueAt → List Op → Type 0
+NextMayFollow w at [] = Unit {0}
+NextMayFollow w at (op ∷ ops) = MayFollow w at op
 
--- An operation was performed: the memory shows its effect, and it joined the log.
-pub record HasPerformed (old new : WorkView) (op : Op) (ops : List Op) : Type 0 where
-  pub shows : (was : Cell → ℤ) → Shows old.memory was → Shows new.memory (after_op 0 op was)
-  pub blocks : held_blocks new.memory 0 ≡ blocks_after op (held_blocks old.memory 0)
-  pub lengths : lengths_of new.memory.arrays ≡ lengths_of old.memory.arrays
-  pub block_room : room_on new.memory 0 ≡ room_on old.memory 0
-  pub work : new.work ≡ entry.Op sync op ∷ old.work
+-- An operation of a queue was performed on its device, joined the log, and left the queue's lane, in which these are left. Every
+-- other lane is as it was.
+pub record HasPerformed (old new : WorkView) (at : QueueAt) (op : Op) (ops : List Op) : Type 0 where
+  pub memory : PerformsOn at.device op old.memory new.memory
+  pub work : new.work ≡ entry.Op at op ∷ old.work
   pub room : new.room ≡ old.room
-  pub lane : new.lane ≡ record old.lane { left = ops }
+  pub lanes : new.lanes ≡ lanes_with old.lanes at (advanced (lane_at old at) ops)
 
--- what performing does where this is left in the lane
-abbrev pub PerformsNext : WorkView → List Op → Done → WorkView → Type 0
-PerformsNext old [] answer new = (answer ≡ done.Idle) × (new ≡ old)
-PerformsNext old (op ∷ ops) answer new =
-    MatchBool (lane_allows old) ((answer ≡ done.Op) × HasPerformed old new op ops) ((answer ≡ done.Idle) × (new ≡ old))
+-- what performing does where these are left in the queue's lane
+abbrev pub PerformsNext : WorkView → QueueAt → List Op → Done → WorkView → Type 0
+PerformsNext old at [] answer new = (answer ≡ done.Idle) × (new ≡ old)
+PerformsNext old at (op ∷ ops) answer new =
+    MatchBool (goes_on old at (op ∷ ops)) ((answer ≡ done.Op) × HasPerformed old new at op ops) ((answer ≡ done.Idle) × (new ≡ old))
 
--- What a call to perform does: the lane's next operation, if its host's items allow it; nothing on another queue.
+-- What a call to perform does: the next operation of the queue's lane, if it goes on.
 abbrev pub Performs : WorkView → QueueAt → Done → WorkView → Type 0
-Performs old at answer new = MatchBool (same_queue at sync) (PerformsNext old old.lane.left answer new) ((answer ≡ done.Idle) × (new ≡ old))
+Performs old at answer new = PerformsNext old at (lane_at old at).left answer new
 
 -- An item of a host joined the log: the memory shows what it wrote, if it did.
 pub record HasTold (old new : WorkView) (host : ℕ) (what : Told) : Type 0 where
   pub shows : (was : Cell → ℤ) → Shows old.memory was → Shows new.memory (after_item what was)
-  pub blocks : held_blocks new.memory 0 ≡ held_blocks old.memory 0
+  pub devices : new.memory.devices ≡ old.memory.devices
   pub lengths : lengths_of new.memory.arrays ≡ lengths_of old.memory.arrays
-  pub block_room : room_on new.memory 0 ≡ room_on old.memory 0
   pub work : new.work ≡ entry.Item host what ∷ old.work
   pub room : new.room ≡ old.room
-  pub lane : new.lane ≡ old.lane
+  pub lanes : new.lanes ≡ old.lanes
 
 -- An item can be recorded: its cells are there, and where it is noted that batches are performed, they are.
 abbrev pub CanTell : WorkView → Plain → Type 0
 CanTell w (plain.Write array cell value) = has_array w.memory (record { array = array; lo = cell; len = 1 }) ≡ true
 CanTell w (plain.Print range) = (has_array w.memory range ≡ true) × (range.len ≤ MAX_CELLS)
-CanTell w (plain.Seen device counts) = IsTrue (all_done w.lane.taken w.work device 0 counts)
+CanTell w (plain.Seen device counts) = IsTrue (all_done (taken_labels w) w.work device 0 counts)
 CanTell w (plain.Test device counts) = Unit {0}
 
 -- What an item tells: a print the values that the memory shows, a test whether each queue has performed its count.
@@ -88,7 +101,7 @@ Tells w (plain.Write array cell value) what = what ≡ told.Write array cell val
 Tells w (plain.Print range) what =
     (values : List ℤ) × (what ≡ told.Print range values) × ((was : Cell → ℤ) → Shows w.memory was → values ≡ values_of was range)
 Tells w (plain.Seen device counts) what = what ≡ told.Seen device counts
-Tells w (plain.Test device counts) what = what ≡ told.Test device counts (all_done w.lane.taken w.work device 0 counts)
+Tells w (plain.Test device counts) what = what ≡ told.Test device counts (all_done (taken_labels w) w.work device 0 counts)
 
 -- A range was printed: the item has the values that the memory shows.
 pub record HasPrinted (old new : WorkView) (host : ℕ) (range : Range) : Type 0 where
@@ -96,40 +109,53 @@ pub record HasPrinted (old new : WorkView) (host : ℕ) (range : Range) : Type 0
   pub told : HasTold old new host (told.Print range values)
   pub true_values : (was : Cell → ℤ) → Shows old.memory was → values ≡ values_of was range
 
--- Room for so many more operations is missing: in the log, of the lane, or of a device.
-abbrev pub LacksRoom : WorkView → ℕ → Type 0
-LacksRoom w count =
-    (w.room < length w.work + count) ⊎ ((w.lane.room < length w.lane.taken + count)
+-- Room for so many more operations is missing: in the log, of the queue's lane, or of a device.
+abbrev pub LacksRoom : WorkView → QueueAt → ℕ → Type 0
+LacksRoom w at count =
+    (w.room < length w.work + count) ⊎ (((lane_at w at).room < length (lane_at w at).taken + count)
     ⊎ ((d : ℕ) × (d < length w.memory.devices) × (room_on w.memory d < length (rows_on w.memory d) + count)))
+
+-- A lane has no less room than before, and nothing else changed.
+pub record IsRoomier (old new : LaneView) : Type 0 where
+  pub kept : new ≡ record old { room = new.room }
+  pub room : old.room ≤ new.room
 
 -- Room was made, and nothing else changed.
 pub record HasMadeRoom (old new : WorkView) : Type 0 where
   pub work : new.work ≡ old.work
-  pub taken : new.lane.taken ≡ old.lane.taken
-  pub left : new.lane.left ≡ old.lane.left
   pub arrays : new.memory.arrays ≡ old.memory.arrays
+  pub devices : length new.memory.devices ≡ length old.memory.devices
   pub rows : (d : ℕ) → rows_on new.memory d ≡ rows_on old.memory d
+  pub taken : taken_labels new ≡ taken_labels old
+  pub counts : taken_counts new ≡ taken_counts old
+  pub lanes : (at : QueueAt) → IsRoomier (lane_at old at) (lane_at new at)
   pub room : old.room ≤ new.room
-  pub block_room : room_on old.memory 0 ≤ room_on new.memory 0
-  pub lane_room : old.lane.room ≤ new.lane.room
+  pub block_room : (d : ℕ) → room_on old.memory d ≤ room_on new.memory d
 
 -- the counters of the hosts' items
 abbrev pub AreCounted : List ℕ → List WorkEntry → Type 0
 AreCounted items work = (h : ℕ) → h < length items → slice_index_or items h 0 ≡ items_of h work
 
--- What queue sync has performed, and what is left in its lane, are the operations of the batches that it took, in order and
--- once.
-pub record KeepsOrder (work : List WorkEntry) (queue : LaneView) : Type 0 where
-  pub in_order : performed sync work ++ queue.left ≡ ops_of queue.taken
-  pub on_sync : AllAt sync queue.taken
-  pub lane : IsLane queue
+-- What a queue has performed, and what is left in its lane, are the operations of the batches that it took, in order and once.
+pub record IsInOrder (work : List WorkEntry) (at : QueueAt) (lane : LaneView) : Type 0 where
+  pub in_order : performed at work ++ lane.left ≡ ops_of lane.taken
+  pub on_queue : AllAt at lane.taken
+  pub counted : lane.performed ≡ length (performed at work)
+  pub batches : IsLane lane
 
--- What every work side keeps: running counts of items, and the order.
-pub record IsWork (work : List WorkEntry) (queue : LaneView) (items : List ℕ) (all : ℕ) : Type 0 where
+-- So it is of every queue, and its batches are those among all that were taken.
+pub record KeepsOrder (w : WorkView) : Type 0 where
+  pub order : (at : QueueAt) → IsInOrder w.work at (lane_at w at)
+  pub taken : (at : QueueAt) → on_queue at (taken_labels w) ≡ (lane_at w at).taken
+  pub count : length w.lanes ≡ length w.memory.devices * QUEUES
+
+-- What every work side keeps: running counts of items, a lane for each queue of each device, and the order.
+pub record IsWork (w : WorkView) (items : List ℕ) (all : ℕ) : Type 0 where
   pub counters : length items ≡ MAX_HOSTS
-  pub counted : AreCounted items work
-  pub all_counted : all ≡ all_items work
-  pub order : KeepsOrder work queue
+  pub counted : AreCounted items w.work
+  pub all_counted : all ≡ all_items w.work
+  pub order : (at : QueueAt) → IsInOrder w.work at (lane_at w at)
+  pub count : length w.lanes ≡ length w.memory.devices * QUEUES
 
 -- the fault of an item
 abbrev pub item_fault : Bool → List WorkEntry → Bool → Option Fault

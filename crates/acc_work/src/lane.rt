@@ -1,8 +1,9 @@
-ghost use Rattle.std.specs.Prelude.{◌≡◌, ◌+◌, ◌<◌, ◌≤◌, [], ◌∷◌, length, slice_get, ◌-◌, OnOk, OnErr, IfErr, IfSome, IfNone};
+ghost use Rattle.std.specs.Prelude.{◌≡◌, ◌+◌, ◌<◌, ◌≤◌, [], ◌∷◌, List, length, slice_get, OnOk, OnErr, IfErr, IfSome, IfNone, ◌^◌};
 ghost use Rattle.std.specs.Option.{option_map};
 ghost use Rattle.acc_base.specs.declared.fault.Fault.TheVariants as fault;
+ghost use Rattle.acc_batch.specs.declared.operation.Op.{Op};
 ghost use Rattle.acc_batch.specs.Tasks.{op_of, IsReady};
-ghost use Rattle.acc_work.specs.Lanes.{filled, last_of, lane_done};
+ghost use Rattle.acc_work.specs.Lanes.{IsFresh, filled, advanced, last_of, lane_done};
 
 use acc_base::Fault;
 use acc_batch::{Batch, Label, Task, Tasks};
@@ -13,6 +14,7 @@ use std::marker::Model;
 #[derive(Drop)]
 pub(crate) struct Lane {
     taken: Vec<Label>,
+    performed: u64,
     left: Tasks,
 }
 
@@ -27,26 +29,25 @@ impl Model for Lane {
 
     ghost coded = { Prim.hlevel (codes, expr.the_row.coded) };
 
-    ghost view = { λ l. record { taken = l.taken.items; room = vec_capacity l.taken; left = ops_in l.left } };
+    ghost view = { λ l. record { taken = l.taken.items; room = vec_capacity l.taken; performed = l.performed; left = ops_in l.left } };
 
     ghost invariant = { λ l. AllReady l.left };
 }
 
 impl Lane {
     pub fn new(alloc: Global) -> Self
-        ensures taken { result.taken ≡ [] }
-        ensures left { result.left ≡ [] }
+        ensures { IsFresh result }
     {
         Lane {
             taken: Vec::new(alloc),
+            performed: 0,
             left: Tasks::none(alloc),
         }
     }
 
     /// Makes room for so many more batches.
     pub fn spare(&mut self, count: usize) -> Result<(), Fault>
-        ensures taken { self.new.taken ≡ self.old.taken }
-        ensures left { self.new.left ≡ self.old.left }
+        ensures kept { self.new ≡ record self.old { room = self.new.room } }
         ensures room { self.old.room ≤ self.new.room }
         ensures ok { OnOk result (length self.new.taken + count ≤ self.new.room) }
         ensures fault { IfErr result (λ f. f ≡ fault.Memory) }
@@ -61,6 +62,20 @@ impl Lane {
         ensures { result ≡ length self.now.left }
     {
         self.left.len()
+    }
+
+    /// The next operation, with what performing it takes.
+    pub fn first(&self) -> Option<&Task>
+        ensures { option_map (λ t. op_of t.now) result ≡ slice_get self.now.left 0 }
+    {
+        self.left.first()
+    }
+
+    /// How many operations are performed.
+    pub fn performed(&self) -> u64
+        ensures { result ≡ self.now.performed }
+    {
+        self.performed
     }
 
     /// The batches that were taken, by their labels, in order.
@@ -99,13 +114,19 @@ impl Lane {
         self.left = tasks;
     }
 
-    /// Takes the next operation out.
+    /// Takes the next operation out, to be performed.
     pub fn next(&mut self) -> Option<Task>
-        ensures kept { self.new ≡ record self.old { left = self.new.left } }
-        ensures next { IfSome result (λ t. self.old.left ≡ op_of t ∷ self.new.left) }
-        ensures ready { IfSome result (λ t. IsReady t) }
+        requires { self.old.performed + 1 < 2 ^ 64 }
+        ensures next { IfSome result (λ t. (ops : List Op) × (self.old.left ≡ op_of t ∷ ops) × (self.new ≡ advanced self.old ops)) }
+        ensures ready { IfSome result IsReady }
         ensures none { IfNone result ((self.old.left ≡ []) × (self.new ≡ self.old)) }
     {
-        self.left.take_next()
+        match self.left.take_next() {
+            None => None,
+            Some(task) => {
+                self.performed += 1;
+                Some(task)
+            }
+        }
     }
 }

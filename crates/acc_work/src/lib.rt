@@ -12,4 +12,4 @@ pub use counts::Counts;
 pub use item::{Item, Plain, Shown};
 pub use laws::{any_order_is_live, whole_is_greatest, worked_logs};
 pub use log::{MAX_HOST_ITEMS, Told, WorkEntry};
-pub use work::{Done, Work, sync_queue};
+pub use work::{Done, Work};

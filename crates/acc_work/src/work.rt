@@ -1,23 +1,24 @@
-ghost use Rattle.std.specs.Prelude.{reverse, ℕ, ℤ, ◌≡◌, ◌+◌, ◌<◌, ◌≤◌, ◌==◌, nat_le, [], length, slice_get, vec_capacity, IfOk, IfErr, OnOk, OnErr, true, false, Bool, Some};
+ghost use Rattle.std.specs.Prelude.{ℕ, ℤ, ◌≡◌, ◌+◌, ◌*◌, ◌<◌, ◌≤◌, ◌==◌, nat_le, All, List, [], ◌∷◌, length, vec_capacity, slice_get, IfOk, IfErr, IfSome, OnSome, IfNone, OnOk, OnErr, IsTrue, true, Bool, Some, reverse, ◌^◌};
 ghost use Rattle.std.specs.Option.{option_map};
-ghost use Rattle.acc_base.specs.Queues.{same_queue};
+ghost use Rattle.acc_base.specs.Queues.{seat};
 ghost use Rattle.acc_base.specs.declared.config.TheConstants.{MAX_HOSTS};
+ghost use Rattle.acc_base.specs.declared.ids.QueueAt.{QueueAt};
 ghost use Rattle.acc_base.specs.declared.ids.TheConstants.{QUEUES};
 ghost use Rattle.acc_work.specs.declared.log.TheConstants.{MAX_HOST_ITEMS};
 ghost use Rattle.acc_work.specs.declared.log.Told.{Told};
 ghost use Rattle.acc_work.specs.Items.{shown_by};
-ghost use Rattle.acc_work.specs.Lanes.{filled, nth_taken};
-ghost use Rattle.acc_work.specs.Logs.{items_of, all_items, done, all_done};
+ghost use Rattle.acc_work.specs.Lanes.{IsFresh, filled, last_of, nth_taken, lanes_with, no_lane};
+ghost use Rattle.acc_work.specs.Logs.{performed, items_of, all_items, done, all_done, await_allows, host_allows};
 ghost use Rattle.acc_batch.specs.Labels.{on_queue};
 ghost use Rattle.acc_batch.specs.Tasks.{op_of};
 ghost use Rattle.acc_memory.specs.Memories.{Shows, IsAllowed, PerformsOn, has_array, rows_on, room_on};
 ghost use Rattle.acc_memory.specs.Values.{Cell, values_of};
-ghost use Rattle.acc_work.specs.Works.{Performs, PerformsNext, NextMayFollow, lane_allows, CanTell, Tells, HasTold, HasPrinted, HasMadeRoom, LacksRoom, KeepsOrder, item_fault, sync};
+ghost use Rattle.acc_work.specs.Works.{lane_at, taken_labels, HasQueue, goes_on, Performs, NextMayFollow, CanTell, Tells, HasTold, HasPrinted, HasMadeRoom, LacksRoom, KeepsOrder, item_fault};
 
 use crate::item::{Form, Item, Shown};
 use crate::lane::Lane;
 use crate::log::{MAX_HOST_ITEMS, Told, WorkEntry};
-use acc_base::{Config, DeviceId, Fault, HostId, Listed, QueueAt, QueueId, Range};
+use acc_base::{Config, DeviceId, Fault, HostId, Listed, QUEUES, QueueAt, QueueId, Range};
 use acc_batch::{Batch, Label, Op, Task};
 use acc_memory::Memory;
 use std::alloc::Global;
@@ -30,19 +31,20 @@ pub enum Done {
     Idle,
 }
 
-/// The work side: the memory, the lane of queue sync of the first device, and the log of what was done.
+/// The work side: the memory, the log of what was done, and a lane for each queue of each device.
 #[derive(Drop)]
 pub struct Work {
     memory: Memory,
     log: Vec<WorkEntry>,
-    lane: Lane,
+    // by device, then in queue order
+    lanes: Vec<Lane>,
     items: [u64; 8],
     all_items: u64,
 }
 
 impl Model for Work {
     ghost use Rattle.std.specs.Coded.{codes};
-    ghost use Rattle.std.specs.Prelude.{reverse, length, ◌<◌, vec_capacity};
+    ghost use Rattle.std.specs.Prelude.{reverse, vec_capacity};
     ghost use Rattle.acc_kernel.specs.contracts.expr.Expr as expr;
     ghost use Rattle.acc_work.specs.Works.{WorkView, IsWork};
 
@@ -50,26 +52,15 @@ impl Model for Work {
 
     ghost coded = { Prim.hlevel (codes, expr.the_row.coded) };
 
-    ghost view = { λ w. record { memory = w.memory; work = reverse w.log.items; room = vec_capacity w.log; lane = w.lane } };
+    ghost view = { λ w. record { memory = w.memory; work = reverse w.log.items; room = vec_capacity w.log; lanes = w.lanes.items } };
 
-    ghost invariant = { λ w. IsWork (reverse w.log.items) w.lane w.items w.all_items × (0 < length w.memory.devices) };
-}
-
-/// The queue that synchronous directives use.
-pub fn sync_queue() -> QueueAt
-    ensures { result ≡ sync }
-{
-    QueueAt {
-        device: DeviceId::new(0),
-        queue: QueueId::SYNC,
-    }
+    ghost invariant = { λ w. IsWork (record { memory = w.memory; work = reverse w.log.items; room = vec_capacity w.log; lanes = w.lanes.items }) w.items w.all_items };
 }
 
 impl Work {
     ghost use Rattle.acc_base.specs.declared.fault.Fault.TheVariants.{Memory as no_memory};
     ghost use Rattle.acc_work.specs.declared.log.Told.TheVariants as told;
     ghost use Rattle.acc_work.specs.declared.log.WorkEntry.TheVariants as entry;
-    ghost use Rattle.std.specs.Prelude.{◌∷◌, ◌^◌};
 
     /// Nothing is taken, performed or shown yet.
     ///
@@ -78,43 +69,45 @@ impl Work {
     /// `Memory` where memory is refused.
     pub fn new(alloc: Global, config: &Config) -> Result<Work, Fault>
         ensures arrays { IfOk result (λ w. w.memory.arrays ≡ config.now.arrays) }
+        ensures devices { IfOk result (λ w. length w.memory.devices ≡ config.now.devices) }
         ensures rows { IfOk result (λ w. (d : ℕ) → rows_on w.memory d ≡ []) }
         ensures work { IfOk result (λ w. w.work ≡ []) }
-        ensures taken { IfOk result (λ w. w.lane.taken ≡ []) }
-        ensures left { IfOk result (λ w. w.lane.left ≡ []) }
+        ensures lanes { IfOk result (λ w. All IsFresh w.lanes) }
         ensures fault { IfErr result (λ f. f ≡ no_memory) }
     {
         config.keeps_limits();
         let memory = Memory::new(alloc, config)?;
+        let lanes = lanes_of(alloc, config.devices())?;
         Ok(Work {
             memory,
             log: Vec::new(alloc),
-            lane: Lane::new(alloc),
+            lanes,
             items: [0; 8],
             all_items: 0,
         })
     }
 
-    /// Makes room for so many more operations, and as many batches.
+    /// Makes room for so many more operations, and as many batches of this queue.
     ///
     /// # Errors
     ///
     /// `Memory` where room was missing and memory is refused.
-    pub fn spare(&mut self, count: usize) -> Result<(), Fault>
+    pub fn spare(&mut self, at: QueueAt, count: usize) -> Result<(), Fault>
+        requires queue { HasQueue self.old at }
         ensures kept { HasMadeRoom self.old self.new }
         ensures log { OnOk result (length self.new.work + count ≤ self.new.room) }
-        ensures lane { OnOk result (length self.new.lane.taken + count ≤ self.new.lane.room) }
-        ensures blocks { OnOk result (length (rows_on self.new.memory 0) + count ≤ room_on self.new.memory 0) }
+        ensures lane { OnOk result (length (lane_at self.new at).taken + count ≤ (lane_at self.new at).room) }
+        ensures blocks { OnOk result ((d : ℕ) → d < length self.new.memory.devices → length (rows_on self.new.memory d) + count ≤ room_on self.new.memory d) }
         ensures fault { IfErr result (λ f. f ≡ no_memory) }
-        ensures missing { OnErr result (LacksRoom self.old count) }
+        ensures missing { OnErr result (LacksRoom self.old at count) }
     {
         self.memory.spare(count)?;
-        self.lane.spare(count)?;
+        self.lanes[at.seat()].spare(count)?;
         self.log.reserve(count)?;
         Ok(())
     }
 
-    /// Makes room for one more item of a host beside so many operations, if the run may have one more.
+    /// Makes room in the log for one more item of a host beside so many operations, if the run may have one more.
     ///
     /// # Errors
     ///
@@ -123,43 +116,55 @@ impl Work {
         ensures kept { HasMadeRoom self.old self.new }
         ensures room { OnOk result (length self.new.work + waiting < self.new.room) }
         ensures few { OnOk result (all_items self.old.work < MAX_HOST_ITEMS) }
+        ensures missing { IfErr result (λ f. f ≡ no_memory → self.old.room < length self.old.work + waiting + 1) }
         ensures fault { IfErr result (λ f. (lacks : Bool) × (item_fault lacks self.old.work true ≡ Some f)) }
     {
         if self.all_items >= MAX_HOST_ITEMS {
             return Err(Fault::TooMany);
         }
         match waiting.checked_add(1) {
-            Some(count) => self.spare(count),
+            Some(count) => {
+                self.log.reserve(count)?;
+                Ok(())
+            }
             None => Err(Fault::Memory),
         }
     }
 
-    /// Every work side keeps the order of its queue.
+    /// Every work side keeps the order of its queues, and counts the entries that there is room for.
     pub fn keeps_order(&self)
-        ensures { KeepsOrder self.now.work self.now.lane }
+        ensures order { KeepsOrder self.now }
+        ensures room { self.now.room < 2 ^ 64 }
     {
-        let _ = &self.lane;
+        let _ = &self.lanes;
     }
 
-    /// Whether it performs the operations of this queue.
-    pub fn has_queue(&self, at: QueueAt) -> bool
-        ensures { result ≡ same_queue at sync }
+    // The lane of a queue, if the queue is there.
+    fn lane(&self, at: QueueAt) -> Option<&Lane>
+        ensures lane { IfSome result (λ lane. lane.now ≡ lane_at self.now at) }
+        ensures there { OnSome result ((seat at < length self.now.lanes) × HasQueue self.now at) }
+        ensures none { IfNone result (lane_at self.now at ≡ no_lane) }
     {
-        let _ = &self.lane;
-        at == sync_queue()
+        if at.queue.number() >= QUEUES {
+            return None;
+        }
+        self.lanes.get(at.seat())
     }
 
-    /// Whether nothing is left of the batches that queue sync took.
-    pub fn lane_empty(&self) -> bool
-        ensures { result ≡ (length self.now.lane.left == 0) }
+    /// Whether nothing is left of the batches that a queue took.
+    pub fn lane_empty(&self, at: QueueAt) -> bool
+        ensures { result ≡ (length (lane_at self.now at).left == 0) }
     {
-        self.lane.left() == 0
+        match self.lane(at) {
+            None => true,
+            Some(lane) => lane.left() == 0,
+        }
     }
 
     /// The batch with this number, from 1, among those that a queue took, by its label.
     #[tactic(auto, using(crate::proofs::Taken::nth_is))]
     pub fn taken(&self, at: QueueAt, number: u64) -> Option<&Label>
-        ensures { option_map (λ l. l.now) result ≡ nth_taken (on_queue at self.now.lane.taken) number }
+        ensures { option_map (λ l. l.now) result ≡ nth_taken (on_queue at (taken_labels self.now)) number }
     {
         if number == 0 {
             return None;
@@ -169,29 +174,36 @@ impl Work {
 
     // The labels of the batches that a queue took, in their order.
     fn taken_on(&self, at: QueueAt) -> &[Label]
-        ensures { result.now ≡ on_queue at self.now.lane.taken }
+        ensures { result.now ≡ on_queue at (taken_labels self.now) }
     {
-        if at == sync_queue() {
-            self.lane.taken()
-        } else {
-            &[]
+        self.keeps_order();
+        match self.lane(at) {
+            None => &[],
+            Some(lane) => lane.taken(),
+        }
+    }
+
+    // How many batches a queue has performed.
+    fn done(&self, at: QueueAt) -> u64
+        ensures { result ≡ done (taken_labels self.now) self.now.work at }
+    {
+        self.keeps_order();
+        match self.lane(at) {
+            None => 0,
+            Some(lane) => lane.done(),
         }
     }
 
     /// Whether a queue has performed so many batches.
     pub fn reached(&self, at: QueueAt, count: u64) -> bool
-        ensures { result ≡ nat_le count (done self.now.lane.taken self.now.work at) }
+        ensures { result ≡ nat_le count (done (taken_labels self.now) self.now.work at) }
     {
-        if self.has_queue(at) {
-            count <= self.lane.done()
-        } else {
-            count == 0
-        }
+        count <= self.done(at)
     }
 
     /// Whether each queue of a device has performed its count of batches.
     pub fn all_reached(&self, device: DeviceId, counts: &[u64; 8]) -> bool
-        ensures { result ≡ all_done self.now.lane.taken self.now.work device 0 counts.now }
+        ensures { result ≡ all_done (taken_labels self.now) self.now.work device 0 counts.now }
     {
         self.reached_from(device, 0, counts.as_slice())
     }
@@ -199,7 +211,7 @@ impl Work {
     // Whether each queue of a device, from this one on, has performed its count.
     fn reached_from(&self, device: DeviceId, queue: u8, counts: &[u64]) -> bool
         requires { queue + length counts.now ≤ QUEUES }
-        ensures { result ≡ all_done self.now.lane.taken self.now.work device queue counts.now }
+        ensures { result ≡ all_done (taken_labels self.now) self.now.work device queue counts.now }
     {
         match counts {
             [] => true,
@@ -221,12 +233,15 @@ impl Work {
         self.items[usize::from(host.number())]
     }
 
-    /// How many operations are performed; the other entries of the log are items.
-    pub fn performed(&self) -> u64
-        ensures count { result + all_items self.now.work ≡ length self.now.work }
-        ensures room { self.now.room < 2 ^ 64 }
+    /// How many operations a queue has performed.
+    pub fn performed(&self, at: QueueAt) -> u64
+        ensures { result ≡ length (performed at self.now.work) }
     {
-        self.log.len() as u64 - self.all_items
+        self.keeps_order();
+        match self.lane(at) {
+            None => 0,
+            Some(lane) => lane.performed(),
+        }
     }
 
     /// The log, the first entry first.
@@ -238,58 +253,78 @@ impl Work {
 
     /// A queue takes a batch, whose lane is empty, by `lane_empty`. It takes no memory, by `spare`.
     pub fn offer(&mut self, at: QueueAt, batch: Batch)
-        requires queue { same_queue at sync ≡ true }
+        requires queue { HasQueue self.old at }
         requires place { batch.at ≡ at }
         requires host { batch.host < MAX_HOSTS }
         requires filled { 0 < length batch.ops }
-        requires empty { length self.old.lane.left ≤ 0 }
-        requires room { length self.old.lane.taken < self.old.lane.room }
-        ensures { self.new ≡ record self.old { lane = filled self.old.lane batch } }
+        requires empty { length (lane_at self.old at).left ≤ 0 }
+        requires room { length (lane_at self.old at).taken < (lane_at self.old at).room }
+        ensures { self.new ≡ record self.old { lanes = lanes_with self.old.lanes at (filled (lane_at self.old at) batch) } }
     {
-        let _ = at;
-        self.lane.offer(batch);
+        self.lanes[at.seat()].offer(batch);
     }
 
-    /// Performs the next operation of a queue's lane, if its host's items allow it.
+    /// Performs the next operation of a queue's lane, if what it awaits is performed and its host's items allow it.
     pub fn perform(&mut self, at: QueueAt) -> Done
-        requires { NextMayFollow self.old self.old.lane.left }
+        requires { NextMayFollow self.old at (lane_at self.old at).left }
         ensures { Performs self.old at result self.new }
     {
-        if self.has_queue(at) {
-            self.perform_next()
-        } else {
-            Done::Idle
-        }
-    }
-
-    // Performs the next operation of the lane.
-    fn perform_next(&mut self) -> Done
-        requires { NextMayFollow self.old self.old.lane.left }
-        ensures { PerformsNext self.old self.old.lane.left result self.new }
-    {
-        if !self.lane_allows() {
+        let QueueAt { device, queue } = at;
+        if !self.goes_on(QueueAt { device, queue }) {
             return Done::Idle;
         }
-        match self.lane.next() {
+        let seat = QueueAt { device, queue }.seat();
+        match self.lanes[seat].next() {
             None => Done::Idle,
             Some(task) => {
-                let what = perform_first(&mut self.memory, task);
-                self.log.push_reserved(WorkEntry::Op {
-                    at: sync_queue(),
-                    what,
-                });
+                let what = perform_on(&mut self.memory, device, task);
+                let at = QueueAt { device, queue };
+                self.log.push_reserved(WorkEntry::Op { at, what });
                 Done::Op
             }
         }
     }
 
-    // Whether the host of the batch in the lane has the items that stand before it.
-    fn lane_allows(&self) -> bool
-        ensures { result ≡ lane_allows self.now }
+    // Whether the next operation of a queue can be performed now.
+    fn goes_on(&self, at: QueueAt) -> bool
+        ensures goes { result ≡ goes_on self.now at (lane_at self.now at).left }
+        ensures there { IsTrue result → (seat at < length self.now.lanes) × HasQueue self.now at }
     {
-        match self.lane.last() {
+        self.keeps_order();
+        let device = at.device;
+        match self.lane(at) {
             None => false,
-            Some(label) => label.items_done <= self.items[usize::from(label.host.number())],
+            Some(lane) => match lane.first() {
+                None => false,
+                Some(task) => self.await_allows(device, task) && self.host_allows(lane),
+            },
+        }
+    }
+
+    // Whether what a task awaits on its device is performed.
+    fn await_allows(&self, device: DeviceId, task: &Task) -> bool
+        ensures { result ≡ await_allows (taken_labels self.now) self.now.work device (op_of task.now) }
+    {
+        match task {
+            Task::Await { queue, number } => {
+                let awaited = QueueAt {
+                    device,
+                    queue: *queue,
+                };
+                self.reached(awaited, *number)
+            }
+            _ => true,
+        }
+    }
+
+    // Whether the host of the last batch of a lane has the items that stand before it.
+    fn host_allows(&self, lane: &Lane) -> bool
+        requires { All (λ l. l.host < MAX_HOSTS) lane.now.taken }
+        ensures { result ≡ host_allows (last_of lane.now.taken) self.now.work }
+    {
+        match lane.last() {
+            None => false,
+            Some(label) => label.items_done <= self.items_of(label.host),
         }
     }
 
@@ -375,14 +410,31 @@ impl Work {
     }
 }
 
-// Performs a task on the first device, and gives its operation back.
-fn perform_first(memory: &mut Memory, task: Task) -> Op
-    requires device { 0 < length memory.old.devices }
-    requires allowed { IsAllowed memory.old 0 task }
-    ensures op { result ≡ op_of task }
-    ensures performed { PerformsOn 0 (op_of task) memory.old memory.new }
+// So many lanes as there are queues of so many devices, of which none took a batch.
+fn lanes_of(alloc: Global, devices: u8) -> Result<Vec<Lane>, Fault>
+    ensures count { IfOk result (λ lanes. length lanes.items ≡ devices * QUEUES) }
+    ensures fresh { IfOk result (λ lanes. All IsFresh lanes.items) }
+    ensures fault { IfErr result (λ f. f ≡ Fault.Memory) }
 {
-    memory.do_op(DeviceId::new(0), task)
+    let mut lanes = Vec::new(alloc);
+    for _ in 0..u16::from(devices) * u16::from(QUEUES) {
+        lanes.push(Lane::new(alloc))?;
+    }
+    Ok(lanes)
+}
+
+// Performs a task on a device, and gives its operation back. What has no effect on the memory doesn't go there.
+fn perform_on(memory: &mut Memory, device: DeviceId, task: Task) -> Op
+    requires device { device < length memory.old.devices }
+    requires allowed { IsAllowed memory.old device task }
+    ensures op { result ≡ op_of task }
+    ensures performed { PerformsOn device (op_of task) memory.old memory.new }
+{
+    match task {
+        Task::Await { queue, number } => Op::Await { queue, number },
+        Task::Close => Op::Close,
+        task => memory.do_op(device, task),
+    }
 }
 
 // The values of a range of a host array, in a vector that has room for them.
