@@ -1,14 +1,16 @@
 -- What a directive is refused for, what it places, and what holds of a place once it is accepted.
 use Rattle.std.proofs.Common.{inl, inr, subst, ◌≡◌, ℕ, ◌+◌, ◌*◌, ◌<◌, ◌≤◌, Bool, true, false, List, [], ◌∷◌, ◌++◌, length, map, Option, Some, None, refl, sym, ap, ◌∙◌, arith}
 use Rattle.std.specs.Prelude.{◌||◌, ◌==◌, nat_lt, nat_le, All, IfSome}
+use Rattle.std.specs.List.{flat_map}
 use Rattle.std.specs.Option.{option_to_list}
 use Rattle.std.proofs.lemmas.Bool.{eq-eqb, or_parts, ltb-false, leb-false, le-leb, lt-leb}
 use Rattle.std.proofs.lemmas.Bool.Decides.{eqb_tells}
 use Rattle.std.proofs.lemmas.List.{length-map, append-nil}
-use Rattle.std.proofs.lemmas.List.Elements.{All-cons, All-nil}
+use Rattle.std.proofs.lemmas.List.Elements.{All-cons, All-head, All-nil, All-tail}
 use Rattle.acc_base.specs.declared.fault.Fault.{Fault}
-use Rattle.acc_base.specs.declared.fault.Fault.TheVariants.{BadDevice, TooMany, NoRegion}
+use Rattle.acc_base.specs.declared.fault.Fault.TheVariants.{BadAsync, BadDevice, TooMany, NoRegion}
 use Rattle.acc_base.specs.declared.ids.QueueAt.{QueueAt}
+use Rattle.acc_base.specs.declared.range.Range.{Range}
 use Rattle.acc_base.specs.Configurations.{Configuration}
 use Rattle.acc_kernel.specs.Kernels.{Loop}
 use Rattle.acc_present.specs.declared.table.TheConstants.{COUNTER_LIMIT}
@@ -17,6 +19,7 @@ use Rattle.acc_present.specs.declared.change.Change.{Change}
 use Rattle.acc_present.specs.declared.change.Change.TheVariants.{StructuredDown}
 use Rattle.acc_present.specs.Marks.{Mark}
 use Rattle.acc_present.specs.Lifetimes.{opened}
+use Rattle.acc_present.specs.Notes.{Note, Noted, HasNotes}
 use Rattle.acc_present.specs.Presences.{presences}
 use Rattle.acc_present.specs.Tables.{Present, is_table}
 use Rattle.acc_present.proofs.Balancing.{legal}
@@ -29,17 +32,23 @@ use Rattle.acc_place.specs.declared.directive.Kind.TheVariants as kind
 use Rattle.acc_place.specs.declared.directive.Region.{Region}
 use Rattle.acc_place.specs.declared.directive.TheConstants.{MAX_ITEMS, MAX_DIRECTIVES}
 use Rattle.acc_place.specs.Accepting.{fault_at, first_fault, fault_where, is_deep, is_outside, refusal}
-use Rattle.acc_place.specs.Batches.{batch_of, grouped, labelled, next_number, runs, runs_by}
+use Rattle.acc_place.specs.Batches.{grouped, labelled, operations_of, next_number, runs, runs_by}
 use Rattle.acc_place.specs.Counts.{IsEnteredBy, entered_ranges}
-use Rattle.acc_place.specs.Histories.{after_directive}
+use Rattle.acc_place.specs.declared.directive.PlaceEntry.{PlaceEntry}
+use Rattle.acc_place.specs.Histories.{after_directive, standing, AllAccepted}
+use Rattle.acc_place.specs.Noting.{ended_range, notes_on}
 use Rattle.acc_place.specs.Places.{IsTiedOn}
 use Rattle.acc_place.specs.Plans.{label_for}
 use Rattle.acc_place.specs.Regions.{open_region, regions_on}
-use Rattle.acc_place.specs.Standings.{Asked, Standing, Subject, Walk, all_asked, all_visits, change_by, ends_by, loop_of, marks_after, marks_behind, subject_by, visits, walk_of, walk_on, with_marks}
+use Rattle.acc_place.specs.Targets.{has_bad_queue, waits_on_too_many}
+use Rattle.acc_place.specs.Standings.{Asked, Standing, Subject, Walk, all_asked, all_visits, change_by, ends_by, loop_of, marks_after, marks_behind, marks_between, subject_by, visits, walk_of, walk_on, with_marks}
 use Rattle.acc_place.specs.Walks.{Holding, device_by, holding, holding_after, holding_after_all, holding_between, holding_behind, ends_of, opens_one, fault_or, limit_fault, first_fault_in, past_fault, all_steps, run_in, marked_ops, AllHeldFor, AllLow, HasRoomFor, AllEntered, AllFine}
 use Rattle.acc_place.proofs.Entered.{entered_after, entered_ends, entered_subject, fine_left, held_between}
 use Rattle.acc_place.proofs.RegionsOn.{regions_beside, subject_device}
-use Rattle.acc_place.proofs.Visits.{holding_of, faults_are, all_fine, marks_are, legal_all, ops_are, IsWalk}
+use Rattle.acc_place.proofs.Awaiting.{notes_beside}
+use Rattle.acc_place.proofs.Finding.{walked, IsWalked as IsWalkOf}
+use Rattle.acc_place.proofs.Uses.{ended_uses}
+use Rattle.acc_place.proofs.Visits.{holding_of, ended_ranges_are, faults_are, all_fine, marks_are, legal_all, ops_are, IsWalk}
 use Rattle.acc_place.proofs.Walking.{AllLow-by, AllLow-fewer, low_left, opened_left, opened-most}
 
 -- what a directive acts on
@@ -56,17 +65,18 @@ device_in st host d = (subject_of st host d).device
 abbrev pub IsTiedAt : Configuration → Standing → ℕ → Directive → Present → ℕ → Type 0
 IsTiedAt config st host d t blocks = IsTiedOn config st (device_in st host d) t blocks
 
-walk_is : (st : Standing) (host : ℕ) (d : Directive) → walk_of st host d ≡ walk_on (subject_of st host d) d.kind
+walk_is : (st : Standing) (host : ℕ) (d : Directive) → walk_of st host d ≡ walk_on (subject_of st host d) d
 unfolding walk_of
 walk_is st host d = refl
 
 -- ## Refusals
 
-two_first : (b c : Bool) (fs : List (Option Fault)) → first_fault (fault_where b TooMany ∷ fault_where c NoRegion ∷ fs)
-    ≡ fault_or (first_fault (fault_where b TooMany ∷ fault_where c NoRegion ∷ [])) (first_fault fs)
-two_first true c fs = refl
-two_first false true fs = refl
-two_first false false fs = refl
+three_first : (a b c : Bool) (fs : List (Option Fault)) → first_fault (fault_where a BadAsync ∷ fault_where b TooMany ∷ fault_where c NoRegion ∷ fs)
+    ≡ fault_or (first_fault (fault_where a BadAsync ∷ fault_where b TooMany ∷ fault_where c NoRegion ∷ [])) (first_fault fs)
+three_first true b c fs = refl
+three_first false true c fs = refl
+three_first false false true fs = refl
+three_first false false false fs = refl
 
 -- the faults of the items before that of the loop
 first_one : (f : Option Fault) → first_fault (f ∷ []) ≡ f
@@ -109,7 +119,7 @@ refusal_is config st host d here =
     let faults = map (fault_at config d.kind) (visits (st.marks s.device) (all_asked (change_by d.kind) s.items)) in
     let past = past_fault (loop_of d.kind) s.items in
     rw (lt-leb config.devices d.device here, length-map s.items, items_asked (change_by d.kind) s.items)
-    (two_first (nat_lt MAX_ITEMS (length s.items) || (is_deep d.kind host st.regions || nat_le MAX_DIRECTIVES st.accepted)) (is_outside d.kind (open_region host st.regions)) (faults ++ past ∷ [])
+    (three_first (has_bad_queue d) (nat_lt MAX_ITEMS (length s.items) || (waits_on_too_many d.waits || (is_deep d.kind host st.regions || nat_le MAX_DIRECTIVES st.accepted))) (is_outside d.kind (open_region host st.regions)) (faults ++ past ∷ [])
     ∙ ap (fault_or (limit_in st host d)) (first_behind faults (past ∷ []) ∙ ap (fault_or (first_fault faults)) (first_one past)))
 
 -- a directive that passes no limit
@@ -117,16 +127,18 @@ pub record IsWithin (accepted count : ℕ) : Type 0 where
   pub short : count ≤ MAX_ITEMS
   pub few : accepted < MAX_DIRECTIVES
 
-none_of_two : (b c : Bool) → first_fault (fault_where b TooMany ∷ fault_where c NoRegion ∷ []) ≡ None → b ≡ false
-none_of_two true c h = absurd cc
-none_of_two false c h = refl
+none_of_two : (a b c : Bool) → first_fault (fault_where a BadAsync ∷ fault_where b TooMany ∷ fault_where c NoRegion ∷ []) ≡ None → b ≡ false
+none_of_two true b c h = absurd cc
+none_of_two false true c h = absurd cc
+none_of_two false false c h = refl
 
 pub is_within : (accepted : ℕ) (rs : List Region) (host : ℕ) (d : Directive) (count : ℕ) → limit_fault accepted rs host d count ≡ None → IsWithin accepted count
 unfolding limit_fault
 is_within accepted rs host d count none =
-    let many = none_of_two (nat_lt MAX_ITEMS count || (is_deep d.kind host rs || nat_le MAX_DIRECTIVES accepted)) (is_outside d.kind (open_region host rs)) none in
-    let counts = or_parts (nat_lt MAX_ITEMS count) (is_deep d.kind host rs || nat_le MAX_DIRECTIVES accepted) many in
-    let others = or_parts (is_deep d.kind host rs) (nat_le MAX_DIRECTIVES accepted) counts.1 in
+    let many = none_of_two (has_bad_queue d) (nat_lt MAX_ITEMS count || (waits_on_too_many d.waits || (is_deep d.kind host rs || nat_le MAX_DIRECTIVES accepted))) (is_outside d.kind (open_region host rs)) none in
+    let counts = or_parts (nat_lt MAX_ITEMS count) (waits_on_too_many d.waits || (is_deep d.kind host rs || nat_le MAX_DIRECTIVES accepted)) many in
+    let queues = or_parts (waits_on_too_many d.waits) (is_deep d.kind host rs || nat_le MAX_DIRECTIVES accepted) counts.1 in
+    let others = or_parts (is_deep d.kind host rs) (nat_le MAX_DIRECTIVES accepted) queues.1 in
     record {
       short = ltb-false MAX_ITEMS count counts.0;
       few = leb-false MAX_DIRECTIVES accepted others.1;
@@ -276,10 +288,9 @@ run_is (Some k) items marks = refl
 
 pub batch_is : (config : Configuration) (st : Standing) (host : ℕ) (d : Directive) (t : Present) (blocks : ℕ) → IsTiedAt config st host d t blocks
     → IsFree config st host d t blocks
-    → batch_of st (walk_of st host d)
+    → operations_of st (walk_of st host d)
     ≡ marked_ops (run_in (loop_of d.kind) (items_in st host d) (holding_between d.kind (holding t.presences blocks) (items_in st host d)).presences)
     (all_steps d.kind (holding t.presences blocks) (items_in st host d))
-unfolding batch_of
 batch_is config st host d t blocks tied free =
     let s = subject_of st host d in
     let sub = free.subject in
@@ -295,6 +306,37 @@ batch_is config st host d t blocks tied free =
     ∙ (ap (λ es. grouped (run_in (loop_of d.kind) s.items (holding_between d.kind (holding t.presences blocks) s.items).presences) (visits ms (all_asked change s.items) ++ visits between es)) (ends_are d.kind s.items)
     ∙ (ops_are config.capacity change (Some StructuredDown) ms s.items (ends_of d.kind s.items) _ walked.first walked.later
     ∙ ap (λ h. marked_ops (run_in (loop_of d.kind) s.items (holding_between d.kind (holding t.presences blocks) s.items).presences) (all_steps d.kind h s.items)) (sym sub.held))))
+
+-- the blocks that its steps ended, each with the item's range
+pub ended_is : (config : Configuration) (st : Standing) (host : ℕ) (d : Directive) (t : Present) (blocks : ℕ) → IsTiedAt config st host d t blocks
+    → IsFree config st host d t blocks
+    → flat_map ended_uses (all_visits (st.marks (device_in st host d)) (walk_of st host d)) ≡ flat_map ended_range (all_steps d.kind (holding t.presences blocks) (items_in st host d))
+ended_is config st host d t blocks tied free =
+    let s = subject_of st host d in
+    let ms = st.marks s.device in
+    let change = change_by d.kind in
+    let between = marks_after ms (all_asked change s.items) in
+    let walked = is_walked config st host d t blocks free in
+    ap (λ (w : Walk). flat_map ended_uses (all_visits ms w)) (walk_is st host d)
+    ∙ (ap (λ es. flat_map ended_uses (visits ms (all_asked change s.items) ++ visits between es)) (ends_are d.kind s.items)
+    ∙ (ended_ranges_are config.capacity change (Some StructuredDown) ms s.items (ends_of d.kind s.items) walked.first walked.later
+    ∙ ap (λ h. flat_map ended_range (all_steps d.kind h s.items)) (sym free.subject.held)))
+
+-- what its device has between its items and their ends
+pub middle_is : (config : Configuration) (st : Standing) (host : ℕ) (d : Directive) (t : Present) (blocks : ℕ) → IsTiedAt config st host d t blocks → refusal config st host d ≡ None
+    → holding_of (marks_between (st.marks (device_in st host d)) (walk_of st host d)) ≡ holding_between d.kind (holding t.presences blocks) (items_in st host d)
+unfolding walk_of
+middle_is config st host d t blocks tied accepted = (is_walked config st host d t blocks (is_free config st host d t blocks tied accepted)).between
+
+-- its walk, behind the accepted directives
+pub walk_known : (config : Configuration) (history : List PlaceEntry) (counts : List ℕ) (host : ℕ) (d : Directive) (t : Present) (blocks : ℕ) → AllAccepted config history counts
+    → IsTiedAt config (standing config history counts) host d t blocks → refusal config (standing config history counts) host d ≡ None
+    → IsWalkOf config (standing config history counts) (walk_of (standing config history counts) host d)
+unfolding walk_of
+walk_known config history counts host d t blocks all tied accepted =
+    let st = standing config history counts in
+    let w = is_walked config st host d t blocks (is_free config st host d t blocks tied accepted) in
+    walked config history counts host d all accepted tied.legal w.later.allowed
 
 -- ## Room
 
@@ -353,8 +395,8 @@ label_at P at_queue number host items_done (op ∷ ops) holds = holds
 -- the table of the device where it acts
 pub tied_after : (config : Configuration) (st : Standing) (d : Directive) (host items_done : ℕ) (t after : Present) (blocks next : ℕ) → IsTiedAt config st host d t blocks → IsFree config st host d t blocks
     → holding after.presences next ≡ holding_behind d.kind (holding t.presences blocks) (items_in st host d) → after.capacity ≡ t.capacity
-    → IsTiedOn config (after_directive st host items_done d) (device_in st host d) after next
-tied_after config st d host items_done t after blocks next tied free is same =
+    → HasNotes (notes_on (device_in st host d) (after_directive st host items_done d).labels) after.notes → IsTiedOn config (after_directive st host items_done d) (device_in st host d) after next
+tied_after config st d host items_done t after blocks next tied free is same noted =
     let s = subject_of st host d in
     let change = change_by d.kind in
     let before = holding t.presences blocks in
@@ -379,6 +421,7 @@ tied_after config st d host items_done t after blocks next tied free is same =
     record {
       capacity = same ∙ tied.capacity;
       presences = ap (λ (h : Holding). h.presences) all;
+      noted = noted;
       legal = rw own (legal_all config.capacity down mid ends later.allowed later.entered later.fine);
       opened = ap (λ (h : Holding). h.opened) all;
       entered =
@@ -389,6 +432,12 @@ tied_after config st d host items_done t after blocks next tied free is same =
       low = AllLow-fewer (MAX_ITEMS * st.accepted + MAX_ITEMS) (MAX_ITEMS * (st.accepted + 1)) 0 0 after.presences (omega arith) low2;
     }
 
+noted_alike : (f g : Range → ℕ → Note) (ns : List Noted) → ((r : Range) (b : ℕ) → f r b ≡ g r b) → HasNotes f ns → HasNotes g ns
+noted_alike f g [] same h = All-nil (λ (n : Noted). n.note ≡ g n.range n.block)
+noted_alike f g (n ∷ ns) same h =
+    All-cons (λ (k : Noted). k.note ≡ g k.range k.block) n ns (All-head (λ (k : Noted). k.note ≡ f k.range k.block) n ns h ∙ same n.range n.block)
+    (noted_alike f g ns same (All-tail (λ (k : Noted). k.note ≡ f k.range k.block) n ns h))
+
 -- and that of every other device
 pub tied_beside : (config : Configuration) (st : Standing) (d : Directive) (host items_done device : ℕ) (t : Present) (blocks : ℕ) → (device_in st host d ≡ device → ⊥) → st.accepted < MAX_DIRECTIVES
     → IsTiedOn config st device t blocks → IsTiedOn config (after_directive st host items_done d) device t blocks
@@ -398,10 +447,13 @@ tied_beside config st d host items_done device t blocks other few tied =
     let beside : (s.device == device) ≡ false = not_eqb s.device device other in
     let same : (after_directive st host items_done d).marks device ≡ st.marks device =
     ap (λ (w : Walk). with_marks w.device (marks_behind (st.marks w.device) w) st.marks device) (walk_is st host d) ∙ rw away refl in
+    let notes : (r : Range) (b : ℕ) → notes_on device (after_directive st host items_done d).labels r b ≡ notes_on device st.labels r b =
+    λ r b. notes_beside st (walk_of st host d) host items_done device b (ap (λ (w : Walk). device == w.device) (walk_is st host d) ∙ away) in
     let regions = regions_beside st.regions host d d.kind device (ap (λ n. n == device) (sym (subject_device st.lengths st.regions host d d.kind)) ∙ beside) in
     record {
       capacity = tied.capacity;
       presences = tied.presences ∙ ap presences (sym same);
+      noted = noted_alike (notes_on device st.labels) (notes_on device (after_directive st host items_done d).labels) t.notes (λ r b. sym (notes r b)) tied.noted;
       legal = rw same tied.legal;
       opened = tied.opened ∙ ap (λ ms. length (opened ms)) (sym same);
       entered = rw regions tied.entered;

@@ -17,7 +17,9 @@ use Rattle.acc_place.specs.declared.directive.Kind.TheVariants.{Data, EndData, E
 use Rattle.acc_place.specs.declared.directive.PlaceEntry.{PlaceEntry}
 use Rattle.acc_place.specs.declared.directive.PlaceEntry.TheVariants as entry
 use Rattle.acc_place.specs.declared.directive.Region.{Region}
+use Rattle.acc_place.specs.declared.directive.Target.TheVariants.{Plain}
 use Rattle.acc_place.specs.declared.directive.TheConstants.{MAX_ITEMS, MAX_DIRECTIVES}
+use Rattle.acc_place.specs.declared.directive.Waits.TheVariants.{Nothing}
 use Rattle.acc_place.specs.Counts.{AcceptedAreCounted, EnteredCanBeLeft}
 use Rattle.acc_place.specs.Histories.{AllAccepted, after_directive, standing}
 use Rattle.acc_place.specs.Places.{IsTiedOn}
@@ -40,7 +42,7 @@ tables : (config : Configuration) (history : List PlaceEntry) (counts : List ℕ
 unfolding standing
 tables config [] counts device all =
     let empty : Present = record { presences = []; notes = []; capacity = config.capacity; room = 0 } in
-    record { table = empty; blocks = 0; tied = first_tied config device empty 0 refl refl refl }
+    record { table = empty; blocks = 0; tied = first_tied config device empty 0 refl refl refl refl }
 tables config (entry.Accepted host d ∷ before) counts device all =
     let st = standing config before (drop 1 counts) in
     let h = tables config before (drop 1 counts) (device_in st host d) all.1 in
@@ -50,7 +52,7 @@ tables config (entry.Accepted host d ∷ before) counts device all =
     let after : Present = record { presences = next.presences; notes = []; capacity = h.table.capacity; room = 0 } in
     elim (eqb_tells (device_in st host d) device) [
       | inl here ↦
-          let own = tied_after config st d host items_done h.table after h.blocks next.opened h.tied free refl refl in
+          let own = tied_after config st d host items_done h.table after h.blocks next.opened h.tied free refl refl (All-nil _) in
           record { table = after; blocks = next.opened; tied = subst (λ n. IsTiedOn config (after_directive st host items_done d) n after next.opened) here.1 own }
       | inr away ↦
           let other = tables config before (drop 1 counts) device all.1 in
@@ -117,25 +119,25 @@ no_faults config h (i ∷ is) inside entered =
     ap (λ f. fault_or f (first_fault_in config EndData (holding_after (Some StructuredDown) i.range h) is)) (no_fault config h.presences i (All-head P i is inside) entered.0)
     ∙ no_faults config (holding_after (Some StructuredDown) i.range h) is (All-tail P i is inside) entered.1
 
-no_limit : (accepted : ℕ) (rs : List Region) (host : ℕ) (d : Directive) (count : ℕ) (r : Region) → accepted < MAX_DIRECTIVES → d.kind ≡ EndData
+no_limit : (accepted : ℕ) (rs : List Region) (host : ℕ) (d : Directive) (count : ℕ) (r : Region) → accepted < MAX_DIRECTIVES → d.kind ≡ EndData → d.target ≡ Plain → d.waits ≡ Nothing
     → open_region host rs ≡ Some r → count ≤ MAX_ITEMS → limit_fault accepted rs host d count ≡ None
 unfolding limit_fault
-no_limit accepted rs host d count r few end inside short =
+no_limit accepted rs host d count r few end plain nothing inside short =
     let short_test : nat_lt MAX_ITEMS count ≡ false = grind (arith, nat_tests, short) in
     let few_test : nat_le MAX_DIRECTIVES accepted ≡ false = grind (arith, nat_tests, few) in
-    rw (end, inside, short_test, few_test) refl
+    rw (end, plain, nothing, inside, short_test, few_test) refl
 
 at_end : (k : Kind) (h : Holding) (items : List Item) → k ≡ EndData → AllEntered (change_by k) h items → AllEntered (Some StructuredDown) h items
 at_end k h items is entered = rw is at entered
 
 pub entered_left : EnteredCanBeLeft
-entered_left config history counts host d r all few end here inside =
+entered_left config history counts host d r all few end plain nothing here inside =
     let st = standing config history counts in
     let h = tables config history counts (device_in st host d) all in
     let xs = items_in st host d in
     let sound = open_has (IsSound config) host st.regions r inside (all_sound config history counts all) in
     let items : xs ≡ r.items = ap (λ k. (subject_by st.lengths st.regions host d k).items) end ∙ ap (λ o. (left_by d o).items) inside in
-    let limit = no_limit st.accepted st.regions host d (length xs) r few end inside (rw items sound.0) in
+    let limit = no_limit st.accepted st.regions host d (length xs) r few end plain nothing inside (rw items sound.0) in
     let held = holding h.table.presences h.blocks in
     let entered : AllEntered (Some StructuredDown) held xs = at_end d.kind held xs end (entered_in st host d h.table h.blocks h.tied) in
     refused_by config st host d h.table h.blocks h.tied here

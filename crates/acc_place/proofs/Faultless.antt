@@ -2,9 +2,10 @@
 use Rattle.std.proofs.Common.{◌≡◌, ℕ, Bool, true, false, List, [], ◌∷◌, ◌++◌, map, refl, None, Some, Option}
 use Rattle.std.specs.Prelude.{not, nat_le}
 use Rattle.acc_base.specs.declared.fault.Fault.{Fault}
-use Rattle.acc_base.specs.declared.fault.Fault.TheVariants.{BadDevice, TooMany, OutsideRange, NoRegion}
+use Rattle.acc_base.specs.declared.fault.Fault.TheVariants.{BadDevice, BadAsync, TooMany, OutsideRange, NoRegion}
 use Rattle.acc_base.specs.Configurations.{Configuration}
 use Rattle.acc_place.specs.Directives.{Directive}
+use Rattle.acc_place.specs.Targets.{has_bad_queue}
 use Rattle.acc_place.specs.Regions.{open_region}
 use Rattle.acc_place.specs.Standings.{Standing, walk_of, visits}
 use Rattle.acc_place.specs.Accepting.{first_fault, fault_where, fault_at, refusal, has_too_many, is_outside, is_past}
@@ -33,7 +34,8 @@ no_fault_at false f h = cc
 -- An accepted directive has none of the faults.
 pub record HasNoFault (config : Configuration) (st : Standing) (host : ℕ) (d : Directive) : Type 0 where
   pub device : nat_le config.devices d.device ≡ false
-  pub few : has_too_many st host d.kind (walk_of st host d) ≡ false
+  pub queues : has_bad_queue d ≡ false
+  pub few : has_too_many st host d (walk_of st host d) ≡ false
   pub items : first_fault (map (fault_at config d.kind) (visits (st.marks (walk_of st host d).device) (walk_of st host d).items)) ≡ None
 
 pub no_fault_of : (config : Configuration) (st : Standing) (host : ℕ) (d : Directive) → refusal config st host d ≡ None → HasNoFault config st host d
@@ -43,12 +45,15 @@ no_fault_of config st host d h =
     let items = map (fault_at config d.kind) (visits (st.marks walk.device) walk.items) in
     let past = fault_where (is_past walk.runs (map (λ a. a.item) walk.items)) OutsideRange ∷ [] in
     let region = fault_where (is_outside d.kind (open_region host st.regions)) NoRegion in
-    let limits = fault_where (has_too_many st host d.kind walk) TooMany in
-    let first = first_fault_none (fault_where (nat_le config.devices d.device) BadDevice) (limits ∷ region ∷ (items ++ past)) h in
-    let second = first_fault_none limits (region ∷ (items ++ past)) first.1 in
-    let third = first_fault_none region (items ++ past) second.1 in
+    let limits = fault_where (has_too_many st host d walk) TooMany in
+    let bad = fault_where (has_bad_queue d) BadAsync in
+    let first = first_fault_none (fault_where (nat_le config.devices d.device) BadDevice) (bad ∷ limits ∷ region ∷ (items ++ past)) h in
+    let second = first_fault_none bad (limits ∷ region ∷ (items ++ past)) first.1 in
+    let third = first_fault_none limits (region ∷ (items ++ past)) second.1 in
+    let fourth = first_fault_none region (items ++ past) third.1 in
     record {
       device = no_fault (nat_le config.devices d.device) BadDevice first.0;
-      few = no_fault (has_too_many st host d.kind walk) TooMany second.0;
-      items = no_fault_among items past third.1;
+      queues = no_fault (has_bad_queue d) BadAsync second.0;
+      few = no_fault (has_too_many st host d walk) TooMany third.0;
+      items = no_fault_among items past fourth.1;
     }

@@ -1,6 +1,7 @@
 -- What a place knows of its standing, as a plan and an accepted directive need it.
 use Rattle.std.proofs.Common.{inl, inr, subst, ◌≡◌, ℕ, zero, suc, ◌+◌, ◌-◌, ◌*◌, ◌<◌, ◌≤◌, Bool, true, false, cond, List, [], ◌∷◌, ◌++◌, length, map, get_or, Option, Some, None, refl, sym, ap, ◌∙◌, arith}
-use Rattle.std.specs.Prelude.{All, IfSome, reverse, replicate, drop, take, is_some, slice_get, slice_index_or, slice_set, ◌||◌}
+use Rattle.std.specs.Prelude.{All, IfSome, max, if◌then◌else◌, reverse, drop, take, is_some, slice_get, slice_index_or, slice_set, ◌||◌}
+use Rattle.std.specs.List.{flat_map}
 use Rattle.std.specs.Option.{option_map, option_to_list}
 use Rattle.std.proofs.lemmas.Bool.Decides.{eqb_tells}
 use Rattle.std.proofs.lemmas.List.{length-reverse, length-append, length-set, reverse-append}
@@ -11,12 +12,15 @@ use Rattle.acc_base.specs.declared.fault.Fault.TheVariants.{Memory}
 use Rattle.acc_base.specs.declared.ids.QueueAt.{QueueAt}
 use Rattle.acc_base.specs.declared.range.Range.{Range}
 use Rattle.acc_base.specs.Configurations.{Configuration}
-use Rattle.acc_base.specs.Queues.{queue_count, seat}
+use Rattle.acc_base.specs.declared.ids.TheConstants.{QUEUES}
+use Rattle.acc_base.specs.Queues.{every_queue, queue_count, seat}
 use Rattle.acc_base.specs.Ranges.{range_contains}
 use Rattle.acc_batch.specs.declared.operation.Label.{Label}
 use Rattle.acc_batch.specs.declared.operation.Op.{Op}
-use Rattle.acc_batch.specs.Labels.{on_queue}
+use Rattle.acc_batch.specs.Awaits.{with_awaits}
+use Rattle.acc_batch.specs.Labels.{has_number, on_queue}
 use Rattle.acc_batch.proofs.Seats.{set_here, set_there}
+use Rattle.acc_present.specs.Notes.{HasNotes}
 use Rattle.acc_present.specs.Lifetimes.{opened, live}
 use Rattle.acc_present.specs.Presences.{Presence, presences, holder, is_present}
 use Rattle.acc_present.specs.Tables.{Present}
@@ -32,16 +36,22 @@ use Rattle.acc_place.specs.declared.directive.Region.{Region}
 use Rattle.acc_place.specs.declared.directive.TheConstants.{MAX_ITEMS}
 use Rattle.acc_place.specs.declared.judge.Known.{Known}
 use Rattle.acc_place.specs.Accepting.{refusal}
-use Rattle.acc_place.specs.Batches.{answer_of, batch_of, is_answered, next_number, placed_batch, walk_at}
-use Rattle.acc_place.specs.Histories.{at_first, standing, after_directive}
+use Rattle.acc_place.specs.Batches.{answer_of, batch_of, count_of, counts_by, counts_queues, is_answered, next_number, operations_of, placed_batch, walk_at}
+use Rattle.acc_place.specs.Histories.{at_first, standing, after_directive, AllAccepted}
 use Rattle.acc_place.specs.Places.{IsPlace, IsQueue, IsThere, IsTied, IsTiedOn, nth_batch, queue_in, queues_after}
 use Rattle.acc_place.specs.Plans.{KeptByAccepting, KeptByPlanning, KeptByTaking, PlaceView, PlanView, Room, standing_in, IsRefusal, IsRoomy, IsPlanOf, Fits, label_for, label_in, opened_region, place_after, queue_for}
 use Rattle.acc_place.specs.Loops.{lengths_of}
 use Rattle.acc_place.specs.Regions.{regions_after}
-use Rattle.acc_place.specs.Standings.{Standing, Walk, loop_of, subject_by, walk_of}
-use Rattle.acc_place.specs.Trials.{fault_by, held_by, items_by, ops_by, IsKnown}
+use Rattle.acc_place.specs.Standings.{Standing, Walk, all_visits, loop_of, subject_by, walk_of}
+use Rattle.acc_place.specs.Noting.{awaits_from, ended_range, last_made, last_used, note_found, notes_on, used_ranges}
+use Rattle.acc_place.specs.Targets.{is_alone, queue_by, queues_named}
+use Rattle.acc_place.specs.Trials.{behind_noted, counts_in, fault_by, held_by, items_by, named_count, next_in, number_in, ops_by, steps_by, IsKnown}
 use Rattle.acc_place.specs.Walks.{Holding, device_by, holding, holding_between, holding_behind, limit_fault, fault_or, first_fault_in, past_fault, run_in, marked_ops, all_steps}
-use Rattle.acc_place.proofs.Accepted.{IsFree, IsTiedAt, accepted_device, device_in, few_for, items_in, label_at, labels_after, low_for, refused_by, is_free, tied_after, tied_beside, batch_is}
+use Rattle.acc_place.proofs.Accepted.{IsFree, IsTiedAt, accepted_device, device_in, few_for, items_in, label_at, labels_after, low_for, refused_by, is_free, tied_after, tied_beside, batch_is, ended_is, walk_known}
+use Rattle.acc_place.proofs.Awaiting.{batch_planned}
+use Rattle.acc_place.proofs.Raising.{same_for}
+use Rattle.acc_place.proofs.Sound.{by_kind_low}
+use Rattle.acc_place.proofs.Uses.{ended_uses}
 use Rattle.acc_place.proofs.Entered.{there_after, there_device}
 use Rattle.acc_place.proofs.Queues.{none_placed, one_more, queue_there, seat_low}
 use Rattle.acc_place.proofs.RegionsOn.{subject_device}
@@ -77,18 +87,18 @@ pub record IsKnownOf (p : PlaceView) (host : ℕ) (d : Directive) (k : Known) : 
   pub regions : k.regions.now ≡ (standing_in p).regions
   pub accepted : k.accepted ≡ (standing_in p).accepted
   pub at_queue : k.at ≡ queue_for p host d
-  pub next : k.next_batch ≡ next_number (queue_for p host d) (standing_in p).labels
+  pub labelled : (at : QueueAt) → queue_in k.labels.now.queues at ≡ on_queue at (standing_in p).labels
 
 device_at : (p : PlaceView) (host : ℕ) (d : Directive) → (queue_for p host d).device ≡ device_in (standing_in p) host d
 unfolding walk_of
 device_at p host d = refl
 
 -- where it acts
-pub queue_is : (p : PlaceView) (host : ℕ) (d : Directive) → queue_for p host d ≡ record { device = device_by (standing_in p).regions host d d.kind; queue = 0 }
+pub queue_is : (p : PlaceView) (host : ℕ) (d : Directive) → queue_for p host d ≡ record { device = device_by (standing_in p).regions host d d.kind; queue = queue_by d.kind d }
 unfolding walk_of
 queue_is p host d =
     let st = standing_in p in
-    ap (λ n. record { device = n; queue = 0 }) (device_at p host d ∙ subject_device st.lengths st.regions host d d.kind)
+    ap (λ n. record { device = n; queue = queue_by d.kind d }) (device_at p host d ∙ subject_device st.lengths st.regions host d d.kind)
 
 pub known_in : (p : PlaceView) (host : ℕ) (d : Directive) (k : Known) → IsKnownOf p host d k → IsKnown k
 known_in p host d k h =
@@ -111,8 +121,8 @@ own_device p host d k h =
 pub known_of : (p : PlaceView) (host : ℕ) (d : Directive) (k : Known) (devices : List Device) (regions : List Region) (queues : List (List Label)) (n : ℕ) (v : Device) (at_queue : QueueAt)
     → IsPlace p.config p.history p.counts devices regions queues → d.device < p.config.devices → at_queue ≡ queue_for p host d → IsQueue p.config at_queue
     → n ≡ at_queue.device → v ≡ slice_index_or devices n v → k.config.now ≡ p.config → k.table.now ≡ v.table → k.opened ≡ v.opened → k.regions.now ≡ regions → k.accepted ≡ length p.history → k.at ≡ at_queue
-    → k.next_batch ≡ length (queue_in queues at_queue) + 1 → IsKnownOf p host d k
-known_of p host d k devices regions queues n v at_queue h here is there device found config table blocks open_regions accepted at_k next =
+    → k.labels.now.queues ≡ queues → IsKnownOf p host d k
+known_of p host d k devices regions queues n v at_queue h here is there device found config table blocks open_regions accepted at_k labels =
     let st = standing_in p in
     let get = slice_get_read devices (length devices) n v refl (omega (arith, device, there.0, h.tied.all_devices)) found in
     let own : IsTiedOn p.config st n v.table v.opened = h.tied.on_devices n v get in
@@ -124,7 +134,7 @@ known_of p host d k devices regions queues n v at_queue h here is there device f
       regions = open_regions ∙ sym h.tied.inside;
       accepted = accepted ∙ h.accepted;
       at_queue = at_k ∙ is;
-      next = next ∙ (ap (λ ls. length ls + 1) (h.tied.labelled at_queue) ∙ ap (λ q. length (on_queue q st.labels) + 1) is);
+      labelled = λ at. ap (λ qs. queue_in qs at) labels ∙ h.tied.labelled at;
     }
 
 -- its items are the directive's
@@ -213,9 +223,9 @@ label_room p q devices regions queues tied fits =
     let at_queue = queue_for p q.host d in
     let here = accepted_device p.config st q.host d fits.accepted in
     let low : device_by regions q.host d d.kind < p.config.devices = there_device p.config q.host d d.kind regions here tied.there in
-    let same : at_queue ≡ record { device = device_by regions q.host d d.kind; queue = 0 } =
-    queue_is p q.host d ∙ ap (λ r. record { device = device_by r q.host d d.kind; queue = 0 }) tied.inside in
-    let there : IsQueue p.config at_queue = subst (λ a. IsQueue p.config a) (sym same) (low, omega arith) in
+    let same : at_queue ≡ record { device = device_by regions q.host d d.kind; queue = queue_by d.kind d } =
+    queue_is p q.host d ∙ ap (λ r. record { device = device_by r q.host d d.kind; queue = queue_by d.kind d }) tied.inside in
+    let there : IsQueue p.config at_queue = subst (λ a. IsQueue p.config a) (sym same) (low, by_kind_low d.kind d) in
     let listed : on_queue at_queue st.labels ≡ slice_index_or queues (seat at_queue) [] = sym (tied.labelled at_queue) ∙ queue_there queues at_queue there.1 in
     rw fits.labelled
     (label_at (λ a. (seat a < length queues) × (length (slice_index_or queues (seat a) []) < slice_index_or p.room.batches (seat a) 0)) at_queue (next_number at_queue st.labels) q.host q.items_done (batch_of st (walk_of st q.host d))
@@ -247,9 +257,10 @@ devices_after config before after devices device v all own others n w is = elim 
 tied_all : (p : PlaceView) (q : PlanView) (devices : List Device) (regions : List Region) (queues : List (List Label)) (v after : Device) → IsTied p.config (standing_in p) devices regions queues → Fits p q
     → slice_get devices (device_in (standing_in p) q.host q.directive) ≡ Some v
     → holding after.table.presences after.opened ≡ holding_behind q.directive.kind (holding v.table.presences v.opened) (items_in (standing_in p) q.host q.directive) → after.table.capacity ≡ v.table.capacity
+    → HasNotes (notes_on (device_in (standing_in p) q.host q.directive) (after_directive (standing_in p) q.host q.items_done q.directive).labels) after.table.notes
     → IsTied p.config (after_directive (standing_in p) q.host q.items_done q.directive) (slice_set devices (device_in (standing_in p) q.host q.directive) after) (regions_after q.host q.directive q.directive.kind regions) (queues_after queues q.label)
 unfolding walk_of
-tied_all p q devices regions queues v after tied fits at_device is same =
+tied_all p q devices regions queues v after tied fits at_device is same noted =
     let st = standing_in p in
     let d = q.directive in
     let device = device_in st q.host d in
@@ -257,7 +268,7 @@ tied_all p q devices regions queues v after tied fits at_device is same =
     let free = free_in p q v.table v.opened own fits in
     let walk = walk_of st q.host d in
     let low : device < p.config.devices = omega (arith, slice_get_within devices device v at_device, tied.all_devices) in
-    let there : IsQueue p.config (walk_at walk) = (low, omega arith) in
+    let there : IsQueue p.config (walk_at walk) = (low, by_kind_low d.kind d) in
     let labels : (after_directive st q.host q.items_done d).labels ≡ st.labels ++ option_to_list q.label =
     labels_after (walk_at walk) q.host q.items_done st.labels (batch_of st walk) ∙ ap (λ o. st.labels ++ option_to_list o) (sym fits.labelled) in
     let queued : IfSome q.label (λ l. IsQueue p.config l.at) =
@@ -266,7 +277,7 @@ tied_all p q devices regions queues v after tied fits at_device is same =
       all_devices = length-set devices device after ∙ tied.all_devices;
       on_devices =
           devices_after p.config st (after_directive st q.host q.items_done d) devices device after tied.on_devices
-          (tied_after p.config st d q.host q.items_done v.table after.table v.opened after.opened own free is same)
+          (tied_after p.config st d q.host q.items_done v.table after.table v.opened after.opened own free is same noted)
           (λ n w away on. tied_beside p.config st d q.host q.items_done n w.table w.opened away free.within.few on);
       inside = ap (regions_after q.host d d.kind) tied.inside;
       there = there_after p.config q.host d d.kind regions free.here tied.there;
@@ -281,14 +292,15 @@ tied_all p q devices regions queues v after tied fits at_device is same =
 accepted_place : (p : PlaceView) (q : PlanView) (devices : List Device) (regions : List Region) (queues : List (List Label)) (v after : Device) → IsPlace p.config p.history p.counts devices regions queues → Fits p q
     → slice_get devices (device_in (standing_in p) q.host q.directive) ≡ Some v
     → holding after.table.presences after.opened ≡ holding_behind q.directive.kind (holding v.table.presences v.opened) (items_in (standing_in p) q.host q.directive) → after.table.capacity ≡ v.table.capacity
+    → HasNotes (notes_on (device_in (standing_in p) q.host q.directive) (after_directive (standing_in p) q.host q.items_done q.directive).labels) after.table.notes
     → IsPlace p.config (Accepted q.host q.directive ∷ p.history) (q.items_done ∷ p.counts) (slice_set devices (device_in (standing_in p) q.host q.directive) after) (regions_after q.host q.directive q.directive.kind regions) (queues_after queues q.label)
-accepted_place p q devices regions queues v after h fits at_device is same =
+accepted_place p q devices regions queues v after h fits at_device is same noted =
     let st = standing_after p q in
     record {
       accepted = omega (arith, h.accepted, ap (λ (k : Standing). k.accepted) st);
       counted = omega (arith, h.counted);
       lawful = (fits.accepted, h.lawful);
-      tied = rw st (tied_all p q devices regions queues v after h.tied fits at_device is same);
+      tied = rw st (tied_all p q devices regions queues v after h.tied fits at_device is same noted);
     }
 
 abbrev pub viewed : Configuration → List PlaceEntry → List ℕ → Room → PlaceView
@@ -308,11 +320,12 @@ pub place_pushed : (config : Configuration) (history history2 : List PlaceEntry)
     → IsPlace config (reverse history) (reverse counts) devices regions queues → Fits (viewed config history counts room) q
     → slice_get devices (device_in (standing_in (viewed config history counts room)) q.host q.directive) ≡ Some v
     → holding after.table.presences after.opened ≡ holding_behind q.directive.kind (holding v.table.presences v.opened) (items_in (standing_in (viewed config history counts room)) q.host q.directive) → after.table.capacity ≡ v.table.capacity
+    → HasNotes (notes_on (device_in (standing_in (viewed config history counts room)) q.host q.directive) (after_directive (standing_in (viewed config history counts room)) q.host q.items_done q.directive).labels) after.table.notes
     → IsPlace config (reverse history2) (reverse counts2) devices2 regions2 queues2
-place_pushed config history history2 counts counts2 room q devices devices2 regions regions2 queues queues2 v after more_history more_counts more_regions more_queues more_devices h fits at_device is same =
+place_pushed config history history2 counts counts2 room q devices devices2 regions regions2 queues queues2 v after more_history more_counts more_regions more_queues more_devices h fits at_device is same noted =
     let e : reverse history2 ≡ Accepted q.host q.directive ∷ reverse history = ap reverse more_history ∙ reverse-push history (Accepted q.host q.directive) in
     let f : reverse counts2 ≡ q.items_done ∷ reverse counts = ap reverse more_counts ∙ reverse-push counts q.items_done in
-    rw (e, f, more_regions, more_queues, more_devices) (accepted_place (viewed config history counts room) q devices regions queues v after h fits at_device is same)
+    rw (e, f, more_regions, more_queues, more_devices) (accepted_place (viewed config history counts room) q devices regions queues v after h fits at_device is same noted)
 
 -- ## The answer
 
@@ -336,26 +349,39 @@ asked_of lengths rs host d Wait ps = refl
 asked_of lengths rs host d AsyncTest ps = refl
 asked_of lengths rs host d IsPresent ps = refl
 
-pub answer_is : (p : PlaceView) (q : PlanView) (t : Present) (blocks : ℕ) (batch : Option (QueueAt × ℕ)) (present : Bool) → IsTiedAt p.config (standing_in p) q.host q.directive t blocks → Fits p q
+-- the counts of the named queues
+counts_are : (counts : Bool) (queues : List (List Label)) (labels : List Label) (device : ℕ) (named : List ℕ) → ((at : QueueAt) → queue_in queues at ≡ on_queue at labels) → counts_in counts queues device named ≡ counts_by counts labels device named
+counts_are true queues labels device named labelled =
+    same_for (named_count queues device named) (count_of labels device named) every_queue
+    (λ q. ap (λ ls. if has_number named q then length ls else 0) (labelled (record { device = device; queue = q })))
+counts_are false queues labels device named labelled = refl
+
+pub answer_is : (p : PlaceView) (q : PlanView) (t : Present) (blocks : ℕ) (queues : List (List Label)) (batch : Option (QueueAt × ℕ)) (counts : List ℕ) (present : Bool) → IsTiedAt p.config (standing_in p) q.host q.directive t blocks → Fits p q
+    → ((at : QueueAt) → queue_in queues at ≡ on_queue at (standing_in p).labels)
+    → counts ≡ counts_in (counts_queues q.directive.kind (queue_by q.directive.kind q.directive)) queues (device_in (standing_in p) q.host q.directive) (queues_named q.directive)
     → batch ≡ option_map (λ (l : Label). (l.at, l.number)) q.label → present ≡ is_answered q.directive.kind t.presences (items_in (standing_in p) q.host q.directive)
-    → record { batch = batch; counts = replicate 8 0; present = present } ≡ answer_of (standing_in p) q.directive (walk_of (standing_in p) q.host q.directive)
+    → record { batch = batch; counts = counts; present = present } ≡ answer_of (standing_in p) q.directive (walk_of (standing_in p) q.host q.directive)
 unfolding answer_of walk_of
-answer_is p q t blocks batch present tied fits is found =
+answer_is p q t blocks queues batch counts present tied fits labelled counted is found =
     let st = standing_in p in
     let d = q.directive in
     let walk = walk_of st q.host d in
     let told : present ≡ is_answered d.kind (presences (st.marks walk.device)) d.items = found ∙ (asked_of st.lengths st.regions q.host d d.kind t.presences ∙ ap (λ ps. is_answered d.kind ps d.items) tied.presences) in
-    ap (λ b. record { batch = b; counts = replicate 8 0; present = present }) (is ∙ answered st q.host q.items_done walk q.label fits.labelled)
-    ∙ ap (λ v. record { batch = placed_batch (walk_at walk) st.labels (batch_of st walk); counts = replicate 8 0; present = v }) told
+    let all : counts ≡ counts_by (counts_queues d.kind walk.queue) st.labels walk.device walk.waits =
+    counted ∙ counts_are (counts_queues d.kind walk.queue) queues st.labels walk.device walk.waits labelled in
+    ap (λ b. record { batch = b; counts = counts; present = present }) (is ∙ answered st q.host q.items_done walk q.label fits.labelled)
+    ∙ (ap (λ ns. record { batch = placed_batch (walk_at walk) st.labels (batch_of st walk); counts = ns; present = present }) all
+    ∙ ap (λ v. record { batch = placed_batch (walk_at walk) st.labels (batch_of st walk); counts = counts_by (counts_queues d.kind walk.queue) st.labels walk.device walk.waits; present = v }) told)
 
 -- ## Before the first directive
 
-pub first_tied : (config : Configuration) (device : ℕ) (t : Present) (blocks : ℕ) → t.presences ≡ [] → t.capacity ≡ config.capacity → blocks ≡ 0 → IsTiedOn config (at_first config) device t blocks
+pub first_tied : (config : Configuration) (device : ℕ) (t : Present) (blocks : ℕ) → t.presences ≡ [] → t.notes ≡ [] → t.capacity ≡ config.capacity → blocks ≡ 0 → IsTiedOn config (at_first config) device t blocks
 unfolding presences live opened
-first_tied config device t blocks none same no_blocks =
+first_tied config device t blocks none no_notes same no_blocks =
     record {
       capacity = same;
       presences = none;
+      noted = rw no_notes (All-nil _);
       legal = tt;
       opened = no_blocks;
       entered = record { present = All-nil _; counted = rw none (All-nil _) };
@@ -390,17 +416,18 @@ first_place config history counts devices regions queues no_history no_counts no
     at_place (w ∷ vs) (suc n) v all is = at_place vs n v (All-tail (IsEmpty config) w vs all) is
 
     on_first : (n : ℕ) (v : Device) → IsEmpty config v → IsTiedOn config (at_first config) n v.table v.opened
-    on_first n v e = first_tied config n v.table v.opened e.presences e.capacity e.opened
+    on_first n v e = first_tied config n v.table v.opened e.presences e.notes e.capacity e.opened
 
 -- ## More room
 
-tied_like : (config : Configuration) (st : Standing) (device : ℕ) (v w : Device) → held_on w ≡ held_on v → w.table.capacity ≡ v.table.capacity → IsTiedOn config st device v.table v.opened → IsTiedOn config st device w.table w.opened
-tied_like config st device v w held same tied =
+tied_like : (config : Configuration) (st : Standing) (device : ℕ) (v w : Device) → held_on w ≡ held_on v → w.table.notes ≡ v.table.notes → w.table.capacity ≡ v.table.capacity → IsTiedOn config st device v.table v.opened → IsTiedOn config st device w.table w.opened
+tied_like config st device v w held notes same tied =
     let presences_are : w.table.presences ≡ v.table.presences = ap (λ (h : Holding). h.presences) held in
     let opened_are : w.opened ≡ v.opened = ap (λ (h : Holding). h.opened) held in
     record {
       capacity = same ∙ tied.capacity;
       presences = presences_are ∙ tied.presences;
+      noted = rw notes tied.noted;
       legal = tied.legal;
       opened = opened_are ∙ tied.opened;
       entered = rw presences_are tied.entered;
@@ -411,11 +438,11 @@ tied_like config st device v w held same tied =
 
 -- a device that has more room
 pub place_spared : (config : Configuration) (history : List PlaceEntry) (counts : List ℕ) (devices : List Device) (regions : List Region) (queues : List (List Label)) (n : ℕ) (v w : Device) → IsPlace config history counts devices regions queues
-    → n < config.devices → v ≡ slice_index_or devices n v → held_on w ≡ held_on v → w.table.capacity ≡ v.table.capacity → IsPlace config history counts (slice_set devices n w) regions queues
-place_spared config history counts devices regions queues n v w h low found held same =
+    → n < config.devices → v ≡ slice_index_or devices n v → held_on w ≡ held_on v → w.table.notes ≡ v.table.notes → w.table.capacity ≡ v.table.capacity → IsPlace config history counts (slice_set devices n w) regions queues
+place_spared config history counts devices regions queues n v w h low found held notes same =
     let st = standing config history counts in
     let there = slice_get_read devices (length devices) n v refl (omega (arith, low, h.tied.all_devices)) found in
-    let own = tied_like config st n v w held same (h.tied.on_devices n v there) in
+    let own = tied_like config st n v w held notes same (h.tied.on_devices n v there) in
     record {
       accepted = h.accepted;
       counted = h.counted;
@@ -473,24 +500,56 @@ pub same_place : (p : PlaceView) (config : Configuration) (history : List PlaceE
 same_place p config history counts a b c = rw (← a, ← b, ← c) refl
 
 -- one for what the place knows
-pub fits_known : (p : PlaceView) (host : ℕ) (d : Directive) (k : Known) (q : PlanView) → IsKnownOf p host d k → fault_by k host d ≡ None
+-- what is planned to stand behind its awaits is the definition's batch
+batch_known : (p : PlaceView) (host : ℕ) (d : Directive) (k : Known) → IsKnownOf p host d k → AllAccepted p.config p.history p.counts → refusal p.config (standing_in p) host d ≡ None
+    → behind_noted k (notes_on (device_in (standing_in p) host d) (standing_in p).labels) d (ops_by k host d) (steps_by k host d) ≡ batch_of (standing_in p) (walk_of (standing_in p) host d)
+unfolding walk_of
+batch_known p host d k h all none =
+    let st = standing_in p in
+    let walk = walk_of st host d in
+    let device = device_in st host d in
+    let ms = st.marks device in
+    let notes = notes_on device st.labels in
+    let free = is_free p.config st host d k.table.now k.opened h.tied none in
+    let at : k.at ≡ walk_at walk = h.at_queue in
+    let items = items_known p host d k h in
+    let ops : ops_by k host d ≡ operations_of st walk =
+    ap (λ xs. marked_ops (run_in (loop_of d.kind) xs (holding_between d.kind (held_by k) xs).presences) (all_steps d.kind (held_by k) xs)) items ∙ sym (batch_is p.config st host d k.table.now k.opened h.tied free) in
+    let ended : flat_map ended_range (steps_by k host d) ≡ flat_map ended_uses (all_visits ms walk) =
+    ap (λ xs. flat_map ended_range (all_steps d.kind (held_by k) xs)) items ∙ sym (ended_is p.config st host d k.table.now k.opened h.tied free) in
+    let found : note_found notes k.table.now.presences ≡ note_found notes (presences ms) = ap (note_found notes) h.tied.presences in
+    let own : k.at.device ≡ device = ap (λ (q : QueueAt). q.device) at in
+    let numbers : ℕ → ℕ = number_in k notes (queues_named d) (ops_by k host d) (steps_by k host d) in
+    let counted : (q : ℕ) → named_count k.labels.now.queues k.at.device (queues_named d) q ≡ count_of st.labels device (queues_named d) q =
+    λ q. ap (λ n. named_count k.labels.now.queues n (queues_named d) q) own ∙ ap (λ ls. if has_number (queues_named d) q then length ls else 0) (h.labelled (record { device = device; queue = q })) in
+    let each : (q : ℕ) → q < QUEUES → numbers q
+    ≡ max (count_of st.labels walk.device walk.waits q)
+    (max (last_made (note_found (notes_on walk.device st.labels) (presences (st.marks walk.device))) (flat_map used_ranges (operations_of st walk)) q)
+    (last_used (note_found (notes_on walk.device st.labels) (presences (st.marks walk.device))) (flat_map ended_uses (all_visits (st.marks walk.device) walk)) q)) =
+    λ q low.
+    ap (λ n. max n (max (last_made (note_found notes k.table.now.presences) (flat_map used_ranges (ops_by k host d)) q) (last_used (note_found notes k.table.now.presences) (flat_map ended_range (steps_by k host d)) q))) (counted q)
+    ∙ (ap (λ f. max (count_of st.labels device (queues_named d) q) (max (last_made f (flat_map used_ranges (ops_by k host d)) q) (last_used f (flat_map ended_range (steps_by k host d)) q))) found
+    ∙ (ap (λ os. max (count_of st.labels device (queues_named d) q) (max (last_made (note_found notes (presences ms)) (flat_map used_ranges os) q) (last_used (note_found notes (presences ms)) (flat_map ended_range (steps_by k host d)) q))) ops
+    ∙ ap (λ us. max (count_of st.labels device (queues_named d) q) (max (last_made (note_found notes (presences ms)) (flat_map used_ranges (operations_of st walk)) q) (last_used (note_found notes (presences ms)) us q))) ended)) in
+    ap (λ (a : QueueAt). with_awaits (is_alone d) (awaits_from a.queue 0 (map numbers every_queue)) (ops_by k host d)) at
+    ∙ (ap (λ os. with_awaits (is_alone d) (awaits_from walk.queue 0 (map numbers every_queue)) os) ops
+    ∙ batch_planned p.config st walk (walk_known p.config p.history p.counts host d k.table.now k.opened all h.tied none) numbers each)
+
+pub fits_known : (p : PlaceView) (host : ℕ) (d : Directive) (k : Known) (q : PlanView) → IsKnownOf p host d k → AllAccepted p.config p.history p.counts → fault_by k host d ≡ None
     → q.host ≡ host → q.directive ≡ d → q.region ≡ opened_region host d d.kind
-    → q.label ≡ label_for k.at k.next_batch host q.items_done (ops_by k host d) → IsRoomy p (queue_for p host d) → Fits p q
-fits_known p host d k q h none by is inside named roomy =
+    → q.label ≡ label_for k.at (next_in k) host q.items_done (behind_noted k (notes_on (device_in (standing_in p) host d) (standing_in p).labels) d (ops_by k host d) (steps_by k host d)) → IsRoomy p (queue_for p host d) → Fits p q
+fits_known p host d k q h all none by is inside named roomy =
     let st = standing_in p in
     let refused = fault_known p host d k h ∙ none in
-    let free = is_free p.config st host d k.table.now k.opened h.tied refused in
-    let batch = batch_is p.config st host d k.table.now k.opened h.tied free in
-    let ops : ops_by k host d ≡ batch_of st (walk_of st host d) =
-    ap (λ xs. marked_ops (run_in (loop_of d.kind) xs (holding_between d.kind (held_by k) xs).presences) (all_steps d.kind (held_by k) xs)) (items_known p host d k h) ∙ sym batch in
+    let next : next_in k ≡ next_number (queue_for p host d) st.labels = ap (λ ls. length ls + 1) (h.labelled k.at ∙ ap (λ a. on_queue a st.labels) h.at_queue) in
     rw (by, is)
     (record {
       accepted = refused;
       region = inside;
       labelled =
           named
-          ∙ (ap (label_for k.at k.next_batch host q.items_done) ops
-          ∙ (ap (λ n. label_for k.at n host q.items_done (batch_of st (walk_of st host d))) h.next
+          ∙ (ap (label_for k.at (next_in k) host q.items_done) (batch_known p host d k h all refused)
+          ∙ (ap (λ n. label_for k.at n host q.items_done (batch_of st (walk_of st host d))) next
           ∙ ap (λ w. label_for w (next_number (queue_for p host d) st.labels) host q.items_done (batch_of st (walk_of st host d))) h.at_queue));
       roomy = roomy;
     })

@@ -1,6 +1,6 @@
 -- The operations of directives have their cells, where the one that runs a loop does.
-use Rattle.std.proofs.Common.{ℕ, ◌<◌, Bool, true, false, List, [], ◌∷◌, ◌++◌, length, Option, Some, None, arith}
-use Rattle.std.specs.Prelude.{IfSome, if◌then◌else◌}
+use Rattle.std.proofs.Common.{ℕ, ◌+◌, ◌<◌, Bool, true, false, List, [], ◌∷◌, ◌++◌, length, Option, Some, None, arith}
+use Rattle.std.specs.Prelude.{IfSome, if◌then◌else◌, ◌||◌, ◌==◌}
 use Rattle.std.specs.List.{All, flat_map}
 use Rattle.std.specs.Option.{option_and_then, option_to_list}
 use Rattle.std.proofs.lemmas.List.Elements.{All-nil, All-cons, All-append}
@@ -8,6 +8,7 @@ use Rattle.acc_base.specs.declared.ids.QueueAt.{QueueAt}
 use Rattle.acc_base.specs.declared.range.Range.{Range}
 use Rattle.acc_batch.specs.declared.operation.Op.{Op}
 use Rattle.acc_batch.specs.declared.operation.Op.TheVariants as op
+use Rattle.acc_batch.specs.Awaits.{await_of, with_awaits}
 use Rattle.acc_batch.specs.Tasks.{HasItsCells}
 use Rattle.acc_place.specs.declared.directive.Clause.{Clause}
 use Rattle.acc_place.specs.declared.directive.Clause.TheVariants.{UpdateSelf, UpdateDevice}
@@ -15,6 +16,7 @@ use Rattle.acc_place.specs.declared.judge.Marked.{Marked}
 use Rattle.acc_place.specs.declared.plan.Group.{Group}
 use Rattle.acc_place.specs.declared.plan.Group.TheVariants.{Makes, CopyIns, Updates, CopyOuts, Releases}
 use Rattle.acc_place.specs.Batches.{copies_in, copies_out}
+use Rattle.acc_place.specs.Noting.{awaits_from}
 use Rattle.acc_place.specs.Plans.{label_for}
 use Rattle.acc_place.specs.Walks.{op_for, update_for, op_of, group_ops, block_of, marked_ops}
 
@@ -74,3 +76,20 @@ pub labelled_cells : (at_queue : QueueAt) (number host items_done : ℕ) (ops : 
     → IfSome (label_for at_queue number host items_done ops) (λ l. (0 < length l.ops) × All HasItsCells l.ops)
 labelled_cells at_queue number host items_done [] all = tt
 labelled_cells at_queue number host items_done (op ∷ ops) all = (omega arith, all)
+
+-- awaits have no cells to have
+await_alone : (own q n : ℕ) → All HasItsCells (await_of own q n)
+await_alone own q n = by_test ((q == own) || (n == 0))
+  where
+    by_test : (none : Bool) → All HasItsCells (if none then [] else op.Await q n ∷ [])
+    by_test true = All-nil HasItsCells
+    by_test false = All-cons HasItsCells (op.Await q n) [] tt (All-nil HasItsCells)
+
+awaits_all : (own q : ℕ) (numbers : List ℕ) → All HasItsCells (awaits_from own q numbers)
+awaits_all own q [] = All-nil HasItsCells
+awaits_all own q (n ∷ numbers) = both (await_of own q n) (awaits_from own (q + 1) numbers) (await_alone own q n) (awaits_all own (q + 1) numbers)
+
+pub behind_their_awaits : (alone : Bool) (own : ℕ) (numbers : List ℕ) (ops : List Op) → All HasItsCells ops → All HasItsCells (with_awaits alone (awaits_from own 0 numbers) ops)
+behind_their_awaits true own numbers [] all = awaits_all own 0 numbers
+behind_their_awaits false own numbers [] all = All-nil HasItsCells
+behind_their_awaits alone own numbers (op ∷ ops) all = both (awaits_from own 0 numbers) (op ∷ ops) (awaits_all own 0 numbers) all

@@ -3,7 +3,7 @@ use Rattle.std.proofs.Common.{◌≡◌, ℕ, ◌≤◌, ◌<◌, true, false, L
 use Rattle.std.specs.Prelude.{All, IfNone, take, is_some, nat_le, ◌||◌}
 use Rattle.std.proofs.lemmas.List.{take_all}
 use Rattle.acc_base.specs.declared.fault.Fault.{Fault}
-use Rattle.acc_base.specs.declared.fault.Fault.TheVariants.{NoRegion, TooMany}
+use Rattle.acc_base.specs.declared.fault.Fault.TheVariants.{BadAsync, NoRegion, TooMany}
 use Rattle.acc_batch.specs.declared.operation.Op.{Op}
 use Rattle.acc_present.specs.declared.change.Change.TheVariants.{StructuredDown}
 use Rattle.acc_present.specs.Presences.{Presence}
@@ -15,6 +15,7 @@ use Rattle.acc_place.specs.declared.directive.Region.{Region}
 use Rattle.acc_place.specs.declared.directive.TheConstants.{MAX_DIRECTIVES, MAX_ITEMS}
 use Rattle.acc_place.specs.declared.judge.Known.{Known}
 use Rattle.acc_place.specs.declared.judge.Marked.{Marked}
+use Rattle.acc_place.specs.Targets.{has_bad_queue, waits_on_too_many}
 use Rattle.acc_place.specs.Accepting.{first_fault, fault_where, is_deep, is_outside}
 use Rattle.acc_place.specs.Counts.{entered_ranges}
 use Rattle.acc_place.specs.Regions.{open_region, regions_on}
@@ -60,7 +61,8 @@ limit_taken : (n : ℕ) (regions : List Region) (host : ℕ) (d : Directive) (it
 unfolding limit_fault
 limit_taken n regions host d items =
     ap (λ many. first_fault (
-    fault_where (many || (is_deep d.kind host regions || nat_le MAX_DIRECTIVES n)) TooMany
+    fault_where (has_bad_queue d) BadAsync
+    ∷ fault_where (many || (waits_on_too_many d.waits || (is_deep d.kind host regions || nat_le MAX_DIRECTIVES n))) TooMany
     ∷ fault_where (is_outside d.kind (open_region host regions)) NoRegion
     ∷ []
     ))

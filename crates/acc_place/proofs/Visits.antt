@@ -1,5 +1,5 @@
 -- The visits of a directive's items, found in the marks, are what a walk over the table makes of them.
-use Rattle.std.proofs.Common.{◌≡◌, ℕ, ◌+◌, ◌<◌, Bool, true, false, cond, eqb, List, [], ◌∷◌, ◌++◌, length, map, Option, Some, None, refl, sym, ap, ◌∙◌, arith, inl, inr}
+use Rattle.std.proofs.Common.{◌≡◌, ℕ, ◌+◌, ◌<◌, Bool, true, false, cond, eqb, List, [], ◌∷◌, ◌++◌, length, map, Option, Some, None, refl, sym, ap, subst, ◌∙◌, arith, inl, inr}
 use Rattle.std.specs.Prelude.{⊤, ◌&&◌, not, nat_lt}
 use Rattle.std.specs.List.{flat_map}
 use Rattle.std.specs.Option.{option_and_then, option_to_list}
@@ -34,9 +34,11 @@ use Rattle.acc_place.specs.declared.plan.Group.TheVariants.{Makes, CopyIns, Upda
 use Rattle.acc_place.specs.declared.judge.Marked.{Marked}
 use Rattle.acc_place.specs.Accepting.{fault_at, first_fault, fault_where, has_opened, wants_whole, wants_presence}
 use Rattle.acc_place.specs.Batches.{opened_block, opened_blocks, ended_blocks, found_block, holding_blocks, makes, copy_ins, updates_by, updates, copy_outs, releases, grouped, copies_in, copies_out}
+use Rattle.acc_place.specs.Noting.{ended_range}
 use Rattle.acc_place.specs.Standings.{Visit, visits, change_by, marked, one_mark, marks_after, all_asked}
 use Rattle.acc_place.specs.Walks.{Holding, holding, mark_by, opens_one, opened_after, holding_after, holding_after_all, fault_in, fault_or, first_fault_in, block_held, block_opened, ended_by, marked_in, all_marked, update_for, group_ops, marked_ops, HasEntered, AllEntered, IsFine, AllFine}
 use Rattle.acc_place.proofs.Judging.{fine_item}
+use Rattle.acc_place.proofs.Uses.{ended_uses}
 
 -- what a device has after these marks
 abbrev pub holding_of : List Mark → Holding
@@ -291,6 +293,7 @@ record OpsAlike (vs : List Visit) (ts : List Marked) : Type 0 where
   updated : flat_map updates vs ≡ flat_map (group_ops Updates) ts
   copied : flat_map copy_outs vs ≡ flat_map (group_ops CopyOuts) ts
   released : flat_map releases vs ≡ flat_map (group_ops Releases) ts
+  ended : flat_map ended_uses vs ≡ flat_map ended_range ts
 
 for_each : (f : ℕ → Op) (o : Option ℕ) → map f (option_to_list o) ≡ option_to_list (option_and_then (λ b. Some (f b)) o)
 for_each f None = refl
@@ -322,7 +325,7 @@ updates_are Delete r bs o is = for_none o
 updates_are UpdateSelf r bs o is = op_each (λ b. op.CopyOut b r) bs o is
 updates_are UpdateDevice r bs o is = op_each (λ b. op.CopyIn b r) bs o is
 
-both : (xs ys zs ws : List Op) → xs ≡ ys → zs ≡ ws → xs ++ zs ≡ ys ++ ws
+both : {X : Type 0} (xs ys zs ws : List X) → xs ≡ ys → zs ≡ ws → xs ++ zs ≡ ys ++ ws
 both xs ys zs ws e f = ap (λ us. us ++ zs) e ∙ ap (λ us. ys ++ us) f
 
 ops_first : (change : Option Change) (ms : List Mark) (i : Item) (vs : List Visit) (ts : List Marked) → AllLegal ms → 0 < i.range.len → OpsAlike vs ts
@@ -342,12 +345,13 @@ ops_first change ms i vs ts h cells rest =
       updated = both (updates v) _ (flat_map updates vs) (flat_map (group_ops Updates) ts) (updates_are i.clause r (holding_blocks ms r) (block_held had) (found_is_held had)) rest.updated;
       copied = both (copy_outs v) _ (flat_map copy_outs vs) (flat_map (group_ops CopyOuts) ts) (op_where (copies_out i.clause) (λ b. op.CopyOut b r) (ended_blocks v) over ends) rest.copied;
       released = both (releases v) _ (flat_map releases vs) (flat_map (group_ops Releases) ts) (op_each op.Release (ended_blocks v) over ends) rest.released;
+      ended = both (ended_uses v) _ (flat_map ended_uses vs) (flat_map ended_range ts) (ap (map (λ b. (b, r))) ends) rest.ended;
     }
 
 ops_alike : (capacity : ℕ) (change : Option Change) (ms : List Mark) (items : List Item) → AllLegal ms → AllEntered change (holding_of ms) items
     → AllFine capacity change (holding_of ms) items
     → OpsAlike (visits ms (all_asked change items)) (all_marked change (holding_of ms) items)
-ops_alike capacity change ms [] h entered fine = record { made = refl; filled = refl; updated = refl; copied = refl; released = refl }
+ops_alike capacity change ms [] h entered fine = record { made = refl; filled = refl; updated = refl; copied = refl; released = refl; ended = refl }
 ops_alike capacity change ms (i ∷ is) h entered fine =
     let next = next_is capacity change ms i is h entered fine in
     let e = next.same in
@@ -364,6 +368,7 @@ ops_behind vs ws ts us first later =
       updated = flat_map-append updates vs ws ∙ (both _ _ _ _ first.updated later.updated ∙ sym (flat_map-append (group_ops Updates) ts us));
       copied = flat_map-append copy_outs vs ws ∙ (both _ _ _ _ first.copied later.copied ∙ sym (flat_map-append (group_ops CopyOuts) ts us));
       released = flat_map-append releases vs ws ∙ (both _ _ _ _ first.released later.released ∙ sym (flat_map-append (group_ops Releases) ts us));
+      ended = flat_map-append ended_uses vs ws ∙ (both _ _ _ _ first.ended later.ended ∙ sym (flat_map-append ended_range ts us));
     }
 
 ops_grouped : (run : List Op) (vs : List Visit) (ts : List Marked) → OpsAlike vs ts → grouped run vs ≡ marked_ops run ts
@@ -379,16 +384,29 @@ pub record IsWalk (capacity : ℕ) (change : Option Change) (ms : List Mark) (it
   pub entered : AllEntered change (holding_of ms) items
   pub fine : AllFine capacity change (holding_of ms) items
 
+-- a walk, and one behind it
+walks_alike : (capacity : ℕ) (change other : Option Change) (ms : List Mark) (items ends : List Item) → IsWalk capacity change ms items
+    → IsWalk capacity other (marks_after ms (all_asked change items)) ends
+    → OpsAlike (visits ms (all_asked change items) ++ visits (marks_after ms (all_asked change items)) (all_asked other ends))
+    (all_marked change (holding_of ms) items ++ all_marked other (holding_after_all change (holding_of ms) items) ends)
+walks_alike capacity change other ms items ends w v =
+    let between = marks_after ms (all_asked change items) in
+    let held = marks_are capacity change ms items w.allowed w.entered w.fine in
+    subst (λ h. OpsAlike (visits ms (all_asked change items) ++ visits between (all_asked other ends)) (all_marked change (holding_of ms) items ++ all_marked other h ends)) held
+    (ops_behind (visits ms (all_asked change items)) (visits between (all_asked other ends)) (all_marked change (holding_of ms) items) (all_marked other (holding_of between) ends)
+    (ops_alike capacity change ms items w.allowed w.entered w.fine)
+    (ops_alike capacity other between ends v.allowed v.entered v.fine))
+
 -- the operations of a walk, and of one behind it
 pub ops_are : (capacity : ℕ) (change other : Option Change) (ms : List Mark) (items ends : List Item) (run : List Op) → IsWalk capacity change ms items
     → IsWalk capacity other (marks_after ms (all_asked change items)) ends
     → grouped run (visits ms (all_asked change items) ++ visits (marks_after ms (all_asked change items)) (all_asked other ends))
     ≡ marked_ops run (all_marked change (holding_of ms) items ++ all_marked other (holding_after_all change (holding_of ms) items) ends)
-ops_are capacity change other ms items ends run w v =
-    let between = marks_after ms (all_asked change items) in
-    let held = marks_are capacity change ms items w.allowed w.entered w.fine in
-    ops_grouped run (visits ms (all_asked change items) ++ visits between (all_asked other ends)) (all_marked change (holding_of ms) items ++ all_marked other (holding_of between) ends)
-    (ops_behind (visits ms (all_asked change items)) (visits between (all_asked other ends)) (all_marked change (holding_of ms) items) (all_marked other (holding_of between) ends)
-    (ops_alike capacity change ms items w.allowed w.entered w.fine)
-    (ops_alike capacity other between ends v.allowed v.entered v.fine))
-    ∙ ap (λ h. marked_ops run (all_marked change (holding_of ms) items ++ all_marked other h ends)) held
+ops_are capacity change other ms items ends run w v = ops_grouped run _ _ (walks_alike capacity change other ms items ends w v)
+
+-- and the ranges whose blocks they end
+pub ended_ranges_are : (capacity : ℕ) (change other : Option Change) (ms : List Mark) (items ends : List Item) → IsWalk capacity change ms items
+    → IsWalk capacity other (marks_after ms (all_asked change items)) ends
+    → flat_map ended_uses (visits ms (all_asked change items) ++ visits (marks_after ms (all_asked change items)) (all_asked other ends))
+    ≡ flat_map ended_range (all_marked change (holding_of ms) items ++ all_marked other (holding_after_all change (holding_of ms) items) ends)
+ended_ranges_are capacity change other ms items ends w v = (walks_alike capacity change other ms items ends w v).ended

@@ -166,6 +166,10 @@ can_mark (Some DynamicUp) ps r capacity n fine entered low some = can_enter Dyna
 can_mark (Some DynamicDown) ps r capacity n fine entered low some = fine.cells
 can_mark (Some DynamicZero) ps r capacity n fine entered low some = fine.cells
 
+pub opened-least : (opens : Bool) (n : ℕ) → n ≤ opened_after opens n
+opened-least true n = omega arith
+opened-least false n = omega arith
+
 pub opened-most : (b : Bool) (n : ℕ) → opened_after b n ≤ n + 1
 opened-most true n = omega arith
 opened-most false n = omega arith

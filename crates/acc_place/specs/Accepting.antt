@@ -1,9 +1,9 @@
 -- When a directive is accepted, and its first fault where it is not (OpenACC API 3.0, 2.6.5, Data Construct, 2.6.6, Enter
--- Data and Exit Data Directives, 2.7, Data Clauses, and 2.14.4, Update Directive).
+-- Data and Exit Data Directives, 2.7, Data Clauses, 2.14.4, Update Directive, and 2.16, Asynchronous Behavior).
 use Rattle.std.specs.Prelude.{ℕ, ◌+◌, Bool, true, false, ◌&&◌, ◌||◌, not, nat_lt, nat_le, List, [], ◌∷◌, ◌++◌, length, map, Option, Some, None, pos, int_lt, int_le}
 use Rattle.std.specs.List.{list_any}
 use Rattle.acc_base.specs.declared.fault.Fault.{Fault}
-use Rattle.acc_base.specs.declared.fault.Fault.TheVariants.{BadDevice, BadRange, TooMany, PartlyPresent, NotPresent, DeviceFull, OutsideRange, NoRegion}
+use Rattle.acc_base.specs.declared.fault.Fault.TheVariants.{BadDevice, BadRange, BadAsync, TooMany, PartlyPresent, NotPresent, DeviceFull, OutsideRange, NoRegion}
 use Rattle.acc_base.specs.Configurations.{Configuration, is_in_array}
 use Rattle.acc_kernel.specs.declared.reach.Reach.{Reach}
 use Rattle.acc_kernel.specs.Kernels.{Loop, arrays_of, reach_of}
@@ -20,6 +20,7 @@ use Rattle.acc_place.specs.declared.directive.TheConstants.{MAX_ITEMS, MAX_REGIO
 use Rattle.acc_place.specs.Implicit.{item_of}
 use Rattle.acc_place.specs.Regions.{open_region, regions_of}
 use Rattle.acc_place.specs.Standings.{Standing, Walk, Visit, visits, walk_of}
+use Rattle.acc_place.specs.Targets.{has_bad_queue, waits_on_too_many}
 
 abbrev pub fault_where : Bool → Fault → Option Fault
 fault_where true fault = Some fault
@@ -63,9 +64,10 @@ abbrev pub is_deep : Kind → ℕ → List Region → Bool
 is_deep kind.Data host rs = nat_le MAX_REGIONS (length (regions_of host rs))
 is_deep k host rs = false
 
-abbrev pub has_too_many : Standing → ℕ → Kind → Walk → Bool
-has_too_many st host k walk =
-    nat_lt MAX_ITEMS (length walk.items) || (is_deep k host st.regions || nat_le MAX_DIRECTIVES st.accepted)
+abbrev pub has_too_many : Standing → ℕ → Directive → Walk → Bool
+has_too_many st host d walk =
+    nat_lt MAX_ITEMS (length walk.items)
+    || (waits_on_too_many d.waits || (is_deep d.kind host st.regions || nat_le MAX_DIRECTIVES st.accepted))
 
 -- a region's end without a region
 abbrev pub is_outside : Kind → Option Region → Bool
@@ -88,7 +90,8 @@ abbrev pub refusal_on : Configuration → Standing → ℕ → Directive → Wal
 refusal_on config st host d walk =
     first_fault (
     fault_where (nat_le config.devices d.device) BadDevice
-    ∷ fault_where (has_too_many st host d.kind walk) TooMany
+    ∷ fault_where (has_bad_queue d) BadAsync
+    ∷ fault_where (has_too_many st host d walk) TooMany
     ∷ fault_where (is_outside d.kind (open_region host st.regions)) NoRegion
     ∷ (map (fault_at config d.kind) (visits (st.marks walk.device) walk.items)
     ++ fault_where (is_past walk.runs (map (λ a. a.item) walk.items)) OutsideRange ∷ [])

@@ -1,9 +1,10 @@
 -- What a directive places: the operations of its batch, and its answer (OpenACC API 3.0, 2.7, Data Clauses, 2.14.4, Update
--- Directive, and 3.2, Runtime Library Routines).
-use Rattle.std.specs.Prelude.{ℕ, ◌+◌, Bool, true, false, not, nat_lt, List, [], ◌∷◌, ◌++◌, length, map, filter, Option, Some, None, replicate, if◌then◌else◌}
+-- Directive, 2.16, Asynchronous Behavior, and 3.2, Runtime Library Routines).
+use Rattle.std.specs.Prelude.{ℕ, ◌+◌, Bool, true, false, not, nat_lt, List, [], ◌∷◌, ◌++◌, length, map, filter, Option, Some, None, replicate, if◌then◌else◌, ◌==◌}
 use Rattle.std.specs.List.{flat_map, list_all}
 use Rattle.acc_base.specs.declared.ids.QueueAt.{QueueAt}
 use Rattle.acc_base.specs.declared.range.Range.{Range}
+use Rattle.acc_base.specs.Queues.{every_queue}
 use Rattle.acc_kernel.specs.Jobs.{Use}
 use Rattle.acc_kernel.specs.Kernels.{Loop, arrays_of}
 use Rattle.acc_present.specs.Marks.{Mark}
@@ -19,7 +20,8 @@ use Rattle.acc_place.specs.declared.directive.Placed.{Placed}
 use Rattle.acc_batch.specs.declared.operation.Op.{Op}
 use Rattle.acc_batch.specs.declared.operation.Op.TheVariants.{Make, CopyIn, CopyOut, Release, Run}
 use Rattle.acc_batch.specs.declared.operation.Label.{Label}
-use Rattle.acc_batch.specs.Labels.{on_queue}
+use Rattle.acc_batch.specs.Awaits.{behind_awaits}
+use Rattle.acc_batch.specs.Labels.{on_queue, has_number}
 use Rattle.acc_place.specs.Implicit.{item_of}
 use Rattle.acc_place.specs.Standings.{Standing, Walk, Visit, all_visits, marks_between}
 
@@ -105,11 +107,16 @@ grouped run vs =
     ++ (flat_map copy_outs vs
     ++ flat_map releases vs))))
 
-unfoldable pub batch_of : Standing → Walk → List Op
-batch_of st walk = grouped (runs walk (st.marks walk.device)) (all_visits (st.marks walk.device) walk)
+-- what a walk does with blocks
+abbrev pub operations_of : Standing → Walk → List Op
+operations_of st walk = grouped (runs walk (st.marks walk.device)) (all_visits (st.marks walk.device) walk)
 
 abbrev pub walk_at : Walk → QueueAt
 walk_at walk = record { device = walk.device; queue = walk.queue }
+
+-- The batch of a walk: its operations, behind what they await.
+unfoldable pub batch_of : Standing → Walk → List Op
+batch_of st walk = behind_awaits walk.alone walk.waits (walk_at walk) st.labels (operations_of st walk)
 
 -- the n-th batch of a queue has number n, from 1
 abbrev pub next_number : QueueAt → List Label → ℕ
@@ -130,11 +137,25 @@ abbrev pub is_answered : Kind → List Presence → List Item → Bool
 is_answered kind.IsPresent ps items = list_all (λ (i : Item). is_present ps i.range) items
 is_answered k ps items = false
 
+-- A `wait` that holds its host back, and a question about queues, are answered by the numbers of batches on the queues that
+-- they name.
+abbrev pub counts_queues : Kind → ℕ → Bool
+counts_queues kind.Wait own = own == 0
+counts_queues kind.AsyncTest own = true
+counts_queues k own = false
+
+abbrev pub count_of : List Label → ℕ → List ℕ → ℕ → ℕ
+count_of labels device named q = if has_number named q then length (on_queue (record { device = device; queue = q }) labels) else 0
+
+abbrev pub counts_by : Bool → List Label → ℕ → List ℕ → List ℕ
+counts_by true labels device named = map (count_of labels device named) every_queue
+counts_by false labels device named = replicate 8 0
+
 -- The answer to a directive that is accepted.
 unfoldable pub answer_of : Standing → Directive → Walk → Placed
 answer_of st d walk =
     record {
       batch = placed_batch (walk_at walk) st.labels (batch_of st walk);
-      counts = replicate 8 0;
+      counts = counts_by (counts_queues d.kind walk.queue) st.labels walk.device walk.waits;
       present = is_answered d.kind (presences (st.marks walk.device)) d.items;
     }

@@ -12,6 +12,8 @@ use Rattle.acc_place.specs.declared.directive.Item.{Item}
 use Rattle.acc_place.specs.declared.directive.Kind.TheVariants.{EndData}
 use Rattle.acc_place.specs.declared.directive.PlaceEntry.{PlaceEntry}
 use Rattle.acc_place.specs.declared.directive.Region.{Region}
+use Rattle.acc_place.specs.declared.directive.Target.TheVariants.{Plain}
+use Rattle.acc_place.specs.declared.directive.Waits.TheVariants.{Nothing}
 use Rattle.acc_place.specs.declared.directive.TheConstants.{MAX_DIRECTIVES}
 use Rattle.acc_place.specs.Accepting.{refusal}
 use Rattle.acc_place.specs.Histories.{AllAccepted, standing}
@@ -47,5 +49,5 @@ abbrev pub EnteredCanBeLeft : Type 0
 EnteredCanBeLeft =
     (config : Configuration) (history : List PlaceEntry) (counts : List ℕ) (host : ℕ) (d : Directive) (r : Region)
     → AllAccepted config history counts → (standing config history counts).accepted < MAX_DIRECTIVES
-    → d.kind ≡ EndData → d.device < config.devices → open_region host (standing config history counts).regions ≡ Some r
+    → d.kind ≡ EndData → d.target ≡ Plain → d.waits ≡ Nothing → d.device < config.devices → open_region host (standing config history counts).regions ≡ Some r
     → refusal config (standing config history counts) host d ≡ None

@@ -1,4 +1,5 @@
 pub mod Accepting
+pub mod AwaitExamples
 pub mod BatchExamples
 pub mod Batches
 pub mod Counts
@@ -9,11 +10,14 @@ pub mod Histories
 pub mod Implicit
 pub mod LoopExamples
 pub mod Loops
+pub mod Noting
 pub mod Places
 pub mod Plans
 pub mod RefusalExamples
 pub mod RegionExamples
 pub mod Regions
+pub mod Sound
 pub mod Standings
+pub mod Targets
 pub mod Trials
 pub mod Walks

@@ -1,5 +1,5 @@
 -- What a place keeps between directives.
-use Rattle.std.specs.Prelude.{◌≡◌, ℕ, ◌*◌, ◌<◌, ◌≤◌, zero, suc, nat_lt, Bool, true, false, ◌&&◌, List, [], length, All, slice_get, slice_index_or, slice_set, ◌++◌, ◌∷◌, Option, Some, None, if◌then◌else◌}
+use Rattle.std.specs.Prelude.{◌≡◌, ℕ, ◌*◌, ◌<◌, ◌≤◌, zero, suc, nat_lt, List, [], length, All, slice_get, slice_index_or, slice_set, ◌++◌, ◌∷◌, Option, Some, None, if◌then◌else◌}
 use Rattle.acc_base.specs.declared.ids.QueueAt.{QueueAt}
 use Rattle.acc_base.specs.declared.ids.TheConstants.{QUEUES}
 use Rattle.acc_base.specs.Configurations.{Configuration}
@@ -8,36 +8,19 @@ use Rattle.acc_batch.specs.declared.operation.Label.{Label}
 use Rattle.acc_batch.specs.Labels.{on_queue}
 use Rattle.acc_present.specs.Legality.{AllLegal}
 use Rattle.acc_present.specs.Lifetimes.{opened}
+use Rattle.acc_present.specs.Notes.{HasNotes}
 use Rattle.acc_present.specs.Presences.{presences}
 use Rattle.acc_present.specs.Tables.{Present}
-use Rattle.acc_place.specs.Directives.{Directive}
 use Rattle.acc_place.specs.declared.device.Device.{Device}
 use Rattle.acc_place.specs.declared.directive.PlaceEntry.{PlaceEntry}
 use Rattle.acc_place.specs.declared.directive.Region.{Region}
-use Rattle.acc_place.specs.declared.directive.Target.{Target}
-use Rattle.acc_place.specs.declared.directive.Target.TheVariants.{Plain, Unvalued, Value}
 use Rattle.acc_place.specs.declared.directive.TheConstants.{MAX_ITEMS, MAX_DIRECTIVES}
-use Rattle.acc_place.specs.declared.directive.Waits.{Waits}
-use Rattle.acc_place.specs.declared.directive.Waits.TheVariants as waits
 use Rattle.acc_place.specs.Counts.{IsEnteredBy, entered_ranges}
 use Rattle.acc_place.specs.Histories.{standing, AllAccepted}
+use Rattle.acc_place.specs.Noting.{notes_on}
 use Rattle.acc_place.specs.Regions.{regions_on}
 use Rattle.acc_place.specs.Standings.{Standing}
 use Rattle.acc_place.specs.Walks.{AllLow}
-
-abbrev pub has_no_async : Target → Bool
-has_no_async Plain = true
-has_no_async Unvalued = false
-has_no_async (Value v) = false
-
-abbrev pub has_no_wait : Waits → Bool
-has_no_wait waits.Nothing = true
-has_no_wait waits.All = false
-has_no_wait (waits.Listed vs) = false
-
--- a directive without an async clause and without a wait clause
-abbrev pub is_synchronous : Directive → Bool
-is_synchronous d = has_no_async d.target && has_no_wait d.waits
 
 -- the n-th batch of a queue, from 1
 abbrev pub nth_batch : List Label → ℕ → Option Label
@@ -58,10 +41,11 @@ abbrev pub queues_after : List (List Label) → Option Label → List (List Labe
 queues_after queues None = queues
 queues_after queues (Some l) = slice_set queues (seat l.at) (slice_index_or queues (seat l.at) [] ++ l ∷ [])
 
--- The table of a device is that of the marks there.
+-- The table of a device is that of the marks there, and its notes are those of the labels.
 pub record IsTiedOn (config : Configuration) (st : Standing) (device : ℕ) (t : Present) (blocks : ℕ) : Type 0 where
   pub capacity : t.capacity ≡ config.capacity
   pub presences : t.presences ≡ presences (st.marks device)
+  pub noted : HasNotes (notes_on device st.labels) t.notes
   pub legal : AllLegal (st.marks device)
   pub opened : blocks ≡ length (opened (st.marks device))
   pub entered : IsEnteredBy (entered_ranges (regions_on device st.regions)) t.presences

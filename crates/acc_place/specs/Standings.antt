@@ -15,6 +15,7 @@ use Rattle.acc_present.specs.Presences.{presences, is_present}
 use Rattle.acc_kernel.specs.Kernels.{Loop}
 use Rattle.acc_place.specs.Implicit.{implicit_items}
 use Rattle.acc_place.specs.Regions.{open_region}
+use Rattle.acc_place.specs.Targets.{is_alone, queue_by, queues_named}
 
 -- What a directive finds: how many cells each host array has; and what a history leaves, which is the marks on each
 -- device, the latest first, the data constructs that the hosts are inside, the latest first, the batches, in the order of
@@ -31,11 +32,13 @@ pub record Asked : Type 0 where
   pub item : Item
   pub change : Option Change
 
--- Where a directive acts, and on what: its items; the loop that it runs then, if it is one; and its items once more, as
--- they leave at the loop's end.
+-- Where a directive acts, and on what: the queue of its batch; the queues that it waits for, and whether it is for these
+-- awaits alone; its items; the loop that it runs then, if it is one; and its items once more, as they leave at the loop's end.
 pub record Walk : Type 0 where
   pub device : ℕ
   pub queue : ℕ
+  pub waits : List ℕ
+  pub alone : Bool
   pub items : List Asked
   pub runs : Option Loop
   pub ends : List Asked
@@ -84,13 +87,20 @@ abbrev pub ends_by : Kind → List Item → List Asked
 ends_by (kind.Loop k) items = all_asked (Some StructuredDown) items
 ends_by k items = []
 
--- a synchronous directive acts on queue sync
-abbrev pub walk_on : Subject → Kind → Walk
-walk_on s k =
-    record { device = s.device; queue = 0; items = all_asked (change_by k) s.items; runs = loop_of k; ends = ends_by k s.items }
+abbrev pub walk_on : Subject → Directive → Walk
+walk_on s d =
+    record {
+      device = s.device;
+      queue = queue_by d.kind d;
+      waits = queues_named d;
+      alone = is_alone d;
+      items = all_asked (change_by d.kind) s.items;
+      runs = loop_of d.kind;
+      ends = ends_by d.kind s.items;
+    }
 
 unfoldable pub walk_of : Standing → ℕ → Directive → Walk
-walk_of st host d = walk_on (subject_by st.lengths st.regions host d d.kind) d.kind
+walk_of st host d = walk_on (subject_by st.lengths st.regions host d d.kind) d
 
 -- a dynamic exit of a range that is absent takes no action
 abbrev pub made_by : Change → Range → List Mark → Bool

@@ -1,8 +1,15 @@
 -- Where a directive is tried: what has to be known there, and what is left where it has no fault, in the table's own words.
 -- Only private contracts and proofs cite it.
-use Rattle.std.specs.Prelude.{◌≡◌, ℕ, ◌+◌, ◌≤◌, List, length, Option, None}
+use Rattle.std.specs.Prelude.{◌≡◌, ℕ, ◌+◌, ◌≤◌, max, Bool, true, false, List, length, map, replicate, Option, None, if◌then◌else◌}
+use Rattle.std.specs.List.{flat_map}
 use Rattle.acc_base.specs.declared.fault.Fault.{Fault}
+use Rattle.acc_base.specs.declared.range.Range.{Range}
+use Rattle.acc_base.specs.Queues.{every_queue}
+use Rattle.acc_batch.specs.declared.operation.Label.{Label}
 use Rattle.acc_batch.specs.declared.operation.Op.{Op}
+use Rattle.acc_batch.specs.Awaits.{with_awaits}
+use Rattle.acc_batch.specs.Labels.{has_number}
+use Rattle.acc_present.specs.Notes.{Note}
 use Rattle.acc_present.specs.declared.table.TheConstants.{COUNTER_LIMIT}
 use Rattle.acc_present.specs.Drafts.{Drafted, drafted, IsDraft}
 use Rattle.acc_place.specs.Directives.{Directive}
@@ -12,8 +19,11 @@ use Rattle.acc_place.specs.declared.judge.Known.{Known}
 use Rattle.acc_place.specs.declared.judge.Marked.{Marked}
 use Rattle.acc_place.specs.Counts.{IsEnteredBy, entered_ranges}
 use Rattle.acc_place.specs.Loops.{lengths_of}
+use Rattle.acc_place.specs.Noting.{awaits_from, ended_range, last_made, last_used, note_found, used_ranges}
+use Rattle.acc_place.specs.Places.{queue_in}
 use Rattle.acc_place.specs.Regions.{regions_on}
 use Rattle.acc_place.specs.Standings.{change_by, loop_of, subject_by}
+use Rattle.acc_place.specs.Targets.{is_alone, queues_named}
 use Rattle.acc_place.specs.Walks.{Holding, holding, holding_between, limit_fault, fault_or, first_fault_in, past_fault, all_marked, all_steps, run_in, marked_ops, AllLow, StaysBy}
 
 -- The items of a directive, the draft with their marks, and what became of them.
@@ -40,11 +50,39 @@ abbrev pub fault_by : Known → ℕ → Directive → Option Fault
 fault_by k host d =
     fault_or (limit_fault k.accepted k.regions.now host d (length (items_by k host d))) (items_fault k host d)
 
--- the operations of its batch, where it has none
+-- what became of its items, where it has none
+abbrev pub steps_by : Known → ℕ → Directive → List Marked
+steps_by k host d = all_steps d.kind (held_by k) (items_by k host d)
+
+-- the operations of its batch but for the awaits
 abbrev pub ops_by : Known → ℕ → Directive → List Op
 ops_by k host d =
     marked_ops (run_in (loop_of d.kind) (items_by k host d) (holding_between d.kind (held_by k) (items_by k host d)).presences)
-    (all_steps d.kind (held_by k) (items_by k host d))
+    (steps_by k host d)
+
+-- how many batches were placed on a queue of a device, if it is named
+abbrev pub named_count : List (List Label) → ℕ → List ℕ → ℕ → ℕ
+named_count queues device named q = if has_number named q then length (queue_in queues (record { device = device; queue = q })) else 0
+
+-- where they are asked for
+abbrev pub counts_in : Bool → List (List Label) → ℕ → List ℕ → List ℕ
+counts_in true queues device named = map (named_count queues device named) every_queue
+counts_in false queues device named = replicate 8 0
+
+-- the number of the next batch on the directive's queue
+abbrev pub next_in : Known → ℕ
+next_in k = length (queue_in k.labels.now.queues k.at) + 1
+
+-- the number that a batch of these operations and steps awaits of a queue, by what the table has noted
+abbrev pub number_in : Known → (Range → ℕ → Note) → List ℕ → List Op → List Marked → ℕ → ℕ
+number_in k notes named ops steps q =
+    max (named_count k.labels.now.queues k.at.device named q)
+    (max (last_made (note_found notes k.table.now.presences) (flat_map used_ranges ops) q) (last_used (note_found notes k.table.now.presences) (flat_map ended_range steps) q))
+
+-- these operations, behind what they await
+abbrev pub behind_noted : Known → (Range → ℕ → Note) → Directive → List Op → List Marked → List Op
+behind_noted k notes d ops steps =
+    with_awaits (is_alone d) (awaits_from k.at.queue 0 (map (number_in k notes (queues_named d) ops steps) every_queue)) ops
 
 -- The table is one of the configuration; its counters can take the items of one more directive; and what the open regions
 -- of the device have entered is present.

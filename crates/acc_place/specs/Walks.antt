@@ -5,7 +5,7 @@ use Rattle.std.specs.List.{flat_map}
 use Rattle.std.specs.Option.{option_and_then, option_to_list}
 use Rattle.acc_base.specs.declared.range.Range.{Range}
 use Rattle.acc_base.specs.declared.fault.Fault.{Fault}
-use Rattle.acc_base.specs.declared.fault.Fault.TheVariants.{BadRange, TooMany, PartlyPresent, NotPresent, DeviceFull, OutsideRange, NoRegion}
+use Rattle.acc_base.specs.declared.fault.Fault.TheVariants.{BadRange, BadAsync, TooMany, PartlyPresent, NotPresent, DeviceFull, OutsideRange, NoRegion}
 use Rattle.acc_base.specs.Configurations.{Configuration, is_in_array}
 use Rattle.acc_kernel.specs.Kernels.{Loop}
 use Rattle.acc_present.specs.declared.table.Counter.{Counter}
@@ -40,6 +40,7 @@ use Rattle.acc_place.specs.Batches.{copies_in, copies_out}
 use Rattle.acc_place.specs.Loops.{StaysInside, uses_in}
 use Rattle.acc_place.specs.Regions.{open_region}
 use Rattle.acc_place.specs.Standings.{change_by, left_by}
+use Rattle.acc_place.specs.Targets.{has_bad_queue, waits_on_too_many}
 
 -- What a device has: what is present there, and how many lifetimes were opened.
 pub record Holding : Type 0 where
@@ -132,7 +133,8 @@ found_fault k i look.Absent free =
 unfoldable pub limit_fault : ℕ → List Region → ℕ → Directive → ℕ → Option Fault
 limit_fault accepted rs host d count =
     first_fault (
-    fault_where (nat_lt MAX_ITEMS count || (is_deep d.kind host rs || nat_le MAX_DIRECTIVES accepted)) TooMany
+    fault_where (has_bad_queue d) BadAsync
+    ∷ fault_where (nat_lt MAX_ITEMS count || (waits_on_too_many d.waits || (is_deep d.kind host rs || nat_le MAX_DIRECTIVES accepted))) TooMany
     ∷ fault_where (is_outside d.kind (open_region host rs)) NoRegion
     ∷ []
     )

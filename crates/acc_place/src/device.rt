@@ -1,13 +1,19 @@
-ghost use Rattle.std.specs.Prelude.{All, not, ◌≡◌, ◌+◌, ◌*◌, ◌<◌, ◌≤◌, length, IfOk, IfErr, OnOk, OnErr};
+ghost use Rattle.std.specs.Prelude.{ℕ, All, not, ◌≡◌, ◌+◌, ◌*◌, ◌<◌, ◌≤◌, ◌∷◌, [], length, IfOk, IfErr, OnOk, OnErr};
+ghost use Rattle.std.specs.List.{flat_map};
+ghost use Rattle.acc_base.specs.declared.ids.TheConstants.{QUEUES};
+ghost use Rattle.acc_base.specs.declared.range.Range.{Range};
+ghost use Rattle.acc_present.specs.Notes.{Note, used_by, HasNotes};
 ghost use Rattle.acc_present.specs.Presences.{is_present};
 ghost use Rattle.acc_present.specs.Tables.{entry_mark, presences_after};
 ghost use Rattle.acc_present.specs.declared.table.TheConstants.{COUNTER_LIMIT};
 ghost use Rattle.acc_place.specs.declared.directive.TheConstants.{MAX_ITEMS};
-ghost use Rattle.acc_place.specs.Devices.{held_on, IsEmpty};
+ghost use Rattle.acc_place.specs.Devices.{held_on, AreFresh, IsEmpty};
+ghost use Rattle.acc_place.specs.Noting.{changed_all, noted_by, noted_ranges};
 ghost use Rattle.acc_place.specs.Walks.{holding_after, holding_after_all, opened_after, CanEnter, CanMark, HasRoomFor, AllEntered, AllFine};
 
 use crate::directive::{Item, MAX_ITEMS};
-use acc_base::{BlockId, Config, Fault, Range};
+use acc_base::{BlockId, Config, Fault, QueueId, Range};
+use acc_batch::Op;
 use acc_present::{Change, Counter, Entered, Table};
 use std::alloc::Global;
 
@@ -27,6 +33,7 @@ impl Device {
     pub fn spare(&mut self) -> Result<(), Fault>
         ensures held { held_on self.new ≡ held_on self.old }
         ensures capacity { self.new.table.capacity ≡ self.old.table.capacity }
+        ensures notes { self.new.table.notes ≡ self.old.table.notes }
         ensures room { self.old.table.room ≤ self.new.table.room }
         ensures ok { OnOk result (length self.new.table.presences + 2 * MAX_ITEMS ≤ self.new.table.room) }
         ensures fault { IfErr result (λ fault. fault ≡ Fault.Memory) }
@@ -35,12 +42,65 @@ impl Device {
         self.table.spare(2 * MAX_ITEMS)
     }
 
+    /// Notes what the operations of a batch make and use.
+    pub fn note_all(&mut self, queue: QueueId, number: u64, ops: &[Op])
+        requires queue { queue < QUEUES }
+        requires cells { All (λ u. 0 < u.1.len) (flat_map noted_ranges ops.now) }
+        ensures held { held_on self.new ≡ held_on self.old }
+        ensures notes { (notes : Range → ℕ → Note) → HasNotes notes self.old.table.notes → HasNotes (noted_by queue number ops.now notes) self.new.table.notes }
+        ensures capacity { self.new.table.capacity ≡ self.old.table.capacity }
+        ensures room { self.new.table.room ≡ self.old.table.room }
+    {
+        match ops {
+            [] => {}
+            [first, rest @ ..] => {
+                self.note(queue, number, first);
+                self.note_all(queue, number, rest);
+            }
+        }
+    }
+
+    fn note(&mut self, queue: QueueId, number: u64, op: &Op)
+        requires queue { queue < QUEUES }
+        requires cells { All (λ u. 0 < u.1.len) (noted_ranges op.now) }
+        ensures held { held_on self.new ≡ held_on self.old }
+        ensures notes { (notes : Range → ℕ → Note) → HasNotes notes self.old.table.notes → HasNotes (noted_by queue number (op.now ∷ []) notes) self.new.table.notes }
+        ensures capacity { self.new.table.capacity ≡ self.old.table.capacity }
+        ensures room { self.new.table.room ≡ self.old.table.room }
+    {
+        match op {
+            Op::Make { range, .. } => self.table.note_make(*range, queue, number),
+            Op::CopyIn { range, .. } => self.table.note_use(*range, queue, number),
+            Op::CopyOut { range, .. } => self.table.note_use(*range, queue, number),
+            Op::Run { uses, .. } => self.note_uses(queue, number, uses.get().as_slice()),
+            Op::Release { .. } | Op::Await { .. } | Op::Close => {}
+        }
+    }
+
+    fn note_uses(&mut self, queue: QueueId, number: u64, uses: &[(BlockId, Range)])
+        requires queue { queue < QUEUES }
+        requires cells { All (λ u. 0 < u.1.len) uses.now }
+        ensures held { held_on self.new ≡ held_on self.old }
+        ensures notes { (notes : Range → ℕ → Note) → HasNotes notes self.old.table.notes → HasNotes (changed_all (used_by queue number) uses.now notes) self.new.table.notes }
+        ensures capacity { self.new.table.capacity ≡ self.old.table.capacity }
+        ensures room { self.new.table.room ≡ self.old.table.room }
+    {
+        match uses {
+            [] => {}
+            [(_, range), rest @ ..] => {
+                self.table.note_use(*range, queue, number);
+                self.note_uses(queue, number, rest);
+            }
+        }
+    }
+
     /// Leaves the items' marks.
     pub fn mark_all(&mut self, change: Option<Change>, items: &[Item])
         requires fine { AllFine self.old.table.capacity change (held_on self.old) items.now }
         requires entered { AllEntered change (held_on self.old) items.now }
         requires room { HasRoomFor (length items.now) self.old.table self.old.opened }
         ensures holding { held_on self.new ≡ holding_after_all change (held_on self.old) items.now }
+        ensures notes { (notes : Range → ℕ → Note) → AreFresh notes self.old.opened → HasNotes notes self.old.table.notes → HasNotes notes self.new.table.notes }
         ensures capacity { self.new.table.capacity ≡ self.old.table.capacity }
         ensures room { self.new.table.room ≡ self.old.table.room }
     {
@@ -60,6 +120,7 @@ impl Device {
         requires room { length self.old.table.presences < self.old.table.room }
         requires few { self.old.opened < COUNTER_LIMIT }
         ensures holding { held_on self.new ≡ holding_after change range (held_on self.old) }
+        ensures notes { (notes : Range → ℕ → Note) → AreFresh notes self.old.opened → HasNotes notes self.old.table.notes → HasNotes notes self.new.table.notes }
         ensures capacity { self.new.table.capacity ≡ self.old.table.capacity }
         ensures room { self.new.table.room ≡ self.old.table.room }
     {
@@ -86,6 +147,7 @@ impl Device {
         requires few { self.old.opened < COUNTER_LIMIT }
         ensures presences { self.new.table.presences ≡ presences_after (entry_mark counter range) (self.old.opened + 1) self.old.table.presences }
         ensures opened { self.new.opened ≡ opened_after (not (is_present self.old.table.presences range)) self.old.opened }
+        ensures notes { (notes : Range → ℕ → Note) → AreFresh notes self.old.opened → HasNotes notes self.old.table.notes → HasNotes notes self.new.table.notes }
         ensures capacity { self.new.table.capacity ≡ self.old.table.capacity }
         ensures room { self.new.table.room ≡ self.old.table.room }
     {

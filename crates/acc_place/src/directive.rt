@@ -10,11 +10,17 @@ use std::mem::size_of;
 /// The most items of a directive.
 pub const MAX_ITEMS: usize = 16;
 
+/// The most queues that one directive waits for.
+pub const MAX_WAITS: usize = 16;
+
 /// The most directives that are accepted in a run.
 pub const MAX_DIRECTIVES: u64 = 1_099_511_627_776;
 
 /// The value of `acc_async_noval`, a host's first default async value (OpenACC API 3.0, 2.16, Asynchronous Behavior).
 pub const ASYNC_NOVAL: i64 = -1;
+
+/// The value of `acc_async_sync`, which names queue sync.
+pub const ASYNC_SYNC: i64 = -2;
 
 /// The most regions of a host inside one another.
 pub const MAX_REGIONS: usize = 32;
@@ -56,7 +62,7 @@ pub enum Kind {
     ExitData { finalize: bool },
     /// `update` (2.14.4, Update Directive); also `acc_update_device` and `acc_update_self`.
     Update { if_present: bool },
-    /// `wait` (2.16.3, Wait Directive); also `acc_wait` and `acc_wait_all`.
+    /// `wait` (2.16.3, Wait Directive); also `acc_wait`, `acc_wait_all` and `acc_wait_async`.
     Wait,
     /// `parallel loop` (2.11, Combined Constructs). It has its own items and an implicit one for each other array that
     /// the loop refers to.
@@ -137,7 +143,6 @@ impl Kind {
 impl Directive {
     ghost use Rattle.acc_base.specs.declared.fault.Fault.TheVariants as fault;
     ghost use Rattle.acc_place.specs.Directives.{written_first};
-    ghost use Rattle.acc_place.specs.Places.{is_synchronous};
 
     /// What is written, for device 0 and `acc_async_noval`, a host's first ones.
     ///
@@ -171,6 +176,13 @@ impl Directive {
         self.device
     }
 
+    /// The host's default async value.
+    pub fn default(&self) -> i64
+        ensures { result ≡ self.now.default }
+    {
+        self.default
+    }
+
     /// Which directive it is.
     pub fn kind(&self) -> &Kind
         ensures { result.now ≡ self.now.kind }
@@ -197,17 +209,6 @@ impl Directive {
         ensures { result.now ≡ self.now.waits }
     {
         &self.written.get().waits
-    }
-
-    /// Whether it has neither an `async` clause nor a `wait` clause.
-    pub fn is_synchronous(&self) -> bool
-        ensures { result ≡ is_synchronous self.now }
-    {
-        let has_no_wait = match self.waits() {
-            Waits::Nothing => true,
-            Waits::All | Waits::Listed { .. } => false,
-        };
-        self.target() == Target::Plain && has_no_wait
     }
 
     /// An equal directive, which shares what is written. It takes no memory.

@@ -13,13 +13,15 @@ ghost use Rattle.acc_place.specs.Walks.{holding, holding_after_all, presences_by
 use crate::directive::{
     Clause, Directive, Item, Kind, MAX_DIRECTIVES, MAX_ITEMS, MAX_REGIONS, Region,
 };
+use crate::labels::Labels;
 use crate::regions::{depth, open_place};
+use crate::targets::{has_bad_queue, waits_on_too_many};
 use acc_base::{BlockId, Config, Fault, HostId, QueueAt, Range};
 use acc_present::{Change, Counter, Draft, Entered, Left, Look, Table};
 
 /// What is known where a directive is judged: the configuration, the device's table, the data constructs that the hosts
-/// are inside, how many directives were accepted and how many lifetimes opened, and the directive's queue with the number
-/// of the next batch there.
+/// are inside, how many directives were accepted and how many lifetimes opened, the labels of all batches, and the
+/// directive's queue.
 #[derive(Clone, Copy)]
 pub struct Known<'a> {
     pub config: &'a Config,
@@ -27,8 +29,8 @@ pub struct Known<'a> {
     pub regions: &'a [Region],
     pub accepted: usize,
     pub opened: u64,
+    pub labels: &'a Labels,
     pub at: QueueAt,
-    pub next_batch: u64,
 }
 
 /// What became of an item: the number of the block that held its range before, of the block of the lifetime that it
@@ -47,7 +49,13 @@ pub struct Marked {
 pub fn limit_of(known: &Known, host: HostId, directive: &Directive, count: usize) -> Option<Fault>
     ensures { result ≡ limit_fault known.now.accepted known.now.regions.now host directive.now count }
 {
-    if count > MAX_ITEMS || is_deep(known.regions, host, directive.kind()) {
+    if has_bad_queue(directive) {
+        return Some(Fault::BadAsync);
+    }
+    if count > MAX_ITEMS || waits_on_too_many(directive.waits()) {
+        return Some(Fault::TooMany);
+    }
+    if is_deep(known.regions, host, directive.kind()) {
         return Some(Fault::TooMany);
     }
     if known.accepted as u64 >= MAX_DIRECTIVES {

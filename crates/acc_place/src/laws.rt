@@ -1,7 +1,9 @@
+ghost use Rattle.acc_place.specs.AwaitExamples.{ReleaseAwaitsTheLoop, UsesAwaitTheMaker, FullWhereItIsPresent, WaitsAlone, NoSuchQueue, DevicesApart, CountsOfWaits, QueuesOfValues};
 ghost use Rattle.acc_place.specs.BatchExamples.{GroupByGroup, PartIsCopiedOut, LeavesOnce, EntersAgain, EmptyBatch};
 ghost use Rattle.acc_place.specs.LoopExamples.{RunsOnPresent, CopiesImplicitly, TakesClauses, UsesConstructs, UsesOwnConstructs, StaysInRange, TakesNoTurn, LimitsItems, JudgesItems};
 ghost use Rattle.acc_place.specs.RefusalExamples.{EarlierItemFirst, ItemBeforeCounts, LimitsFirst, LastDirective, RangesOutside, CapacityReached};
 ghost use Rattle.acc_place.specs.RegionExamples.{AbsentAtEntry, PresentAtEntry, LastExit, NotTheLastExit, Nested, OwnRegion, Depth, Entries, ExitsInside, Updates, Questions, ItemsInTurn};
+ghost use Rattle.acc_place.specs.Sound.{AcceptedAreSound, AcceptedAreThere};
 ghost use Rattle.acc_place.specs.Counts.{AcceptedAreCounted, EnteredCanBeLeft};
 ghost use Rattle.acc_place.specs.Loops.{ReachIsJudged};
 ghost use Rattle.acc_place.specs.Plans.{KeptByAccepting, KeptByPlanning, KeptByTaking};
@@ -85,4 +87,28 @@ pub fn worked_loops()
     ensures turns { TakesNoTurn }
     ensures limit { LimitsItems }
     ensures items { JudgesItems }
+{}
+
+/// What directives on several queues and devices mean, computed likewise: which batches theirs await, the counts that
+/// answer a `wait` or a question, and which queue a value names.
+pub fn worked_queues()
+    ensures release { ReleaseAwaitsTheLoop }
+    ensures uses { UsesAwaitTheMaker }
+    ensures full { FullWhereItIsPresent }
+    ensures alone { WaitsAlone }
+    ensures bad { NoSuchQueue }
+    ensures devices { DevicesApart }
+    ensures counts { CountsOfWaits }
+    ensures values { QueuesOfValues }
+{}
+
+/// What accepted directives place uses live blocks on each device in the order of placing, and each batch awaits those
+/// that it needs.
+pub fn accepted_labels_are_sound()
+    ensures { AcceptedAreSound }
+{}
+
+/// What accepted directives place is on queues that are there, and each batch has an operation.
+pub fn accepted_labels_are_there()
+    ensures { AcceptedAreThere }
 {}

@@ -1,6 +1,7 @@
 //! What directives mean: the marks that they leave on a device, the faults that refuse them, and their batches.
 #![tactic(auto)]
 
+mod awaits;
 mod device;
 mod directive;
 mod judge;
@@ -11,15 +12,17 @@ mod place;
 mod plan;
 mod regions;
 mod subject;
+mod targets;
 mod trial;
 
 pub use directive::{
-    ASYNC_NOVAL, Clause, Directive, Item, Kind, MAX_DIRECTIVES, MAX_ITEMS, MAX_REGIONS, PlaceEntry,
-    Placed, Region, Target, Waits, Written,
+    ASYNC_NOVAL, ASYNC_SYNC, Clause, Directive, Item, Kind, MAX_DIRECTIVES, MAX_ITEMS, MAX_REGIONS,
+    MAX_WAITS, PlaceEntry, Placed, Region, Target, Waits, Written,
 };
 pub use laws::{
-    accepted_directives_are_counted, plans_are_kept, plans_outlast_their_batches, reach_is_judged,
-    worked_batches, worked_directives, worked_loops, worked_refusals, worked_regions,
+    accepted_directives_are_counted, accepted_labels_are_sound, accepted_labels_are_there,
+    plans_are_kept, plans_outlast_their_batches, reach_is_judged, worked_batches,
+    worked_directives, worked_loops, worked_queues, worked_refusals, worked_regions,
 };
 pub use place::Place;
 pub use plan::Plan;

@@ -1,4 +1,5 @@
-ghost use Rattle.std.specs.Prelude.{All, reverse, ◌≡◌, ◌+◌, ◌<◌, ◌==◌, ◌++◌, [], ◌∷◌, length, true, None, IfOk, IfErr, OnOk, OnErr, OnSome, IfSome, slice_get, slice_index_or, ◌^◌};
+ghost use Rattle.std.specs.Prelude.{ℕ, All, reverse, ◌≡◌, ◌+◌, ◌<◌, ◌==◌, ◌++◌, [], ◌∷◌, length, true, None, IfOk, IfErr, OnOk, OnErr, OnSome, IfSome, slice_get, slice_index_or, ◌^◌};
+ghost use Rattle.std.specs.List.{flat_map};
 ghost use Rattle.std.specs.Option.{option_map, option_to_list};
 ghost use Rattle.acc_base.specs.declared.fault.Fault.TheVariants.{Memory};
 ghost use Rattle.acc_base.specs.declared.ids.QueueAt.{QueueAt};
@@ -7,12 +8,20 @@ ghost use Rattle.acc_batch.specs.Labels.{on_queue};
 ghost use Rattle.acc_present.specs.Presences.{presences, holder, is_present};
 ghost use Rattle.acc_present.specs.Tables.{entry_presence};
 ghost use Rattle.acc_place.specs.Accepting.{refusal};
-ghost use Rattle.acc_place.specs.Batches.{answer_of, is_answered};
+ghost use Rattle.acc_base.specs.declared.ids.TheConstants.{QUEUES};
+ghost use Rattle.acc_base.specs.declared.range.Range.{Range};
+ghost use Rattle.acc_present.specs.Notes.{Note, HasNotes};
+ghost use Rattle.acc_place.specs.Batches.{answer_of, counts_queues, is_answered};
+ghost use Rattle.acc_place.specs.Devices.{held_on};
+ghost use Rattle.acc_place.specs.Noting.{noted_ranges, noted_with};
+ghost use Rattle.acc_place.specs.Targets.{queue_by, queues_named};
+ghost use Rattle.acc_place.specs.Trials.{counts_in};
 ghost use Rattle.acc_place.specs.Histories.{AllAccepted};
-ghost use Rattle.acc_place.specs.Places.{is_synchronous, nth_batch, queues_after, IsQueue};
+ghost use Rattle.acc_place.specs.Places.{nth_batch, queues_after, IsQueue};
 ghost use Rattle.acc_place.specs.Plans.{standing_in, IsRefusal, IsPlanOf, IsRoomy, Fits, place_after, queue_for};
 ghost use Rattle.acc_place.specs.Standings.{walk_of};
 
+use crate::awaits::named_counts;
 use crate::device::{Device, devices_of};
 use crate::directive::{Directive, Item, Kind, PlaceEntry, Placed, Region};
 use crate::judge::Known;
@@ -20,6 +29,7 @@ use crate::labels::Labels;
 use crate::plan::Plan;
 use crate::regions::{device_of, settle};
 use crate::subject::ends_of;
+use crate::targets::queue_by;
 use crate::trial::Trial;
 use acc_base::{Config, DeviceId, Fault, HostId, QueueAt, QueueId, Range};
 use acc_batch::Label;
@@ -88,7 +98,7 @@ impl Place {
     }
 
     /// What accepting a directive of this host, which has so many items, would add. Nothing is added but spare
-    /// memory. The directive is synchronous, by `Directive::is_synchronous`.
+    /// memory.
     ///
     /// # Errors
     ///
@@ -99,7 +109,6 @@ impl Place {
         items_done: u64,
         directive: &Directive,
     ) -> Result<Plan, Fault>
-        requires synchronous { is_synchronous directive.now ≡ true }
         ensures config { self.new.config ≡ self.old.config }
         ensures history { self.new.history ≡ self.old.history }
         ensures counts { self.new.counts ≡ self.old.counts }
@@ -111,7 +120,6 @@ impl Place {
         ensures batch { IfOk result (λ q. q.batch ≡ q.label) }
     {
         let QueueAt { device, queue } = self.queue_for(host, directive)?;
-        let next_batch = self.labels.on(QueueAt { device, queue }).len() as u64 + 1;
         let there = &self.devices[usize::from(device.number())];
         let known = Known {
             config: &self.config,
@@ -119,8 +127,8 @@ impl Place {
             regions: self.regions.as_slice(),
             accepted: self.history.len(),
             opened: there.opened,
+            labels: &self.labels,
             at: QueueAt { device, queue },
-            next_batch,
         };
         if let Some(fault) = self.trial.judge(&known, host, directive) {
             return Err(fault);
@@ -145,7 +153,7 @@ impl Place {
         let device = device_of(self.regions.as_slice(), host, directive);
         Ok(QueueAt {
             device,
-            queue: QueueId::SYNC,
+            queue: queue_by(directive),
         })
     }
 
@@ -187,11 +195,14 @@ impl Place {
             .put_items(&self.config, self.regions.as_slice(), host, &directive);
         let kind = directive.kind();
         let items = self.trial.items();
-        let number = device_of(self.regions.as_slice(), host, &directive).number();
-        let device = &mut self.devices[usize::from(number)];
-        let present = is_answered(&device.table, kind, items);
-        device.mark_all(kind.change(), items);
-        device.mark_all(Some(Change::StructuredDown), ends_of(kind, items));
+        let device = device_of(self.regions.as_slice(), host, &directive);
+        let counts = counts_for(&self.labels, device, &directive);
+        let there = &mut self.devices[usize::from(device.number())];
+        let present = is_answered(&there.table, kind, items);
+        there.mark_all(kind.change(), items);
+        note_label(there, &label);
+        there.table.keeps_order();
+        there.mark_all(Some(Change::StructuredDown), ends_of(kind, items));
         settle(&mut self.regions, host, &directive, region);
         self.history
             .push_reserved(PlaceEntry::Accepted { host, directive });
@@ -199,7 +210,7 @@ impl Place {
         let batch = push_label(&mut self.labels, label);
         Placed {
             batch,
-            counts: [0; 8],
+            counts,
             present,
         }
     }
@@ -292,6 +303,37 @@ fn is_answered(table: &Table, kind: &Kind, items: &[Item]) -> bool
         && items
             .iter()
             .all(|item| table.counters(item.range).is_some())
+}
+
+// How many batches were placed on each queue that a wait without async or a question names, else 0.
+fn counts_for(labels: &Labels, device: DeviceId, directive: &Directive) -> [u64; 8]
+    ensures { result ≡ counts_in (counts_queues directive.now.kind (queue_by directive.now.kind directive.now)) labels.now.queues device (queues_named directive.now) }
+{
+    let counts = match directive.kind() {
+        Kind::Wait => queue_by(directive) == QueueId::SYNC,
+        Kind::AsyncTest => true,
+        Kind::Data | Kind::EndData | Kind::EnterData | Kind::Loop { .. } => false,
+        Kind::ExitData { .. } | Kind::Update { .. } | Kind::IsPresent => false,
+    };
+    if counts {
+        named_counts(labels, device, directive)
+    } else {
+        [0; 8]
+    }
+}
+
+// Notes what a batch makes and uses, if there is one.
+fn note_label(device: &mut Device, label: &Option<Label>)
+    requires { IfSome label.now (λ l. (l.at.queue < QUEUES) × All (λ u. 0 < u.1.len) (flat_map noted_ranges l.ops)) }
+    ensures held { held_on device.new ≡ held_on device.old }
+    ensures notes { (notes : Range → ℕ → Note) → HasNotes notes device.old.table.notes → HasNotes (noted_with label.now notes) device.new.table.notes }
+    ensures capacity { device.new.table.capacity ≡ device.old.table.capacity }
+    ensures room { device.new.table.room ≡ device.old.table.room }
+{
+    match label {
+        None => {}
+        Some(label) => device.note_all(label.at.queue, label.number, label.ops.get().as_slice()),
+    }
 }
 
 // Adds the label of a batch, if there is one, and says where that batch is.

@@ -1,17 +1,24 @@
-ghost use Rattle.std.specs.Prelude.{All, ◌≡◌, ◌<◌, ◌++◌, ◌==◌, if◌then◌else◌, length, IfOk, IfErr, IfSome, OnOk, IsTrue, Some, None};
+ghost use Rattle.std.specs.Prelude.{ℕ, All, ◌≡◌, ◌<◌, ◌++◌, ◌==◌, if◌then◌else◌, length, IfOk, IfErr, IfSome, OnOk, IsTrue, Some, None};
 ghost use Rattle.std.specs.List.{flat_map};
 ghost use Rattle.std.specs.Option.{option_to_list};
 ghost use Rattle.acc_batch.specs.declared.operation.Op.TheVariants as op;
 ghost use Rattle.acc_batch.specs.Tasks.{HasItsCells};
 ghost use Rattle.acc_place.specs.Batches.{copies_in, copies_out};
+ghost use Rattle.acc_base.specs.declared.range.Range.{Range};
+ghost use Rattle.acc_batch.specs.Awaits.{with_awaits};
+ghost use Rattle.acc_present.specs.Notes.{Note, HasNotes};
+ghost use Rattle.acc_place.specs.Noting.{awaits_from, used_ranges};
+ghost use Rattle.acc_place.specs.Trials.{behind_noted, next_in};
 ghost use Rattle.acc_place.specs.Plans.{Fits, IsPlanOf, label_for, opened_region};
 ghost use Rattle.acc_place.specs.Walks.{block_of, op_of, op_for, update_for, group_ops, marked_ops};
 
+use crate::awaits::{add_awaits, awaited_numbers};
 use crate::directive::{Clause, Directive, Region};
 use crate::judge::{Known, Marked};
 use crate::place::Place;
 use crate::regions::opened_by;
-use acc_base::{BlockId, Fault, Few, HostId, Range, Shared};
+use crate::targets::is_alone;
+use acc_base::{BlockId, Fault, Few, HostId, QueueId, Range, Shared};
 use acc_batch::{Batch, Label, Op};
 use std::alloc::Global;
 use std::marker::Model;
@@ -84,17 +91,27 @@ pub fn plan_of(
     steps: &[Marked],
     run: Option<Op>,
 ) -> Result<Plan, Fault>
-    requires { IfSome run HasItsCells }
+    requires run { IfSome run HasItsCells }
+    requires run_cells { All (λ u. 0 < u.1.len) (flat_map used_ranges (option_to_list run)) }
+    requires cells { All (λ t. 0 < t.item.range.len) steps.now }
     ensures host { IfOk result (λ q. (q.host ≡ host) × (q.items_done ≡ items_done) × (q.stamp ≡ known.now.accepted)) }
     ensures directive { IfOk result (λ q. q.directive ≡ directive.now) }
     ensures region { IfOk result (λ q. q.region ≡ opened_region host directive.now directive.now.kind) }
-    ensures label { IfOk result (λ q. q.label ≡ label_for known.now.at known.now.next_batch host items_done (marked_ops (option_to_list run) steps.now)) }
+    ensures label { (notes : Range → ℕ → Note) → HasNotes notes known.now.table.now.notes → IfOk result (λ q. q.label ≡ label_for known.now.at (next_in known.now) host items_done (behind_noted known.now notes directive.now (marked_ops (option_to_list run) steps.now) steps.now)) }
     ensures batch { IfOk result (λ q. q.batch ≡ q.label) }
     ensures fault { IfErr result (λ fault. fault ≡ Fault.Memory) }
 {
+    let numbers = awaited_numbers(known, directive, steps, &run);
+    let ops = ops_of(
+        alloc,
+        known.at.queue,
+        &numbers,
+        is_alone(directive),
+        steps,
+        run,
+    )?;
     let region = opened_by(host, directive)?;
     let directive = directive.try_clone()?;
-    let ops = ops_of(alloc, steps, run)?;
     let label = label_of(alloc, known, host, items_done, ops)?;
     let batch = batch_of(alloc, &label)?;
     Ok(Plan {
@@ -116,7 +133,7 @@ fn label_of(
     items_done: u64,
     ops: Few<Op>,
 ) -> Result<Option<Label>, Fault>
-    ensures label { IfOk result (λ label. label ≡ label_for known.now.at known.now.next_batch host items_done ops) }
+    ensures label { IfOk result (λ label. label ≡ label_for known.now.at (next_in known.now) host items_done ops) }
     ensures fault { IfErr result (λ fault. fault ≡ Fault.Memory) }
 {
     if ops.as_slice().is_empty() {
@@ -125,7 +142,7 @@ fn label_of(
     let ops = Shared::new(alloc, ops)?;
     Ok(Some(Label {
         at: known.at,
-        number: known.next_batch,
+        number: known.labels.on(known.at).len() as u64 + 1,
         host,
         items_done,
         ops,
@@ -148,19 +165,32 @@ fn batch_of(alloc: Global, label: &Option<Label>) -> Result<Option<Batch>, Fault
     }
 }
 
-// The operations of a batch; a loop runs behind the copies in.
+// The operations of a batch, behind the awaits by these numbers; a loop runs behind the copies in. Awaits that nothing stands
+// behind are dropped, but those of a wait.
 #[tactic(auto, unfolding(crate::specs::Walks::marked_ops))]
-fn ops_of(alloc: Global, steps: &[Marked], run: Option<Op>) -> Result<Few<Op>, Fault>
-    ensures ops { IfOk result (λ ops. ops ≡ marked_ops (option_to_list run) steps.now) }
+fn ops_of(
+    alloc: Global,
+    own: QueueId,
+    numbers: &[u64; 8],
+    alone: bool,
+    steps: &[Marked],
+    run: Option<Op>,
+) -> Result<Few<Op>, Fault>
+    ensures ops { IfOk result (λ ops. ops ≡ with_awaits alone (awaits_from own 0 numbers.now) (marked_ops (option_to_list run) steps.now)) }
     ensures fault { IfErr result (λ fault. fault ≡ Fault.Memory) }
 {
     let mut ops = Few::new(alloc);
+    add_awaits(own, 0, numbers.as_slice(), &mut ops)?;
+    let awaits = ops.as_slice().len();
     add_group(Group::Makes, steps, &mut ops)?;
     add_group(Group::CopyIns, steps, &mut ops)?;
     add_run(run, &mut ops)?;
     add_group(Group::Updates, steps, &mut ops)?;
     add_group(Group::CopyOuts, steps, &mut ops)?;
     add_group(Group::Releases, steps, &mut ops)?;
+    if !alone && ops.as_slice().len() == awaits {
+        return Ok(Few::new(alloc));
+    }
     ops.shrink_to_fit();
     Ok(ops)
 }
@@ -204,8 +234,8 @@ fn add_op(group: Group, step: Marked, ops: &mut Few<Op>) -> Result<(), Fault>
     }
 }
 
-// The step's operation of this group, if it has one.
-fn op_of(group: Group, step: Marked) -> Option<Op>
+/// The step's operation of this group, if it has one.
+pub(crate) fn op_of(group: Group, step: Marked) -> Option<Op>
     ensures { result ≡ op_of group step }
 {
     match block_of(group, step) {

@@ -1,9 +1,11 @@
-ghost use Rattle.std.specs.Prelude.{◌≡◌, ◌+◌, ◌≤◌, take, IfNone, IfOk, IfErr};
+ghost use Rattle.std.specs.Prelude.{ℕ, ◌≡◌, ◌+◌, ◌≤◌, take, IfNone, IfOk, IfErr};
 ghost use Rattle.acc_base.specs.declared.fault.Fault.TheVariants.{Memory};
+ghost use Rattle.acc_base.specs.declared.range.Range.{Range};
+ghost use Rattle.acc_present.specs.Notes.{Note, HasNotes};
 ghost use Rattle.acc_place.specs.Loops.{lengths_of};
 ghost use Rattle.acc_place.specs.Plans.{label_for, opened_region};
 ghost use Rattle.acc_place.specs.Standings.{subject_by};
-ghost use Rattle.acc_place.specs.Trials.{fault_by, ops_by, IsKnown, IsTried};
+ghost use Rattle.acc_place.specs.Trials.{behind_noted, fault_by, next_in, ops_by, steps_by, IsKnown, IsTried};
 ghost use Rattle.acc_place.specs.Walks.{device_by};
 
 use crate::directive::{Directive, Item, MAX_ITEMS, Region};
@@ -131,7 +133,7 @@ impl Trial {
         ensures host { IfOk result (λ q. (q.host ≡ host) × (q.items_done ≡ items_done) × (q.stamp ≡ known.now.accepted)) }
         ensures directive { IfOk result (λ q. q.directive ≡ directive.now) }
         ensures region { IfOk result (λ q. q.region ≡ opened_region host directive.now directive.now.kind) }
-        ensures label { IfOk result (λ q. q.label ≡ label_for known.now.at known.now.next_batch host items_done (ops_by known.now host directive.now)) }
+        ensures label { (notes : Range → ℕ → Note) → HasNotes notes known.now.table.now.notes → IfOk result (λ q. q.label ≡ label_for known.now.at (next_in known.now) host items_done (behind_noted known.now notes directive.now (ops_by known.now host directive.now) (steps_by known.now host directive.now))) }
         ensures batch { IfOk result (λ q. q.batch ≡ q.label) }
         ensures fault { IfErr result (λ fault. fault ≡ Memory) }
     {

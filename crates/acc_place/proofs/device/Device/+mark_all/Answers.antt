@@ -1,8 +1,9 @@
-use Rattle.std.proofs.Common.{length, get_or, rules}
+use Rattle.std.proofs.Common.{length, get_or, rules, arith, ap}
 use Rattle.acc_place.specs.declared.directive.Clause.TheVariants.{Copy}
 use Rattle.acc_place.specs.declared.directive.Item.{Item}
 use Rattle.acc_place.specs.Devices.{held_on}
-use Rattle.acc_place.specs.Walks.{AllEntered, AllFine, HasRoomFor}
+use Rattle.acc_place.specs.Walks.{Holding, AllEntered, AllFine, HasRoomFor}
+use Rattle.acc_place.proofs.Marking.{fresh_later, opened_later}
 use Rattle.acc_place.proofs.Walking.{rest_of, rest_is, can_mark, fine-first, fine-next, entered-first, entered-next, room_rest}
 use Rattle.acc_place.proofs.device.Device.+mark_all.Goals as goal
 
@@ -35,3 +36,11 @@ mark_all-requires t c =
     let room : HasRoomFor (length (rest_of items)) w.table w.opened =
     rw (rest_is items) (room_rest change v.table w.table item.range items v.opened w.opened c.requires.room some after c.mark.ensures.room) in
     (search rules, (fine, (entered, room)))
+
+pub returns-in-len1-up-clause-notes : goal.returns-in-len1-up-clause-notes
+returns-in-len1-up-clause-notes t c = λ notes fresh h.
+    let v = c.args.self.now in
+    let w = c.mark.new.self in
+    let item = get_or c.args.items.now 0 no_item in
+    let later = fresh_later notes v.opened w.opened (omega (arith, ap (λ (k : Holding). k.opened) c.mark.ensures.holding, opened_later c.args.change item.range (held_on v))) fresh in
+    c.mark_all.ensures.notes notes later (c.mark.ensures.notes notes fresh h)

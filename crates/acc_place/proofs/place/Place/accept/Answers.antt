@@ -7,7 +7,11 @@ use Rattle.acc_place.specs.Devices.{held_on}
 use Rattle.acc_place.specs.Plans.{PlanView, standing_in, Fits}
 use Rattle.acc_place.specs.Standings.{change_by}
 use Rattle.acc_place.specs.Walks.{holding_after_all, holding_between, holding_behind, ends_of}
-use Rattle.acc_place.proofs.Accepted.{accepted_device, all_cells, entered_in, items_in, length-ends, room_for}
+use Rattle.acc_place.specs.Batches.{counts_queues}
+use Rattle.acc_place.specs.Targets.{queue_by, queues_named}
+use Rattle.acc_place.specs.Trials.{counts_in}
+use Rattle.acc_place.proofs.Accepted.{accepted_device, all_cells, device_in, entered_in, items_in, length-ends, room_for}
+use Rattle.acc_place.proofs.Accepting.{label_cells, notes_then}
 use Rattle.acc_place.proofs.Planning.{acted_on, are_put, device_low, label_room, place_pushed, pushed_view, answer_is}
 use Rattle.acc_place.proofs.Seen.{room_of, seen}
 use Rattle.acc_place.proofs.Setting.{shown_same}
@@ -17,13 +21,13 @@ use Rattle.acc_place.proofs.place.Place.accept.Goals as goal
 abbrev planned : PlanInside → PlanView
 planned q = record { host = q.host; items_done = q.items_done; directive = q.directive; region = q.region; label = q.label; batch = q.batch; stamp = q.stamp }
 
-pub index_mut-device-requires : goal.index_mut-device-requires
-index_mut-device-requires c =
+pub index_mut-there-requires : goal.index_mut-there-requires
+index_mut-there-requires c =
     let w = c.self.inside in
     let h = c.self.invariant in
     let q = planned c.plan.inside in
     let fits : Fits (seen w) q = rw (← c.self.view_is, ← c.plan.view_is) at c.requires in
-    let n = c.from.ensures ∙ (c.number-number.ensures ∙ c.device_of.ensures) in
+    let n = c.from.ensures ∙ (c.number.ensures ∙ c.device_of-device.ensures) in
     let here = accepted_device w.config (standing_in (seen w)) q.host q.directive fits.accepted in
     omega (arith, w.devices.ok.0, device_low (seen w) q.host q.directive w.devices.items w.regions.items c.as_slice-2.result.now w.labels.queues c.from.result h.tied here c.as_slice-2.ensures.value n)
 
@@ -33,10 +37,10 @@ is_answered-present-requires c =
     let h = c.self.invariant in
     let q = planned c.plan.inside in
     let fits : Fits (seen w) q = rw (← c.self.view_is, ← c.plan.view_is) at c.requires in
-    let n = c.from.ensures ∙ (c.number-number.ensures ∙ c.device_of.ensures) in
+    let n = c.from.ensures ∙ (c.number.ensures ∙ c.device_of-device.ensures) in
     let put = are_put (seen w) q.host q.directive c.as_slice.result.now c.items-items.result.now (h.tied.inside ∙ sym c.as_slice.ensures.value) (c.items-items.ensures ∙ c.put_items.ensures) in
-    let v = c.index_mut-device.result.now in
-    let a = acted_on (seen w) q w.devices.items w.regions.items c.as_slice-2.result.now w.labels.queues c.from.result v c.items-items.result.now h.tied fits refl c.as_slice-2.ensures.value n c.index_mut-device.ensures.value put in
+    let v = c.index_mut-there.result.now in
+    let a = acted_on (seen w) q w.devices.items w.regions.items c.as_slice-2.result.now w.labels.queues c.from.result v c.items-items.result.now h.tied fits refl c.as_slice-2.ensures.value n c.index_mut-there.ensures.value put in
     let items = items_in (standing_in (seen w)) q.host q.directive in
     rw a.own (record { cells = all_cells w.config.capacity (change_by q.directive.kind) (held_on v) items a.free.fine })
 
@@ -46,10 +50,10 @@ mark_all-requires-clause-fine c =
     let h = c.self.invariant in
     let q = planned c.plan.inside in
     let fits : Fits (seen w) q = rw (← c.self.view_is, ← c.plan.view_is) at c.requires in
-    let n = c.from.ensures ∙ (c.number-number.ensures ∙ c.device_of.ensures) in
+    let n = c.from.ensures ∙ (c.number.ensures ∙ c.device_of-device.ensures) in
     let put = are_put (seen w) q.host q.directive c.as_slice.result.now c.items-items.result.now (h.tied.inside ∙ sym c.as_slice.ensures.value) (c.items-items.ensures ∙ c.put_items.ensures) in
-    let v = c.index_mut-device.result.now in
-    let a = acted_on (seen w) q w.devices.items w.regions.items c.as_slice-2.result.now w.labels.queues c.from.result v c.items-items.result.now h.tied fits refl c.as_slice-2.ensures.value n c.index_mut-device.ensures.value put in
+    let v = c.index_mut-there.result.now in
+    let a = acted_on (seen w) q w.devices.items w.regions.items c.as_slice-2.result.now w.labels.queues c.from.result v c.items-items.result.now h.tied fits refl c.as_slice-2.ensures.value n c.index_mut-there.ensures.value put in
     rw (a.own, a.tied.capacity, c.change.ensures, c.kind-kind.ensures) a.free.fine
 
 pub mark_all-requires-clause-entered : goal.mark_all-requires-clause-entered
@@ -58,10 +62,10 @@ mark_all-requires-clause-entered c =
     let h = c.self.invariant in
     let q = planned c.plan.inside in
     let fits : Fits (seen w) q = rw (← c.self.view_is, ← c.plan.view_is) at c.requires in
-    let n = c.from.ensures ∙ (c.number-number.ensures ∙ c.device_of.ensures) in
+    let n = c.from.ensures ∙ (c.number.ensures ∙ c.device_of-device.ensures) in
     let put = are_put (seen w) q.host q.directive c.as_slice.result.now c.items-items.result.now (h.tied.inside ∙ sym c.as_slice.ensures.value) (c.items-items.ensures ∙ c.put_items.ensures) in
-    let v = c.index_mut-device.result.now in
-    let a = acted_on (seen w) q w.devices.items w.regions.items c.as_slice-2.result.now w.labels.queues c.from.result v c.items-items.result.now h.tied fits refl c.as_slice-2.ensures.value n c.index_mut-device.ensures.value put in
+    let v = c.index_mut-there.result.now in
+    let a = acted_on (seen w) q w.devices.items w.regions.items c.as_slice-2.result.now w.labels.queues c.from.result v c.items-items.result.now h.tied fits refl c.as_slice-2.ensures.value n c.index_mut-there.ensures.value put in
     rw (a.own, c.change.ensures, c.kind-kind.ensures) (entered_in (standing_in (seen w)) q.host q.directive v.table v.opened a.tied)
 
 pub mark_all-requires-clause-room : goal.mark_all-requires-clause-room
@@ -70,12 +74,24 @@ mark_all-requires-clause-room c =
     let h = c.self.invariant in
     let q = planned c.plan.inside in
     let fits : Fits (seen w) q = rw (← c.self.view_is, ← c.plan.view_is) at c.requires in
-    let n = c.from.ensures ∙ (c.number-number.ensures ∙ c.device_of.ensures) in
+    let n = c.from.ensures ∙ (c.number.ensures ∙ c.device_of-device.ensures) in
     let put = are_put (seen w) q.host q.directive c.as_slice.result.now c.items-items.result.now (h.tied.inside ∙ sym c.as_slice.ensures.value) (c.items-items.ensures ∙ c.put_items.ensures) in
-    let v = c.index_mut-device.result.now in
-    let a = acted_on (seen w) q w.devices.items w.regions.items c.as_slice-2.result.now w.labels.queues c.from.result v c.items-items.result.now h.tied fits refl c.as_slice-2.ensures.value n c.index_mut-device.ensures.value put in
+    let v = c.index_mut-there.result.now in
+    let a = acted_on (seen w) q w.devices.items w.regions.items c.as_slice-2.result.now w.labels.queues c.from.result v c.items-items.result.now h.tied fits refl c.as_slice-2.ensures.value n c.index_mut-there.ensures.value put in
     let items = items_in (standing_in (seen w)) q.host q.directive in
     rw a.own (room_for (standing_in (seen w)) v.table v.opened (length items) a.tied (omega (arith, a.free.within.short)) a.room)
+
+pub note_label-requires : goal.note_label-requires
+note_label-requires c =
+    let w = c.self.inside in
+    let h = c.self.invariant in
+    let q = planned c.plan.inside in
+    let fits : Fits (seen w) q = rw (← c.self.view_is, ← c.plan.view_is) at c.requires in
+    let n = c.from.ensures ∙ (c.number.ensures ∙ c.device_of-device.ensures) in
+    let put = are_put (seen w) q.host q.directive c.as_slice.result.now c.items-items.result.now (h.tied.inside ∙ sym c.as_slice.ensures.value) (c.items-items.ensures ∙ c.put_items.ensures) in
+    let v = c.index_mut-there.result.now in
+    let a = acted_on (seen w) q w.devices.items w.regions.items c.as_slice-2.result.now w.labels.queues c.from.result v c.items-items.result.now h.tied fits refl c.as_slice-2.ensures.value n c.index_mut-there.ensures.value put in
+    label_cells (seen w) q v.table v.opened a.tied fits h.lawful
 
 pub mark_all-requires-2-clause-fine : goal.mark_all-requires-2-clause-fine
 mark_all-requires-2-clause-fine c =
@@ -83,14 +99,14 @@ mark_all-requires-2-clause-fine c =
     let h = c.self.invariant in
     let q = planned c.plan.inside in
     let fits : Fits (seen w) q = rw (← c.self.view_is, ← c.plan.view_is) at c.requires in
-    let n = c.from.ensures ∙ (c.number-number.ensures ∙ c.device_of.ensures) in
+    let n = c.from.ensures ∙ (c.number.ensures ∙ c.device_of-device.ensures) in
     let put = are_put (seen w) q.host q.directive c.as_slice.result.now c.items-items.result.now (h.tied.inside ∙ sym c.as_slice.ensures.value) (c.items-items.ensures ∙ c.put_items.ensures) in
-    let v = c.index_mut-device.result.now in
-    let a = acted_on (seen w) q w.devices.items w.regions.items c.as_slice-2.result.now w.labels.queues c.from.result v c.items-items.result.now h.tied fits refl c.as_slice-2.ensures.value n c.index_mut-device.ensures.value put in
+    let v = c.index_mut-there.result.now in
+    let a = acted_on (seen w) q w.devices.items w.regions.items c.as_slice-2.result.now w.labels.queues c.from.result v c.items-items.result.now h.tied fits refl c.as_slice-2.ensures.value n c.index_mut-there.ensures.value put in
     let items = items_in (standing_in (seen w)) q.host q.directive in
     let between : held_on c.mark_all.new.self ≡ holding_between q.directive.kind (held_on v) items = rw (a.own, c.change.ensures, c.kind-kind.ensures) at c.mark_all.ensures.holding in
     let ends : c.ends_of.result.now ≡ ends_of q.directive.kind items = (rw c.kind-kind.ensures at c.ends_of.ensures) ∙ ap (ends_of q.directive.kind) a.own in
-    rw (between, ends, c.mark_all.ensures.capacity, a.tied.capacity) a.free.ends_fine
+    rw (c.note_label.ensures.held ∙ between, ends, c.note_label.ensures.capacity ∙ c.mark_all.ensures.capacity, a.tied.capacity) a.free.ends_fine
 
 pub mark_all-requires-2-clause-entered : goal.mark_all-requires-2-clause-entered
 mark_all-requires-2-clause-entered c =
@@ -98,14 +114,14 @@ mark_all-requires-2-clause-entered c =
     let h = c.self.invariant in
     let q = planned c.plan.inside in
     let fits : Fits (seen w) q = rw (← c.self.view_is, ← c.plan.view_is) at c.requires in
-    let n = c.from.ensures ∙ (c.number-number.ensures ∙ c.device_of.ensures) in
+    let n = c.from.ensures ∙ (c.number.ensures ∙ c.device_of-device.ensures) in
     let put = are_put (seen w) q.host q.directive c.as_slice.result.now c.items-items.result.now (h.tied.inside ∙ sym c.as_slice.ensures.value) (c.items-items.ensures ∙ c.put_items.ensures) in
-    let v = c.index_mut-device.result.now in
-    let a = acted_on (seen w) q w.devices.items w.regions.items c.as_slice-2.result.now w.labels.queues c.from.result v c.items-items.result.now h.tied fits refl c.as_slice-2.ensures.value n c.index_mut-device.ensures.value put in
+    let v = c.index_mut-there.result.now in
+    let a = acted_on (seen w) q w.devices.items w.regions.items c.as_slice-2.result.now w.labels.queues c.from.result v c.items-items.result.now h.tied fits refl c.as_slice-2.ensures.value n c.index_mut-there.ensures.value put in
     let items = items_in (standing_in (seen w)) q.host q.directive in
     let between : held_on c.mark_all.new.self ≡ holding_between q.directive.kind (held_on v) items = rw (a.own, c.change.ensures, c.kind-kind.ensures) at c.mark_all.ensures.holding in
     let ends : c.ends_of.result.now ≡ ends_of q.directive.kind items = (rw c.kind-kind.ensures at c.ends_of.ensures) ∙ ap (ends_of q.directive.kind) a.own in
-    rw (between, ends) a.free.ends_entered
+    rw (c.note_label.ensures.held ∙ between, ends) a.free.ends_entered
 
 pub mark_all-requires-2-clause-room : goal.mark_all-requires-2-clause-room
 mark_all-requires-2-clause-room c =
@@ -113,16 +129,16 @@ mark_all-requires-2-clause-room c =
     let h = c.self.invariant in
     let q = planned c.plan.inside in
     let fits : Fits (seen w) q = rw (← c.self.view_is, ← c.plan.view_is) at c.requires in
-    let n = c.from.ensures ∙ (c.number-number.ensures ∙ c.device_of.ensures) in
+    let n = c.from.ensures ∙ (c.number.ensures ∙ c.device_of-device.ensures) in
     let put = are_put (seen w) q.host q.directive c.as_slice.result.now c.items-items.result.now (h.tied.inside ∙ sym c.as_slice.ensures.value) (c.items-items.ensures ∙ c.put_items.ensures) in
-    let v = c.index_mut-device.result.now in
-    let a = acted_on (seen w) q w.devices.items w.regions.items c.as_slice-2.result.now w.labels.queues c.from.result v c.items-items.result.now h.tied fits refl c.as_slice-2.ensures.value n c.index_mut-device.ensures.value put in
+    let v = c.index_mut-there.result.now in
+    let a = acted_on (seen w) q w.devices.items w.regions.items c.as_slice-2.result.now w.labels.queues c.from.result v c.items-items.result.now h.tied fits refl c.as_slice-2.ensures.value n c.index_mut-there.ensures.value put in
     let items = items_in (standing_in (seen w)) q.host q.directive in
     let between : held_on c.mark_all.new.self ≡ holding_between q.directive.kind (held_on v) items = rw (a.own, c.change.ensures, c.kind-kind.ensures) at c.mark_all.ensures.holding in
     let ends : c.ends_of.result.now ≡ ends_of q.directive.kind items = (rw c.kind-kind.ensures at c.ends_of.ensures) ∙ ap (ends_of q.directive.kind) a.own in
     let n2 = length (ends_of q.directive.kind items) in
     let room = room_for (standing_in (seen w)) v.table v.opened (length items + n2) a.tied (omega (arith, a.free.within.short, length-ends q.directive.kind items)) a.room in
-    rw ends (room_all (change_by q.directive.kind) v.table c.mark_all.new.self.table items n2 v.opened c.mark_all.new.self.opened room between c.mark_all.ensures.room)
+    rw ends (room_all (change_by q.directive.kind) v.table c.note_label.new.device.table items n2 v.opened c.note_label.new.device.opened room (c.note_label.ensures.held ∙ between) (c.note_label.ensures.room ∙ c.mark_all.ensures.room))
 
 pub push_label-batch-requires : goal.push_label-batch-requires
 push_label-batch-requires c =
@@ -138,28 +154,33 @@ invariant_of-self c =
     let h = c.self.invariant in
     let q = planned c.plan.inside in
     let fits : Fits (seen w) q = rw (← c.self.view_is, ← c.plan.view_is) at c.requires in
-    let n = c.from.ensures ∙ (c.number-number.ensures ∙ c.device_of.ensures) in
+    let n = c.from.ensures ∙ (c.number.ensures ∙ c.device_of-device.ensures) in
     let put = are_put (seen w) q.host q.directive c.as_slice.result.now c.items-items.result.now (h.tied.inside ∙ sym c.as_slice.ensures.value) (c.items-items.ensures ∙ c.put_items.ensures) in
-    let v = c.index_mut-device.result.now in
-    let a = acted_on (seen w) q w.devices.items w.regions.items c.as_slice-2.result.now w.labels.queues c.from.result v c.items-items.result.now h.tied fits refl c.as_slice-2.ensures.value n c.index_mut-device.ensures.value put in
+    let v = c.index_mut-there.result.now in
+    let a = acted_on (seen w) q w.devices.items w.regions.items c.as_slice-2.result.now w.labels.queues c.from.result v c.items-items.result.now h.tied fits refl c.as_slice-2.ensures.value n c.index_mut-there.ensures.value put in
     let items = items_in (standing_in (seen w)) q.host q.directive in
     let between : held_on c.mark_all.new.self ≡ holding_between q.directive.kind (held_on v) items = rw (a.own, c.change.ensures, c.kind-kind.ensures) at c.mark_all.ensures.holding in
     let ends : c.ends_of.result.now ≡ ends_of q.directive.kind items = (rw c.kind-kind.ensures at c.ends_of.ensures) ∙ ap (ends_of q.directive.kind) a.own in
     let d = q.directive in
     let after = c.mark_all-2.new.self in
-    let left : held_on after ≡ holding_after_all (Some StructuredDown) (held_on c.mark_all.new.self) (ends_of d.kind items) = rw ends at c.mark_all-2.ensures.holding in
-    let is : held_on after ≡ holding_behind d.kind (held_on v) items = left ∙ ap (λ g. holding_after_all (Some StructuredDown) g (ends_of d.kind items)) between in
+    let noted = c.note_label.new.device in
+    let left : held_on after ≡ holding_after_all (Some StructuredDown) (held_on noted) (ends_of d.kind items) = rw ends at c.mark_all-2.ensures.holding in
+    let middle : held_on noted ≡ holding_between d.kind (held_on v) items = c.note_label.ensures.held ∙ between in
+    let is : held_on after ≡ holding_behind d.kind (held_on v) items = left ∙ ap (λ g. holding_after_all (Some StructuredDown) g (ends_of d.kind items)) middle in
+    let notes =
+    notes_then (seen w) q v c.mark_all.new.self noted after a.tied fits h.lawful (rw (a.own, c.change.ensures, c.kind-kind.ensures) at c.mark_all.ensures.holding) c.note_label.ensures.held
+    c.mark_all.ensures.notes c.note_label.ensures.notes c.mark_all-2.ensures.notes c.keeps_order.ensures.noted in
     place_pushed w.config w.history.items c.push_reserved.new.self.items w.counts.items c.push_reserved-2.new.self.items (room_of w) q w.devices.items (slice_set w.devices.items c.from.result after)
     w.regions.items c.settle.new.regions.items w.labels.queues c.push_label-batch.new.labels.queues v after
     c.push_reserved.ensures.items c.push_reserved-2.ensures.items c.settle.ensures.regions c.push_label-batch.ensures.queues (ap (λ k. slice_set w.devices.items k after) a.device) h fits
-    (rw a.device at a.there) is (c.mark_all-2.ensures.capacity ∙ c.mark_all.ensures.capacity)
+    (rw a.device at a.there) is (c.mark_all-2.ensures.capacity ∙ (c.note_label.ensures.capacity ∙ c.mark_all.ensures.capacity)) notes
 
 pub returns-clause-place : goal.returns-clause-place
 returns-clause-place c =
     let w = c.self.inside in
     let q = planned c.plan.inside in
-    let v = c.index_mut-device.result.now in
-    let rooms = shown_same (λ (x : Device). x.table.room) w.devices.items c.from.result v c.mark_all-2.new.self c.index_mut-device.ensures.value (c.mark_all-2.ensures.room ∙ c.mark_all.ensures.room) in
+    let v = c.index_mut-there.result.now in
+    let rooms = shown_same (λ (x : Device). x.table.room) w.devices.items c.from.result v c.mark_all-2.new.self c.index_mut-there.ensures.value (c.mark_all-2.ensures.room ∙ (c.note_label.ensures.room ∙ c.mark_all.ensures.room)) in
     rw (← c.self.view_is, ← c.plan.view_is, c.push_reserved.ensures.capacity, c.push_reserved-2.ensures.capacity, c.settle.ensures.room, c.push_label-batch.ensures.room, rooms)
     (pushed_view w.config w.history.items c.push_reserved.new.self.items w.counts.items c.push_reserved-2.new.self.items (room_of w) q c.push_reserved.ensures.items c.push_reserved-2.ensures.items)
 
@@ -169,10 +190,12 @@ returns-clause-answer c =
     let h = c.self.invariant in
     let q = planned c.plan.inside in
     let fits : Fits (seen w) q = rw (← c.self.view_is, ← c.plan.view_is) at c.requires in
-    let n = c.from.ensures ∙ (c.number-number.ensures ∙ c.device_of.ensures) in
+    let n = c.from.ensures ∙ (c.number.ensures ∙ c.device_of-device.ensures) in
     let put = are_put (seen w) q.host q.directive c.as_slice.result.now c.items-items.result.now (h.tied.inside ∙ sym c.as_slice.ensures.value) (c.items-items.ensures ∙ c.put_items.ensures) in
-    let v = c.index_mut-device.result.now in
-    let a = acted_on (seen w) q w.devices.items w.regions.items c.as_slice-2.result.now w.labels.queues c.from.result v c.items-items.result.now h.tied fits refl c.as_slice-2.ensures.value n c.index_mut-device.ensures.value put in
+    let v = c.index_mut-there.result.now in
+    let a = acted_on (seen w) q w.devices.items w.regions.items c.as_slice-2.result.now w.labels.queues c.from.result v c.items-items.result.now h.tied fits refl c.as_slice-2.ensures.value n c.index_mut-there.ensures.value put in
     let told = rw (a.own, c.kind-kind.ensures) at c.is_answered-present.ensures in
+    let device : c.device_of-device.result ≡ device_in (standing_in (seen w)) q.host q.directive = sym (c.from.ensures ∙ c.number.ensures) ∙ a.device in
+    let counted = c.counts_for-counts.ensures ∙ ap (λ k. counts_in (counts_queues q.directive.kind (queue_by q.directive.kind q.directive)) w.labels.queues k (queues_named q.directive)) device in
     rw (← c.self.view_is, ← c.plan.view_is)
-    (answer_is (seen w) q v.table v.opened c.push_label-batch.result c.is_answered-present.result a.tied fits c.push_label-batch.ensures.result told)
+    (answer_is (seen w) q v.table v.opened w.labels.queues c.push_label-batch.result c.counts_for-counts.result c.is_answered-present.result a.tied fits h.tied.labelled counted c.push_label-batch.ensures.result told)

@@ -25,7 +25,7 @@ invariant_of-self-in_err-spare-2 c =
     let found = c.index_mut.ensures.value in
     rw (c.reserve.ensures.items, c.reserve-2.ensures.items, c.reserve-3.ensures.items, c.spare.ensures.queues)
     (place_spared w.config (reverse w.history.items) (reverse w.counts.items) w.devices.items w.regions.items w.labels.queues n v c.spare-2.new.self h
-    (omega (arith, is, there.0)) found c.spare-2.ensures.held c.spare-2.ensures.capacity)
+    (omega (arith, is, there.0)) found c.spare-2.ensures.held c.spare-2.ensures.notes c.spare-2.ensures.capacity)
 
 pub returns-in_err-spare-2-clause-roomy : goal.returns-in_err-spare-2-clause-roomy
 returns-in_err-spare-2-clause-roomy c =
@@ -73,7 +73,7 @@ invariant_of-self-2 c =
     let found = c.index_mut.ensures.value in
     rw (c.reserve.ensures.items, c.reserve-2.ensures.items, c.reserve-3.ensures.items, c.spare.ensures.queues)
     (place_spared w.config (reverse w.history.items) (reverse w.counts.items) w.devices.items w.regions.items w.labels.queues n v c.spare-2.new.self h
-    (omega (arith, is, there.0)) found c.spare-2.ensures.held c.spare-2.ensures.capacity)
+    (omega (arith, is, there.0)) found c.spare-2.ensures.held c.spare-2.ensures.notes c.spare-2.ensures.capacity)
 
 pub returns-clause-roomy : goal.returns-clause-roomy
 returns-clause-roomy c =

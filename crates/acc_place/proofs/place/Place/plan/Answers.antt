@@ -1,10 +1,12 @@
-use Rattle.std.proofs.Common.{◌≡◌, ◌+◌, ◌<◌, reverse, length, refl, sym, ap, subst, ◌∙◌}
+use Rattle.std.proofs.Common.{◌≡◌, ◌<◌, reverse, refl, sym, ap, subst, ◌∙◌}
 use Rattle.std.proofs.lemmas.Result.{err_from_is_err_and}
 use Rattle.acc_place.specs.declared.judge.Known.{Known}
 use Rattle.acc_place.specs.Accepting.{refusal}
 use Rattle.acc_place.specs.Places.{IsQueue}
 use Rattle.acc_place.specs.Plans.{PlaceView, queue_for, standing_in, Fits, IsPlanOf, IsRoomy, label_for}
-use Rattle.acc_place.specs.Trials.{ops_by}
+use Rattle.acc_place.specs.Noting.{notes_on}
+use Rattle.acc_place.specs.Trials.{behind_noted, next_in, ops_by, steps_by}
+use Rattle.acc_place.proofs.Accepted.{device_in}
 use Rattle.acc_place.proofs.Planning.{counted_by, fault_known, fits_known, known_in, known_of, memory_as, own_device, plan_of_now, refused_as, same_place}
 use Rattle.acc_place.proofs.Seen.{seen, seen_with}
 use Rattle.acc_place.proofs.place.Place.plan.Goals as goal
@@ -21,8 +23,7 @@ judge-requires-clause-known c =
     let there : IsQueue w.config at_queue = rw (← c.self.view_is) at c.in_ok-device.ensures.there in
     let known =
     known_of p host d _ w.devices.items w.regions.items w.labels.queues c.from.result c.index-there.result.now at_queue c.self.invariant here is there
-    (c.from.ensures ∙ c.number.ensures) c.index-there.ensures refl refl refl c.as_slice.ensures.value (counted_by w.history.items c.len.result w.history.len c.len.ensures w.history.ok.0) refl
-    (ap (λ ls. length ls + 1) c.on.ensures) in
+    (c.from.ensures ∙ c.number.ensures) c.index-there.ensures refl refl refl c.as_slice.ensures.value (counted_by w.history.items c.len.result w.history.len c.len.ensures w.history.ok.0) refl refl in
     known_in p host d _ known
 
 pub judge-requires-clause-device : goal.judge-requires-clause-device
@@ -43,13 +44,12 @@ judge-requires-clause-device c =
       regions = c.as_slice.result;
       accepted = c.len.result;
       opened = c.index-there.result.now.opened;
+      labels = record { ref_ptr = at_place; now = w.labels };
       at = at_queue;
-      next_batch = length c.on.result.now + 1;
     } in
     let known =
     known_of p host d k w.devices.items w.regions.items w.labels.queues c.from.result c.index-there.result.now at_queue c.self.invariant here is there
-    (c.from.ensures ∙ c.number.ensures) c.index-there.ensures refl refl refl c.as_slice.ensures.value (counted_by w.history.items c.len.result w.history.len c.len.ensures w.history.ok.0) refl
-    (ap (λ ls. length ls + 1) c.on.ensures) in
+    (c.from.ensures ∙ c.number.ensures) c.index-there.ensures refl refl refl c.as_slice.ensures.value (counted_by w.history.items c.len.result w.history.len c.len.ensures w.history.ok.0) refl refl in
     own_device p host d k known
 
 pub plan-requires-clause-known : goal.plan-requires-clause-known
@@ -64,8 +64,7 @@ plan-requires-clause-known c =
     let there : IsQueue w.config at_queue = rw (← c.self.view_is) at c.in_ok-device.ensures.there in
     let known =
     known_of p host d _ w.devices.items w.regions.items w.labels.queues c.from.result c.index-there.result.now at_queue c.self.invariant here is there
-    (c.from.ensures ∙ c.number.ensures) c.index-there.ensures refl refl refl c.as_slice.ensures.value (counted_by w.history.items c.len.result w.history.len c.len.ensures w.history.ok.0) refl
-    (ap (λ ls. length ls + 1) c.on.ensures) in
+    (c.from.ensures ∙ c.number.ensures) c.index-there.ensures refl refl refl c.as_slice.ensures.value (counted_by w.history.items c.len.result w.history.len c.len.ensures w.history.ok.0) refl refl in
     known_in p host d _ known
 
 pub returns-in-Some-clause-refused : goal.returns-in-Some-clause-refused
@@ -86,13 +85,12 @@ returns-in-Some-clause-refused c =
       regions = c.as_slice.result;
       accepted = c.len.result;
       opened = c.index-there.result.now.opened;
+      labels = record { ref_ptr = at_place; now = w.labels };
       at = at_queue;
-      next_batch = length c.on.result.now + 1;
     } in
     let known =
     known_of p host d k w.devices.items w.regions.items w.labels.queues c.from.result c.index-there.result.now at_queue c.self.invariant here is there
-    (c.from.ensures ∙ c.number.ensures) c.index-there.ensures refl refl refl c.as_slice.ensures.value (counted_by w.history.items c.len.result w.history.len c.len.ensures w.history.ok.0) refl
-    (ap (λ ls. length ls + 1) c.on.ensures) in
+    (c.from.ensures ∙ c.number.ensures) c.index-there.ensures refl refl refl c.as_slice.ensures.value (counted_by w.history.items c.len.result w.history.len c.len.ensures w.history.ok.0) refl refl in
     let found = fault_known p host d k known ∙ sym c.in-Some.ensures.fault in
     rw (← c.self.view_is) (refused_as (refusal w.config (standing_in p) host d) c.in-Some.fault found)
 
@@ -114,13 +112,12 @@ returns-in_err-plan-clause-refused c =
       regions = c.as_slice.result;
       accepted = c.len.result;
       opened = c.index-there.result.now.opened;
+      labels = record { ref_ptr = at_place; now = w.labels };
       at = at_queue;
-      next_batch = length c.on.result.now + 1;
     } in
     let known =
     known_of p host d k w.devices.items w.regions.items w.labels.queues c.from.result c.index-there.result.now at_queue c.self.invariant here is there
-    (c.from.ensures ∙ c.number.ensures) c.index-there.ensures refl refl refl c.as_slice.ensures.value (counted_by w.history.items c.len.result w.history.len c.len.ensures w.history.ok.0) refl
-    (ap (λ ls. length ls + 1) c.on.ensures) in
+    (c.from.ensures ∙ c.number.ensures) c.index-there.ensures refl refl refl c.as_slice.ensures.value (counted_by w.history.items c.len.result w.history.len c.len.ensures w.history.ok.0) refl refl in
     let none = fault_known p host d k known ∙ sym c.in_default.ensures.fault in
     let q = err_from_is_err_and c.from_residual-in_err-plan.result c.from_residual-in_err-plan.ensures.1 in
     rw (q.1, ← c.self.view_is) (memory_as (refusal w.config (standing_in p) host d) q.0 none (q.2 ∙ c.in_err-plan.ensures.fault))
@@ -143,13 +140,12 @@ returns-in_err-make_room-clause-refused c =
       regions = c.as_slice.result;
       accepted = c.len.result;
       opened = c.index-there.result.now.opened;
+      labels = record { ref_ptr = at_place; now = w.labels };
       at = at_queue;
-      next_batch = length c.on.result.now + 1;
     } in
     let known =
     known_of p host d k w.devices.items w.regions.items w.labels.queues c.from.result c.index-there.result.now at_queue c.self.invariant here is there
-    (c.from.ensures ∙ c.number.ensures) c.index-there.ensures refl refl refl c.as_slice.ensures.value (counted_by w.history.items c.len.result w.history.len c.len.ensures w.history.ok.0) refl
-    (ap (λ ls. length ls + 1) c.on.ensures) in
+    (c.from.ensures ∙ c.number.ensures) c.index-there.ensures refl refl refl c.as_slice.ensures.value (counted_by w.history.items c.len.result w.history.len c.len.ensures w.history.ok.0) refl refl in
     let none = fault_known p host d k known ∙ sym c.in_default.ensures.fault in
     let q = err_from_is_err_and c.from_residual-in_err-make_room.result c.from_residual-in_err-make_room.ensures.1 in
     rw (q.1, ← c.self.view_is) (memory_as (refusal w.config (standing_in p) host d) q.0 none (q.2 ∙ c.in_err-make_room.ensures.fault))
@@ -174,16 +170,17 @@ returns-clause-fits c =
       regions = c.as_slice.result;
       accepted = c.len.result;
       opened = c.index-there.result.now.opened;
+      labels = record { ref_ptr = at_place; now = w.labels };
       at = at_queue;
-      next_batch = length c.on.result.now + 1;
     } in
     let known =
     known_of p host d k w.devices.items w.regions.items w.labels.queues c.from.result c.index-there.result.now at_queue c.self.invariant here is there
-    (c.from.ensures ∙ c.number.ensures) c.index-there.ensures refl refl refl c.as_slice.ensures.value (counted_by w.history.items c.len.result w.history.len c.len.ensures w.history.ok.0) refl
-    (ap (λ ls. length ls + 1) c.on.ensures) in
+    (c.from.ensures ∙ c.number.ensures) c.index-there.ensures refl refl refl c.as_slice.ensures.value (counted_by w.history.items c.len.result w.history.len c.len.ensures w.history.ok.0) refl refl in
     let same : c.make_room.new.self ≡ p = same_place c.make_room.new.self w.config (reverse w.history.items) (reverse w.counts.items) made.config made.history made.counts in
     let q = c.in_ok-plan.plan in
     let a = c.in_ok-plan.ensures in
     let roomy : IsRoomy p (queue_for p host d) = subst (λ x. IsRoomy p x) is (subst (λ x. IsRoomy x at_queue) same made.ok) in
-    let fits : Fits p q = fits_known p host d k q known (sym c.in_default.ensures.fault) a.host.0 a.directive a.region (a.label ∙ ap (λ m. label_for k.at k.next_batch host m (ops_by k host d)) (sym a.host.1)) roomy in
+    let notes = notes_on (device_in (standing_in p) host d) (standing_in p).labels in
+    let named = a.label notes known.tied.noted ∙ ap (λ m. label_for k.at (next_in k) host m (behind_noted k notes d (ops_by k host d) (steps_by k host d))) (sym a.host.1) in
+    let fits : Fits p q = fits_known p host d k q known c.self.invariant.lawful (sym c.in_default.ensures.fault) a.host.0 a.directive a.region named roomy in
     subst (λ (x : PlaceView). Fits x q × IsPlanOf x q) (sym same) (fits, plan_of_now p q fits (a.host.2 ∙ counted_by w.history.items c.len.result w.history.len c.len.ensures w.history.ok.0))

@@ -1,12 +1,14 @@
-use Rattle.std.proofs.Common.{◌≡◌, sym, ap, ◌∙◌, arith}
+use Rattle.std.proofs.Common.{◌≡◌, sym, ap, ◌∙◌}
 use Rattle.std.specs.Prelude.{nat_lt}
 use Rattle.std.proofs.lemmas.Bool.{ltb-false, ltb-true}
 use Rattle.acc_place.specs.Plans.{standing_in}
+use Rattle.acc_place.specs.Targets.{queue_by}
 use Rattle.acc_place.specs.Walks.{device_by}
 use Rattle.acc_place.proofs.Accepted.{refused_device}
 use Rattle.acc_place.proofs.Entered.{there_device}
 use Rattle.acc_place.proofs.Planning.{queue_is}
 use Rattle.acc_place.proofs.Seen.{seen}
+use Rattle.acc_place.proofs.Sound.{by_kind_low}
 use Rattle.acc_place.proofs.place.Place.queue_for.Goals as goal
 
 pub returns-then-not-has_device-clause-refused : goal.returns-then-not-has_device-clause-refused
@@ -23,7 +25,7 @@ returns-clause-at c =
     let host = c.args.host in
     let here : c.device_of-device.result ≡ device_by (standing_in (seen w)).regions host d d.kind =
     c.device_of-device.ensures ∙ ap (λ rs. device_by rs host d d.kind) (c.as_slice.ensures.value ∙ sym c.self.invariant.tied.inside) in
-    rw (← c.self.view_is) (ap (λ n. record { device = n; queue = 0 }) here ∙ sym (queue_is (seen w) host d))
+    rw (← c.self.view_is, c.queue_by.ensures) (ap (λ n. record { device = n; queue = queue_by d.kind d }) here ∙ sym (queue_is (seen w) host d))
 
 pub returns-clause-there : goal.returns-clause-there
 returns-clause-there c =
@@ -34,4 +36,4 @@ returns-clause-there c =
     let there = there_device w.config host d d.kind w.regions.items low c.self.invariant.tied.there in
     let here : c.device_of-device.result ≡ device_by w.regions.items host d d.kind =
     c.device_of-device.ensures ∙ ap (λ rs. device_by rs host d d.kind) c.as_slice.ensures.value in
-    rw (← c.self.view_is) ((rw here there, omega arith))
+    rw (← c.self.view_is, c.queue_by.ensures) ((rw here there, by_kind_low d.kind d))

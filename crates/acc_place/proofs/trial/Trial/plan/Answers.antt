@@ -6,9 +6,11 @@ use Rattle.acc_present.specs.Drafts.{drafted}
 use Rattle.acc_place.specs.declared.trial.Trial.TheInside.{Inside}
 use Rattle.acc_place.specs.Plans.{label_for}
 use Rattle.acc_place.specs.Standings.{change_by, loop_of}
-use Rattle.acc_place.specs.Trials.{held_by, items_by, ops_by, IsTried, TrialView}
+use Rattle.acc_place.specs.declared.judge.Marked.{Marked}
+use Rattle.acc_place.specs.Trials.{behind_noted, held_by, items_by, next_in, IsTried, TrialView}
 use Rattle.acc_place.specs.Walks.{holding_between, ends_of, marked_ops, all_steps, run_in}
 use Rattle.acc_place.proofs.Accepted.{length-ends}
+use Rattle.acc_place.proofs.Celled.{run_cells, steps_cells}
 use Rattle.acc_place.proofs.Trying.{is_clean, run_made, steps_made}
 use Rattle.acc_place.proofs.Walking.{entered_alike, length-marked}
 use Rattle.acc_place.proofs.trial.Trial.plan.Goals as goal
@@ -78,8 +80,36 @@ leave_all-requires-clause-entered c =
     let clean = is_clean k host d c.requires.known tried.draft.table tried.faultless in
     rw (ends, c.as_slice-items.ensures.value, tried.marks, tried.whole) (entered_alike (holding_between d.kind (held_by k) items) 0 (ends_of d.kind items) clean.ends_entered)
 
+pub plan_of-requires-clause-run_cells : goal.plan_of-requires-clause-run_cells
+plan_of-requires-clause-run_cells c =
+    let k = c.args.known.now in
+    let host = c.args.host in
+    let d = c.args.directive.now in
+    let w = c.self.inside in
+    let ps = drafted k.table.now w.draft in
+    let tried : IsTried k host d (seen w) = rw (← c.self.view_is) at c.requires.tried in
+    let made = (rw c.kind-kind.ensures at c.in_ok-run.ensures.run) ∙ ap (λ ys. run_in (loop_of d.kind) ys ps) (c.as_slice-items.ensures.value ∙ tried.whole) in
+    rw made (run_cells (loop_of d.kind) (items_by k host d) ps (is_clean k host d c.requires.known tried.draft.table tried.faultless).cells)
+
+pub plan_of-requires-clause-cells : goal.plan_of-requires-clause-cells
+plan_of-requires-clause-cells c =
+    let k = c.args.known.now in
+    let host = c.args.host in
+    let d = c.args.directive.now in
+    let w = c.self.inside in
+    let items = items_by k host d in
+    let h = held_by k in
+    let tried : IsTried k host d (seen w) = rw (← c.self.view_is) at c.requires.tried in
+    let ps = drafted k.table.now w.draft in
+    let clean = is_clean k host d c.requires.known tried.draft.table tried.faultless in
+    let ends : c.ends_of-ends.result.now ≡ ends_of d.kind w.items.items = (rw c.kind-kind.ensures at c.ends_of-ends.ensures) ∙ ap (ends_of d.kind) c.as_slice-items.ensures.value in
+    let steps : c.as_slice.result.now ≡ all_steps d.kind h items =
+    steps_made d.kind h ps w.items.items items c.ends_of-ends.result.now w.steps.items c.as_slice.result.now
+    tried.became tried.marks ends tried.whole (c.as_slice.ensures.value ∙ c.leave_all.ensures.steps) in
+    rw steps (steps_cells d.kind h items clean.cells clean.ends_cells)
+
 pub returns-clause-label : goal.returns-clause-label
-returns-clause-label c =
+returns-clause-label c = λ notes noted.
     let k = c.args.known.now in
     let host = c.args.host in
     let d = c.args.directive.now in
@@ -96,6 +126,7 @@ returns-clause-label c =
     let made = (rw c.kind-kind.ensures at c.in_ok-run.ensures.run) ∙ ap (λ ys. run_in (loop_of d.kind) ys ps) here in
     let run : option_to_list c.in_ok-run.run' ≡ run_in (loop_of d.kind) items (holding_between d.kind h items).presences =
     run_made d.kind h ps w.items.items items (option_to_list c.in_ok-run.run') tried.marks tried.whole made in
-    let ops : marked_ops (option_to_list c.in_ok-run.run') c.as_slice.result.now ≡ ops_by k host d =
-    ap (λ r. marked_ops r c.as_slice.result.now) run ∙ ap (marked_ops (run_in (loop_of d.kind) items (holding_between d.kind h items).presences)) steps in
-    subst (λ (os : List Op). IfOk c.plan_of.result (λ q. q.label ≡ label_for k.at k.next_batch host c.args.items_done os)) ops c.plan_of.ensures.label
+    let behind : List Op → List Marked → Type 0 =
+    λ run_ops ts. IfOk c.plan_of.result (λ q. q.label ≡ label_for k.at (next_in k) host c.args.items_done (behind_noted k notes d (marked_ops run_ops ts) ts)) in
+    let loop = run_in (loop_of d.kind) items (holding_between d.kind h items).presences in
+    subst (λ (ts : List Marked). behind loop ts) steps (subst (λ (os : List Op). behind os c.as_slice.result.now) run (c.plan_of.ensures.label notes noted))

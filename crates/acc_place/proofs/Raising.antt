@@ -1,0 +1,141 @@
+-- The numbers that a batch awaits, as they are raised range by range.
+use Rattle.std.proofs.Common.{◌≡◌, ℕ, suc, ◌-◌, ◌<◌, ◌≤◌, List, [], ◌∷◌, ◌++◌, length, map, get_or, drop, take, refl, sym, ap, ◌∙◌, arith, Option, Some, None}
+use Rattle.std.specs.Prelude.{All, max, slice_index_or}
+use Rattle.std.specs.List.{flat_map}
+use Rattle.std.proofs.Math.Seq.{take-length}
+use Rattle.std.proofs.lemmas.List.Elements.{All-head}
+use Rattle.std.proofs.lemmas.Grind.{flat_map-append}
+use Rattle.acc_base.specs.declared.range.Range.{Range}
+use Rattle.acc_base.specs.Queues.{every_queue}
+use Rattle.acc_batch.specs.Labels.{greatest}
+use Rattle.acc_batch.specs.declared.operation.Op.{Op}
+use Rattle.acc_batch.specs.declared.operation.Op.TheVariants.{CopyIn, CopyOut}
+use Rattle.acc_kernel.specs.Jobs.{Use}
+use Rattle.acc_present.specs.Notes.{Note}
+use Rattle.acc_place.specs.declared.judge.Marked.{Marked}
+use Rattle.acc_place.specs.declared.plan.Group.{Group}
+use Rattle.acc_place.specs.declared.plan.Group.TheVariants.{Makes, CopyIns, Updates, CopyOuts, Releases}
+use Rattle.acc_place.specs.Noting.{last_made, last_used, made_at, used_ranges}
+use Rattle.acc_place.specs.Walks.{group_ops, marked_ops}
+
+-- what a slice is, where it isn't empty
+pub first_and_rest : {X : Type 0} (xs : List X) (d : X) → 1 ≤ length xs → xs ≡ get_or xs 0 d ∷ take (length xs - 1) (drop 1 xs)
+first_and_rest [] d some = absurd (omega arith)
+first_and_rest (x ∷ xs) d some = (let e : suc (length xs) - 1 ≡ length xs = omega arith in ap (λ r. x ∷ r) (sym (ap (λ n. take n xs) e ∙ take-length xs)))
+
+pub same_for : (f g : ℕ → ℕ) (qs : List ℕ) → ((q : ℕ) → f q ≡ g q) → map f qs ≡ map g qs
+same_for f g [] h = refl
+same_for f g (q ∷ qs) h = rw (h q, same_for f g qs h) refl
+
+-- ## Two lists, one behind the other
+
+pub greatest_both : (ms ns : List ℕ) → greatest (ms ++ ns) ≡ max (greatest ms) (greatest ns)
+greatest_both [] ns = omega arith
+greatest_both (m ∷ ms) ns = (let ih = greatest_both ms ns in omega (arith, ih))
+
+pub made_both : (found : Range → Note) (us vs : List Use) (q : ℕ) → last_made found (us ++ vs) q ≡ max (last_made found us q) (last_made found vs q)
+made_both found [] vs q = omega arith
+made_both found (u ∷ us) vs q = (let ih = made_both found us vs q in omega (arith, ih))
+
+pub used_both : (found : Range → Note) (us vs : List Use) (q : ℕ) → last_used found (us ++ vs) q ≡ max (last_used found us q) (last_used found vs q)
+used_both found [] vs q = omega arith
+used_both found (u ∷ us) vs q = (let ih = used_both found us vs q in omega (arith, ih))
+
+-- ## One more range
+
+-- the maker of a range, and then those of others
+pub made_first : (found : Range → Note) (f : ℕ → ℕ) (u : Use) (us : List Use) (q : ℕ) → max (max (f q) (made_at q (found u.1))) (last_made found us q) ≡ max (f q) (last_made found (u ∷ us) q)
+made_first found f u us q = omega arith
+
+pub made_alone : (found : Range → Note) (f : ℕ → ℕ) (u : Use) (q : ℕ) → max (f q) (made_at q (found u.1)) ≡ max (f q) (last_made found (u ∷ []) q)
+made_alone found f u q = omega arith
+
+-- what is raised one after another, at once
+max_assoc : (a b c : ℕ) → max (max a b) c ≡ max a (max b c)
+max_assoc a b c = omega arith
+
+pub regrouped : (n c r u o e : ℕ) → max (max (max (max (max n c) r) u) o) e ≡ max n (max (max c (max r (max u o))) e)
+regrouped n c r u o e =
+    ap (λ x. max x e) (max_assoc (max (max n c) r) u o ∙ (max_assoc (max n c) r (max u o) ∙ max_assoc n c (max r (max u o)))) ∙ max_assoc n (max c (max r (max u o))) e
+
+-- ## Ranges with cells
+
+-- a range that an operation uses has cells
+abbrev pub HasCells : Use → Type 0
+HasCells u = 0 < u.1.len
+
+pub cells_of_in : (op : Op) (b : ℕ) (r : Range) → op ≡ CopyIn b r → All HasCells (used_ranges op) → 0 < r.len
+cells_of_in op b r is all = (let here : All HasCells ((b, r) ∷ []) = rw is at all in All-head HasCells (b, r) [] here)
+
+pub cells_of_out : (op : Op) (b : ℕ) (r : Range) → op ≡ CopyOut b r → All HasCells (used_ranges op) → 0 < r.len
+cells_of_out op b r is all = (let here : All HasCells ((b, r) ∷ []) = rw is at all in All-head HasCells (b, r) [] here)
+
+-- ## The operations of a batch
+
+-- makes and releases use nothing
+none_of_one : (g : Op → List Use) (f : Marked → List Op) (ts : List Marked) → ((t : Marked) → flat_map g (f t) ≡ []) → flat_map g (flat_map f ts) ≡ []
+none_of_one g f [] none = refl
+none_of_one g f (t ∷ ts) none = flat_map-append g (f t) (flat_map f ts) ∙ (ap (λ r. flat_map g (f t) ++ r) (none_of_one g f ts none) ∙ (ap (λ r. r ++ []) (none t)))
+
+makes_none : (t : Marked) → flat_map used_ranges (group_ops Makes t) ≡ []
+makes_none t = by_block t.opened refl
+  where
+    by_block : (o : Option ℕ) → t.opened ≡ o → flat_map used_ranges (group_ops Makes t) ≡ []
+    by_block None e = rw e refl
+    by_block (Some b) e = rw e refl
+
+releases_none : (t : Marked) → flat_map used_ranges (group_ops Releases t) ≡ []
+releases_none t = by_block t.ended refl
+  where
+    by_block : (o : Option ℕ) → t.ended ≡ o → flat_map used_ranges (group_ops Releases t) ≡ []
+    by_block None e = rw e refl
+    by_block (Some b) e = rw e refl
+
+-- what the operations of these groups use
+abbrev group_uses : Group → List Marked → List Use
+group_uses g ts = flat_map used_ranges (flat_map (group_ops g) ts)
+
+-- What a batch's operations use, raised group by group.
+pub made_by_groups : (found : Range → Note) (run : List Op) (ts : List Marked) (q : ℕ)
+    → last_made found (flat_map used_ranges (marked_ops run ts)) q
+    ≡ max (last_made found (group_uses CopyIns ts) q) (max (last_made found (flat_map used_ranges run) q) (max (last_made found (group_uses Updates ts) q) (last_made found (group_uses CopyOuts ts) q)))
+unfolding marked_ops
+made_by_groups found run ts q =
+    let a = flat_map (group_ops Makes) ts in
+    let b = flat_map (group_ops CopyIns) ts in
+    let u = flat_map (group_ops Updates) ts in
+    let o = flat_map (group_ops CopyOuts) ts in
+    let r = flat_map (group_ops Releases) ts in
+    let uses = λ (ops : List Op). flat_map used_ranges ops in
+    let parts : uses (a ++ (b ++ (run ++ (u ++ (o ++ r))))) ≡ uses a ++ (uses b ++ (uses run ++ (uses u ++ (uses o ++ uses r)))) =
+    flat_map-append used_ranges a (b ++ (run ++ (u ++ (o ++ r))))
+    ∙ ap (λ x. uses a ++ x) (flat_map-append used_ranges b (run ++ (u ++ (o ++ r)))
+    ∙ ap (λ x. uses b ++ x) (flat_map-append used_ranges run (u ++ (o ++ r))
+    ∙ ap (λ x. uses run ++ x) (flat_map-append used_ranges u (o ++ r)
+    ∙ ap (λ x. uses u ++ x) (flat_map-append used_ranges o r)))) in
+    let none_a = ap (λ x. last_made found x q) (none_of_one used_ranges (group_ops Makes) ts makes_none) in
+    let none_r = ap (λ x. last_made found x q) (none_of_one used_ranges (group_ops Releases) ts releases_none) in
+    ap (λ x. last_made found x q) parts
+    ∙ (made_both found (uses a) (uses b ++ (uses run ++ (uses u ++ (uses o ++ uses r)))) q
+    ∙ omega (
+      arith,
+      none_a,
+      none_r,
+      made_both found (uses b) (uses run ++ (uses u ++ (uses o ++ uses r))) q,
+      made_both found (uses run) (uses u ++ (uses o ++ uses r)) q,
+      made_both found (uses u) (uses o ++ uses r) q,
+      made_both found (uses o) (uses r) q,
+    ))
+
+-- a list of eight numbers, by the queues
+pub eight_uses : (ns : List ℕ) → length ns ≡ 8 → ns ≡ map (λ q. slice_index_or ns q 0) every_queue
+eight_uses (a ∷ b ∷ c ∷ d ∷ e ∷ f ∷ g ∷ h ∷ []) len = refl
+eight_uses [] len = absurd (omega (arith, len))
+eight_uses (a ∷ []) len = absurd (omega (arith, len))
+eight_uses (a ∷ b ∷ []) len = absurd (omega (arith, len))
+eight_uses (a ∷ b ∷ c ∷ []) len = absurd (omega (arith, len))
+eight_uses (a ∷ b ∷ c ∷ d ∷ []) len = absurd (omega (arith, len))
+eight_uses (a ∷ b ∷ c ∷ d ∷ e ∷ []) len = absurd (omega (arith, len))
+eight_uses (a ∷ b ∷ c ∷ d ∷ e ∷ f ∷ []) len = absurd (omega (arith, len))
+eight_uses (a ∷ b ∷ c ∷ d ∷ e ∷ f ∷ g ∷ []) len = absurd (omega (arith, len))
+eight_uses (a ∷ b ∷ c ∷ d ∷ e ∷ f ∷ g ∷ h ∷ x ∷ ns) len = absurd (omega (arith, len))

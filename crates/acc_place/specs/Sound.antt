@@ -1,0 +1,19 @@
+-- What accepted directives place, on all devices and queues (OpenACC API 3.0, 2.16, Asynchronous Behavior).
+use Rattle.std.specs.Prelude.{ℕ, ◌<◌, List, length, All}
+use Rattle.acc_base.specs.Configurations.{Configuration}
+use Rattle.acc_batch.specs.declared.operation.Label.{Label}
+use Rattle.acc_batch.specs.Lives.{IsSound}
+use Rattle.acc_place.specs.declared.directive.PlaceEntry.{PlaceEntry}
+use Rattle.acc_place.specs.Histories.{AllAccepted, standing}
+
+-- Labels of accepted directives use live blocks on each device in the order of placing, and await what they need.
+abbrev pub AcceptedAreSound : Type 0
+AcceptedAreSound =
+    (config : Configuration) (history : List PlaceEntry) (counts : List ℕ) → AllAccepted config history counts
+    → IsSound config.arrays (standing config history counts).labels
+
+-- All that accepted directives place is on queues that are there, and each batch has an operation.
+abbrev pub AcceptedAreThere : Type 0
+AcceptedAreThere =
+    (config : Configuration) (history : List PlaceEntry) (counts : List ℕ) → AllAccepted config history counts
+    → All (λ (l : Label). (l.at.device < config.devices) × (l.at.queue < 8) × (0 < length l.ops)) (standing config history counts).labels
