@@ -31,7 +31,6 @@ fn accept(
 ) -> Result<(), Fault> {
     let number = place.placed_count(sync()).wrapping_add(1);
     let directive = synchronous(alloc, 0, step.form, step.items)?;
-    assert!(rt; directive.is_synchronous());
     let mut plan = place.plan(HostId::new(step.host), before.wrapping_add(3), &directive)?;
     let batch = plan.take_batch();
     check_batch(rt, batch, step, number, before);

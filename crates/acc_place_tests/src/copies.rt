@@ -73,7 +73,6 @@ fn copies_have_devices_of_their_own(rt: HostRuntime) -> Result<(), Fail> {
     assert_eq!(rt; copy.device(), DeviceId::new(3));
     drop(directive);
     check_directive(&rt, &copy, &synchronous(alloc, 3, form, &items)?);
-    assert!(rt; copy.is_synchronous());
     Ok(())
 }
 

@@ -1,4 +1,4 @@
-use crate::fixtures::{a, accepted, answer, b, entry, synchronous};
+use crate::fixtures::{a, accepted, answer, b, bare, entry, synchronous};
 use acc_base::{Config, DeviceId, Fault, Range};
 use acc_forms::{EXIT, Form, copy, copyin, copyout, queue};
 use acc_place::{Item, Place, Placed};
@@ -53,7 +53,10 @@ fn shown(
     assert!(rt; device < place.config().devices());
     assert!(rt; 0 < range.len);
     let device = DeviceId::new(device);
-    let present = [place.nth(device, 0).copied(), place.nth(device, 1).copied()];
+    let present = [
+        place.nth(device, 0).map(bare),
+        place.nth(device, 1).map(bare),
+    ];
     let counters = place.counters(device, range);
     assert_eq!(rt; place.is_present(device, range), counters.is_some());
     (present, counters)

@@ -37,6 +37,15 @@ pub fn entry(range: Range, block: u64, s: u64, d: u64) -> Entry {
     }
 }
 
+// An entry without what is noted there of batches.
+pub fn bare(entry: &Entry) -> Entry {
+    Entry {
+        maker: (QueueId::SYNC, 0),
+        uses: [0; 8],
+        ..*entry
+    }
+}
+
 /// A host's directive, the operations of its batch, and what is present behind it.
 #[derive(Clone, Copy)]
 pub struct Step<'a> {
@@ -86,18 +95,12 @@ pub fn place_of(alloc: Global, capacity: u64) -> Result<Place, Fault> {
 
 // The plan of a host's directive, which has three items more than its number among the accepted ones.
 pub fn planned(place: &mut Place, host: u8, directive: &Directive) -> Result<Plan, Fault> {
-    if !directive.is_synchronous() {
-        return Err(Fault::BadAsync);
-    }
     let count = place.history().len() as u64;
     place.plan(HostId::new(host), count.wrapping_add(3), directive)
 }
 
 // Accepts a host's directive.
 pub fn accepted(place: &mut Place, host: u8, directive: &Directive) -> Result<Placed, Fault> {
-    if !directive.is_synchronous() {
-        return Err(Fault::BadAsync);
-    }
     let count = place.history().len() as u64;
     let plan = place.plan(HostId::new(host), count.wrapping_add(3), directive)?;
     Ok(place.accept(plan))
@@ -221,7 +224,7 @@ pub fn counters_of(rt: &impl Abort, place: &Place, range: Range) -> Option<(u64,
 
 fn entry_at(rt: &impl Abort, place: &Place, at: usize) -> Option<Entry> {
     assert!(rt; 0 < place.config().devices());
-    place.nth(device(), at).copied()
+    place.nth(device(), at).map(bare)
 }
 
 // What is present, in order.

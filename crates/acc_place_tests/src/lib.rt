@@ -18,4 +18,6 @@ mod memory;
 #[cfg(test)]
 mod plans;
 #[cfg(test)]
+mod queues;
+#[cfg(test)]
 mod refused;

@@ -35,9 +35,6 @@ fn accepted_scarcely(
     place: &mut Place,
     directive: &Directive,
 ) -> Result<Placed, Fault> {
-    if !directive.is_synchronous() {
-        return Err(Fault::BadAsync);
-    }
     let plan = place.plan(HostId::new(0), 0, directive)?;
     let mut hoard = Hoard::new(alloc)?;
     hoard.fill(alloc);
@@ -71,7 +68,7 @@ struct Tried {
     changes: u32,
 }
 
-// Asks for a plan of a step, and counts it.
+// Asks for a plan of a directive, and counts it.
 fn try_plan(
     rt: &impl Abort,
     place: &mut Place,
@@ -88,21 +85,21 @@ fn try_plan(
     answer
 }
 
-// Plans a step with each amount of memory: as long as it is refused, the place shows what it showed.
-fn plan_at_each_amount(
+// Plans a host's directive with each amount of memory: as long as it is refused, the place shows what it showed.
+pub fn plan_at_each_amount(
     rt: &impl Abort,
     alloc: Global,
     place: &mut Place,
-    step: &Step,
+    host: u8,
+    directive: &Directive,
 ) -> Result<Plan, Fault> {
-    let directive = synchronous(alloc, 0, step.form, step.items)?;
     let shown = shown_by(rt, place);
     let mut tries = Tried {
         times: 0,
         changes: 0,
     };
     let (refusals, plan) = at_each_amount(alloc, || {
-        try_plan(rt, place, step.host, &directive, &shown, &mut tries)
+        try_plan(rt, place, host, directive, &shown, &mut tries)
     })?;
     assert!(rt; 8 < refusals, "{refusals} refusals");
     assert_eq!(rt; tries.times, refusals.wrapping_add(1));
@@ -147,7 +144,8 @@ fn check(
     accept_each(alloc, &mut place, before)?;
     assert_eq!(rt; place.placed_count(sync()), batches);
     let number = batches.wrapping_add(1);
-    let mut plan = plan_at_each_amount(rt, alloc, &mut place, last)?;
+    let directive = synchronous(alloc, 0, last.form, last.items)?;
+    let mut plan = plan_at_each_amount(rt, alloc, &mut place, last.host, &directive)?;
     check_batch(rt, plan.take_batch(), last, number, before.len() as u64);
     check_accepted(rt, alloc, &mut place, last, number)
 }

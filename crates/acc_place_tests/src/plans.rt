@@ -1,5 +1,4 @@
-ghost use Rattle.std.specs.Prelude.{◌≡◌, true, IfOk};
-ghost use Rattle.acc_place.specs.Places.{is_synchronous};
+ghost use Rattle.std.specs.Prelude.{IfOk};
 ghost use Rattle.acc_place.specs.Plans.{IsPlanOf};
 
 use crate::fixtures::{Step, a, answer, check_batch, check_present, entry, place_of, synchronous};
@@ -16,8 +15,6 @@ fn left_behind(
     first: &Directive,
     second: &Directive,
 ) -> Result<Plan, Fault>
-    requires first { is_synchronous first.now ≡ true }
-    requires second { is_synchronous second.now ≡ true }
     ensures { IfOk result (λ q. IsPlanOf place.new q) }
 {
     plans_are_kept();
@@ -38,8 +35,7 @@ fn check_anew(
     before: &Plan,
     step: &Step,
 ) -> Result<(), Fault>
-    requires synchronous { is_synchronous directive.now ≡ true }
-    requires before { IsPlanOf place.old before.now }
+    requires { IsPlanOf place.old before.now }
 {
     plans_are_kept();
     let mut anew = place.plan(HostId::new(0), 4, directive)?;
@@ -56,8 +52,6 @@ fn a_plan_fits_until_another_directive_is_accepted(rt: HostRuntime) -> Result<()
     let alloc = rt.alloc();
     let one = synchronous(alloc, 0, Form::EnterData, &[copyin(a(0, 4))])?;
     let other = synchronous(alloc, 0, Form::EnterData, &[copyin(a(4, 4))])?;
-    assert!(rt; one.is_synchronous());
-    assert!(rt; other.is_synchronous());
     let mut place = place_of(alloc, 12)?;
     let before = left_behind(&rt, &mut place, &one, &other)?;
     let step = Step {
