@@ -14,7 +14,7 @@ use Rattle.acc_host.specs.declared.state.Ids.{Ids}
 use Rattle.acc_host.specs.declared.program.Statement.{Statement}
 use Rattle.acc_host.specs.Following.{Ends, Ended, ids_behind, Begun, Begins, Comes, HasLine, Follows}
 use Rattle.acc_host.specs.Hosts.{bare_act, bare}
-use Rattle.acc_host.specs.Steps.{first_ids, ids_after, gives_synchronous, AllSynchronous}
+use Rattle.acc_host.specs.Steps.{first_ids, ids_after}
 
 ends_bare : (devices : ℕ) (ids : Ids) (a : Act) (list : List HostEntry) → Ends devices ids (bare_act a) list → Ends devices ids a list
 ends_bare devices ids (act.Place d) list h = h
@@ -91,24 +91,3 @@ follows_bare devices statements (state.Refused ended line fault) list h = (
   comes_bare devices statements ended list h.0,
   line_bare (slice_get statements ended) line (subst (λ n. HasLine n line) (slice_get-map bare statements ended) h.1),
 )
-
-gives_bare : (a : Act) → gives_synchronous (bare_act a) ≡ gives_synchronous a
-gives_bare (act.Place d) = refl
-gives_bare (act.Write array cell value) = refl
-gives_bare (act.Print range) = refl
-gives_bare (act.SetDevice n) = refl
-gives_bare (act.SetAsync v) = refl
-gives_bare act.ShowDevice = refl
-gives_bare act.ShowDevices = refl
-
-all_bare : (statements : List Statement) → list_all (λ (s : Statement). gives_synchronous s.act) (map bare statements) ≡ list_all (λ (s : Statement). gives_synchronous s.act) statements
-all_bare [] = refl
-all_bare (s ∷ statements) = rw (gives_bare s.act, all_bare statements) refl
-
--- Statements that are synchronous without their ids are so with them.
-pub synchronous_bare : (statements : List Statement) → AllSynchronous (map bare statements) → AllSynchronous statements
-synchronous_bare statements h = sym (all_bare statements) ∙ h
-
--- and the other way round
-pub bare_synchronous : (statements : List Statement) → AllSynchronous statements → AllSynchronous (map bare statements)
-bare_synchronous statements h = all_bare statements ∙ h

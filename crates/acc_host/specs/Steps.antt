@@ -1,5 +1,5 @@
 -- What a host does for a statement: the ids that it sets, what it asks of its engine, and what it owes after a directive.
-use Rattle.std.specs.Prelude.{◌≡◌, ℕ, ℤ, zero, suc, pos, negsuc, Bool, true, false, ◌==◌, nat_lt, List, map, Option, Some, None, if◌then◌else◌}
+use Rattle.std.specs.Prelude.{◌≡◌, ℕ, ℤ, zero, suc, pos, negsuc, Bool, true, false, ◌==◌, nat_lt, List, map, Option, Some, None, Result, Ok, Err, if◌then◌else◌}
 use Rattle.std.specs.List.{list_all}
 use Rattle.acc_base.specs.declared.fault.Fault.{Fault}
 use Rattle.acc_base.specs.declared.fault.Fault.TheVariants.{BadDevice, BadAsync}
@@ -15,7 +15,6 @@ use Rattle.acc_host.specs.declared.program.Act.{Act}
 use Rattle.acc_host.specs.declared.program.Act.TheVariants as act
 use Rattle.acc_host.specs.declared.program.Statement.{Statement}
 use Rattle.acc_host.specs.declared.state.Ids.{Ids}
-use Rattle.acc_place.specs.Places.{is_synchronous}
 
 -- a directive as its host places it
 abbrev pub with_ids : Ids → Directive → Directive
@@ -80,19 +79,6 @@ owed_counts kind.IsPresent device counts batch = owed_batch batch
 abbrev pub owed_by : Directive → Placed → Owed
 owed_by d placed = owed_counts d.kind d.device placed.counts placed.batch
 
--- a statement gives no directive with an async clause or a wait clause
-abbrev pub gives_synchronous : Act → Bool
-gives_synchronous (act.Place d) = is_synchronous d
-gives_synchronous (act.Write array cell value) = true
-gives_synchronous (act.Print range) = true
-gives_synchronous (act.SetDevice n) = true
-gives_synchronous (act.SetAsync v) = true
-gives_synchronous act.ShowDevice = true
-gives_synchronous act.ShowDevices = true
-
-abbrev pub AllSynchronous : List Statement → Type 0
-AllSynchronous statements = list_all (λ (s : Statement). gives_synchronous s.act) statements ≡ true
-
 -- what a host does next
 pub data Want : Type 0 where
   -- it was refused, or has ended all statements
@@ -109,6 +95,11 @@ pub data Want : Type 0 where
 abbrev pub set_or_refuse : Bool → Fault → Ids → Want
 set_or_refuse true fault ids = sets ids
 set_or_refuse false fault ids = refuses fault
+
+-- the same, where the ids that are left are known, or the fault
+abbrev pub set_by : Result Ids Fault → Want
+set_by (Ok ids) = sets ids
+set_by (Err fault) = refuses fault
 
 abbrev pub wanted : ℕ → Ids → Act → Want
 wanted devices ids (act.Place d) = places (with_ids ids d)

@@ -1,6 +1,5 @@
 ghost use Rattle.std.specs.Prelude.{◌≡◌, ℕ, List, Result, Ok, Err, IfErr, OnErr, false, true};
 ghost use Rattle.acc_host.specs.Engines.{HostEntry, Call, Place, Wait, Record, Lists, Keeps, MayRecord, without_item};
-ghost use Rattle.acc_place.specs.Places.{is_synchronous};
 
 use acc_base::{DeviceId, Fault, HostId};
 use acc_place::{Directive, Placed};
@@ -20,14 +19,13 @@ pub trait Engine {
     /// What the engine itself says of a host's call.
     ghost makes: { Self → ℕ → Call → Self → Type 0 };
 
-    /// Places a synchronous directive, by `Directive::is_synchronous`.
+    /// Places a directive.
     ///
     /// # Errors
     ///
     /// The directive's first fault; else `Memory` for want of memory, or `QueueFull`.
     fn place(&mut self, host: HostId, directive: &Directive) -> Result<Placed, Fault>
         requires host { serves self.old host }
-        requires synchronous { is_synchronous directive.now ≡ true }
         ensures makes { makes self.old host (Place directive.now result) self.new }
         ensures lists { Lists (Place directive.now result) (entries self.old host) (entries self.new host) }
         ensures keeps { Keeps devices serves entries host self.old self.new }

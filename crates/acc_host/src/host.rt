@@ -2,7 +2,6 @@ ghost use Rattle.std.specs.Prelude.{◌≡◌, ◌+◌, ◌<◌, ◌^◌, map, s
 ghost use Rattle.acc_host.specs.Following.{Stands};
 ghost use Rattle.acc_host.specs.Engines.{Keeps};
 ghost use Rattle.acc_host.specs.Hosts.{ready, bare, Steps, gone, replied, state_of, line_of, refused_at, ended_after, ids_gone, phase_after};
-ghost use Rattle.acc_host.specs.Steps.{AllSynchronous};
 
 use crate::engine::Engine;
 use crate::program::{HostProgram, Statement};
@@ -56,11 +55,9 @@ impl Host {
         }
     }
 
-    /// One step over an engine that serves it: at most one call of it. All its statements are synchronous, by
-    /// `HostProgram::is_synchronous`.
+    /// One step over an engine that serves it: at most one call of it.
     pub fn next<E: Engine>(&mut self, alloc: Global, engine: &mut E) -> Reply
-        requires host { E.serves engine.old self.old.host }
-        requires synchronous { AllSynchronous self.old.statements }
+        requires { E.serves engine.old self.old.host }
         ensures steps { Steps E.makes E.entries (E.devices engine.old) engine.old self.old result engine.new self.new }
         ensures follows { Stands (E.devices engine.old) self.old (E.entries engine.old self.old.host) → Stands (E.devices engine.new) self.new (E.entries engine.new self.new.host) }
         ensures keeps { Keeps E.devices E.serves E.entries self.old.host engine.old engine.new }
@@ -70,8 +67,7 @@ impl Host {
 
     // The same, without the law on its list.
     fn go_on<E: Engine>(&mut self, alloc: Global, engine: &mut E) -> Reply
-        requires host { E.serves engine.old self.old.host }
-        requires synchronous { AllSynchronous self.old.statements }
+        requires { E.serves engine.old self.old.host }
         ensures steps { Steps E.makes E.entries (E.devices engine.old) engine.old self.old result engine.new self.new }
         ensures keeps { Keeps E.devices E.serves E.entries self.old.host engine.old engine.new }
     {

@@ -1,6 +1,4 @@
 ghost use Rattle.std.specs.Prelude.{◌≡◌, IfOk, IfErr};
-ghost use Rattle.std.specs.List.{list_all};
-ghost use Rattle.acc_host.specs.Steps.{gives_synchronous};
 
 use acc_base::{Fault, HostId, Listed, Range};
 use acc_place::Directive;
@@ -46,18 +44,6 @@ pub struct HostProgram {
 impl Act {
     ghost use Rattle.acc_base.specs.declared.fault.Fault.TheVariants as fault;
 
-    /// Whether it gives no directive with an `async` clause or a `wait` clause.
-    pub fn is_synchronous(&self) -> bool
-        ensures { result ≡ gives_synchronous self.now }
-    {
-        match self {
-            Act::Place { directive } => directive.is_synchronous(),
-            Act::Write { .. } | Act::Print { .. } => true,
-            Act::SetDevice { .. } | Act::SetAsync { .. } => true,
-            Act::ShowDevice | Act::ShowDevices => true,
-        }
-    }
-
     /// An equal act, which shares what is written of a directive. It takes no memory.
     ///
     /// # Errors
@@ -88,16 +74,6 @@ impl Act {
 
 impl HostProgram {
     ghost use Rattle.acc_base.specs.declared.fault.Fault.TheVariants as fault;
-
-    /// Whether none of its directives has an `async` clause or a `wait` clause.
-    pub fn is_synchronous(&self) -> bool
-        ensures { result ≡ list_all (λ s. gives_synchronous s.act) self.now.statements }
-    {
-        self.statements
-            .as_slice()
-            .iter()
-            .all(|statement| statement.act.is_synchronous())
-    }
 
     /// An equal program.
     ///

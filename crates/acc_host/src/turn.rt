@@ -1,8 +1,10 @@
 ghost use Rattle.std.specs.Prelude.{◌≡◌, ◌<◌, length, map, slice_get, Some, Result, true};
 ghost use Rattle.acc_base.specs.declared.fault.Fault.{Fault};
+ghost use Rattle.acc_base.specs.declared.fault.Fault.TheVariants.{BadAsync};
 ghost use Rattle.acc_host.specs.Engines.{Record, Keeps, MayRecord};
 ghost use Rattle.acc_host.specs.Hosts.{bare, wants_at, Asks, Adds, bare_act, IsSet, owing, after_item};
-ghost use Rattle.acc_host.specs.Steps.{wanted, owed_batch, owed_by, is_nothing, is_async, set_default, records, awaits, gives_synchronous, AllSynchronous};
+ghost use Rattle.acc_host.specs.declared.program.Act.TheVariants.{SetDevice, SetAsync};
+ghost use Rattle.acc_host.specs.Steps.{wanted, set_by, set_or_refuse, ids_after, owed_batch, owed_by, is_nothing, is_async, set_default, records, awaits};
 ghost use Rattle.acc_work.specs.declared.item.Shown.{Shown};
 
 use crate::engine::Engine;
@@ -66,7 +68,6 @@ fn owed(directive: &Directive, placed: Placed) -> After
 fn set_in(act: &mut Act, ids: Ids)
     ensures bare { bare_act act.new ≡ bare_act act.old }
     ensures set { IsSet ids act.new }
-    ensures synchronous { gives_synchronous act.new ≡ gives_synchronous act.old }
 {
     match act {
         Act::Place { directive } => {
@@ -88,6 +89,34 @@ fn set_default(value: i64, old: i64) -> i64
     ensures { result ≡ set_default value old }
 {
     if value == ASYNC_NOVAL { old } else { value }
+}
+
+// A host's ids with another device, if it is there.
+fn with_device(ids: Ids, device: u32, devices: u8) -> Result<Ids, Fault>
+    ensures { set_by result ≡ wanted devices ids (SetDevice device) }
+{
+    if device < u32::from(devices) {
+        Ok(Ids {
+            device: DeviceId::new(device as u8),
+            default: ids.default,
+        })
+    } else {
+        Err(Fault::BadDevice)
+    }
+}
+
+// A host's ids with another default, if it is an async value.
+fn with_default(ids: Ids, value: i64) -> Result<Ids, Fault>
+    ensures { set_by result ≡ set_or_refuse (is_async value) BadAsync (ids_after (SetAsync value) ids) }
+{
+    if is_async(value) {
+        Ok(Ids {
+            device: ids.device,
+            default: set_default(value, ids.default),
+        })
+    } else {
+        Err(Fault::BadAsync)
+    }
 }
 
 // An item is recorded.
@@ -133,7 +162,6 @@ fn act<E: Engine>(
 ) -> Result<After, Fault>
     requires host { E.serves engine.old host }
     requires set { IsSet ids act.now }
-    requires synchronous { gives_synchronous act.now ≡ true }
     ensures asks { Asks E.makes engine.old host (wanted (E.devices engine.old) ids act.now) result engine.new }
     ensures adds { Adds (wanted (E.devices engine.old) ids act.now) result (E.entries engine.old host) (E.entries engine.new host) }
     ensures keeps { Keeps E.devices E.serves E.entries host engine.old engine.new }
@@ -150,30 +178,14 @@ fn act<E: Engine>(
             Ok(item) => record_item(engine, host, item),
             Err(fault) => Err(fault),
         },
-        Act::SetDevice { device } => {
-            if *device < u32::from(engine.ask()) {
-                Ok(After::Set {
-                    ids: Ids {
-                        device: DeviceId::new(*device as u8),
-                        default: ids.default,
-                    },
-                })
-            } else {
-                Err(Fault::BadDevice)
-            }
-        }
-        Act::SetAsync { value } => {
-            if is_async(*value) {
-                Ok(After::Set {
-                    ids: Ids {
-                        device: ids.device,
-                        default: set_default(*value, ids.default),
-                    },
-                })
-            } else {
-                Err(Fault::BadAsync)
-            }
-        }
+        Act::SetDevice { device } => match with_device(ids, *device, engine.ask()) {
+            Ok(ids) => Ok(After::Set { ids }),
+            Err(fault) => Err(fault),
+        },
+        Act::SetAsync { value } => match with_default(ids, *value) {
+            Ok(ids) => Ok(After::Set { ids }),
+            Err(fault) => Err(fault),
+        },
         Act::ShowDevice | Act::ShowDevices => Ok(After::Set { ids }),
     }
 }
@@ -188,7 +200,6 @@ fn turn<E: Engine>(
     phase: &Phase,
 ) -> Result<After, Fault>
     requires host { E.serves engine.old host }
-    requires synchronous { gives_synchronous statement.old.act ≡ true }
     ensures bare { bare statement.new ≡ bare statement.old }
     ensures asks { Asks E.makes engine.old host (wants_at (E.devices engine.old) ids.now phase.now (Some (bare statement.old))) result engine.new }
     ensures adds { Adds (wants_at (E.devices engine.old) ids.now phase.now (Some (bare statement.old))) result (E.entries engine.old host) (E.entries engine.new host) }
@@ -220,7 +231,6 @@ pub fn turn_at<E: Engine>(
 ) -> Result<After, Fault>
     requires host { E.serves engine.old host }
     requires within { ended < length statements.old }
-    requires synchronous { AllSynchronous statements.old }
     ensures bare { map bare statements.new ≡ map bare statements.old }
     ensures asks { Asks E.makes engine.old host (wants_at (E.devices engine.old) ids.now phase.now (slice_get (map bare statements.old) ended)) result engine.new }
     ensures adds { Adds (wants_at (E.devices engine.old) ids.now phase.now (slice_get (map bare statements.old) ended)) result (E.entries engine.old host) (E.entries engine.new host) }

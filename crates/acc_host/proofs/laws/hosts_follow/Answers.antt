@@ -1,5 +1,5 @@
 use Rattle.acc_host.proofs.Standing.{ready_stands, Stands-follow, refused_stands, stands_on}
-use Rattle.acc_host.proofs.Bareness.{follows_bare, bare_synchronous}
+use Rattle.acc_host.proofs.Bareness.{follows_bare}
 use Rattle.acc_host.proofs.laws.hosts_follow.Goals as goal
 
 pub returns-clause-first : goal.returns-clause-first
@@ -16,6 +16,3 @@ returns-clause-bare c = follows_bare
 
 pub returns-clause-steps : goal.returns-clause-steps
 returns-clause-steps c = stands_on
-
-pub returns-clause-synchronous : goal.returns-clause-synchronous
-returns-clause-synchronous c = λ program h. bare_synchronous program.statements h

@@ -3,8 +3,6 @@ use Rattle.std.specs.Prelude.{slice_get}
 use Rattle.std.proofs.lemmas.Option.{slice_get_past}
 use Rattle.std.proofs.lemmas.List.{length-map}
 use Rattle.acc_host.specs.Hosts.{HostView, bare}
-use Rattle.acc_host.specs.Steps.{AllSynchronous}
-use Rattle.acc_host.proofs.Bareness.{synchronous_bare}
 use Rattle.acc_host.proofs.Staying.{at_the_end}
 use Rattle.acc_host.proofs.host.Host.go_on.Goals as goal
 
@@ -16,9 +14,3 @@ returns-then-self-len-clause-steps g c =
     let ended : slice_get c.args.self.now.statements c.args.self.now.ended ≡ None =
     subst (λ (h : HostView). slice_get h.statements h.ended ≡ None) c.self.view_is none in
     at_the_end g.E.Engine.makes g.E.Engine.entries (g.E.Engine.devices c.args.engine.now) c.args.engine.now c.args.self.now ended
-
-pub turn_at-goes-requires-clause-synchronous : goal.turn_at-goes-requires-clause-synchronous
-turn_at-goes-requires-clause-synchronous g c =
-    let xs = c.self.inside.statements.items in
-    let all : AllSynchronous (map bare xs) = rw (← c.self.view_is) at c.requires.synchronous in
-    rw c.as_mut_slice.ensures.value (synchronous_bare xs all)
