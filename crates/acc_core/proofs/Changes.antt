@@ -1,6 +1,6 @@
 -- What a step changes: one of five changes is made, or none. What each of them keeps, each step keeps.
-use Rattle.std.proofs.Common.{◌≡◌, ℕ, Bool, true, false, cond, List, [], ◌∷◌, length, refl, Some, None, Option, Ok}
-use Rattle.std.specs.Prelude.{IsTrue, not, nat_lt, nat_le, slice_get}
+use Rattle.std.proofs.Common.{◌≡◌, ℕ, Bool, true, false, cond, List, [], ◌∷◌, refl, Some, None, Option, Ok}
+use Rattle.std.specs.Prelude.{not, nat_lt, nat_le, slice_get}
 use Rattle.acc_base.specs.declared.ids.QueueAt.{QueueAt}
 use Rattle.acc_base.specs.declared.fault.Fault.{Fault}
 use Rattle.acc_base.specs.declared.fault.Fault.TheVariants.{BadRange, TooMany, Memory}
@@ -20,12 +20,11 @@ use Rattle.acc_work.specs.declared.log.TheConstants.{MAX_HOST_ITEMS}
 use Rattle.acc_batch.specs.declared.operation.Op.{Op}
 use Rattle.acc_place.specs.Accepting.{refusal}
 use Rattle.acc_place.specs.Batches.{answer_of}
-use Rattle.acc_batch.specs.Labels.{on_queue, batch_at}
 use Rattle.acc_work.specs.Items.{shown_by}
 use Rattle.acc_work.specs.Orders.{ShowsTruth}
-use Rattle.acc_work.specs.Logs.{performed, all_items, all_done, host_allows}
+use Rattle.acc_work.specs.Logs.{all_items, all_done}
 use Rattle.acc_work.specs.Works.{item_fault}
-use Rattle.acc_core.specs.Machine.{State, Outcome, Step, standing_of, labels_of, is_there, held, rest, with_item, with_op, unless, place_fault, fault_of_place, accepting, placed_state, told_of, can_tell, item_state, waited_state, goes_on, host_step, named_step, take_step, perform_step, queue_step, step}
+use Rattle.acc_core.specs.Machine.{State, Outcome, Step, standing_of, labels_of, is_there, held, rest, with_item, with_op, unless, place_fault, fault_of_place, accepting, placed_state, told_of, can_tell, can_perform, item_state, waited_state, goes_on, host_step, named_step, take_step, perform_step, queue_step, step}
 use Rattle.acc_place.specs.Standings.{walk_of}
 
 -- P holds of a state, and of each state that one change may make of it.
@@ -36,7 +35,7 @@ pub record Changes (P : State → Type 0) (w : State) : Type 0 where
   pub accepted : (hosts : List HostView) (h : ℕ) (d : Directive) → refusal w.config (standing_of w) h d ≡ None → P (accepting (record w { hosts = hosts }) h d)
   pub taken : (taken : List ℕ) → P (record w { taken = taken })
   pub performed : (at : QueueAt) (op : Op) (ops : List Op) → rest w (labels_of w) at ≡ op ∷ ops
-      → IsTrue (host_allows (batch_at (on_queue at (labels_of w)) (length (performed at w.work))) w.work) → P (with_op w at op)
+      → can_perform (labels_of w) w.work at op ≡ true → P (with_op w at op)
 
 -- P holds of a choice where it holds of both ways
 if_both : (P : State → Type 0) (b : Bool) (x y : Outcome) → (b ≡ true → P x.state) → (b ≡ false → P y.state) → P (cond b x y).state
@@ -114,8 +113,7 @@ by_perform : (P : State → Type 0) (w : State) (at : QueueAt) (ops : List Op) �
     → P (perform_step w (labels_of w) at ops).state
 by_perform P w at [] c e = c.stays
 by_perform P w at (op ∷ ops) c e =
-    if_both P (host_allows (batch_at (on_queue at (labels_of w)) (length (performed at w.work))) w.work) _ _
-    (λ f. c.performed at op ops e f) (λ f. c.stays)
+    if_both P (can_perform (labels_of w) w.work at op) _ _ (λ f. c.performed at op ops e f) (λ f. c.stays)
 
 -- the step of a queue, if it is there
 by_queue : (P : State → Type 0) (there : Bool) (w : State) (o : Outcome) → P w → P o.state → P (queue_step there w o).state

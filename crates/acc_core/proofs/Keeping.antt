@@ -1,6 +1,6 @@
 -- The histories are legal at the start, and each step keeps them legal.
-use Rattle.std.proofs.Common.{◌≡◌, ℕ, List, [], ◌∷◌, ◌++◌, length, ap, ◌∙◌, arith, None}
-use Rattle.std.specs.Prelude.{IsTrue}
+use Rattle.std.proofs.Common.{◌≡◌, ℕ, true, List, [], ◌∷◌, ◌++◌, length, ap, arith, None}
+use Rattle.std.proofs.lemmas.Bool.{and_parts}
 use Rattle.acc_base.specs.declared.ids.QueueAt.{QueueAt}
 use Rattle.acc_place.specs.Directives.{Directive}
 use Rattle.acc_core.specs.declared.event.Event.{Event}
@@ -15,10 +15,11 @@ use Rattle.acc_place.specs.Histories.{standing}
 use Rattle.acc_batch.specs.Labels.{on_queue, ops_of, batch_at}
 use Rattle.acc_work.specs.Orders.{ShowsTruth}
 use Rattle.acc_core.specs.Legality.{Legal}
-use Rattle.acc_work.specs.Logs.{performed, items_of, host_allows}
-use Rattle.acc_core.specs.Machine.{State, Step, Runs, standing_of, rest, with_item, with_op, accepting}
+use Rattle.acc_work.specs.Logs.{performed, items_of, await_allows, host_allows}
+use Rattle.acc_work.proofs.Keeping.{awaited_more, awaited_performed}
+use Rattle.acc_core.specs.Machine.{State, Step, Runs, standing_of, rest, can_perform, with_item, with_op, accepting}
 use Rattle.acc_place.specs.Standings.{walk_of}
-use Rattle.acc_core.proofs.Changes.{Step-by, step_config}
+use Rattle.acc_core.proofs.Changes.{Step-by}
 use Rattle.acc_core.proofs.Entries.{rise_accept, rise_item}
 use Rattle.acc_core.proofs.Growing.{in_order-more, host_order-more}
 use Rattle.acc_core.proofs.Performing.{next_of_all, in_order_performed, next_uses_live}
@@ -30,21 +31,22 @@ legal_start w no_history no_work = record {
   accepted = rw no_history tt;
   counts = λ h. rw (no_history, no_work) (omega arith);
   prefix = λ at. (let all = ops_of (on_queue at (standing_of w).labels) in (all, ap (λ r. r ++ all) (ap (performed at) no_work)));
+  awaited = rw no_work tt;
   host_order = rw no_work tt;
   live_blocks = rw no_work tt;
 }
 
 -- other hosts leave them legal
 pub legal_hosts : (w : State) (hosts : List HostView) → Legal w → Legal (record w { hosts = hosts })
-legal_hosts w hosts l = record { accepted = l.accepted; counts = l.counts; prefix = l.prefix; host_order = l.host_order; live_blocks = l.live_blocks }
+legal_hosts w hosts l = record { accepted = l.accepted; counts = l.counts; prefix = l.prefix; awaited = l.awaited; host_order = l.host_order; live_blocks = l.live_blocks }
 
 -- so do other counts of batches that were taken
 pub legal_taken : (w : State) (taken : List ℕ) → Legal w → Legal (record w { taken = taken })
-legal_taken w taken l = record { accepted = l.accepted; counts = l.counts; prefix = l.prefix; host_order = l.host_order; live_blocks = l.live_blocks }
+legal_taken w taken l = record { accepted = l.accepted; counts = l.counts; prefix = l.prefix; awaited = l.awaited; host_order = l.host_order; live_blocks = l.live_blocks }
 
 -- so does one more item that shows what is so
 pub legal_item : (w : State) (h : ℕ) (s : Told) → Legal w → ShowsTruth w.config.arrays (standing_of w).labels s w.work → Legal (with_item w h s)
-legal_item w h s l truth = record { accepted = l.accepted; counts = rise_item w h s l.counts; prefix = l.prefix; host_order = (truth, l.host_order); live_blocks = l.live_blocks }
+legal_item w h s l truth = record { accepted = l.accepted; counts = rise_item w h s l.counts; prefix = l.prefix; awaited = l.awaited; host_order = (truth, l.host_order); live_blocks = l.live_blocks }
 
 -- the labels that a directive adds
 abbrev pub more_labels : State → ℕ → Directive → List Label
@@ -66,24 +68,28 @@ legal_accepted w h d l e =
       accepted = (e, l.accepted);
       counts = rise_accept w h d l.counts;
       prefix = rw same (in_order-more labels (more_labels w h d) w.work l.prefix);
+      awaited = rw same (awaited_more labels (more_labels w h d) w.work l.awaited);
       host_order = rw same (host_order-more w.config.arrays labels (more_labels w h d) w.work (added_filled (walk_at (walk_of (standing_of w) h d)) (next_number (walk_at (walk_of (standing_of w) h d)) labels) h (items_of h w.work) (batch_of (standing_of w) (walk_of (standing_of w) h d))) l.prefix l.host_order);
       live_blocks = l.live_blocks;
     }
 
--- so does one more operation, the next of its queue, that its host's items allow
-pub legal_performed : (w : State) (at : QueueAt) (op : Op) (ops : List Op) → w.config.devices ≡ 1 → Legal w → rest w (standing_of w).labels at ≡ op ∷ ops
-    → IsTrue (host_allows (batch_at (on_queue at (standing_of w).labels) (length (performed at w.work))) w.work) → Legal (with_op w at op)
-legal_performed w at op ops one l e allowed = record {
-  accepted = l.accepted;
-  counts = l.counts;
-  prefix = in_order_performed (standing_of w).labels w.work at op l.prefix (next_of_all w at op ops l.prefix e);
-  host_order = (allowed, l.host_order);
-  live_blocks = (next_uses_live w at op ops one l e, l.live_blocks);
-}
+-- so does one more operation, the next of its queue, that can be performed
+pub legal_performed : (w : State) (at : QueueAt) (op : Op) (ops : List Op) → Legal w → rest w (standing_of w).labels at ≡ op ∷ ops → can_perform (standing_of w).labels w.work at op ≡ true → Legal (with_op w at op)
+legal_performed w at op ops l e allowed =
+    let labels = (standing_of w).labels in
+    let both = and_parts (await_allows labels w.work at.device op) (host_allows (batch_at (on_queue at labels) (length (performed at w.work))) w.work) allowed in
+    record {
+      accepted = l.accepted;
+      counts = l.counts;
+      prefix = in_order_performed labels w.work at op l.prefix (next_of_all w at op ops l.prefix e);
+      awaited = awaited_performed labels w.work at op l.awaited both.0;
+      host_order = (both.1, l.host_order);
+      live_blocks = (next_uses_live w at op ops l e, l.live_blocks);
+    }
 
 -- Each step keeps the histories legal.
-pub Step-legal : (old new : State) (e : Event) (r : Reply) → old.config.devices ≡ 1 → Legal old → Step old e r new → Legal new
-Step-legal old new e r one l s =
+pub Step-legal : (old new : State) (e : Event) (r : Reply) → Legal old → Step old e r new → Legal new
+Step-legal old new e r l s =
     Step-by Legal old new e r
     (record {
       stays = l;
@@ -91,15 +97,13 @@ Step-legal old new e r one l s =
       item = λ hosts h s truth. legal_item (record old { hosts = hosts }) h s (legal_hosts old hosts l) truth;
       accepted = λ hosts h d e. legal_accepted (record old { hosts = hosts }) h d (legal_hosts old hosts l) e;
       taken = λ taken. legal_taken old taken l;
-      performed = λ at op ops e allowed. legal_performed old at op ops one l e allowed;
+      performed = λ at op ops e allowed. legal_performed old at op ops l e allowed;
     })
     s
 
 -- Each run keeps the histories legal.
-pub runs_legal : (events : List Event) (replies : List Reply) (old new : State) → old.config.devices ≡ 1 → Legal old → Runs old events replies new → Legal new
-runs_legal [] [] old new one l h = rw h l
-runs_legal [] (r ∷ replies) old new one l h = absurd h
-runs_legal (e ∷ events) [] old new one l h = absurd h
-runs_legal (e ∷ events) (r ∷ replies) old new one l h =
-    let still = ap (λ c. c.devices) (step_config old h.0 e r h.1) ∙ one in
-    runs_legal events replies h.0 new still (Step-legal old h.0 e r one l h.1) h.2
+pub runs_legal : (events : List Event) (replies : List Reply) (old new : State) → Legal old → Runs old events replies new → Legal new
+runs_legal [] [] old new l h = rw h l
+runs_legal [] (r ∷ replies) old new l h = absurd h
+runs_legal (e ∷ events) [] old new l h = absurd h
+runs_legal (e ∷ events) (r ∷ replies) old new l h = runs_legal events replies h.0 new (Step-legal old h.0 e r l h.1) h.2

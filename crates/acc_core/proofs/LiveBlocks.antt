@@ -1,5 +1,5 @@
 -- The blocks that are there after a log, against those that were made and released.
-use Rattle.std.proofs.Common.{inl, inr, ◌≡◌, List, [], ◌∷◌, ◌++◌, refl}
+use Rattle.std.proofs.Common.{inl, inr, ◌≡◌, ℕ, List, [], ◌∷◌, ◌++◌, refl}
 use Rattle.std.specs.Prelude.{◌==◌, ℤ}
 use Rattle.std.proofs.lemmas.Bool.{cases_Bool, eqb-true}
 use Rattle.std.proofs.lemmas.List.{append-nil}
@@ -13,7 +13,7 @@ use Rattle.acc_work.specs.Logs.{device_ops}
 use Rattle.acc_memory.specs.Memories.{blocks_after}
 use Rattle.acc_memory.proofs.HeldBlocks.{Held, held_first, held_make, held_release}
 use Rattle.acc_core.specs.Ties.{blocks_by, blocks_in}
-use Rattle.acc_core.proofs.Uses.{made-append, released-append}
+use Rattle.acc_place.proofs.Uses.{made-append, released-append}
 
 -- the blocks after one more operation are what it makes of those before it
 pub blocks_by_more : (bs : List Made) (ops : List Op) (op : Op) → blocks_by bs (ops ++ op ∷ []) ≡ blocks_after op (blocks_by bs ops)
@@ -40,15 +40,15 @@ held_after arrays ops bs (Await q n) h u =
 held_after arrays ops bs Close h u =
     rw (made-append ops (Close ∷ []), released-append ops (Close ∷ []), append-nil (made ops), append-nil (released ops)) h
 
--- So it is after each log whose operations use live blocks.
-pub held_in : (arrays : List (List ℤ)) (work : List WorkEntry) → AllLive arrays work → Held (made (device_ops 0 work)) (released (device_ops 0 work)) (blocks_in work)
-held_in arrays [] live = held_first
-held_in arrays (entry.Item host shown ∷ before) live = held_in arrays before live
-held_in arrays (entry.Op at op ∷ before) live =
-    let ih = held_in arrays before live.1 in
-    elim (cases_Bool (at.device == 0)) [
-      | inl first ↦
-          let used : UsesLive arrays op (device_ops 0 before) = rw (eqb-true at.device 0 first) at live.0 in
-          rw (first, blocks_by_more [] (device_ops 0 before) op) (held_after arrays (device_ops 0 before) (blocks_in before) op ih used)
+-- So it is on each device after each log whose operations use live blocks.
+pub held_in : (arrays : List (List ℤ)) (device : ℕ) (work : List WorkEntry) → AllLive arrays work → Held (made (device_ops device work)) (released (device_ops device work)) (blocks_in device work)
+held_in arrays device [] live = held_first
+held_in arrays device (entry.Item host shown ∷ before) live = held_in arrays device before live
+held_in arrays device (entry.Op at op ∷ before) live =
+    let ih = held_in arrays device before live.1 in
+    elim (cases_Bool (at.device == device)) [
+      | inl here ↦
+          let used : UsesLive arrays op (device_ops device before) = rw (eqb-true at.device device here) at live.0 in
+          rw (here, blocks_by_more [] (device_ops device before) op) (held_after arrays (device_ops device before) (blocks_in device before) op ih used)
       | inr other ↦ rw other ih
     ]

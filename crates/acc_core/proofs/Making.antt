@@ -90,6 +90,3 @@ Places-makes old h d (Ok placed) new p =
 Places-makes old h d (Err fault) new p =
     let defined = answer_of (standing_of old) d (walk_of (standing_of old) h d) in
     (p.0, sym (ap (λ f. unless f defined) p.1), p.2)
-
-pub Places-refused : (old : State) (h : ℕ) (d : Directive) (fault : Fault) (new : State) → Places old h d (Err fault) new → new ≡ old
-Places-refused old h d fault new p = p.2

@@ -1,17 +1,25 @@
 -- An accelerator before the first event.
-use Rattle.std.proofs.Common.{◌≡◌, ℕ, ◌<◌, ◌≤◌, List, [], length, refl, ap, arith}
-use Rattle.std.specs.Prelude.{ℤ, IsTrue}
-use Rattle.std.proofs.lemmas.List.Elements.{All-nil}
+use Rattle.std.proofs.Common.{◌≡◌, ℕ, zero, suc, ◌<◌, ◌≤◌, true, false, cond, List, [], ◌∷◌, length, map, refl, sym, ap, ◌∙◌, arith}
+use Rattle.std.specs.Prelude.{ℤ, All, IsTrue, nat_lt, replicate, slice_index_or}
+use Rattle.std.specs.List.{sum_by}
+use Rattle.std.proofs.lemmas.List.Elements.{All-nil, All-head, All-tail, All-weaker}
+use Rattle.std.proofs.lemmas.List.Sums.{sum_by-cons}
 use Rattle.acc_base.specs.declared.config.TheConstants.{MAX_HOSTS}
+use Rattle.acc_base.specs.declared.ids.QueueAt.{QueueAt}
+use Rattle.acc_base.specs.declared.ids.TheConstants.{QUEUES}
 use Rattle.acc_base.specs.Configurations.{Configuration}
+use Rattle.acc_base.specs.Queues.{queue_count, seat}
 use Rattle.acc_batch.specs.declared.operation.Label.{Label}
 use Rattle.acc_place.specs.Histories.{standing}
 use Rattle.acc_work.specs.Logs.{value}
 use Rattle.acc_core.specs.Machine.{State, state_at_first}
 use Rattle.acc_memory.specs.Memories.{MemoryView, Shows, rows_on, is_held, cell_of, lengths_of}
-use Rattle.acc_core.specs.Ties.{Queued, Remembers, IsAccelerator}
+use Rattle.acc_core.specs.Queues.{QueueView, IsEmptyQueue, no_queue, queue_in}
+use Rattle.acc_core.specs.Ties.{QueueIs, Queued, Remembers, IsAccelerator}
 use Rattle.acc_memory.specs.Values.{Cell, Host_cell, Block_cell}
-use Rattle.acc_work.specs.Works.{WorkView}
+use Rattle.acc_work.specs.Lanes.{LaneView, IsFresh}
+use Rattle.acc_work.specs.Works.{WorkView, lane_at}
+use Rattle.acc_work.proofs.Lanes.{fresh_lane}
 use Rattle.acc_core.proofs.Keeping.{legal_start}
 
 -- without blocks a memory shows the values of its arrays
@@ -26,34 +34,68 @@ shows_opening m arrays e none = λ cell. cases cell
 remembers_opening : (config : Configuration) (v : WorkView) → v.memory.arrays ≡ config.arrays → ((d : ℕ) → rows_on v.memory d ≡ []) → Remembers (state_at_first config []) v
 remembers_opening config v e none = record {
   shows = shows_opening v.memory config.arrays e none;
-  blocks = rw (none 0) refl;
+  blocks = λ d. rw (none d) refl;
   lengths = ap lengths_of e;
 }
 
--- an empty queue and an empty lane hold what is placed
-queued_opening : (config : Configuration) (v : WorkView) → rows_on v.memory 0 ≡ [] → v.lane.taken ≡ [] → Queued (state_at_first config []) v [] 0
+-- no operation waits where the queues are empty
+none_waits : (room : ℕ) (queues : List QueueView) → All (IsEmptyQueue room) queues → sum_by (λ (q : QueueView). q.waiting) queues ≡ 0
+none_waits room [] h = refl
+none_waits room (q ∷ queues) h =
+    let first = All-head (IsEmptyQueue room) q queues h in
+    omega (arith, sum_by-cons (λ (k : QueueView). k.waiting) q queues, first.waiting, none_waits room queues (All-tail (IsEmptyQueue room) q queues h))
+
+-- each queue is empty
+empty_queue : (room : ℕ) (queues : List QueueView) (at : QueueAt) → All (IsEmptyQueue room) queues → ((queue_in queues at).held ≡ []) × ((queue_in queues at).waiting ≡ 0)
+empty_queue room queues at h =
+    elim (nat_lt at.queue QUEUES) as (λ b. let q : QueueView = cond b (slice_index_or queues (seat at) no_queue) no_queue in (q.held ≡ []) × (q.waiting ≡ 0)) [ true ↦ each queues (seat at) h | false ↦ (refl, refl) ]
+  where
+    each : (qs : List QueueView) (n : ℕ) → All (IsEmptyQueue room) qs → ((slice_index_or qs n no_queue).held ≡ []) × ((slice_index_or qs n no_queue).waiting ≡ 0)
+    each [] n all = (refl, refl)
+    each (q ∷ qs) zero all = (let first = All-head (IsEmptyQueue room) q qs all in (first.held, first.waiting))
+    each (q ∷ qs) (suc n) all = each qs n (All-tail (IsEmptyQueue room) q qs all)
+
+-- so many queues have taken nothing
+pub none_taken : (lanes : List LaneView) → All IsFresh lanes → map (λ (l : LaneView). length l.taken) lanes ≡ replicate (length lanes) 0
+none_taken [] h = refl
+none_taken (l ∷ ls) h =
+    let first = All-head IsFresh l ls h in
+    ap (λ n. n ∷ map (λ (k : LaneView). length k.taken) ls) (ap length first.taken) ∙ ap (λ r. 0 ∷ r) (none_taken ls (All-tail IsFresh l ls h))
+
+-- empty queues and lanes hold what is placed
+queued_opening : (config : Configuration) (v : WorkView) (queues : List QueueView) → ((d : ℕ) → rows_on v.memory d ≡ []) → All IsFresh v.lanes → length v.memory.devices ≡ config.devices
+    → length queues ≡ queue_count config → All (IsEmptyQueue config.room) queues → Queued (state_at_first config []) v queues 0
 unfolding standing
-queued_opening config v no_rows no_batch = record {
-  single = refl;
+queued_opening config v queues no_rows fresh devices count empty = record {
+  each = λ at. each at;
+  count = count;
+  devices = devices;
+  roomy = All-weaker (IsEmptyQueue config.room) (λ (q : QueueView). config.room ≤ q.room) (λ q e. e.enough) queues empty;
+  all_waiting = sym (none_waits config.room queues empty);
   filled = All-nil (λ (l : Label). 0 < length l.ops);
-  split = rw no_batch refl;
-  all_waiting = refl;
-  log_room = omega arith;
-  lane_room = rw no_batch (omega arith);
-  block_room = rw no_rows (omega arith);
   hosts = All-nil (λ (l : Label). l.host < MAX_HOSTS);
+  log_room = omega arith;
+  block_room = λ d low. rw (no_rows d) (omega arith);
 }
+  where
+    each : (at : QueueAt) → QueueIs config [] at (lane_at v at) (queue_in queues at)
+    each at =
+        let lane = fresh_lane v.lanes at fresh in
+        let queue = empty_queue config.room queues at empty in
+        record {
+          split = rw (lane.taken, queue.0) refl;
+          counted = rw (lane.left, queue.0) queue.1;
+          held_low = rw queue.0 (omega arith);
+          lane_room = rw (lane.taken, queue.0) (omega arith);
+        }
 
 -- What holds of an accelerator holds before the first event.
-pub is_opening : (config : Configuration) (w : State) (v : WorkView) (queue_room : ℕ) → w ≡ state_at_first config [] → config.devices ≡ 1 → config.room ≤ queue_room
-    → v.memory.arrays ≡ config.arrays → ((d : ℕ) → rows_on v.memory d ≡ []) → v.lane.taken ≡ [] → IsAccelerator w v [] 0 queue_room
-is_opening config w v queue_room is one room arrays no_rows no_batch =
+pub is_opening : (config : Configuration) (w : State) (v : WorkView) (queues : List QueueView) → w ≡ state_at_first config [] → v.memory.arrays ≡ config.arrays → ((d : ℕ) → rows_on v.memory d ≡ []) → All IsFresh v.lanes
+    → length v.memory.devices ≡ config.devices → length queues ≡ queue_count config → All (IsEmptyQueue config.room) queues → IsAccelerator w v queues 0
+is_opening config w v queues is arrays no_rows fresh devices count empty =
     rw is (record {
-      one_device = one;
       legal = legal_start (state_at_first config []) refl refl;
       few_items = omega arith;
-      held_low = omega arith;
-      room = room;
-      parts = queued_opening config v (no_rows 0) no_batch;
+      parts = queued_opening config v queues no_rows fresh devices count empty;
       memory = remembers_opening config v arrays no_rows;
     })

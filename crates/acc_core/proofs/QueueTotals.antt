@@ -1,34 +1,38 @@
--- How many batches and operations were placed on a queue, and how many of these are performed.
-use Rattle.std.proofs.Common.{◌≡◌, ℕ, ◌+◌, false, List, length, ap, arith}
+-- How many operations were placed on a queue, and how many of these are performed.
+use Rattle.std.proofs.Common.{◌≡◌, ℕ, zero, suc, ◌+◌, ◌≤◌, true, false, cond, List, [], ◌∷◌, length, ap, arith}
+use Rattle.std.specs.Prelude.{nat_lt, slice_index_or}
+use Rattle.std.specs.List.{sum_by}
+use Rattle.std.proofs.lemmas.List.Sums.{sum_by-cons}
 use Rattle.std.proofs.lemmas.List.{length-append}
 use Rattle.acc_base.specs.declared.ids.QueueAt.{QueueAt}
-use Rattle.acc_base.specs.Queues.{same_queue}
+use Rattle.acc_base.specs.declared.ids.TheConstants.{QUEUES}
+use Rattle.acc_base.specs.Queues.{seat}
 use Rattle.acc_batch.specs.Labels.{on_queue, ops_of}
-use Rattle.acc_batch.specs.declared.operation.Label.{Label}
-use Rattle.acc_core.specs.Legality.{Legal}
-use Rattle.acc_work.specs.Logs.{performed, all_items}
+use Rattle.acc_batch.proofs.Labels.{ops_of-append}
 use Rattle.acc_core.specs.Machine.{State, labels_of}
-use Rattle.acc_core.specs.Ties.{Queued, performed_count}
-use Rattle.acc_work.specs.Works.{WorkView, sync}
-use Rattle.acc_core.proofs.Elsewhere.{none_placed}
-use Rattle.acc_core.proofs.Histories.{placed_use}
-use Rattle.acc_core.proofs.Queues.{none_elsewhere, sync_or_item}
+use Rattle.acc_core.specs.Queues.{QueueView, no_queue, queue_in}
+use Rattle.acc_core.specs.Ties.{Queued}
+use Rattle.acc_work.specs.Logs.{performed}
+use Rattle.acc_work.specs.Works.{WorkView, KeepsOrder, lane_at}
 
--- what queue sync has performed are the entries of the log that aren't items
-pub performed_beside_items : (w : State) → w.config.devices ≡ 1 → Legal w → performed_count w + all_items w.work ≡ length w.work
-performed_beside_items w one legal =
-    sync_or_item w.work (none_elsewhere (labels_of w) w.work (placed_use w.config w.history w.counts one legal.accepted).on_sync legal.prefix)
+-- those that are performed, and those that wait
+pub operations_are : (w : State) (v : WorkView) (queues : List QueueView) (waiting : ℕ) (at : QueueAt) → Queued w v queues waiting → KeepsOrder v → v.work ≡ w.work
+    → length (performed at w.work) + (queue_in queues at).waiting ≡ length (ops_of (on_queue at (labels_of w)))
+operations_are w v queues waiting at q k same =
+    let lane = lane_at v at in
+    let held = (queue_in queues at).held in
+    let h = q.each at in
+    let done : length (performed at v.work) + length lane.left ≡ length (ops_of lane.taken) = omega (arith, length-append (performed at v.work) lane.left, ap length (k.order at).in_order) in
+    let all : length (ops_of (on_queue at (labels_of w))) ≡ length (ops_of lane.taken) + length (ops_of held) =
+    omega (arith, ap (λ ls. length (ops_of ls)) h.split, ap length (ops_of-append lane.taken held), length-append (ops_of lane.taken) (ops_of held)) in
+    omega (arith, h.counted, done, all, ap (λ work. length (performed at work)) same)
 
--- all operations of queue sync are performed or wait
-pub operations_are : (w : State) (v : WorkView) (queue : List Label) (waiting : ℕ) → Queued w v queue waiting → performed_count w + waiting ≡ length (ops_of (on_queue sync (labels_of w)))
-operations_are w v queue waiting q = omega (arith, q.all_waiting, ap (λ ls. length (ops_of ls)) q.single)
-
--- another queue has no operations
-pub no_operations : (w : State) (at : QueueAt) → w.config.devices ≡ 1 → Legal w → same_queue at sync ≡ false → length (ops_of (on_queue at (labels_of w))) ≡ 0
-no_operations w at one legal differ = ap (λ ls. length (ops_of ls)) (none_placed w at one legal differ)
-
--- and has performed none
-pub none_performed : (w : State) (at : QueueAt) → w.config.devices ≡ 1 → Legal w → same_queue at sync ≡ false → length (performed at w.work) ≡ 0
-none_performed w at one legal differ =
-    let p = legal.prefix at in
-    omega (arith, length-append (performed at w.work) p.0, ap length p.1, no_operations w at one legal differ)
+-- no queue has more waiting than all, also one that isn't there
+pub waiting_most : (queues : List QueueView) (at : QueueAt) → (queue_in queues at).waiting ≤ sum_by (λ (q : QueueView). q.waiting) queues
+waiting_most queues at =
+    elim (nat_lt at.queue QUEUES) as (λ b. (cond b (slice_index_or queues (seat at) no_queue) no_queue).waiting ≤ sum_by (λ (q : QueueView). q.waiting) queues) [ true ↦ each queues (seat at) | false ↦ omega arith ]
+  where
+    each : (qs : List QueueView) (n : ℕ) → (slice_index_or qs n no_queue).waiting ≤ sum_by (λ (q : QueueView). q.waiting) qs
+    each [] n = omega arith
+    each (q ∷ qs) zero = omega (arith, sum_by-cons (λ (k : QueueView). k.waiting) q qs)
+    each (q ∷ qs) (suc n) = omega (arith, sum_by-cons (λ (k : QueueView). k.waiting) q qs, each qs n)

@@ -1,10 +1,12 @@
 -- The memory goes on to show what the log says.
-use Rattle.std.proofs.Common.{◌≡◌, ℕ, zero, suc, ◌+◌, ◌≤◌, true, List, [], ◌∷◌, length, refl, sym, ap, ◌∙◌, arith}
+use Rattle.std.proofs.Common.{inl, inr, ◌≡◌, ℕ, zero, suc, ◌+◌, ◌≤◌, true, false, List, [], ◌∷◌, length, refl, sym, ap, subst, ◌∙◌, arith}
 use Rattle.std.specs.Prelude.{All, not, filter, nat_lt, ◌==◌, ℤ, slice_get, is_some}
-use Rattle.std.proofs.lemmas.Bool.{and_parts, leb-true}
-use Rattle.std.proofs.lemmas.List.{length-append}
+use Rattle.std.proofs.lemmas.Bool.{and_parts, leb-true, eq-eqb, ne_eqb}
+use Rattle.std.proofs.lemmas.Bool.Decides.{eqb_tells}
+use Rattle.std.proofs.lemmas.List.{length-append, length-map}
 use Rattle.std.proofs.lemmas.List.Elements.{All-weaker, All-head, All-tail}
 use Rattle.std.proofs.lemmas.List.Filters.{length-filter_both}
+use Rattle.acc_base.specs.declared.ids.QueueAt.{QueueAt}
 use Rattle.acc_base.specs.declared.range.Range.{Range}
 use Rattle.acc_work.specs.declared.log.Told.{Told}
 use Rattle.acc_batch.specs.declared.operation.Op.{Op}
@@ -15,25 +17,36 @@ use Rattle.acc_batch.specs.Lives.{made, UsesLive, HoldsBlock, Made}
 use Rattle.acc_work.specs.Logs.{device_ops, value}
 use Rattle.acc_core.specs.Machine.{State, with_op, with_item}
 use Rattle.acc_kernel.specs.Jobs.{Use}
-use Rattle.acc_memory.specs.Memories.{MemoryView, rows_on, room_on, held_blocks, blocks_after, lengths_of, HasRange, reaches, ends_in, has_array, find_block, MayPerform}
-use Rattle.acc_memory.proofs.Showing.{length_held}
-use Rattle.acc_core.specs.Ties.{Remembers}
-use Rattle.acc_work.specs.Works.{WorkView, HasPerformed, HasTold, sync}
+use Rattle.acc_memory.specs.Memories.{MemoryView, rows_on, room_on, held_blocks, blocks_after, lengths_of, HasRange, reaches, ends_in, has_array, find_block, made_of, MayPerform, PerformsOn}
+use Rattle.acc_core.specs.Ties.{Remembers, blocks_in}
+use Rattle.acc_work.specs.Works.{WorkView, HasPerformed, HasTold}
 use Rattle.acc_core.proofs.LiveBlocks.{held_in, blocks_by_more}
 
+-- the blocks of each device after one more operation of a device
+blocks_after_op : (w : State) (at : QueueAt) (op : Op) (old new : MemoryView) (d : ℕ) → PerformsOn at.device op old new → held_blocks old d ≡ blocks_in d w.work → held_blocks new d ≡ blocks_in d (with_op w at op).work
+blocks_after_op w at op old new d h was = elim (eqb_tells d at.device) [
+  | inl here ↦
+      let same : (at.device == d) ≡ true = eq-eqb at.device d (sym here.1) in
+      let more : held_blocks new d ≡ blocks_after op (held_blocks old d) = subst (λ n. held_blocks new n ≡ blocks_after op (held_blocks old n)) (sym here.1) h.blocks in
+      rw same (more ∙ (ap (blocks_after op) was ∙ sym (blocks_by_more [] (device_ops d w.work) op)))
+  | inr away ↦
+      let other : (at.device == d) ≡ false = ne_eqb at.device d (λ e. away.1 (sym e)) in
+      rw other (h.others d away.1 ∙ was)
+]
+
 -- The memory shows the values of the log after an operation is performed.
-pub remembers_performed : (w : State) (v v' : WorkView) (op : Op) (ops : List Op) → Remembers w v → HasPerformed v v' op ops → Remembers (with_op w sync op) v'
-remembers_performed w v v' op ops r h = record {
-  shows = h.shows (value w.config.arrays w.work) r.shows;
-  blocks = h.blocks ∙ (ap (blocks_after op) r.blocks ∙ sym (blocks_by_more [] (device_ops 0 w.work) op));
-  lengths = h.lengths ∙ r.lengths;
+pub remembers_performed : (w : State) (v v' : WorkView) (at : QueueAt) (op : Op) (ops : List Op) → Remembers w v → HasPerformed v v' at op ops → Remembers (with_op w at op) v'
+remembers_performed w v v' at op ops r h = record {
+  shows = h.memory.shows (value w.config.arrays w.work) r.shows;
+  blocks = λ d. blocks_after_op w at op v.memory v'.memory d h.memory (r.blocks d);
+  lengths = h.memory.lengths ∙ r.lengths;
 }
 
 -- The memory shows the values of the log after an item joins it.
 pub remembers_shown : (w : State) (v v' : WorkView) (h : ℕ) (item : Told) → Remembers w v → HasTold v v' h item → Remembers (with_item w h item) v'
 remembers_shown w v v' h item r s = record {
   shows = s.shows (value w.config.arrays w.work) r.shows;
-  blocks = s.blocks ∙ r.blocks;
+  blocks = λ d. ap (λ devices. held_blocks (record v'.memory { devices = devices }) d) s.devices ∙ r.blocks d;
   lengths = s.lengths ∙ r.lengths;
 }
 
@@ -59,34 +72,34 @@ no_longer arrays r limit all inside = from arrays r.array all (and_parts (nat_lt
     from (x ∷ xs) (suc n) h e = from xs n (All-tail (λ (cells : List ℤ). (1 ≤ length cells) × (length cells ≤ limit)) x xs h) e
 
 -- a range in a live block is one that a copy may use
-range_of_block : (w : State) (v : WorkView) (b : ℕ) (r : Range) → Remembers w v → AllLive w.config.arrays w.work → HoldsBlock (device_ops 0 w.work) b r → HasRange (held_blocks v.memory 0) b r
-range_of_block w v b r m live u = record {
+range_of_block : (w : State) (v : WorkView) (d b : ℕ) (r : Range) → Remembers w v → AllLive w.config.arrays w.work → HoldsBlock (device_ops d w.work) b r → HasRange (held_blocks v.memory d) b r
+range_of_block w v d b r m live u = record {
   whole_range = u.whole_range;
-  held = rw m.blocks ((held_in w.config.arrays w.work live).there (record { block = b; range = u.whole_range }) u.is_made u.not_released);
+  held = rw (m.blocks d) ((held_in w.config.arrays d w.work live).there (record { block = b; range = u.whole_range }) u.is_made u.not_released);
   inside = u.inside;
 }
 
 -- a live block is there
-live_block : (w : State) (v : WorkView) (b : ℕ) (r : Range) → Remembers w v → AllLive w.config.arrays w.work → HoldsBlock (device_ops 0 w.work) b r → is_some (find_block (held_blocks v.memory 0) b) ≡ true
-live_block w v b r m live u =
-    let there = (held_in w.config.arrays w.work live).there (record { block = b; range = u.whole_range }) u.is_made u.not_released in
-    rw (m.blocks, there) refl
+live_block : (w : State) (v : WorkView) (d b : ℕ) (r : Range) → Remembers w v → AllLive w.config.arrays w.work → HoldsBlock (device_ops d w.work) b r → is_some (find_block (held_blocks v.memory d) b) ≡ true
+live_block w v d b r m live u =
+    let there = (held_in w.config.arrays d w.work live).there (record { block = b; range = u.whole_range }) u.is_made u.not_released in
+    rw (m.blocks d, there) refl
 
 -- An operation that uses live blocks may be performed.
-pub may_perform : (w : State) (v : WorkView) (op : Op) → Remembers w v → AllLive w.config.arrays w.work → UsesLive w.config.arrays op (device_ops 0 w.work)
-    → length (rows_on v.memory 0) + length (made (op ∷ [])) ≤ room_on v.memory 0 → MayPerform v.memory 0 op
-may_perform w v (Make b r) m live u room = (
-  rw m.blocks ((held_in w.config.arrays w.work live).absent b u.0),
+pub may_perform : (w : State) (v : WorkView) (d : ℕ) (op : Op) → Remembers w v → AllLive w.config.arrays w.work → UsesLive w.config.arrays op (device_ops d w.work)
+    → length (rows_on v.memory d) + length (made (op ∷ [])) ≤ room_on v.memory d → MayPerform v.memory d op
+may_perform w v d (Make b r) m live u room = (
+  rw (m.blocks d) ((held_in w.config.arrays d w.work live).absent b u.0),
   has_same v.memory w.config.arrays r m.lengths u.1,
   omega (arith, room),
 )
-may_perform w v (CopyIn b r) m live u room = range_of_block w v b r m live u
-may_perform w v (CopyOut b r) m live u room = range_of_block w v b r m live u
-may_perform w v (Release b) m live u room = live_block w v b u.0 m live u.1
-may_perform w v (Run k uses) m live u room =
-    All-weaker (λ (x : Use). HoldsBlock (device_ops 0 w.work) x.0 x.1) (λ (x : Use). HasRange (held_blocks v.memory 0) x.0 x.1) (λ x h. range_of_block w v x.0 x.1 m live h) uses u
-may_perform w v (Await q n) m live u room = tt
-may_perform w v Close m live u room = tt
+may_perform w v d (CopyIn b r) m live u room = range_of_block w v d b r m live u
+may_perform w v d (CopyOut b r) m live u room = range_of_block w v d b r m live u
+may_perform w v d (Release b) m live u room = live_block w v d b u.0 m live u.1
+may_perform w v d (Run k uses) m live u room =
+    All-weaker (λ (x : Use). HoldsBlock (device_ops d w.work) x.0 x.1) (λ (x : Use). HasRange (held_blocks v.memory d) x.0 x.1) (λ x h. range_of_block w v d x.0 x.1 m live h) uses u
+may_perform w v d (Await q n) m live u room = tt
+may_perform w v d Close m live u room = tt
 
 -- An operation adds no more blocks than it makes.
 pub length_blocks : (op : Op) (bs : List Made) → length (blocks_after op bs) ≤ length bs + length (made (op ∷ []))
@@ -104,7 +117,15 @@ length_blocks (Release b) bs =
     let both : length (filter (λ (k : Made). k.block == b) bs) + length (filter (λ (k : Made). not (k.block == b)) bs) ≡ length bs = length-filter_both (λ k. k.block == b) (λ k. not (k.block == b)) (λ k. refl) bs in
     omega (arith, both)
 
--- The memory has no more rows than it had, and those that the operation made.
-pub length_rows : (v v' : WorkView) (op : Op) (ops : List Op) → HasPerformed v v' op ops → length (rows_on v'.memory 0) ≤ length (rows_on v.memory 0) + length (made (op ∷ []))
-length_rows v v' op ops h =
-    omega (arith, length_held v'.memory, length_held v.memory, ap length h.blocks, length_blocks op (held_blocks v.memory 0))
+-- a device holds a block for each row
+pub rows_held : (m : MemoryView) (d : ℕ) → length (held_blocks m d) ≡ length (rows_on m d)
+rows_held m d = length-map (rows_on m d) made_of
+
+-- No device has more rows than it had, and those that the operation made.
+pub length_rows : (v v' : WorkView) (at : QueueAt) (op : Op) (ops : List Op) (d : ℕ) → HasPerformed v v' at op ops → length (rows_on v'.memory d) ≤ length (rows_on v.memory d) + length (made (op ∷ []))
+length_rows v v' at op ops d h = elim (eqb_tells d at.device) [
+  | inl here ↦
+      subst (λ n. length (rows_on v'.memory n) ≤ length (rows_on v.memory n) + length (made (op ∷ []))) (sym here.1)
+      (omega (arith, rows_held v'.memory at.device, rows_held v.memory at.device, ap length h.memory.blocks, length_blocks op (held_blocks v.memory at.device)))
+  | inr away ↦ omega (arith, rows_held v'.memory d, rows_held v.memory d, ap length (h.memory.others d away.1))
+]

@@ -1,11 +1,10 @@
 -- An item of a host joins the log of an accelerator.
-use Rattle.std.proofs.Common.{◌≡◌, ℕ, ◌+◌, ◌<◌, ◌≤◌, true, false, cond, List, ◌∷◌, length, refl, sym, ap, subst, ◌∙◌, arith, Some, None, Ok, Err}
-use Rattle.std.specs.Prelude.{ℤ, All, Bool, not, nat_le}
+use Rattle.std.proofs.Common.{◌≡◌, ℕ, ◌+◌, ◌<◌, ◌≤◌, true, false, cond, List, ◌∷◌, length, map, refl, sym, ap, subst, ◌∙◌, arith, Some, None, Ok, Err}
+use Rattle.std.specs.Prelude.{ℤ, All, Bool, not, nat_le, slice_get}
 use Rattle.std.proofs.lemmas.Bool.{lt-leb}
 use Rattle.acc_base.specs.declared.config.TheConstants.{MAX_CELLS}
 use Rattle.acc_base.specs.declared.fault.Fault.{Fault}
 use Rattle.acc_base.specs.declared.fault.Fault.TheVariants.{BadRange, TooMany, Memory}
-use Rattle.acc_batch.specs.declared.operation.Label.{Label}
 use Rattle.acc_host.specs.Engines.{MayRecord}
 use Rattle.acc_work.specs.declared.item.Plain.{Plain}
 use Rattle.acc_work.specs.declared.item.Shown.{Shown}
@@ -17,70 +16,66 @@ use Rattle.acc_work.specs.Orders.{ShowsTruth}
 use Rattle.acc_work.specs.Items.{shown_by}
 use Rattle.acc_work.specs.Logs.{all_items, all_done, value}
 use Rattle.acc_core.specs.Machine.{State, labels_of, unless, told_of, can_tell, item_answer}
-use Rattle.acc_memory.specs.Memories.{rows_on, lengths_of}
-use Rattle.acc_memory.proofs.Showing.{length_held}
-use Rattle.acc_core.specs.Ties.{IsAccelerator, Remembers, has_cells}
-use Rattle.acc_work.specs.Lanes.{LaneView}
-use Rattle.acc_work.specs.Works.{WorkView, HasMadeRoom, HasTold, CanTell, Tells, item_fault}
+use Rattle.acc_memory.specs.Memories.{rows_in, room_in, lengths_of}
+use Rattle.acc_core.specs.Queues.{QueueView, queue_in}
+use Rattle.acc_core.specs.Ties.{IsAccelerator, QueueIs, Queued, Remembers, has_cells}
+use Rattle.acc_work.specs.Lanes.{LaneView, lane_in}
+use Rattle.acc_work.specs.Works.{WorkView, HasMadeRoom, HasTold, CanTell, Tells, item_fault, taken_counts, taken_labels}
 use Rattle.acc_work.specs.declared.item.Plain.TheVariants as plain
 use Rattle.acc_core.proofs.Advancing.{with_work}
 use Rattle.acc_core.proofs.Keeping.{legal_item}
-use Rattle.acc_core.proofs.Placing.{remembers_room}
+use Rattle.acc_core.proofs.Placing.{is_roomier, remembers_room}
 use Rattle.acc_core.proofs.Remembering.{has_same, no_longer, remembers_shown}
 
+-- more room leaves the queues what they are
+pub queued_roomier : {w : State} {v v' : WorkView} {queues : List QueueView} {waiting : ℕ} → Queued w v queues waiting → HasMadeRoom v v' → Queued w v' queues waiting
+queued_roomier {w = w} {v = v} {v' = v'} {queues = queues} q h = record {
+  each = λ at. is_roomier (h.lanes at) (q.each at);
+  count = q.count;
+  devices = h.devices ∙ q.devices;
+  roomy = q.roomy;
+  all_waiting = q.all_waiting;
+  filled = q.filled;
+  hosts = q.hosts;
+  log_room = omega (arith, q.log_room, h.room);
+  block_room = λ d low. omega (arith, q.block_room d low, h.block_room d, ap length (h.rows d));
+}
+
 -- more room leaves an accelerator what it is
-pub roomier : {w : State} {v v' : WorkView} {queue : List Label} {waiting queue_room : ℕ} → IsAccelerator w v queue waiting queue_room → HasMadeRoom v v' → IsAccelerator w v' queue waiting queue_room
-roomier {w = w} {v = v} {v' = v'} {queue = queue} a h =
-    let q = a.parts in
-    record {
-      one_device = a.one_device;
-      legal = a.legal;
-      few_items = a.few_items;
-      held_low = a.held_low;
-      room = a.room;
-      parts = record {
-        single = q.single;
-        filled = q.filled;
-        split = rw h.taken q.split;
-        all_waiting = q.all_waiting;
-        log_room = omega (arith, q.log_room, h.room);
-        lane_room = omega (arith, q.lane_room, h.lane_room, ap length h.taken);
-        block_room = omega (arith, q.block_room, h.block_room, ap length (h.rows 0));
-        hosts = q.hosts;
-      };
-      memory = remembers_room w w v v' a.memory refl refl h;
-    }
+pub roomier : {w : State} {v v' : WorkView} {queues : List QueueView} {waiting : ℕ} → IsAccelerator w v queues waiting → HasMadeRoom v v' → IsAccelerator w v' queues waiting
+roomier {w = w} {v = v} {v' = v'} a h = record {
+  legal = a.legal;
+  few_items = a.few_items;
+  parts = queued_roomier a.parts h;
+  memory = remembers_room w w v v' a.memory refl refl h;
+}
 
 -- an item that shows what is so, and finds room
-pub told_item : (w : State) (v v' : WorkView) (queue : List Label) (waiting queue_room h : ℕ) (item : Told) → IsAccelerator w v queue waiting queue_room → v.work ≡ w.work → HasTold v v' h item
-    → length v.work + waiting < v.room → all_items w.work < MAX_HOST_ITEMS → ShowsTruth w.config.arrays (labels_of w) item w.work
-    → IsAccelerator (with_work w v') v' queue waiting queue_room
-told_item w v v' queue waiting queue_room h item a same s room few truth =
+pub told_item : (w : State) (v v' : WorkView) (queues : List QueueView) (waiting h : ℕ) (item : Told) → IsAccelerator w v queues waiting → v.work ≡ w.work → HasTold v v' h item → length v.work + waiting < v.room
+    → all_items w.work < MAX_HOST_ITEMS → ShowsTruth w.config.arrays (labels_of w) item w.work → IsAccelerator (with_work w v') v' queues waiting
+told_item w v v' queues waiting h item a same s room few truth =
     let q = a.parts in
     let work : v'.work ≡ entry.Item h item ∷ w.work = s.work ∙ ap (λ r. entry.Item h item ∷ r) same in
-    let rows : length (rows_on v'.memory 0) ≡ length (rows_on v.memory 0) = omega (arith, length_held v'.memory, length_held v.memory, ap length s.blocks) in
-    subst (λ work. IsAccelerator (record w { work = work }) v' queue waiting queue_room) (sym work) (record {
-      one_device = a.one_device;
+    subst (λ work. IsAccelerator (record w { work = work }) v' queues waiting) (sym work) (record {
       legal = legal_item w h item a.legal truth;
       few_items = omega (arith, few);
-      held_low = a.held_low;
-      room = a.room;
       parts = record {
-        single = q.single;
-        filled = q.filled;
-        split = rw s.lane q.split;
+        each = λ at. subst (λ lanes. QueueIs w.config (labels_of w) at (lane_in lanes at) (queue_in queues at)) (sym s.lanes) (q.each at);
+        count = q.count;
+        devices = ap length s.devices ∙ q.devices;
+        roomy = q.roomy;
         all_waiting = q.all_waiting;
-        log_room = omega (arith, room, s.room, ap length same);
-        lane_room = rw s.lane q.lane_room;
-        block_room = omega (arith, q.block_room, s.block_room, rows);
+        filled = q.filled;
         hosts = q.hosts;
+        log_room = omega (arith, room, s.room, ap length same);
+        block_room = λ d low. subst (λ devices. length (rows_in (slice_get devices d)) + waiting ≤ room_in (slice_get devices d)) (sym s.devices) (q.block_room d low);
       };
       memory = remembers_shown w v v' h item a.memory s;
     })
 
 -- an item leaves the batches that were taken
-pub taken_kept : (v spared v' : WorkView) (h : ℕ) (what : Told) → HasMadeRoom v spared → HasTold spared v' h what → length v'.lane.taken ≡ length v.lane.taken
-taken_kept v spared v' h what room told = ap (λ (l : LaneView). length l.taken) told.lane ∙ ap length room.taken
+pub taken_kept : (v spared v' : WorkView) (h : ℕ) (what : Told) → HasMadeRoom v spared → HasTold spared v' h what → taken_counts v' ≡ taken_counts v
+taken_kept v spared v' h what room told = ap (λ lanes. map (λ (l : LaneView). length l.taken) lanes) told.lanes ∙ room.counts
 
 -- an item other than a Seen can be told where its cells are there
 pub cells_tell : (w : State) (item : Plain) → MayRecord item → can_tell w item ≡ has_cells w.config.arrays item
@@ -98,7 +93,7 @@ may_tell v arrays (plain.Test device counts) may same limits there = tt
 
 -- What an item tells: a print the values of its cells, a test whether each queue has performed its count.
 pub told_is : (w : State) (v : WorkView) (item : Plain) (what : Told) → Remembers w v
-    → ((device : ℕ) (counts : List ℕ) → all_done v.lane.taken v.work device 0 counts ≡ all_done (labels_of w) w.work device 0 counts) → Tells v item what → what ≡ told_of w item
+    → ((device : ℕ) (counts : List ℕ) → all_done (taken_labels v) v.work device 0 counts ≡ all_done (labels_of w) w.work device 0 counts) → Tells v item what → what ≡ told_of w item
 told_is w v (plain.Write array cell new_value) what r reached t = t
 told_is w v (plain.Print range) what r reached t = t.1 ∙ ap (told.Print range) (t.2 (value w.config.arrays w.work) r.shows)
 told_is w v (plain.Seen device counts) what r reached t = t

@@ -1,12 +1,11 @@
 -- Each step of the machine keeps each host where it stands in its program.
-use Rattle.std.proofs.Common.{inl, inr, ◌≡◌, ℕ, zero, suc, ◌+◌, ◌<◌, Bool, true, false, cond, List, [], ◌∷◌, length, map, refl, sym, ap, ◌∙◌, subst, arith, Some, None, Option, Result, Ok, Err}
+use Rattle.std.proofs.Common.{inl, inr, ◌≡◌, ℕ, zero, suc, ◌+◌, ◌<◌, Bool, true, false, cond, List, [], ◌∷◌, map, refl, sym, subst, arith, Some, None, Option, Result, Ok, Err}
 use Rattle.std.specs.Prelude.{nat_lt, slice_get, slice_set}
 use Rattle.acc_base.specs.declared.fault.Fault.{Fault}
 use Rattle.acc_base.specs.declared.ids.QueueAt.{QueueAt}
 use Rattle.acc_base.specs.Queues.{seat}
 use Rattle.acc_batch.specs.declared.operation.Label.{Label}
 use Rattle.acc_batch.specs.declared.operation.Op.{Op}
-use Rattle.acc_batch.specs.Labels.{on_queue, batch_at}
 use Rattle.acc_base.specs.Configurations.{Configuration}
 use Rattle.acc_host.specs.declared.program.HostProgram.{HostProgram}
 use Rattle.acc_host.specs.declared.state.After.{After}
@@ -20,15 +19,13 @@ use Rattle.acc_place.specs.declared.directive.Placed.{Placed}
 use Rattle.acc_place.specs.Directives.{Directive}
 use Rattle.acc_work.specs.declared.item.Plain.{Plain}
 use Rattle.acc_work.specs.declared.item.Shown.{Shown}
-use Rattle.acc_work.specs.Logs.{performed, host_allows}
 use Rattle.acc_core.specs.declared.event.Event.{Event}
 use Rattle.acc_core.specs.declared.event.Event.TheVariants as event
 use Rattle.acc_core.specs.Following.{StandsIn, AllStand}
 use Rattle.acc_core.specs.Legality.{AllRise, Legal, entries_of, AllFollow}
-use Rattle.acc_core.specs.Machine.{State, Outcome, Step, Runs, labels_of, is_there, taken_on, held, rest, place_answer, placed_state, wait_answer, waited_state, item_answer, item_state, goes_on, host_step, named_step, take_step, perform_step, queue_step, with_op, step}
+use Rattle.acc_core.specs.Machine.{State, Outcome, Step, Runs, labels_of, is_there, taken_on, held, rest, place_answer, placed_state, wait_answer, waited_state, item_answer, item_state, can_perform, goes_on, host_step, named_step, take_step, perform_step, queue_step, with_op, step}
 use Rattle.acc_core.specs.Worlds.{AreNumbered, opening}
 use Rattle.acc_core.proofs.Keeping.{Step-legal}
-use Rattle.acc_core.proofs.Changes.{step_config}
 use Rattle.acc_core.proofs.HostLaws.{HostLaws}
 use Rattle.acc_core.proofs.Making.{KeepsOthers, Makes-lists, keeps_all, keeps_placed, keeps_waited, keeps_recorded}
 
@@ -170,7 +167,7 @@ stand_take_step w labels at (op ∷ ops) a = a
 stand_perform_step : (w : State) (labels : List Label) (at : QueueAt) (ops : List Op) → HostsStand w → HostsStand (perform_step w labels at ops).state
 stand_perform_step w labels at [] a = a
 stand_perform_step w labels at (op ∷ ops) a =
-    stand_if (host_allows (batch_at (on_queue at labels) (length (performed at w.work))) w.work) _ _
+    stand_if (can_perform labels w.work at op) _ _
     (λ e. stand_same w (with_op w at op) 0 w.hosts (λ k host s. s) a)
     (λ e. a)
 
@@ -192,13 +189,12 @@ pub Step-stands : (laws : HostLaws) (old new : State) (e : Event) (r : Reply) �
 Step-stands laws old new e r rise a s = subst (λ (o : Outcome). AllStand o.state 0 o.state.hosts) s.1 (stand_step laws s.0 old e rise a)
 
 -- and so does a run
-pub runs_stand : (laws : HostLaws) (events : List Event) (replies : List Reply) (old new : State) → old.config.devices ≡ 1 → Legal old → AllStand old 0 old.hosts → Runs old events replies new → AllStand new 0 new.hosts
-runs_stand laws [] [] old new one legal a h = rw h a
-runs_stand laws [] (r ∷ replies) old new one legal a h = absurd h
-runs_stand laws (e ∷ events) [] old new one legal a h = absurd h
-runs_stand laws (e ∷ events) (r ∷ replies) old new one legal a h =
-    let still = ap (λ c. c.devices) (step_config old h.0 e r h.1) ∙ one in
-    runs_stand laws events replies h.0 new still (Step-legal old h.0 e r one legal h.1) (Step-stands laws old h.0 e r legal.counts a h.1) h.2
+pub runs_stand : (laws : HostLaws) (events : List Event) (replies : List Reply) (old new : State) → Legal old → AllStand old 0 old.hosts → Runs old events replies new → AllStand new 0 new.hosts
+runs_stand laws [] [] old new legal a h = rw h a
+runs_stand laws [] (r ∷ replies) old new legal a h = absurd h
+runs_stand laws (e ∷ events) [] old new legal a h = absurd h
+runs_stand laws (e ∷ events) (r ∷ replies) old new legal a h =
+    runs_stand laws events replies h.0 new (Step-legal old h.0 e r legal h.1) (Step-stands laws old h.0 e r legal.counts a h.1) h.2
 
 -- Before the first event each host stands at the start of its program.
 stand_first : (laws : HostLaws) (w : State) (n : ℕ) (programs : List HostProgram) → w.history ≡ [] → w.work ≡ [] → AreNumbered n programs → AllStand w n (map ready programs)

@@ -1,5 +1,6 @@
 -- The definitions computed on worked programs: the replies to some events, and the state after them.
 use Rattle.std.specs.Prelude.{◌≡◌, ℕ, false, List, [], ◌∷◌, ◌++◌, map, replicate, ℤ, pos, negsuc}
+use Rattle.acc_base.specs.declared.ids.QueueAt.{QueueAt}
 use Rattle.acc_base.specs.declared.range.Range.{Range}
 use Rattle.acc_base.specs.declared.fault.Fault.TheVariants.{PartlyPresent, OutsideRange}
 use Rattle.acc_base.specs.Configurations.{configuration}
@@ -30,7 +31,6 @@ use Rattle.acc_host.specs.Hosts.{HostView}
 use Rattle.acc_core.specs.Machine.{State, Outcome, step, standing_of}
 use Rattle.acc_place.specs.LoopExamples.{shifts, all_x, all_y}
 use Rattle.acc_place.specs.Standings.{Standing}
-use Rattle.acc_work.specs.Works.{sync}
 use Rattle.acc_core.specs.Worlds.{opening}
 
 pub record Played : Type 0 where
@@ -50,6 +50,9 @@ abbrev pub world : List (List ℤ) → List Act → State
 world arrays acts =
     opening (configuration 1 1 arrays 4194304 64)
     (record { host = 0; statements = map (λ a. record { line = 1; act = a }) acts } ∷ [])
+
+abbrev pub sync : QueueAt
+sync = record { device = 0; queue = 0 }
 
 abbrev pub cells : ℕ → ℕ → Range
 cells lo len = record { array = 0; lo = lo; len = len }

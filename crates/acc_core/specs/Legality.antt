@@ -16,7 +16,7 @@ use Rattle.acc_place.specs.Batches.{answer_of}
 use Rattle.acc_place.specs.Histories.{AllAccepted, standing}
 use Rattle.acc_work.specs.Lives.{AllLive}
 use Rattle.acc_work.specs.Logs.{one_more}
-use Rattle.acc_work.specs.Orders.{InOrder, InHostOrder}
+use Rattle.acc_work.specs.Orders.{InOrder, InHostOrder, AllAwaited}
 use Rattle.acc_core.specs.Machine.{State, standing_of, Runs}
 use Rattle.acc_place.specs.Standings.{Standing, walk_of}
 
@@ -55,6 +55,7 @@ pub record Legal (w : State) : Type 0 where
   pub accepted : AllAccepted w.config w.history w.counts
   pub counts : AllRise w
   pub prefix : InOrder (standing_of w).labels w.work
+  pub awaited : AllAwaited (standing_of w).labels w.work
   pub host_order : InHostOrder w.config.arrays (standing_of w).labels w.work
   pub live_blocks : AllLive w.config.arrays w.work
 

@@ -5,6 +5,8 @@ pub mod Legality
 pub mod Machine
 pub mod Place
 pub mod Present
+pub mod QueueExamples
+pub mod Queues
 pub mod Ties
 pub mod Work
 pub mod Worlds

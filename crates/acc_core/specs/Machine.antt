@@ -32,7 +32,7 @@ use Rattle.acc_place.specs.Batches.{batch_of, answer_of, walk_at}
 use Rattle.acc_place.specs.Histories.{standing}
 use Rattle.acc_batch.specs.Labels.{on_queue, ops_of, batch_at}
 use Rattle.acc_work.specs.Items.{shown_by}
-use Rattle.acc_work.specs.Logs.{performed, items_of, value, all_done, host_allows}
+use Rattle.acc_work.specs.Logs.{performed, items_of, value, all_done, await_allows, host_allows}
 use Rattle.acc_work.specs.Works.{item_fault}
 use Rattle.acc_memory.specs.Values.{values_of}
 use Rattle.acc_place.specs.Standings.{Standing, Walk, walk_of}
@@ -190,10 +190,14 @@ take_step w labels at (op ∷ ops) = idle w
 abbrev pub with_op : State → QueueAt → Op → State
 with_op w at op = record w { work = entry.Op at op ∷ w.work }
 
+-- a queue's next operation can be performed where what it awaits is performed, and its host has the items before its batch
+abbrev pub can_perform : List Label → List WorkEntry → QueueAt → Op → Bool
+can_perform labels work at op =
+    await_allows labels work at.device op && host_allows (batch_at (on_queue at labels) (length (performed at work))) work
+
 abbrev pub perform_step : State → List Label → QueueAt → List Op → Outcome
 perform_step w labels at [] = idle w
-perform_step w labels at (op ∷ ops) =
-    if host_allows (batch_at (on_queue at labels) (length (performed at w.work))) w.work then did (with_op w at op) else idle w
+perform_step w labels at (op ∷ ops) = if can_perform labels w.work at op then did (with_op w at op) else idle w
 
 abbrev pub queue_step : Bool → State → Outcome → Outcome
 queue_step true w o = o

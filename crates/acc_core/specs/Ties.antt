@@ -1,7 +1,9 @@
 -- How the running parts of the core stand to its histories.
-use Rattle.std.specs.Prelude.{◌≡◌, ℕ, ℤ, ◌+◌, ◌-◌, ◌<◌, ◌≤◌, Bool, true, List, [], ◌∷◌, ◌++◌, length, replicate, All}
+use Rattle.std.specs.Prelude.{◌≡◌, ℕ, ℤ, ◌+◌, ◌<◌, ◌≤◌, Bool, true, List, [], ◌∷◌, ◌++◌, length, All}
+use Rattle.std.specs.List.{sum_by}
 use Rattle.acc_base.specs.declared.config.TheConstants.{MAX_HOSTS}
-use Rattle.acc_base.specs.Configurations.{is_in_array}
+use Rattle.acc_base.specs.declared.ids.QueueAt.{QueueAt}
+use Rattle.acc_base.specs.Configurations.{Configuration, is_in_array}
 use Rattle.acc_base.specs.Queues.{queue_count}
 use Rattle.acc_work.specs.declared.item.Plain.{Plain}
 use Rattle.acc_work.specs.declared.item.Plain.TheVariants as plain
@@ -9,26 +11,20 @@ use Rattle.acc_work.specs.declared.log.WorkEntry.{WorkEntry}
 use Rattle.acc_batch.specs.declared.operation.Label.{Label}
 use Rattle.acc_batch.specs.declared.operation.Op.{Op}
 use Rattle.acc_batch.specs.Labels.{on_queue, ops_of}
-use Rattle.acc_core.specs.Legality.{Legal}
-use Rattle.acc_work.specs.Logs.{performed, device_ops, value, all_items}
-use Rattle.acc_work.specs.declared.log.TheConstants.{MAX_HOST_ITEMS}
-use Rattle.acc_core.specs.Machine.{State, labels_of}
-use Rattle.acc_memory.specs.Memories.{Shows, rows_on, room_on, held_blocks, blocks_after, lengths_of}
 use Rattle.acc_batch.specs.Lives.{Made}
+use Rattle.acc_core.specs.Legality.{Legal}
+use Rattle.acc_core.specs.Machine.{State, labels_of}
+use Rattle.acc_core.specs.Queues.{QueueView, queue_in}
+use Rattle.acc_memory.specs.Memories.{Shows, rows_on, room_on, held_blocks, blocks_after, lengths_of}
 use Rattle.acc_place.specs.Plans.{PlaceView}
-use Rattle.acc_work.specs.Works.{WorkView, sync}
+use Rattle.acc_work.specs.declared.log.TheConstants.{MAX_HOST_ITEMS}
+use Rattle.acc_work.specs.Lanes.{LaneView}
+use Rattle.acc_work.specs.Logs.{device_ops, value, all_items}
+use Rattle.acc_work.specs.Works.{WorkView, lane_at, taken_counts}
 
--- the state of the core without its hosts; only queue sync took batches
+-- the state of the core without its hosts
 abbrev pub state_of_parts : PlaceView → WorkView → State
-state_of_parts p v =
-    record {
-      config = p.config;
-      history = p.history;
-      counts = p.counts;
-      work = v.work;
-      taken = length v.lane.taken ∷ replicate (queue_count p.config - 1) 0;
-      hosts = [];
-    }
+state_of_parts p v = record { config = p.config; history = p.history; counts = p.counts; work = v.work; taken = taken_counts v; hosts = [] }
 
 -- the cells of an item are there
 abbrev pub has_cells : List (List ℤ) → Plain → Bool
@@ -37,43 +33,44 @@ has_cells arrays (plain.Print range) = is_in_array arrays range
 has_cells arrays (plain.Seen device counts) = true
 has_cells arrays (plain.Test device counts) = true
 
--- how many operations are performed
-abbrev pub performed_count : State → ℕ
-performed_count w = length (performed sync w.work)
-
 -- what these operations make of the blocks that are there
 abbrev pub blocks_by : List Made → List Op → List Made
 blocks_by bs [] = bs
 blocks_by bs (op ∷ ops) = blocks_by (blocks_after op bs) ops
 
--- the blocks that are there after a log
-abbrev pub blocks_in : List WorkEntry → List Made
-blocks_in work = blocks_by [] (device_ops 0 work)
+-- the blocks that are there on a device after a log
+abbrev pub blocks_in : ℕ → List WorkEntry → List Made
+blocks_in device work = blocks_by [] (device_ops device work)
 
--- The lane was filled from the first labels and the queue holds the others; and there is room for all that waits in the log,
--- among the blocks and among the batches taken.
-pub record Queued (w : State) (v : WorkView) (queue : List Label) (waiting : ℕ) : Type 0 where
-  pub single : on_queue sync (labels_of w) ≡ labels_of w
+-- A queue's lane was filled from the first labels that were placed on it, and the queue holds the others, of which there are no
+-- more than its room. It counts the operations that wait, and the lane has room for all batches that it holds.
+pub record QueueIs (config : Configuration) (labels : List Label) (at : QueueAt) (lane : LaneView) (queue : QueueView) : Type 0 where
+  pub split : on_queue at labels ≡ lane.taken ++ queue.held
+  pub counted : queue.waiting ≡ length lane.left + length (ops_of queue.held)
+  pub held_low : length queue.held ≤ config.room
+  pub lane_room : length lane.taken + length queue.held ≤ lane.room
+
+-- So it is of every queue. There is room for all that waits in the log, and among the blocks of each device.
+pub record Queued (w : State) (v : WorkView) (queues : List QueueView) (waiting : ℕ) : Type 0 where
+  pub each : (at : QueueAt) → QueueIs w.config (labels_of w) at (lane_at v at) (queue_in queues at)
+  pub count : length queues ≡ queue_count w.config
+  pub devices : length v.memory.devices ≡ w.config.devices
+  pub roomy : All (λ (queue : QueueView). w.config.room ≤ queue.room) queues
+  pub all_waiting : waiting ≡ sum_by (λ (queue : QueueView). queue.waiting) queues
   pub filled : All (λ (l : Label). 0 < length l.ops) (labels_of w)
-  pub split : labels_of w ≡ v.lane.taken ++ queue
-  pub all_waiting : waiting + performed_count w ≡ length (ops_of (labels_of w))
-  pub log_room : length w.work + waiting ≤ v.room
-  pub lane_room : length v.lane.taken + length queue ≤ v.lane.room
-  pub block_room : length (rows_on v.memory 0) + waiting ≤ room_on v.memory 0
   pub hosts : All (λ (l : Label). l.host < MAX_HOSTS) (labels_of w)
+  pub log_room : length w.work + waiting ≤ v.room
+  pub block_room : (d : ℕ) → d < w.config.devices → length (rows_on v.memory d) + waiting ≤ room_on v.memory d
 
 -- The memory shows the values of the log.
 pub record Remembers (w : State) (v : WorkView) : Type 0 where
   pub shows : Shows v.memory (value w.config.arrays w.work)
-  pub blocks : held_blocks v.memory 0 ≡ blocks_in w.work
+  pub blocks : (d : ℕ) → held_blocks v.memory d ≡ blocks_in d w.work
   pub lengths : lengths_of v.memory.arrays ≡ lengths_of w.config.arrays
 
 -- What holds of an accelerator between two calls.
-pub record IsAccelerator (w : State) (v : WorkView) (queue : List Label) (waiting queue_room : ℕ) : Type 0 where
-  pub one_device : w.config.devices ≡ 1
+pub record IsAccelerator (w : State) (v : WorkView) (queues : List QueueView) (waiting : ℕ) : Type 0 where
   pub legal : Legal w
   pub few_items : all_items w.work ≤ MAX_HOST_ITEMS
-  pub held_low : length queue ≤ w.config.room
-  pub room : w.config.room ≤ queue_room
-  pub parts : Queued w v queue waiting
+  pub parts : Queued w v queues waiting
   pub memory : Remembers w v

@@ -1,15 +1,14 @@
 -- The hosts with the accelerator that they share: how a run begins, what it gives, and what it leaves.
-use Rattle.std.specs.Prelude.{◌≡◌, ℕ, ◌+◌, ◌≤◌, Bool, nat_lt, List, [], ◌∷◌, ◌++◌, length, map, All, Option, Some, None, if◌then◌else◌}
+use Rattle.std.specs.Prelude.{◌≡◌, ℕ, ◌+◌, ◌≤◌, Bool, nat_lt, List, [], ◌∷◌, ◌++◌, length, map, Option, Some, None, if◌then◌else◌}
 use Rattle.acc_base.specs.declared.config.TheConstants.{MAX_HOSTS}
 use Rattle.acc_base.specs.declared.fault.Fault.{Fault}
-use Rattle.acc_base.specs.declared.fault.Fault.TheVariants.{BadDevice, TooMany, Memory}
+use Rattle.acc_base.specs.declared.fault.Fault.TheVariants.{TooMany, Memory}
 use Rattle.acc_base.specs.Configurations.{Configuration}
 use Rattle.acc_core.specs.declared.event.Event.{Event}
 use Rattle.acc_host.specs.declared.state.Reply.{Reply}
 use Rattle.acc_host.specs.declared.program.HostProgram.{HostProgram}
 use Rattle.acc_host.specs.declared.state.HostState.{HostState}
-use Rattle.acc_host.specs.Hosts.{HostView, ready}
-use Rattle.acc_host.specs.Steps.{AllSynchronous}
+use Rattle.acc_host.specs.Hosts.{ready}
 use Rattle.acc_core.specs.Following.{AllStand}
 use Rattle.acc_core.specs.Legality.{Legal, LegalCut}
 use Rattle.acc_core.specs.Machine.{State, state_at_first, Runs}
@@ -26,10 +25,7 @@ pub record OnePerHost (config : Configuration) (programs : List HostProgram) : T
 
 -- the fault of a world, where memory is refused or not
 abbrev pub world_fault : Bool → Configuration → Option Fault
-world_fault no_memory config =
-    if nat_lt 1 config.devices then Some BadDevice
-    else (if nat_lt 1 config.hosts then Some TooMany
-    else (if no_memory then Some Memory else None))
+world_fault no_memory config = if nat_lt 1 config.hosts then Some TooMany else (if no_memory then Some Memory else None)
 
 -- Nothing is accepted, performed, taken or shown, and each host is ready for its first statement.
 abbrev pub opening : Configuration → List HostProgram → State
@@ -37,11 +33,9 @@ opening config programs = state_at_first config (map ready programs)
 
 -- What holds of a world between two steps; `states` has room for a state of each host.
 pub record IsWorld (w : State) (states : List HostState) (room : ℕ) : Type 0 where
-  pub one_device : w.config.devices ≡ 1
   pub few_hosts : length w.hosts ≤ MAX_HOSTS
   pub legal : Legal w
   pub stand : AllStand w 0 w.hosts
-  pub synchronous : All (λ (host : HostView). AllSynchronous host.statements) w.hosts
   pub no_states : states ≡ []
   pub has_room : length w.hosts ≤ room
 

@@ -1,7 +1,6 @@
 ghost use Rattle.std.specs.Prelude.{reverse, ◌≡◌, ◌+◌, ◌<◌, ◌≤◌, [], length, IfOk, IfErr, OnErr, OnSome, true, false, slice_get, ◌^◌, Ok};
 ghost use Rattle.acc_base.specs.declared.config.TheConstants.{MAX_HOSTS};
 ghost use Rattle.acc_host.specs.Engines.{Wait, Record, MayRecord, without_item};
-ghost use Rattle.acc_place.specs.Places.{is_synchronous};
 ghost use Rattle.acc_core.specs.Answers.{Makes, Places};
 ghost use Rattle.acc_core.specs.Legality.{AllRise};
 ghost use Rattle.acc_core.specs.Ties.{has_cells};
@@ -12,31 +11,30 @@ ghost use Rattle.std.specs.Option.{option_map};
 ghost use Rattle.acc_present.specs.Presences.{presences, holder};
 ghost use Rattle.acc_present.specs.Tables.{entry_presence};
 
+use crate::queue::{Queue, queues_of, waiting_in};
 use crate::totals::Totals;
 use acc_base::{Config, DeviceId, Fault, HostId, QueueAt, Range};
-use acc_batch::Batch;
 use acc_host::{Engine, Reply};
 use acc_place::{Directive, Place, PlaceEntry, Placed};
 use acc_present::Entry;
-use acc_work::{Done, Item, Plain, Shown, Work, WorkEntry, sync_queue};
+use acc_work::{Done, Item, Plain, Shown, Work, WorkEntry};
 use std::alloc::Global;
-use std::collections::VecDeque;
 use std::marker::Model;
 
-/// The place side, the queue, and the work side of one device.
+/// The place side, the queues, and the work side.
 #[derive(Drop)]
 pub struct Accelerator {
     alloc: Global,
     place: Place,
     work: Work,
-    queue: VecDeque<Batch>,
-    // how many operations are placed and not performed
+    // by device, then in queue order
+    queues: Vec<Queue>,
+    // how many operations of all queues were placed and aren't performed
     waiting: usize,
 }
 
 impl Model for Accelerator {
     ghost use Rattle.std.specs.Coded.{codes};
-    ghost use Rattle.std.specs.VecDeque.{deque_capacity};
     ghost use Rattle.acc_core.specs.Machine.{State};
     ghost use Rattle.acc_core.specs.Ties.{state_of_parts, IsAccelerator};
     ghost use Rattle.acc_kernel.specs.contracts.expr.Expr as expr;
@@ -47,7 +45,7 @@ impl Model for Accelerator {
 
     ghost view = { λ a. state_of_parts a.place a.work };
 
-    ghost invariant = { λ a. IsAccelerator (state_of_parts a.place a.work) a.work a.queue.items a.waiting (deque_capacity a.queue) };
+    ghost invariant = { λ a. IsAccelerator (state_of_parts a.place a.work) a.work a.queues.items a.waiting };
 }
 
 impl Accelerator {
@@ -55,27 +53,29 @@ impl Accelerator {
     ghost use Rattle.acc_core.specs.declared.event.Event.TheVariants as event;
 
     /// Nothing is accepted, performed or shown yet.
+    ///
+    /// # Errors
+    ///
+    /// `Memory` where memory is refused.
     pub fn new(alloc: Global, config: Config) -> Result<Accelerator, Fault>
-        requires { config.devices ≡ 1 }
         ensures opened { IfOk result (λ a. a ≡ state_at_first config []) }
         ensures fault { IfErr result (λ f. f ≡ no_memory) }
     {
         let work = Work::new(alloc, &config)?;
-        let mut queue = VecDeque::new(alloc);
-        queue.reserve(config.room() as usize)?;
+        let queues = queues_of(alloc, &config)?;
+        work.keeps_order();
         Ok(Accelerator {
             alloc,
             place: Place::new(alloc, config)?,
             work,
-            queue,
+            queues,
             waiting: 0,
         })
     }
 
-    // Accepts a directive, and places its batch on the queue.
+    // Accepts a directive, and places its batch on its queue.
     fn accept(&mut self, host: HostId, directive: &Directive) -> Result<Placed, Fault>
-        requires host { host < MAX_HOSTS }
-        requires synchronous { is_synchronous directive.now ≡ true }
+        requires { host < MAX_HOSTS }
         ensures { Places self.old host directive.now result self.new }
     {
         self.work.keeps_order();
@@ -84,16 +84,19 @@ impl Accelerator {
         match plan.take_batch() {
             None => Ok(self.place.accept(plan)),
             Some(batch) => {
-                if self.queue.len() >= self.place.config().room() as usize {
+                let QueueAt { device, queue } = batch.label().at;
+                let seat = QueueAt { device, queue }.seat();
+                if self.queues[seat].len() >= self.place.config().room() as usize {
                     return Err(Fault::QueueFull);
                 }
-                let waiting = match self.waiting.checked_add(batch.ops().len()) {
+                let count = batch.ops().len();
+                let waiting = match self.waiting.checked_add(count) {
                     Some(waiting) => waiting,
                     None => return Err(Fault::Memory),
                 };
-                self.work.spare(waiting)?;
+                self.work.spare(QueueAt { device, queue }, waiting)?;
                 let placed = self.place.accept(plan);
-                self.queue.push_back_reserved(batch);
+                self.queues[seat].push(batch, count);
                 self.waiting = waiting;
                 Ok(placed)
             }
@@ -182,19 +185,24 @@ impl Accelerator {
         ensures operations { result.operations ≡ length (ops_of (on_queue at (labels_of self.now))) }
         ensures performed { result.performed ≡ length (performed at self.now.work) }
     {
-        if !self.work.has_queue(at) {
-            return Totals {
-                batches: 0,
-                operations: 0,
-                performed: 0,
-            };
-        }
-        let performed = self.work.performed();
+        self.work.keeps_order();
+        let QueueAt { device, queue } = at;
+        let performed = self.work.performed(QueueAt { device, queue });
+        let waiting = self.waiting_on(QueueAt { device, queue });
         Totals {
-            batches: self.place.placed_count(sync_queue()),
-            operations: performed + self.waiting as u64,
+            batches: self.place.placed_count(QueueAt { device, queue }),
+            operations: performed + waiting as u64,
             performed,
         }
+    }
+
+    // How many operations of a queue were placed and aren't performed.
+    fn waiting_on(&self, at: QueueAt) -> usize
+        ensures count { length (performed at self.now.work) + result ≡ length (ops_of (on_queue at (labels_of self.now))) }
+        ensures room { length (performed at self.now.work) + result < 2 ^ 64 }
+    {
+        self.work.keeps_order();
+        waiting_in(self.queues.as_slice(), at)
     }
 
     /// Whether each queue of a device has performed its count of batches.
@@ -209,17 +217,19 @@ impl Accelerator {
     pub fn take(&mut self, at: QueueAt) -> Reply
         ensures { step false self.old (event.Take at) ≡ record { reply = result; state = self.new } }
     {
-        if !self.work.has_queue(at) {
+        let QueueAt { device, queue } = at;
+        if !self.place.config().has_queue(QueueAt { device, queue }) {
             return Reply::Idle;
         }
         self.work.keeps_order();
-        if !self.work.lane_empty() {
+        if !self.work.lane_empty(QueueAt { device, queue }) {
             return Reply::Idle;
         }
-        match self.queue.pop_front() {
+        let seat = QueueAt { device, queue }.seat();
+        match self.queues[seat].pop() {
             None => Reply::Idle,
             Some(batch) => {
-                self.work.offer(sync_queue(), batch);
+                self.work.offer(QueueAt { device, queue }, batch);
                 Reply::Did
             }
         }
@@ -229,12 +239,15 @@ impl Accelerator {
     pub fn perform(&mut self, at: QueueAt) -> Reply
         ensures { step false self.old (event.Perform at) ≡ record { reply = result; state = self.new } }
     {
-        if !self.work.has_queue(at) {
+        let QueueAt { device, queue } = at;
+        if !self.place.config().has_queue(QueueAt { device, queue }) {
             return Reply::Idle;
         }
         self.work.keeps_order();
-        match self.work.perform(sync_queue()) {
+        let seat = QueueAt { device, queue }.seat();
+        match self.work.perform(QueueAt { device, queue }) {
             Done::Op => {
+                self.queues[seat].performed();
                 self.waiting -= 1;
                 Reply::Did
             }

@@ -1,5 +1,6 @@
 ghost use Rattle.acc_core.specs.Examples.{EnteredTwice, OverlapRefused, StaleHostCopy, LoopRuns, LoopOnPresent};
 ghost use Rattle.acc_core.specs.Machine.{EachQueueIsCounted};
+ghost use Rattle.acc_core.specs.QueueExamples.{UseAwaitsItsMaker, ReleaseAwaitsEachUse, AsyncValuesNameQueues, DefaultQueueRunsInOrder, WaitsAreBatches};
 
 /// The machine computed on five programs: a range that enters twice and leaves once, a range that
 /// overlaps a present one, a host write under a present range, a loop with clauses that runs where another one is
@@ -10,6 +11,16 @@ pub fn worked_programs()
     ensures stale { StaleHostCopy }
     ensures runs { LoopRuns }
     ensures on_present { LoopOnPresent }
+{}
+
+/// The machine computed on programs with several queues: a use that awaits its maker, a release that awaits each use, the
+/// queues that async values name, a host's default queue, and waits that are batches.
+pub fn worked_queues()
+    ensures use_awaits { UseAwaitsItsMaker }
+    ensures release_awaits { ReleaseAwaitsEachUse }
+    ensures values { AsyncValuesNameQueues }
+    ensures in_order { DefaultQueueRunsInOrder }
+    ensures waits { WaitsAreBatches }
 {}
 
 /// Among the counts of batches that were taken, each queue of each device has its own, whatever the number

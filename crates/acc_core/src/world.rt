@@ -7,7 +7,6 @@ ghost use Rattle.acc_core.specs.Legality.{AllFollow, Legal};
 ghost use Rattle.acc_core.specs.Machine.{Step, standing_of, labels_of};
 ghost use Rattle.acc_host.specs.declared.state.Reply.{Reply};
 ghost use Rattle.acc_host.specs.Hosts.{ready, state_of};
-ghost use Rattle.acc_host.specs.Steps.{AllSynchronous};
 ghost use Rattle.acc_batch.specs.Labels.{on_queue, ops_of};
 ghost use Rattle.acc_work.specs.Logs.{performed};
 ghost use Rattle.acc_core.specs.Worlds.{OnePerHost, AreNumbered, world_fault, opening, Ran};
@@ -52,35 +51,28 @@ impl World {
     ghost use Rattle.acc_base.specs.declared.fault.Fault.TheVariants.{Memory};
 
     /// Nothing is accepted, performed or shown yet, and each host is ready for its first statement. There is one program
-    /// for each host of the configuration, in their order, and each is synchronous, by `HostProgram::is_synchronous`.
+    /// for each host of the configuration, in their order.
     ///
     /// # Errors
     ///
-    /// The first of: `BadDevice` for more than one device, `TooMany` for more than one host, `Memory` for
-    /// want of memory.
+    /// The first of: `TooMany` for more than one host, `Memory` for want of memory.
     pub fn new(alloc: Global, config: Config, programs: Vec<HostProgram>) -> Result<World, Fault>
-        requires programs { OnePerHost config programs.items }
-        requires synchronous { All (λ p. AllSynchronous p.statements) programs.items }
+        requires { OnePerHost config programs.items }
         ensures opened { IfOk result (λ w. w ≡ opening config programs.items) }
         ensures allowed { OnOk result (world_fault false config ≡ None) }
         ensures refused { IfErr result (λ fault. (no_memory : Bool) × (world_fault no_memory config ≡ Some fault)) }
     {
         config.keeps_limits();
-        if config.devices() > 1 {
-            return Err(Fault::BadDevice);
-        }
         if config.hosts() > 1 {
             return Err(Fault::TooMany);
         }
         World::open(alloc, config, programs)
     }
 
-    // The world of one device, before the first step.
+    // The world before the first step.
     fn open(alloc: Global, config: Config, programs: Vec<HostProgram>) -> Result<World, Fault>
-        requires one_device { config.devices ≡ 1 }
         requires few_hosts { length programs.items ≤ MAX_HOSTS }
         requires numbered { AreNumbered 0 programs.items }
-        requires synchronous { All (λ p. AllSynchronous p.statements) programs.items }
         ensures opened { IfOk result (λ w. w ≡ opening config programs.items) }
         ensures refused { IfErr result (λ fault. fault ≡ Memory) }
     {

@@ -1,91 +1,222 @@
-use Rattle.std.proofs.Common.{◌≡◌, ◌+◌, ◌<◌, ◌≤◌, length, refl, ap, ◌∙◌, arith, deque_capacity}
+use Rattle.std.proofs.Common.{◌≡◌, ◌+◌, ◌<◌, ◌≤◌, length, refl, sym, ap, subst, ◌∙◌, arith}
 use Rattle.std.proofs.lemmas.List.{length-map}
 use Rattle.std.proofs.lemmas.Result.{err_from_is_err_and}
-use Rattle.acc_batch.specs.Tasks.{op_of}
-use Rattle.acc_core.specs.contracts.accelerator.Accelerator.{the_view}
+use Rattle.acc_base.specs.Queues.{seat}
 use Rattle.acc_base.specs.declared.fault.Fault.TheVariants.{Memory}
-use Rattle.acc_core.specs.Machine.{standing_of}
-use Rattle.acc_place.specs.Plans.{label_in}
-use Rattle.acc_place.specs.Standings.{walk_of}
-use Rattle.acc_core.proofs.Placing.{planned, batch_empty, batch_placed, acts_on_sync, keeps_empty, keeps_batch, places_full, places_batch, places_memory}
+use Rattle.acc_batch.specs.declared.operation.Label.{Label}
+use Rattle.acc_batch.specs.Tasks.{op_of}
+use Rattle.acc_batch.proofs.Seats.{seat_found}
+use Rattle.acc_core.specs.contracts.accelerator.Accelerator.{the_view}
+use Rattle.acc_core.specs.Queues.{QueueView, no_queue, queue_in, pushed}
+use Rattle.acc_core.specs.Ties.{IsAccelerator, state_of_parts}
+use Rattle.acc_core.proofs.Placing.{planned, batch_empty, batch_goes, keeps_empty, keeps_batch, places_full, places_batch, places_memory}
+use Rattle.acc_core.proofs.Seats.{room_there, waiting_low}
+use Rattle.acc_core.proofs.Showing.{roomier}
 use Rattle.acc_core.proofs.accelerator.Accelerator.accept.Goals as goal
 
 pub invariant_of-self-in-None : goal.invariant_of-self-in-None
 invariant_of-self-in-None c =
     let i = c.self.inside in
+    let w = the_view i in
     let d = c.args.directive.now in
     let e = c.in_ok-plan.ensures in
-    let q = c.in_ok-plan.plan in
+    let k = c.keeps_order.ensures.order in
     let items = c.items_of-items_done.result in
-    let facts = planned i.place c.plan.new.self q c.args.host items d e.config e.history e.counts e.fits.0 e.plan.0 e.plan.1 e.plan.2 in
-    let none = batch_empty (the_view i) c.args.host items d (c.in-None.ensures.batch ∙ (e.batch ∙ facts.labelled)) in
-    keeps_empty (the_view i) _ i.work i.queue.items i.waiting (deque_capacity i.queue) c.args.host d c.self.invariant facts.accepted none
+    let facts = planned i.place c.plan.new.self c.in_ok-plan.plan c.args.host items d e.config e.history e.counts e.fits.0 e.plan.0 e.plan.1 e.plan.2 in
+    let none = batch_empty w c.args.host items d (c.in-None.ensures.batch ∙ (e.batch ∙ facts.labelled)) in
+    keeps_empty w _ i.work i.queues.items i.waiting c.args.host d c.self.invariant facts.accepted none
     (rw (c.accept.ensures.place, c.in-None.ensures.plan, e.config, e.history, e.counts, e.plan.0, e.plan.1, e.plan.2, c.items_of-items_done.ensures) refl)
+
+pub index-requires : goal.index-requires
+index-requires c =
+    let i = c.self.inside in
+    let w = the_view i in
+    let d = c.args.directive.now in
+    let e = c.in_ok-plan.ensures in
+    let k = c.keeps_order.ensures.order in
+    let items = c.items_of-items_done.result in
+    let facts = planned i.place c.plan.new.self c.in_ok-plan.plan c.args.host items d e.config e.history e.counts e.fits.0 e.plan.0 e.plan.1 e.plan.2 in
+    let b = c.in-Some.batch in
+    let g = batch_goes w i.work i.queues.items i.waiting c.args.host items d b c.self.invariant k facts.accepted c.items_of-items_done.ensures (c.in-Some.ensures.batch ∙ (e.batch ∙ facts.labelled)) in
+    let s = g.seat in
+    let q = c.self.invariant.parts in
+    let seat_is : c.seat-seat.result ≡ seat b.at = c.seat-seat.ensures ∙ ap (λ (l : Label). seat l.at) c.label.ensures in
+    omega (arith, seat_is, s.held, i.queues.ok.0)
 
 pub returns-then-len-room : goal.returns-then-len-room
 returns-then-len-room c =
     let i = c.self.inside in
+    let w = the_view i in
     let d = c.args.directive.now in
     let e = c.in_ok-plan.ensures in
+    let k = c.keeps_order.ensures.order in
     let items = c.items_of-items_done.result in
     let facts = planned i.place c.plan.new.self c.in_ok-plan.plan c.args.host items d e.config e.history e.counts e.fits.0 e.plan.0 e.plan.1 e.plan.2 in
-    let named = c.in-Some.ensures.batch ∙ (e.batch ∙ (facts.labelled ∙ ap (λ n. label_in (standing_of (the_view i)) c.args.host n (walk_of (standing_of (the_view i)) c.args.host d)) c.items_of-items_done.ensures)) in
-    let placed = batch_placed (the_view i) c.args.host d c.in-Some.batch (acts_on_sync (the_view i) c.args.host d c.self.invariant.one_device c.self.invariant.legal facts.accepted) named in
-    let room = c.room.ensures ∙ (ap (λ x. x.room) c.config.ensures ∙ ap (λ x. x.room) e.config) in
-    let full : length i.queue.items ≡ i.place.config.room = omega (arith, i.queue.ok.0, c.len.ensures, c.if-len-room.true, room, c.self.invariant.held_low) in
-    rw (← c.self.view_is) (places_full (the_view i) _ i.work i.queue.items i.waiting c.args.host d c.self.invariant.parts c.self.invariant.one_device c.self.invariant.legal facts.accepted placed.some full
-    (rw (e.config, e.history, e.counts) refl))
+    let b = c.in-Some.batch in
+    let g = batch_goes w i.work i.queues.items i.waiting c.args.host items d b c.self.invariant k facts.accepted c.items_of-items_done.ensures (c.in-Some.ensures.batch ∙ (e.batch ∙ facts.labelled)) in
+    let s = g.seat in
+    let q = c.self.invariant.parts in
+    let seat_is : c.seat-seat.result ≡ seat b.at = c.seat-seat.ensures ∙ ap (λ (l : Label). seat l.at) c.label.ensures in
+    let queue = seat_found no_queue i.queues.items b.at c.index.result.now s.queue s.held (rw seat_is at c.index.ensures) in
+    let held : c.len.result ≡ length (queue_in i.queues.items b.at).held = c.len.ensures ∙ ap (λ (x : QueueView). length x.held) queue in
+    let room : c.room.result ≡ w.config.room = c.room.ensures ∙ (ap (λ x. x.room) c.config.ensures ∙ ap (λ x. x.room) e.config) in
+    let full : length (queue_in i.queues.items b.at).held ≡ w.config.room = (let h = q.each b.at in omega (arith, held, room, c.if-len-room.true, h.held_low)) in
+    rw (← c.self.view_is) (places_full w _ i.work i.queues.items i.waiting c.args.host d b q s facts.accepted g.placed full (rw (e.config, e.history, e.counts) refl))
 
 pub returns-in-None-checked_add : goal.returns-in-None-checked_add
 returns-in-None-checked_add c =
     let i = c.self.inside in
+    let w = the_view i in
     let d = c.args.directive.now in
     let e = c.in_ok-plan.ensures in
-    let facts = planned i.place c.plan.new.self c.in_ok-plan.plan c.args.host c.items_of-items_done.result d e.config e.history e.counts e.fits.0 e.plan.0 e.plan.1 e.plan.2 in
-    rw (← c.self.view_is) (places_memory (the_view i) _ c.args.host d Memory facts.accepted refl (rw (e.config, e.history, e.counts) refl))
+    let k = c.keeps_order.ensures.order in
+    let items = c.items_of-items_done.result in
+    let facts = planned i.place c.plan.new.self c.in_ok-plan.plan c.args.host items d e.config e.history e.counts e.fits.0 e.plan.0 e.plan.1 e.plan.2 in
+    rw (← c.self.view_is) (places_memory w _ c.args.host d Memory facts.accepted refl (rw (e.config, e.history, e.counts) refl))
+
+pub spare-requires : goal.spare-requires
+spare-requires c =
+    let i = c.self.inside in
+    let w = the_view i in
+    let d = c.args.directive.now in
+    let e = c.in_ok-plan.ensures in
+    let k = c.keeps_order.ensures.order in
+    let items = c.items_of-items_done.result in
+    let facts = planned i.place c.plan.new.self c.in_ok-plan.plan c.args.host items d e.config e.history e.counts e.fits.0 e.plan.0 e.plan.1 e.plan.2 in
+    let b = c.in-Some.batch in
+    let g = batch_goes w i.work i.queues.items i.waiting c.args.host items d b c.self.invariant k facts.accepted c.items_of-items_done.ensures (c.in-Some.ensures.batch ∙ (e.batch ∙ facts.labelled)) in
+    let s = g.seat in
+    let q = c.self.invariant.parts in
+    let seat_is : c.seat-seat.result ≡ seat b.at = c.seat-seat.ensures ∙ ap (λ (l : Label). seat l.at) c.label.ensures in
+    record { queue = rw c.label.ensures s.has }
+
+pub invariant_of-self-in_err-spare-in-Some : goal.invariant_of-self-in_err-spare-in-Some
+invariant_of-self-in_err-spare-in-Some c =
+    let e = c.in_ok-plan.ensures in
+    let kept = c.in_err-spare-in-Some.ensures.kept in
+    let i = c.self.inside in
+    let same : state_of_parts c.plan.new.self c.spare.new.self ≡ the_view i = rw (e.config, e.history, e.counts, kept.work, kept.counts) refl in
+    subst (λ w. IsAccelerator w c.spare.new.self i.queues.items i.waiting) (sym same) (roomier c.self.invariant kept)
 
 pub returns-in_err-spare-in-Some : goal.returns-in_err-spare-in-Some
 returns-in_err-spare-in-Some c =
     let i = c.self.inside in
+    let w = the_view i in
     let d = c.args.directive.now in
     let e = c.in_ok-plan.ensures in
-    let facts = planned i.place c.plan.new.self c.in_ok-plan.plan c.args.host c.items_of-items_done.result d e.config e.history e.counts e.fits.0 e.plan.0 e.plan.1 e.plan.2 in
-    let q = err_from_is_err_and c.from_residual-in_err-spare-in-Some.result c.from_residual-in_err-spare-in-Some.ensures.1 in
-    rw (q.1, ← c.self.view_is) (places_memory (the_view i) _ c.args.host d q.0 facts.accepted (q.2 ∙ c.in_err-spare-in-Some.ensures.fault)
-    (rw (e.config, e.history, e.counts, c.in_err-spare-in-Some.ensures.kept.work, c.in_err-spare-in-Some.ensures.kept.taken) refl))
+    let k = c.keeps_order.ensures.order in
+    let items = c.items_of-items_done.result in
+    let facts = planned i.place c.plan.new.self c.in_ok-plan.plan c.args.host items d e.config e.history e.counts e.fits.0 e.plan.0 e.plan.1 e.plan.2 in
+    let kept = c.in_err-spare-in-Some.ensures.kept in
+    let r = err_from_is_err_and c.from_residual-in_err-spare-in-Some.result c.from_residual-in_err-spare-in-Some.ensures.1 in
+    rw (r.1, ← c.self.view_is) (places_memory w _ c.args.host d r.0 facts.accepted (r.2 ∙ c.in_err-spare-in-Some.ensures.fault) (rw (e.config, e.history, e.counts, kept.work, kept.counts) refl))
+
+pub index_mut-requires : goal.index_mut-requires
+index_mut-requires c =
+    let i = c.self.inside in
+    let w = the_view i in
+    let d = c.args.directive.now in
+    let e = c.in_ok-plan.ensures in
+    let k = c.keeps_order.ensures.order in
+    let items = c.items_of-items_done.result in
+    let facts = planned i.place c.plan.new.self c.in_ok-plan.plan c.args.host items d e.config e.history e.counts e.fits.0 e.plan.0 e.plan.1 e.plan.2 in
+    let b = c.in-Some.batch in
+    let g = batch_goes w i.work i.queues.items i.waiting c.args.host items d b c.self.invariant k facts.accepted c.items_of-items_done.ensures (c.in-Some.ensures.batch ∙ (e.batch ∙ facts.labelled)) in
+    let s = g.seat in
+    let q = c.self.invariant.parts in
+    let seat_is : c.seat-seat.result ≡ seat b.at = c.seat-seat.ensures ∙ ap (λ (l : Label). seat l.at) c.label.ensures in
+    omega (arith, seat_is, s.held, i.queues.ok.0)
+
+pub push-requires-clause-room : goal.push-requires-clause-room
+push-requires-clause-room c =
+    let i = c.self.inside in
+    let w = the_view i in
+    let d = c.args.directive.now in
+    let e = c.in_ok-plan.ensures in
+    let k = c.keeps_order.ensures.order in
+    let items = c.items_of-items_done.result in
+    let facts = planned i.place c.plan.new.self c.in_ok-plan.plan c.args.host items d e.config e.history e.counts e.fits.0 e.plan.0 e.plan.1 e.plan.2 in
+    let b = c.in-Some.batch in
+    let g = batch_goes w i.work i.queues.items i.waiting c.args.host items d b c.self.invariant k facts.accepted c.items_of-items_done.ensures (c.in-Some.ensures.batch ∙ (e.batch ∙ facts.labelled)) in
+    let s = g.seat in
+    let q = c.self.invariant.parts in
+    let seat_is : c.seat-seat.result ≡ seat b.at = c.seat-seat.ensures ∙ ap (λ (l : Label). seat l.at) c.label.ensures in
+    let queue = seat_found no_queue i.queues.items b.at c.index.result.now s.queue s.held (rw seat_is at c.index.ensures) in
+    let held : c.len.result ≡ length (queue_in i.queues.items b.at).held = c.len.ensures ∙ ap (λ (x : QueueView). length x.held) queue in
+    let room : c.room.result ≡ w.config.room = c.room.ensures ∙ (ap (λ x. x.room) c.config.ensures ∙ ap (λ x. x.room) e.config) in
+    let entry = seat_found no_queue i.queues.items b.at c.index_mut.result.now s.queue s.held (rw seat_is at c.index_mut.ensures.value) in
+    let count : c.len-count.result ≡ length b.ops = omega (arith, c.len-count.ensures, ap length c.ops.ensures.ops, length-map c.ops.result.now op_of) in
+    let enough = room_there w.config.room i.queues.items b.at s.queue s.held q.roomy in
+    omega (arith, held, room, c.if-len-room.false, enough, ap (λ (x : QueueView). length x.held) entry, ap (λ (x : QueueView). x.room) entry)
+
+pub push-requires-clause-few : goal.push-requires-clause-few
+push-requires-clause-few c =
+    let i = c.self.inside in
+    let w = the_view i in
+    let d = c.args.directive.now in
+    let e = c.in_ok-plan.ensures in
+    let k = c.keeps_order.ensures.order in
+    let items = c.items_of-items_done.result in
+    let facts = planned i.place c.plan.new.self c.in_ok-plan.plan c.args.host items d e.config e.history e.counts e.fits.0 e.plan.0 e.plan.1 e.plan.2 in
+    let b = c.in-Some.batch in
+    let g = batch_goes w i.work i.queues.items i.waiting c.args.host items d b c.self.invariant k facts.accepted c.items_of-items_done.ensures (c.in-Some.ensures.batch ∙ (e.batch ∙ facts.labelled)) in
+    let s = g.seat in
+    let q = c.self.invariant.parts in
+    let seat_is : c.seat-seat.result ≡ seat b.at = c.seat-seat.ensures ∙ ap (λ (l : Label). seat l.at) c.label.ensures in
+    let entry = seat_found no_queue i.queues.items b.at c.index_mut.result.now s.queue s.held (rw seat_is at c.index_mut.ensures.value) in
+    let count : c.len-count.result ≡ length b.ops = omega (arith, c.len-count.ensures, ap length c.ops.ensures.ops, length-map c.ops.result.now op_of) in
+    omega (arith, c.in-Some-checked_add.ensures, waiting_low i.queues.items b.at s.queue s.held, q.all_waiting, ap (λ (x : QueueView). x.waiting) entry)
 
 pub invariant_of-self-in-Some : goal.invariant_of-self-in-Some
 invariant_of-self-in-Some c =
     let i = c.self.inside in
+    let w = the_view i in
     let d = c.args.directive.now in
     let e = c.in_ok-plan.ensures in
-    let s = c.in_ok-spare-in-Some.ensures in
-    let b = c.push_back_reserved.ensures in
-    let facts = planned i.place c.plan.new.self c.in_ok-plan.plan c.args.host c.items_of-items_done.result d e.config e.history e.counts e.fits.0 e.plan.0 e.plan.1 e.plan.2 in
-    let named = c.in-Some.ensures.batch ∙ (e.batch ∙ (facts.labelled ∙ ap (λ n. label_in (standing_of (the_view i)) c.args.host n (walk_of (standing_of (the_view i)) c.args.host d)) c.items_of-items_done.ensures)) in
-    let more : c.in-Some-checked_add.waiting ≡ i.waiting + length c.in-Some.batch.ops =
-    omega (arith, c.in-Some-checked_add.ensures, c.len-in-Some.ensures, ap length c.ops.ensures.ops, length-map c.ops.result.now op_of) in
-    let log : length i.work.work + c.in-Some-checked_add.waiting ≤ c.spare.new.self.room = rw (← s.kept.work) s.log in
-    let room = c.room.ensures ∙ (ap (λ x. x.room) c.config.ensures ∙ ap (λ x. x.room) e.config) in
-    let low : length i.queue.items < i.place.config.room = omega (arith, i.queue.ok.0, c.len.ensures, c.if-len-room.false, room) in
-    let wider : deque_capacity i.queue ≤ deque_capacity c.push_back_reserved.new.self = omega (arith, b.capacity) in
-    rw b.items (keeps_batch (the_view i) _ i.work c.spare.new.self i.queue.items c.in-Some.batch i.waiting c.in-Some-checked_add.waiting (deque_capacity i.queue)
-    (deque_capacity c.push_back_reserved.new.self) c.args.host d c.self.invariant facts.accepted
-    (rw (c.accept-placed.ensures.place, c.in-Some.ensures.plan, e.config, e.history, e.counts, e.plan.0, e.plan.1, e.plan.2, c.items_of-items_done.ensures, s.kept.work, s.kept.taken) refl)
-    s.kept named c.requires.host low more log s.lane s.blocks wider c.keeps_order.ensures refl)
+    let k = c.keeps_order.ensures.order in
+    let items = c.items_of-items_done.result in
+    let facts = planned i.place c.plan.new.self c.in_ok-plan.plan c.args.host items d e.config e.history e.counts e.fits.0 e.plan.0 e.plan.1 e.plan.2 in
+    let b = c.in-Some.batch in
+    let g = batch_goes w i.work i.queues.items i.waiting c.args.host items d b c.self.invariant k facts.accepted c.items_of-items_done.ensures (c.in-Some.ensures.batch ∙ (e.batch ∙ facts.labelled)) in
+    let s = g.seat in
+    let q = c.self.invariant.parts in
+    let seat_is : c.seat-seat.result ≡ seat b.at = c.seat-seat.ensures ∙ ap (λ (l : Label). seat l.at) c.label.ensures in
+    let queue = seat_found no_queue i.queues.items b.at c.index.result.now s.queue s.held (rw seat_is at c.index.ensures) in
+    let held : c.len.result ≡ length (queue_in i.queues.items b.at).held = c.len.ensures ∙ ap (λ (x : QueueView). length x.held) queue in
+    let room : c.room.result ≡ w.config.room = c.room.ensures ∙ (ap (λ x. x.room) c.config.ensures ∙ ap (λ x. x.room) e.config) in
+    let entry = seat_found no_queue i.queues.items b.at c.index_mut.result.now s.queue s.held (rw seat_is at c.index_mut.ensures.value) in
+    let count : c.len-count.result ≡ length b.ops = omega (arith, c.len-count.ensures, ap length c.ops.ensures.ops, length-map c.ops.result.now op_of) in
+    let p = c.in_ok-spare-in-Some.ensures in
+    let more : c.in-Some-checked_add.waiting ≡ i.waiting + length b.ops = omega (arith, c.in-Some-checked_add.ensures, count) in
+    let low : length (queue_in i.queues.items b.at).held < w.config.room = omega (arith, held, room, c.if-len-room.false) in
+    let log : length i.work.work + c.in-Some-checked_add.waiting ≤ c.spare.new.self.room = rw (← p.kept.work) p.log in
+    let new = c.push.ensures ∙ (ap (λ (x : QueueView). pushed x b c.len-count.result) entry ∙ ap (pushed (queue_in i.queues.items b.at) b) count) in
+    rw (seat_is, new)
+    (keeps_batch w _ i.work c.spare.new.self i.queues.items b i.waiting c.in-Some-checked_add.waiting c.args.host d c.self.invariant s facts.accepted
+    (rw (c.accept-placed.ensures.place, c.in-Some.ensures.plan, e.config, e.history, e.counts, e.plan.0, e.plan.1, e.plan.2, c.items_of-items_done.ensures, p.kept.work, p.kept.counts) refl)
+    p.kept g.placed c.requires low more log (rw c.label.ensures at p.lane) p.blocks k)
 
 pub returns-in_ok-spare-in-Some : goal.returns-in_ok-spare-in-Some
 returns-in_ok-spare-in-Some c =
     let i = c.self.inside in
+    let w = the_view i in
     let d = c.args.directive.now in
     let e = c.in_ok-plan.ensures in
-    let s = c.in_ok-spare-in-Some.ensures in
-    let facts = planned i.place c.plan.new.self c.in_ok-plan.plan c.args.host c.items_of-items_done.result d e.config e.history e.counts e.fits.0 e.plan.0 e.plan.1 e.plan.2 in
-    let named = c.in-Some.ensures.batch ∙ (e.batch ∙ (facts.labelled ∙ ap (λ n. label_in (standing_of (the_view i)) c.args.host n (walk_of (standing_of (the_view i)) c.args.host d)) c.items_of-items_done.ensures)) in
-    let placed = batch_placed (the_view i) c.args.host d c.in-Some.batch (acts_on_sync (the_view i) c.args.host d c.self.invariant.one_device c.self.invariant.legal facts.accepted) named in
-    let room = c.room.ensures ∙ (ap (λ x. x.room) c.config.ensures ∙ ap (λ x. x.room) e.config) in
-    let low : length i.queue.items < i.place.config.room = omega (arith, i.queue.ok.0, c.len.ensures, c.if-len-room.false, room) in
-    let fits = λ (full : length i.queue.items ≡ i.place.config.room). absurd (omega (arith, low, full)) in
-    rw (← c.self.view_is) (places_batch (the_view i) _ i.work i.queue.items i.waiting c.args.host d c.accept-placed.result c.self.invariant.parts c.self.invariant.one_device c.self.invariant.legal facts.accepted placed.some fits
+    let k = c.keeps_order.ensures.order in
+    let items = c.items_of-items_done.result in
+    let facts = planned i.place c.plan.new.self c.in_ok-plan.plan c.args.host items d e.config e.history e.counts e.fits.0 e.plan.0 e.plan.1 e.plan.2 in
+    let b = c.in-Some.batch in
+    let g = batch_goes w i.work i.queues.items i.waiting c.args.host items d b c.self.invariant k facts.accepted c.items_of-items_done.ensures (c.in-Some.ensures.batch ∙ (e.batch ∙ facts.labelled)) in
+    let s = g.seat in
+    let q = c.self.invariant.parts in
+    let seat_is : c.seat-seat.result ≡ seat b.at = c.seat-seat.ensures ∙ ap (λ (l : Label). seat l.at) c.label.ensures in
+    let queue = seat_found no_queue i.queues.items b.at c.index.result.now s.queue s.held (rw seat_is at c.index.ensures) in
+    let held : c.len.result ≡ length (queue_in i.queues.items b.at).held = c.len.ensures ∙ ap (λ (x : QueueView). length x.held) queue in
+    let room : c.room.result ≡ w.config.room = c.room.ensures ∙ (ap (λ x. x.room) c.config.ensures ∙ ap (λ x. x.room) e.config) in
+    let p = c.in_ok-spare-in-Some.ensures in
+    let low : length (queue_in i.queues.items b.at).held < w.config.room = omega (arith, held, room, c.if-len-room.false) in
+    let fits = λ (full : length (queue_in i.queues.items b.at).held ≡ w.config.room). absurd (omega (arith, low, full)) in
+    rw (← c.self.view_is)
+    (places_batch w _ i.work i.queues.items i.waiting c.args.host d b c.accept-placed.result q s facts.accepted g.placed fits
     (rw (c.in-Some.ensures.plan, e.config, e.history, e.counts, e.plan.0, e.plan.2) at c.accept-placed.ensures.answer)
-    (rw (c.accept-placed.ensures.place, c.in-Some.ensures.plan, e.config, e.history, e.counts, e.plan.0, e.plan.1, e.plan.2, c.items_of-items_done.ensures, s.kept.work, s.kept.taken) refl))
+    (rw (c.accept-placed.ensures.place, c.in-Some.ensures.plan, e.config, e.history, e.counts, e.plan.0, e.plan.1, e.plan.2, c.items_of-items_done.ensures, p.kept.work, p.kept.counts) refl))

@@ -1,18 +1,24 @@
-use Rattle.std.proofs.Common.{◌≤◌, arith, refl, deque_capacity}
-use Rattle.acc_core.proofs.Opening.{is_opening}
+use Rattle.std.proofs.Common.{◌≡◌, ◌*◌, length, refl, ap, ◌∙◌}
+use Rattle.std.specs.Prelude.{replicate}
+use Rattle.acc_base.specs.declared.ids.TheConstants.{QUEUES}
+use Rattle.acc_base.specs.Queues.{queue_count}
+use Rattle.acc_work.specs.Works.{taken_counts}
+use Rattle.acc_core.proofs.Opening.{is_opening, none_taken}
 use Rattle.acc_core.proofs.accelerator.Accelerator.new.Goals as goal
+
+-- no queue took a batch
+took_none : (c : goal.In_ok-new) → taken_counts c.in_ok-work.work ≡ replicate (queue_count c.args.config) 0
+took_none c =
+    let w = c.in_ok-work.ensures in
+    let count : length c.in_ok-work.work.lanes ≡ queue_count c.args.config = c.keeps_order.ensures.order.count ∙ ap (λ n. n * QUEUES) w.devices in
+    none_taken c.in_ok-work.work.lanes w.lanes ∙ ap (λ n. replicate n 0) count
 
 pub invariant_of-result : goal.invariant_of-result
 invariant_of-result c =
     let w = c.in_ok-work.ensures in
+    let q = c.in_ok-queues.ensures in
     let p = c.in_ok-new.ensures in
-    let r = c.in_ok-reserve.ensures in
-    let room : c.args.config.room ≤ deque_capacity c.reserve.new.self = omega (arith, r.ok, c.room.ensures) in
-    rw (r.items, c.new-queue.ensures.items)
-    (is_opening c.args.config _ c.in_ok-work.work (deque_capacity c.reserve.new.self) (rw (p.config, p.history, p.counts, w.work, w.taken, c.requires) refl) c.requires room w.arrays w.rows w.taken)
+    is_opening c.args.config _ c.in_ok-work.work c.in_ok-queues.queues.items (rw (p.config, p.history, p.counts, w.work, took_none c) refl) w.arrays w.rows w.lanes w.devices q.count q.empty
 
 pub returns-clause-opened : goal.returns-clause-opened
-returns-clause-opened c =
-    let w = c.in_ok-work.ensures in
-    let p = c.in_ok-new.ensures in
-    rw (p.config, p.history, p.counts, w.work, w.taken, c.requires) refl
+returns-clause-opened c = (let w = c.in_ok-work.ensures in let p = c.in_ok-new.ensures in rw (p.config, p.history, p.counts, w.work, took_none c) refl)

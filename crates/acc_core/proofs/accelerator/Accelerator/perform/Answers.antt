@@ -1,48 +1,56 @@
-use Rattle.std.proofs.Common.{length, refl, sym, ap, ◌∙◌, arith}
+use Rattle.std.proofs.Common.{◌≡◌, ◌-◌, true, refl, sym, ap, ◌∙◌}
+use Rattle.acc_batch.proofs.Seats.{seat_found}
+use Rattle.acc_core.specs.Machine.{is_there}
+use Rattle.acc_core.specs.Queues.{QueueView, no_queue}
 use Rattle.acc_core.specs.Ties.{state_of_parts}
-use Rattle.acc_core.proofs.Advancing.{next_may_follow, advanced, waited, lane_waits, performs_did, performed_more, performs_idle}
-use Rattle.acc_core.proofs.Elsewhere.{performs_none, same_is}
+use Rattle.acc_core.proofs.Advancing.{next_may_follow, has_advanced, has_waited, performs_did, performed_more, performs_idle}
+use Rattle.acc_core.proofs.Seats.{seated_there}
 use Rattle.acc_core.proofs.accelerator.Accelerator.perform.Goals as goal
-
-pub returns-then-not-has_queue : goal.returns-then-not-has_queue
-returns-then-not-has_queue c =
-    rw (← c.self.view_is) (performs_none (state_of_parts c.self.inside.place c.self.inside.work) c.args.at c.self.invariant.one_device c.self.invariant.legal (sym c.has_queue.ensures ∙ c.if-not-has_queue.true))
 
 pub perform-requires : goal.perform-requires
 perform-requires c =
     let i = c.self.inside in
-    next_may_follow (state_of_parts i.place i.work) i.work i.queue.items i.waiting _ c.self.invariant c.keeps_order.ensures refl
-
-pub overflow_sub-self : goal.overflow_sub-self
-overflow_sub-self c =
-    let i = c.self.inside in
-    let did = advanced i.work c.perform.new.self (rw (c.in-Op.is, c.sync_queue.ensures) at c.perform.ensures) in
-    omega (arith, ap length did.left, lane_waits (state_of_parts i.place i.work) i.work i.queue.items i.waiting c.self.invariant.parts c.keeps_order.ensures refl)
+    let w = state_of_parts i.place i.work in
+    let there : is_there w c.args.at ≡ true = rw c.config.ensures at (sym c.has_queue.ensures ∙ c.if-not-has_queue.false) in
+    let k = c.keeps_order.ensures.order in
+    next_may_follow w i.work i.queues.items i.waiting c.args.at (seated_there w i.work i.queues.items i.waiting c.args.at c.self.invariant.parts k there) c.self.invariant k refl
 
 pub invariant_of-self : goal.invariant_of-self
 invariant_of-self c =
     let i = c.self.inside in
-    let did = advanced i.work c.perform.new.self (rw (c.in-Op.is, c.sync_queue.ensures) at c.perform.ensures) in
-    rw (ap length (ap (λ l. l.taken) did.performed.lane))
-    (performed_more (state_of_parts i.place i.work) i.work c.perform.new.self i.queue.items i.waiting _ c.self.invariant c.keeps_order.ensures refl did)
+    let w = state_of_parts i.place i.work in
+    let at = c.args.at in
+    let there : is_there w at ≡ true = rw c.config.ensures at (sym c.has_queue.ensures ∙ c.if-not-has_queue.false) in
+    let k = c.keeps_order.ensures.order in
+    let s = seated_there w i.work i.queues.items i.waiting at c.self.invariant.parts k there in
+    let queue = seat_found no_queue i.queues.items at c.index_mut.result.now s.queue s.held (rw c.seat-seat.ensures at c.index_mut.ensures.value) in
+    let did = has_advanced i.work c.perform.new.self at (rw c.in-Op.is at c.perform.ensures) in
+    let new = c.performed.ensures ∙ ap (λ (q : QueueView). record q { waiting = q.waiting - 1 }) queue in
+    rw (c.seat-seat.ensures, new) (performed_more w i.work c.perform.new.self i.queues.items i.waiting at s c.self.invariant k refl did)
 
 pub invariant_of-self-in-Idle : goal.invariant_of-self-in-Idle
 invariant_of-self-in-Idle c =
-    let none = waited c.self.inside.work c.perform.new.self (rw (c.in-Idle.is, c.sync_queue.ensures) at c.perform.ensures) in
+    let none = has_waited c.self.inside.work c.perform.new.self c.args.at (rw c.in-Idle.is at c.perform.ensures) in
     rw none.same c.self.invariant
 
 pub returns-in-Op : goal.returns-in-Op
 returns-in-Op c =
     let i = c.self.inside in
-    let here = same_is c.args.at (sym c.has_queue.ensures ∙ c.if-not-has_queue.false) in
-    let did = advanced i.work c.perform.new.self (rw (c.in-Op.is, c.sync_queue.ensures) at c.perform.ensures) in
-    rw (← c.self.view_is, here, did.performed.lane)
-    (performs_did (state_of_parts i.place i.work) i.work c.perform.new.self i.queue.items i.waiting _ c.self.invariant c.keeps_order.ensures refl did)
+    let w = state_of_parts i.place i.work in
+    let at = c.args.at in
+    let there : is_there w at ≡ true = rw c.config.ensures at (sym c.has_queue.ensures ∙ c.if-not-has_queue.false) in
+    let k = c.keeps_order.ensures.order in
+    let s = seated_there w i.work i.queues.items i.waiting at c.self.invariant.parts k there in
+    let did = has_advanced i.work c.perform.new.self at (rw c.in-Op.is at c.perform.ensures) in
+    rw (← c.self.view_is) (performs_did w i.work c.perform.new.self i.queues.items i.waiting at s c.self.invariant k refl there did)
 
 pub returns-in-Idle : goal.returns-in-Idle
 returns-in-Idle c =
     let i = c.self.inside in
-    let here = same_is c.args.at (sym c.has_queue.ensures ∙ c.if-not-has_queue.false) in
-    let none = waited i.work c.perform.new.self (rw (c.in-Idle.is, c.sync_queue.ensures) at c.perform.ensures) in
-    rw (← c.self.view_is, here, none.same)
-    (performs_idle (state_of_parts i.place i.work) i.work c.perform.new.self i.queue.items i.waiting _ c.self.invariant c.keeps_order.ensures refl none)
+    let w = state_of_parts i.place i.work in
+    let at = c.args.at in
+    let there : is_there w at ≡ true = rw c.config.ensures at (sym c.has_queue.ensures ∙ c.if-not-has_queue.false) in
+    let k = c.keeps_order.ensures.order in
+    let s = seated_there w i.work i.queues.items i.waiting at c.self.invariant.parts k there in
+    let none = has_waited i.work c.perform.new.self at (rw c.in-Idle.is at c.perform.ensures) in
+    rw (← c.self.view_is, none.same) (performs_idle w i.work c.perform.new.self i.queues.items i.waiting at s c.self.invariant k refl there none)

@@ -27,5 +27,5 @@ returns c =
     let whole = take_all c.loop-event.event-index events c.loop-event-test.false in
     let runs : Runs c.args.self.now events replies c.loop-event.self = rw whole at c.loop-event.invariant.1 in
     let is = rw c.self.view_is at c.self.invariant in
-    let laws : HostLaws = record { first = c.hosts_follow.ensures.first; steps = c.hosts_follow.ensures.steps; follow = c.hosts_follow.ensures.follow; synchronous = c.hosts_follow.ensures.synchronous } in
-    record { ran = (replies, has_run laws c.args.self.now c.loop-event.self events replies is.one_device is.legal is.stand runs) }
+    let laws : HostLaws = record { first = c.hosts_follow.ensures.first; steps = c.hosts_follow.ensures.steps; follow = c.hosts_follow.ensures.follow } in
+    record { ran = (replies, has_run laws c.args.self.now c.loop-event.self events replies is.legal is.stand runs) }

@@ -11,6 +11,6 @@ invariant_of-result c =
     let programs = c.args.programs.items in
     let states = c.in_ok-states.states in
     let enough : length programs ≤ vec_capacity states = omega (arith, c.in_ok-states.ensures.capacity) in
-    let laws : HostLaws = record { first = c.hosts_follow.ensures.first; steps = c.hosts_follow.ensures.steps; follow = c.hosts_follow.ensures.follow; synchronous = c.hosts_follow.ensures.synchronous } in
-    let world : IsWorld (opening config programs) states.items (vec_capacity states) = opens laws config programs states.items (vec_capacity states) c.requires.one_device c.requires.few_hosts c.requires.numbered c.requires.synchronous c.in_ok-states.ensures.items enough in
+    let laws : HostLaws = record { first = c.hosts_follow.ensures.first; steps = c.hosts_follow.ensures.steps; follow = c.hosts_follow.ensures.follow } in
+    let world : IsWorld (opening config programs) states.items (vec_capacity states) = opens laws config programs states.items (vec_capacity states) c.requires.few_hosts c.requires.numbered c.in_ok-states.ensures.items enough in
     rw (c.in_ok-accelerator.ensures.opened, c.in_ok-hosts.ensures.hosts) world

@@ -24,5 +24,5 @@ returns-clause-ran c =
     let whole = take_all c.loop-event.event-index events c.loop-event-test.false in
     let runs : Runs c.args.self.now events c.loop-event.replies.items c.loop-event.self = rw whole at c.loop-event.invariant.runs in
     let is = rw c.self.view_is at c.self.invariant in
-    let laws : HostLaws = record { first = c.hosts_follow.ensures.first; steps = c.hosts_follow.ensures.steps; follow = c.hosts_follow.ensures.follow; synchronous = c.hosts_follow.ensures.synchronous } in
-    has_run laws c.args.self.now c.loop-event.self events c.loop-event.replies.items is.one_device is.legal is.stand runs
+    let laws : HostLaws = record { first = c.hosts_follow.ensures.first; steps = c.hosts_follow.ensures.steps; follow = c.hosts_follow.ensures.follow } in
+    has_run laws c.args.self.now c.loop-event.self events c.loop-event.replies.items is.legal is.stand runs

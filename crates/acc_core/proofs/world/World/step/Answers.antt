@@ -1,31 +1,23 @@
-use Rattle.std.proofs.Common.{◌≡◌, ◌<◌, ◌≤◌, length, refl, sym, ◌∙◌, subst, arith, Some}
+use Rattle.std.proofs.Common.{◌≡◌, ◌<◌, ◌≤◌, length, refl, ◌∙◌, arith, Some}
 use Rattle.std.specs.Prelude.{slice_get, slice_set}
 use Rattle.std.proofs.lemmas.List.{length-set}
-use Rattle.std.proofs.lemmas.List.Elements.{All-get_or, All-set}
 use Rattle.std.proofs.lemmas.Option.{slice_get_past, slice_get_read}
 use Rattle.acc_core.specs.declared.event.Event.TheVariants as event
 use Rattle.acc_core.specs.Machine.{Step}
 use Rattle.acc_core.proofs.HostLaws.{HostLaws}
 use Rattle.acc_core.proofs.HostSteps.{host_steps, no_host}
 use Rattle.acc_core.proofs.Stepping.{stands_at}
-use Rattle.acc_core.proofs.WorldSteps.{StaysSynchronous, still_world, takes, performs}
+use Rattle.acc_core.proofs.WorldSteps.{still_world, takes, performs}
 use Rattle.acc_core.proofs.world.World.step.Goals as goal
 
-pub next-requires-clause-host : goal.next-requires-clause-host
-next-requires-clause-host c =
+pub next-requires : goal.next-requires
+next-requires c =
     let hosts = c.self.inside.hosts.items in
     let host = c.index_mut.result.now in
     let within : c.from-index.result < length hosts = omega arith in
     let here : slice_get hosts c.from-index.result ≡ Some host = slice_get_read hosts (length hosts) c.from-index.result host refl within c.index_mut.ensures.value in
     let at = stands_at (record c.self.inside.accelerator { hosts = hosts }) 0 c.from-index.result c.from-index.result hosts host (omega arith) here c.self.invariant.stand in
     omega (arith, at.0, within, c.self.invariant.few_hosts)
-
-pub next-requires-clause-synchronous : goal.next-requires-clause-synchronous
-next-requires-clause-synchronous c =
-    let hosts = c.self.inside.hosts.items in
-    let within : c.from-index.result < length hosts = omega arith in
-    subst StaysSynchronous (sym c.index_mut.ensures.value)
-    (All-get_or StaysSynchronous hosts c.from-index.result c.index_mut.result.now within c.self.invariant.synchronous)
 
 -- the host's step is the machine's
 goes_on : (c : goal.After-self-1) → Step (record c.self.inside.accelerator { hosts = c.self.inside.hosts.items }) (event.Host c.in-Host.number) c.next.result (record c.next.new.engine { hosts = slice_set c.self.inside.hosts.items c.from-index.result c.next.new.self })
@@ -43,26 +35,21 @@ goes_on c =
 pub invariant_of-self : goal.invariant_of-self
 invariant_of-self c =
     let hosts = c.self.inside.hosts.items in
-    let laws : HostLaws = record { first = c.hosts_follow.ensures.first; steps = c.hosts_follow.ensures.steps; follow = c.hosts_follow.ensures.follow; synchronous = c.hosts_follow.ensures.synchronous } in
-    let within : c.from-index.result < length hosts = omega arith in
-    let was = All-get_or StaysSynchronous hosts c.from-index.result c.index_mut.result.now within c.self.invariant.synchronous in
-    let now : StaysSynchronous c.index_mut.result.now = subst StaysSynchronous (sym c.index_mut.ensures.value) was in
-    let after : StaysSynchronous c.next.new.self = subst StaysSynchronous (sym c.next.ensures.steps.host_is) now in
-    still_world laws (record c.self.inside.accelerator { hosts = hosts }) _ (event.Host c.in-Host.number) c.next.result _ _ c.self.invariant (length-set hosts c.from-index.result c.next.new.self)
-    (All-set StaysSynchronous hosts c.from-index.result c.next.new.self after c.self.invariant.synchronous) (goes_on c)
+    let laws : HostLaws = record { first = c.hosts_follow.ensures.first; steps = c.hosts_follow.ensures.steps; follow = c.hosts_follow.ensures.follow } in
+    still_world laws (record c.self.inside.accelerator { hosts = hosts }) _ (event.Host c.in-Host.number) c.next.result _ _ c.self.invariant (length-set hosts c.from-index.result c.next.new.self) (goes_on c)
 
 pub invariant_of-self-in-Take : goal.invariant_of-self-in-Take
 invariant_of-self-in-Take c =
     let hosts = c.self.inside.hosts.items in
-    let laws : HostLaws = record { first = c.hosts_follow.ensures.first; steps = c.hosts_follow.ensures.steps; follow = c.hosts_follow.ensures.follow; synchronous = c.hosts_follow.ensures.synchronous } in
-    still_world laws (record c.self.inside.accelerator { hosts = hosts }) (record c.take.new.self { hosts = hosts }) (event.Take c.in-Take.at) c.take.result _ _ c.self.invariant refl c.self.invariant.synchronous
+    let laws : HostLaws = record { first = c.hosts_follow.ensures.first; steps = c.hosts_follow.ensures.steps; follow = c.hosts_follow.ensures.follow } in
+    still_world laws (record c.self.inside.accelerator { hosts = hosts }) (record c.take.new.self { hosts = hosts }) (event.Take c.in-Take.at) c.take.result _ _ c.self.invariant refl
     (takes c.self.inside.accelerator c.take.new.self hosts c.in-Take.at c.take.result c.take.ensures)
 
 pub invariant_of-self-in-Perform : goal.invariant_of-self-in-Perform
 invariant_of-self-in-Perform c =
     let hosts = c.self.inside.hosts.items in
-    let laws : HostLaws = record { first = c.hosts_follow.ensures.first; steps = c.hosts_follow.ensures.steps; follow = c.hosts_follow.ensures.follow; synchronous = c.hosts_follow.ensures.synchronous } in
-    still_world laws (record c.self.inside.accelerator { hosts = hosts }) (record c.perform.new.self { hosts = hosts }) (event.Perform c.in-Perform.at) c.perform.result _ _ c.self.invariant refl c.self.invariant.synchronous
+    let laws : HostLaws = record { first = c.hosts_follow.ensures.first; steps = c.hosts_follow.ensures.steps; follow = c.hosts_follow.ensures.follow } in
+    still_world laws (record c.self.inside.accelerator { hosts = hosts }) (record c.perform.new.self { hosts = hosts }) (event.Perform c.in-Perform.at) c.perform.result _ _ c.self.invariant refl
     (performs c.self.inside.accelerator c.perform.new.self hosts c.in-Perform.at c.perform.result c.perform.ensures)
 
 pub returns-then-index-len : goal.returns-then-index-len

@@ -1,0 +1,121 @@
+ghost use Rattle.std.specs.Prelude.{◌≡◌, ◌+◌, ◌*◌, ◌-◌, ◌<◌, ◌≤◌, [], ◌∷◌, List, All, length, IfOk, IfErr, IfSome, IfNone, ◌^◌};
+ghost use Rattle.acc_base.specs.declared.ids.TheConstants.{QUEUES};
+ghost use Rattle.acc_batch.specs.declared.operation.Label.{Label};
+ghost use Rattle.acc_core.specs.Queues.{IsEmptyQueue, pushed, queue_in};
+
+use acc_base::{Config, Fault, QUEUES, QueueAt};
+use acc_batch::Batch;
+use std::alloc::Global;
+use std::collections::VecDeque;
+use std::marker::Model;
+
+/// The batches of a queue that were placed and not taken, and how many of its operations were placed and aren't performed.
+#[derive(Drop)]
+pub(crate) struct Queue {
+    batches: VecDeque<Batch>,
+    waiting: usize,
+}
+
+impl Model for Queue {
+    ghost use Rattle.std.specs.Coded.{codes};
+    ghost use Rattle.std.specs.VecDeque.{deque_capacity};
+    ghost use Rattle.acc_core.specs.Queues.{QueueView};
+    ghost use Rattle.acc_kernel.specs.contracts.expr.Expr as expr;
+
+    ghost Value = { QueueView };
+
+    ghost coded = { Prim.hlevel (codes, expr.the_row.coded) };
+
+    ghost view = { λ q. record { held = q.batches.items; room = deque_capacity q.batches; waiting = q.waiting } };
+}
+
+impl Queue {
+    ghost use Rattle.acc_base.specs.declared.fault.Fault.TheVariants.{Memory};
+
+    /// Without a batch, and with room for so many.
+    ///
+    /// # Errors
+    ///
+    /// `Memory` where memory is refused.
+    pub fn new(alloc: Global, room: usize) -> Result<Self, Fault>
+        ensures empty { IfOk result (IsEmptyQueue room) }
+        ensures fault { IfErr result (λ fault. fault ≡ Memory) }
+    {
+        let mut batches = VecDeque::new(alloc);
+        batches.reserve(room)?;
+        Ok(Queue {
+            batches,
+            waiting: 0,
+        })
+    }
+
+    /// How many batches it holds.
+    pub fn len(&self) -> usize
+        ensures { result ≡ length self.now.held }
+    {
+        self.batches.len()
+    }
+
+    /// How many operations wait.
+    pub fn waiting(&self) -> usize
+        ensures { result ≡ self.now.waiting }
+    {
+        self.waiting
+    }
+
+    /// Puts a batch of so many operations behind the others.
+    pub fn push(&mut self, batch: Batch, count: usize)
+        requires room { length self.old.held < self.old.room }
+        requires few { self.old.waiting + count < 2 ^ 64 }
+        ensures { self.new ≡ pushed self.old batch count }
+    {
+        self.batches.push_back_reserved(batch);
+        self.waiting += count;
+    }
+
+    /// Takes the first batch out.
+    pub fn pop(&mut self) -> Option<Batch>
+        ensures next { IfSome result (λ batch. (held : List Label) × (self.old.held ≡ batch ∷ held) × (self.new ≡ record self.old { held = held })) }
+        ensures none { IfNone result ((self.old.held ≡ []) × (self.new ≡ self.old)) }
+    {
+        self.batches.pop_front()
+    }
+
+    /// Counts one operation fewer.
+    pub fn performed(&mut self)
+        requires { 0 < self.old.waiting }
+        ensures { self.new ≡ record self.old { waiting = self.old.waiting - 1 } }
+    {
+        self.waiting -= 1;
+    }
+}
+
+/// So many queues as all devices of a configuration have, without a batch.
+///
+/// # Errors
+///
+/// `Memory` where memory is refused.
+pub(crate) fn queues_of(alloc: Global, config: &Config) -> Result<Vec<Queue>, Fault>
+    ensures count { IfOk result (λ queues. length queues.items ≡ config.now.devices * QUEUES) }
+    ensures empty { IfOk result (λ queues. All (IsEmptyQueue config.now.room) queues.items) }
+    ensures fault { IfErr result (λ fault. fault ≡ Fault.Memory) }
+{
+    let mut queues = Vec::new(alloc);
+    for _ in 0..u16::from(config.devices()) * u16::from(QUEUES) {
+        queues.push(Queue::new(alloc, config.room() as usize)?)?;
+    }
+    Ok(queues)
+}
+
+/// How many operations of a queue wait; none of one that isn't there.
+pub(crate) fn waiting_in(queues: &[Queue], at: QueueAt) -> usize
+    ensures { result ≡ (queue_in queues.now at).waiting }
+{
+    if at.queue.number() >= QUEUES {
+        return 0;
+    }
+    match queues.get(at.seat()) {
+        Some(queue) => queue.waiting(),
+        None => 0,
+    }
+}
