@@ -121,7 +121,6 @@ fn check_accepted(rt: &impl Abort, entry: Option<&PlaceEntry>, wanted: &Directiv
             assert_eq!(rt; directive.device(), DeviceId::new(0));
             assert!(rt; are_alike(directive.kind(), wanted.kind()));
             assert_eq!(rt; directive.items().as_slice(), wanted.items().as_slice());
-            assert!(rt; directive.is_synchronous());
         }
         None => panic!(rt; "a directive is missing"),
     }

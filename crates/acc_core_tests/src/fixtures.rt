@@ -136,21 +136,19 @@ pub fn statements_of(alloc: Global, lines: &[Line]) -> Result<Vec<Statement>, Fa
     Ok(statements)
 }
 
-// One host with these statements, over these arrays, and a device with this capacity.
+// One host with these statements, over these arrays, and a device with this capacity. A queue has room for four batches, so
+// that a world takes little memory.
 pub fn world_with(
     alloc: Global,
     arrays: Vec<Vec<i64>>,
     capacity: u64,
     statements: Vec<Statement>,
 ) -> Result<World, Fault> {
-    let config = Config::new(1, 1, arrays, capacity, 64)?;
+    let config = Config::new(1, 1, arrays, capacity, 4)?;
     let program = HostProgram {
         host: HostId::new(0),
         statements: Listed::from_vec(statements),
     };
-    if !program.is_synchronous() {
-        return Err(Fault::BadAsync);
-    }
     World::new(alloc, config, vec![in alloc; program]?)
 }
 

@@ -4,6 +4,8 @@
 #[cfg(test)]
 mod case;
 #[cfg(test)]
+mod devices;
+#[cfg(test)]
 mod entries;
 #[cfg(test)]
 mod fixtures;
@@ -13,6 +15,8 @@ mod hosts;
 mod loops;
 #[cfg(test)]
 mod memory;
+#[cfg(test)]
+mod queues;
 #[cfg(test)]
 mod regions;
 #[cfg(test)]

@@ -90,7 +90,6 @@ fn a_loop_from_one_array_into_another(rt: HostRuntime) -> Result<(), Fail> {
     check(&rt, rt.alloc(), &case)
 }
 
-/// The array that is assigned is made first.
 /// Each of sixteen items makes, copies in, copies out and releases a block; the loop uses the first.
 #[test]
 fn a_loop_of_sixteen_copies(rt: HostRuntime) -> Result<(), Fail> {
@@ -128,6 +127,7 @@ fn a_loop_of_sixteen_copies(rt: HostRuntime) -> Result<(), Fail> {
     check(&rt, alloc, &case)
 }
 
+/// The array that is assigned is made first.
 #[test]
 fn a_choice_by_a_comparison(rt: HostRuntime) -> Result<(), Fail> {
     let a = cells(0, 2);

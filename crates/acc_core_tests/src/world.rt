@@ -1,7 +1,7 @@
 use crate::case::check_places;
 use crate::fixtures::{
     ALL, COUNTED, FINISHED, Line, ZEROS, cells, host, perform, performed, place, printed, refused,
-    reply_to, seen, statement, take, world_of, world_over, world_with,
+    reply_to, seen, statement, take, turns, world_of, world_over, world_with,
 };
 use acc_base::{Config, DeviceId, Fault, HostId, Listed, Range};
 use acc_core::{
@@ -326,13 +326,8 @@ fn nothing_happens_on_queues_and_hosts_that_are_not_used(rt: HostRuntime) -> Res
 }
 
 #[test]
-fn a_world_has_one_device_and_one_host(rt: HostRuntime) -> Result<(), Fail> {
+fn a_world_has_one_host(rt: HostRuntime) -> Result<(), Fail> {
     let alloc = rt.alloc();
-    let two_devices = Config::new(2, 0, Vec::new(alloc), 4, 64)?;
-    assert_eq!(rt;
-        World::new(alloc, two_devices, Vec::new(alloc)).err(),
-        Some(Fault::BadDevice)
-    );
     let two_hosts = Config::new(1, 2, Vec::new(alloc), 4, 64)?;
     let programs = vec![in alloc;
         HostProgram {
@@ -402,5 +397,22 @@ fn three_hundred_rounds_of_sixteen_ranges(rt: HostRuntime) -> Result<(), Fail> {
     assert_eq!(rt; outcome.places.len(), 600);
     assert_eq!(rt; outcome.works.len(), 600 * 33);
     assert_eq!(rt; outcome.hosts.as_slice(), [FINISHED].as_slice());
+    Ok(())
+}
+
+/// The first copies the range in, and each other one is only counted.
+#[test]
+fn eleven_hundred_entries_of_one_range(rt: HostRuntime) -> Result<(), Fail> {
+    let alloc = rt.alloc();
+    let enter = Line::One(Form::EnterData, Clause::Copyin, ALL);
+    let lines = vec![in alloc; enter; 1_100]?;
+    let mut world = world_of(alloc, lines.as_slice())?;
+    turns(&mut world, 1_110);
+    assert_eq!(rt; world.state(HostId::new(0)), Some(FINISHED));
+    assert_eq!(rt; world.devices(), 1);
+    assert_eq!(rt; world.counters(DeviceId::new(0), ALL), Some((0, 1_100)));
+    let outcome = world.outcome();
+    assert_eq!(rt; outcome.places.len(), 1_100);
+    assert_eq!(rt; outcome.works.len(), 3);
     Ok(())
 }
