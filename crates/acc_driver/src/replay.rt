@@ -1,7 +1,6 @@
 ghost use Rattle.std.specs.Prelude.{◌≡◌, ◌≤◌, All, IfOk, IfErr, IfSome, length};
 ghost use Rattle.acc_base.specs.Configurations.{rows, configuration};
 ghost use Rattle.acc_core.specs.Worlds.{AreNumbered, opening};
-ghost use Rattle.acc_host.specs.Steps.{AllSynchronous};
 ghost use Rattle.acc_driver.specs.Arrays.{IsDeclared, texts};
 ghost use Rattle.acc_driver.specs.Inputs.{parts};
 ghost use Rattle.acc_driver.specs.Replays.{Answers, RunAnswers, AreUsable, IsRun, IsOpeningFault, some_refused, is_refused};
@@ -88,7 +87,6 @@ fn run<W: Write>(
     requires declared { IsDeclared (record { names = texts script.names.keys; cells = rows script.arrays.items }) }
     requires numbered { AreNumbered 0 script.programs.items }
     requires few { length script.programs.items ≤ 1 }
-    requires synchronous { All (λ p. AllSynchronous p.statements) script.programs.items }
     ensures answers { RunAnswers options (seen script.entry) schedule.now (W.contents writer.old) (W.contents writer.new) result }
     ensures run { AreUsable options → IsRun result }
 {
@@ -128,7 +126,6 @@ fn open(
 ) -> Result<World, DriverFault>
     requires few { length programs.items ≤ 1 }
     requires numbered { AreNumbered 0 programs.items }
-    requires synchronous { All (λ p. AllSynchronous p.statements) programs.items }
     ensures opened { IfOk result (λ w. w ≡ opening (configuration options.devices (length programs.items) (rows arrays.items) options.cells options.room) programs.items) }
     ensures refused { IfErr result (IsOpeningFault (configuration options.devices (length programs.items) (rows arrays.items) options.cells options.room)) }
 {

@@ -1,7 +1,6 @@
 ghost use Rattle.std.specs.Prelude.{◌≡◌, ◌≤◌, ◌∷◌, [], All, length, IfOk};
 ghost use Rattle.acc_base.specs.Configurations.{rows};
 ghost use Rattle.acc_core.specs.Worlds.{AreNumbered};
-ghost use Rattle.acc_host.specs.Steps.{AllSynchronous};
 ghost use Rattle.acc_driver.specs.Arrays.{texts, IsDeclared};
 ghost use Rattle.acc_driver.specs.Faults.{Gives};
 ghost use Rattle.acc_driver.specs.Scripts.{program, host_of, program_at, script_of, seen};
@@ -34,7 +33,6 @@ pub struct Script<'a> {
 fn host_of<'a>(alloc: Global, arrays: &Arrays, t: Token<'a>) -> Result<HostProgram, ReadError>
     ensures found { Gives (λ p. program arrays.now (p ∷ [])) result (host_of arrays.now (lexeme t.entry)) }
     ensures first { IfOk result (λ p. p.host ≡ 0) }
-    ensures synchronous { IfOk result (λ p. AllSynchronous p.statements) }
 {
     let at = exactly(t, b"host")?;
     let at = expect(at, false, b"{")?;
@@ -54,7 +52,6 @@ fn script_at<'a>(alloc: Global, at: At<'a>) -> Result<Script<'a>, ReadError>
     ensures declared { IfOk result (λ s. IsDeclared (record { names = texts s.names.keys; cells = rows s.arrays.items })) }
     ensures numbered { IfOk result (λ s. AreNumbered 0 s.programs.items) }
     ensures few { IfOk result (λ s. length s.programs.items ≤ 1) }
-    ensures synchronous { IfOk result (λ s. All (λ p. AllSynchronous p.statements) s.programs.items) }
 {
     let mut arrays = Arrays::new(alloc);
     let at = arrays_of(alloc, &mut arrays, at)?;
@@ -82,7 +79,6 @@ pub fn read<'a>(alloc: Global, text: &'a [u8]) -> Result<Script<'a>, ReadError>
     ensures declared { IfOk result (λ s. IsDeclared (record { names = texts s.names.keys; cells = rows s.arrays.items })) }
     ensures numbered { IfOk result (λ s. AreNumbered 0 s.programs.items) }
     ensures few { IfOk result (λ s. length s.programs.items ≤ 1) }
-    ensures synchronous { IfOk result (λ s. All (λ p. AllSynchronous p.statements) s.programs.items) }
 {
     match check_length(text) {
         Ok(()) => script_at(

@@ -1,5 +1,4 @@
 ghost use Rattle.std.specs.Prelude.{◌≡◌, ◌+◌, ◌≤◌, ◌<◌, false, true, length, IfOk, OnOk, if◌then◌else◌};
-ghost use Rattle.acc_host.specs.Steps.{AllSynchronous, gives_synchronous};
 ghost use Rattle.acc_driver.specs.Faults.{Gives, Reads};
 ghost use Rattle.acc_driver.specs.Statements.{bound_at, range_in, bounds_at, range_behind, range_at, item_behind, item_turn, clause_named, ranges_at, clause_of, ends_line, clause_turn, kind_of, directive_at, print_at, value_at, index_at, write_at, statement_of, statement_turn};
 ghost use Rattle.acc_driver.specs.Tokens.{spot, lexeme};
@@ -302,7 +301,6 @@ fn directive_of<'a>(
 ) -> Result<(Statement, At<'a>), ReadError>
     ensures found { Gives (λ x. (x.0, spot x.1)) result (directive_at arrays.now line (spot at.entry)) }
     ensures shorter { IfOk result (λ x. length x.1.bytes.now ≤ length at.entry.bytes.now) }
-    ensures synchronous { IfOk result (λ x. gives_synchronous x.0.act ≡ true) }
 {
     let at = expect(at, true, b"pragma")?;
     let at = expect(at, true, b"acc")?;
@@ -332,7 +330,6 @@ fn directive_of<'a>(
 fn print_of<'a>(arrays: &Arrays, line: u32, at: At<'a>) -> Result<(Statement, At<'a>), ReadFault>
     ensures found { Reads (λ x. (x.0, spot x.1)) result (print_at arrays.now line (spot at.entry)) }
     ensures shorter { IfOk result (λ x. length x.1.bytes.now ≤ length at.entry.bytes.now) }
-    ensures synchronous { IfOk result (λ x. gives_synchronous x.0.act ≡ true) }
 {
     let at = expect(at, false, b"(")?;
     let (range, at) = range_of(arrays, at, false)?;
@@ -366,7 +363,6 @@ fn index_at<'a>(at: At<'a>) -> Result<(u32, At<'a>), ReadFault>
 fn write_of<'a>(array: u8, line: u32, at: At<'a>) -> Result<(Statement, At<'a>), ReadFault>
     ensures found { Reads (λ x. (x.0, spot x.1)) result (write_at array line (spot at.entry)) }
     ensures shorter { IfOk result (λ x. length x.1.bytes.now ≤ length at.entry.bytes.now) }
-    ensures synchronous { IfOk result (λ x. gives_synchronous x.0.act ≡ true) }
 {
     let at = expect(at, false, b"[")?;
     let (cell, at) = index_at(at)?;
@@ -388,7 +384,6 @@ fn statement_of<'a>(
     ensures found { Gives (λ x. (x.0, spot x.1)) result (statement_of arrays.now (lexeme t.entry)) }
     ensures some { OnOk result (0 < length t.entry.text.now) }
     ensures shorter { IfOk result (λ x. length x.1.bytes.now ≤ length t.entry.after.bytes.now) }
-    ensures synchronous { IfOk result (λ x. gives_synchronous x.0.act ≡ true) }
 {
     if is(t.text, b"#") {
         directive_of(alloc, arrays, t.line, t.after)
@@ -408,10 +403,8 @@ fn statement_turn<'a>(
     statements: &mut Vec<Statement>,
     at: At<'a>,
 ) -> Result<(bool, At<'a>), ReadError>
-    requires synchronous { AllSynchronous statements.old.items }
     ensures found { Gives (λ x. turn x.0 statements.new.items (spot x.1)) result (statement_turn arrays.now statements.old.items (spot at.entry)) }
     ensures shorter { IfOk result (λ x. (if x.0 then 1 else 0) + length x.1.bytes.now ≤ length at.entry.bytes.now) }
-    ensures synchronous { OnOk result (AllSynchronous statements.new.items) }
 {
     let t = token_of(at, false)?;
     if is(t.text, b"}") {
@@ -431,9 +424,7 @@ pub fn statements_of<'a>(
     statements: &mut Vec<Statement>,
     at: At<'a>,
 ) -> Result<At<'a>, ReadError>
-    requires synchronous { AllSynchronous statements.old.items }
     ensures found { Gives (λ a. turn false statements.new.items (spot a)) result (all_turns (statement_turn arrays.now) statements.old.items (spot at.entry)) }
-    ensures synchronous { OnOk result (AllSynchronous statements.new.items) }
 {
     let turns = at.bytes.len() + 1;
     let mut here = at;

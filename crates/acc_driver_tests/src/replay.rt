@@ -278,7 +278,7 @@ fn options_are_refused(rt: HostRuntime) -> Result<(), Fail> {
     let good = Options::DEFAULT;
     let refused = [
         (Options { devices: 0, ..good }, Fault::BadDevice),
-        (Options { devices: 2, ..good }, Fault::BadDevice),
+        (Options { devices: 5, ..good }, Fault::BadDevice),
         (
             Options {
                 devices: 255,
@@ -314,7 +314,7 @@ fn options_are_refused(rt: HostRuntime) -> Result<(), Fail> {
 }
 
 /// With each amount of memory from none on: first the answer is want of memory, and nothing is written; then the run is
-/// reported with a host that was refused F11; at last there is enough.
+/// reported with a host that was refused F11; at last there is enough. The queues are short, as a world takes their room.
 #[test]
 fn memory_is_refused_at_each_amount(rt: HostRuntime) -> Result<(), Fail> {
     let alloc = rt.alloc();
@@ -324,10 +324,14 @@ fn memory_is_refused_at_each_amount(rt: HostRuntime) -> Result<(), Fail> {
     let mut silent = 0u32;
     let mut hosts_refused = 0u32;
     let mut answer = Err(DriverFault::Memory);
+    let options = Options {
+        room: 4,
+        ..Options::DEFAULT
+    };
     hoard.fill(alloc);
     for _ in 0..Purse::GIFTS {
         let mut input = STALE.input;
-        answer = replay_one(alloc, &mut input, Options::DEFAULT, &mut written);
+        answer = replay_one(alloc, &mut input, options, &mut written);
         match answer {
             Err(DriverFault::Memory) if written.is_empty() => silent = silent.saturating_add(1),
             Ok(Ended { refused: true }) if tells_of_memory(written.as_slice()) => {

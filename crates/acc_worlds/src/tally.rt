@@ -72,9 +72,6 @@ fn world_of(
         host: HostId::new(0),
         statements: Listed::from_vec(statements),
     };
-    if !program.is_synchronous() {
-        return Err(Fault::BadAsync);
-    }
     World::new(alloc, config, vec![in alloc; program]?)
 }
 
