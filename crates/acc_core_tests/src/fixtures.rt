@@ -1,9 +1,9 @@
-use acc_base::{Config, DeviceId, Fault, Few, HostId, Listed, Range};
+use acc_base::{Config, DeviceId, Fault, HostId, Listed, Range};
 use acc_core::{
-    Act, Clause, Directive, Event, HostProgram, HostState, Item, Kind, Reply, Statement, Target,
-    Told, Waits, WorkEntry, World, Written,
+    Act, Clause, Event, HostProgram, HostState, Item, Reply, Statement, Target, Told, Waits,
+    WorkEntry, World,
 };
-use acc_forms::{Form, Operation, item, kind_of, operation_of, sync};
+use acc_forms::{Form, Operation, directive_of, item, operation_of, sync};
 use std::alloc::{AllocError, Global};
 
 // The four cells of the first array.
@@ -90,14 +90,8 @@ fn items_of(alloc: Global, line: Line) -> Result<Vec<Item>, AllocError> {
 }
 
 // A directive without an async clause and a wait clause.
-pub fn place(alloc: Global, kind: Kind, items: &[Item]) -> Result<Act, Fault> {
-    let written = Written {
-        kind,
-        items: Few::from_slice(alloc, items)?,
-        target: Target::Plain,
-        waits: Waits::Nothing,
-    };
-    let directive = Directive::new(alloc, written)?;
+pub fn place(alloc: Global, form: Form, items: &[Item]) -> Result<Act, Fault> {
+    let directive = directive_of(alloc, form, items, Target::Plain, Waits::Nothing)?;
     Ok(Act::Place { directive })
 }
 
@@ -118,7 +112,7 @@ pub fn act_of(alloc: Global, line: Line) -> Result<Act, Fault> {
         Line::Print(range) => return Ok(Act::Print { range }),
     };
     let items = items_of(alloc, line)?;
-    place(alloc, kind_of(alloc, form)?, items.as_slice())
+    place(alloc, form, items.as_slice())
 }
 
 pub fn statement(line: u32, act: Act) -> Statement {

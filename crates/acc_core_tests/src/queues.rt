@@ -1,26 +1,27 @@
+ghost use Rattle.std.specs.Prelude.{◌≡◌, IfOk};
+
 use crate::fixtures::{FINISHED, cells, host, printed, refused, reply_to, second_cells, statement};
-use acc_base::{Config, DeviceId, Fault, Few, HostId, Listed, QueueAt, Range};
+use acc_base::{Config, DeviceId, Fault, HostId, Listed, QueueAt, Range};
 use acc_core::{
-    Act, Clause, Directive, Event, HostProgram, HostState, Item, Reply, Target, Totals, Waits,
-    World, Written,
+    Act, Clause, Event, HostProgram, HostState, Item, Reply, Target, Totals, Waits, World,
 };
-use acc_forms::{EXIT, Form, UPDATE, item, kind_of, over, queue, sync};
+use acc_forms::{EXIT, Form, UPDATE, directive_of, item, over, queue, sync};
 use acc_parts::Body;
 use std::alloc::Global;
 use std::process::Abort;
 use std::test::Fail;
 
 // The two cells of the first array.
-const BOTH: Range = Range {
+pub const BOTH: Range = Range {
     array: 0,
     lo: 0,
     len: 2,
 };
 
-const PRESENT: Clause = Clause::Present;
+pub const PRESENT: Clause = Clause::Present;
 
 // The queue of the first device for an async value from 0 to 5.
-fn on(value: u8) -> QueueAt {
+pub fn on(value: u8) -> QueueAt {
     queue(0, value.wrapping_add(2))
 }
 
@@ -29,25 +30,19 @@ fn noval() -> QueueAt {
     queue(0, 1)
 }
 
-fn directive(
+pub fn directive(
     alloc: Global,
     form: Form,
     items: &[Item],
     target: Target,
     waits: Waits,
 ) -> Result<Act, Fault> {
-    let written = Written {
-        kind: kind_of(alloc, form)?,
-        items: Few::from_slice(alloc, items)?,
-        target,
-        waits,
-    };
-    let directive = Directive::new(alloc, written)?;
+    let directive = directive_of(alloc, form, items, target, waits)?;
     Ok(Act::Place { directive })
 }
 
 // A directive with one range and an async clause.
-fn one(
+pub fn one(
     alloc: Global,
     form: Form,
     clause: Clause,
@@ -57,58 +52,77 @@ fn one(
     directive(alloc, form, &[item(clause, range)], target, Waits::Nothing)
 }
 
-fn value(value: i64) -> Target {
+pub fn value(value: i64) -> Target {
     Target::Value { value }
 }
 
-fn create(alloc: Global, range: Range, target: Target) -> Result<Act, Fault> {
+pub fn create(alloc: Global, range: Range, target: Target) -> Result<Act, Fault> {
     one(alloc, Form::EnterData, Clause::Create, range, target)
 }
 
 // A wait for these async values.
-fn wait(alloc: Global, values: &[i64], target: Target) -> Result<Act, Fault> {
+pub fn wait(alloc: Global, values: &[i64], target: Target) -> Result<Act, Fault> {
     let values = Listed::from_vec(Vec::from_slice(alloc, values)?);
     directive(alloc, Form::Wait, &[], target, Waits::Listed { values })
 }
 
-fn wait_for_all(alloc: Global, target: Target) -> Result<Act, Fault> {
+pub fn wait_for_all(alloc: Global, target: Target) -> Result<Act, Fault> {
     directive(alloc, Form::Wait, &[], target, Waits::All)
 }
 
 /// What a world is made of.
 #[derive(Clone, Copy)]
-struct Setting<'a> {
-    devices: u8,
-    arrays: &'a [&'a [i64]],
-    capacity: u64,
-    room: u32,
+pub struct Setting<'a> {
+    pub devices: u8,
+    pub arrays: &'a [&'a [i64]],
+    pub capacity: u64,
+    pub room: u32,
 }
 
-const SMALL: Setting = Setting {
+pub const SMALL: Setting = Setting {
     devices: 1,
     arrays: &[&[5, 6]],
     capacity: 8,
     room: 64,
 };
 
-// One host with these acts, a line for each from 0 on.
-fn world_of(alloc: Global, setting: &Setting, acts: Vec<Act>) -> Result<World, Fault> {
-    let mut arrays = Vec::new(alloc);
-    for cells in setting.arrays {
-        arrays.push(Vec::from_slice(alloc, cells)?)?;
-    }
+// A host's program of these acts, a line for each from 0 on.
+pub fn program_of(alloc: Global, host: u8, acts: Vec<Act>) -> Result<HostProgram, Fault>
+    ensures { IfOk result (λ program. program.host ≡ host) }
+{
     let mut statements = Vec::new(alloc);
     let mut line = 0u32;
     for act in acts {
         statements.push(statement(line, act))?;
         line = line.wrapping_add(1);
     }
-    let config = Config::new(setting.devices, 1, arrays, setting.capacity, setting.room)?;
-    let program = HostProgram {
-        host: HostId::new(0),
+    Ok(HostProgram {
+        host: HostId::new(host),
         statements: Listed::from_vec(statements),
-    };
-    World::new(alloc, config, vec![in alloc; program]?)
+    })
+}
+
+// The configuration of a setting, for so many hosts.
+pub fn config_of(alloc: Global, setting: &Setting, hosts: u8) -> Result<Config, Fault>
+    ensures { IfOk result (λ config. config.hosts ≡ hosts) }
+{
+    let mut arrays = Vec::new(alloc);
+    for cells in setting.arrays {
+        arrays.push(Vec::from_slice(alloc, cells)?)?;
+    }
+    Config::new(
+        setting.devices,
+        hosts,
+        arrays,
+        setting.capacity,
+        setting.room,
+    )
+}
+
+// One host with these acts.
+fn world_of(alloc: Global, setting: &Setting, acts: Vec<Act>) -> Result<World, Fault> {
+    let config = config_of(alloc, setting, 1)?;
+    World::new(alloc, config, vec![in alloc; program_of(alloc, 0, acts)?]?)
 }
 
 // So many steps of the host, each of which does something.
@@ -119,7 +133,7 @@ fn check_hosts(rt: &impl Abort, world: &mut World, steps: u32) {
 }
 
 // A turn: the host, and then each queue of each device takes a batch and performs an operation.
-fn turn(world: &mut World, devices: u8) {
+pub fn turn(world: &mut World, devices: u8) {
     let _ = reply_to(world, host());
     for device in 0..devices {
         for number in 0..8u8 {
@@ -129,14 +143,14 @@ fn turn(world: &mut World, devices: u8) {
     }
 }
 
-fn turns(world: &mut World, devices: u8, count: u32) {
+pub fn turns(world: &mut World, devices: u8, count: u32) {
     for _ in 0..count {
         turn(world, devices);
     }
 }
 
 // Of a queue: how many batches were placed, their operations, and how many of these are performed.
-fn check_queue(
+pub fn check_queue(
     rt: &impl Abort,
     world: &World,
     at: QueueAt,
@@ -157,7 +171,7 @@ fn check_state(rt: &impl Abort, world: &World, state: HostState) {
 }
 
 // The ranges that are present on a device, with their counters.
-fn check_present(rt: &impl Abort, world: &World, device: u8, ranges: &[(Range, u64, u64)]) {
+pub fn check_present(rt: &impl Abort, world: &World, device: u8, ranges: &[(Range, u64, u64)]) {
     for (place, wanted) in ranges.iter().enumerate() {
         let entry = world.nth(DeviceId::new(device), place);
         assert_eq!(rt; entry.map(|e| (e.range, e.s, e.d)), Some(*wanted));

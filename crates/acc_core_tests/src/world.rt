@@ -9,8 +9,8 @@ use acc_core::{
     World,
 };
 use acc_forms::{
-    EXIT, Form, Operation, copy_in, copy_out, copyin, create, item, kind_of, make, over, queue,
-    release, run, sync, used,
+    EXIT, Form, Operation, copy_in, copy_out, copyin, create, item, make, over, queue, release,
+    run, sync, used,
 };
 use acc_parts::Body;
 use std::alloc::{AllocError, Global};
@@ -325,27 +325,6 @@ fn nothing_happens_on_queues_and_hosts_that_are_not_used(rt: HostRuntime) -> Res
     Ok(())
 }
 
-#[test]
-fn a_world_has_one_host(rt: HostRuntime) -> Result<(), Fail> {
-    let alloc = rt.alloc();
-    let two_hosts = Config::new(1, 2, Vec::new(alloc), 4, 64)?;
-    let programs = vec![in alloc;
-        HostProgram {
-            host: HostId::new(0),
-            statements: Listed::from_vec(Vec::new(alloc)),
-        },
-        HostProgram {
-            host: HostId::new(1),
-            statements: Listed::from_vec(Vec::new(alloc)),
-        },
-    ]?;
-    assert_eq!(rt;
-        World::new(alloc, two_hosts, programs).err(),
-        Some(Fault::TooMany)
-    );
-    Ok(())
-}
-
 // Sixteen ranges of a thousand cells each.
 fn sixteen_ranges(alloc: Global, clause: Clause) -> Result<Vec<Item>, AllocError> {
     let mut items = Vec::new(alloc);
@@ -360,12 +339,9 @@ fn rounds_of(alloc: Global, count: u32) -> Result<Vec<Statement>, Fault> {
     let mut statements = Vec::new(alloc);
     for _ in 0..count {
         let entered = sixteen_ranges(alloc, Clause::Copyin)?;
-        statements.push(statement(
-            0,
-            place(alloc, kind_of(alloc, Form::EnterData)?, entered.as_slice())?,
-        ))?;
+        statements.push(statement(0, place(alloc, Form::EnterData, entered.as_slice())?))?;
         let left = sixteen_ranges(alloc, Clause::Copyout)?;
-        statements.push(statement(0, place(alloc, kind_of(alloc, EXIT)?, left.as_slice())?))?;
+        statements.push(statement(0, place(alloc, EXIT, left.as_slice())?))?;
     }
     Ok(statements)
 }

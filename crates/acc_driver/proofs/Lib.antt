@@ -1,3 +1,4 @@
+mod Clauses
 mod Digits
 mod Gaps
 mod LineEvents

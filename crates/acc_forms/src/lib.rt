@@ -2,12 +2,14 @@
 #![tactic(auto)]
 
 mod alike;
+mod directive;
 mod form;
 mod items;
 mod operation;
 mod queues;
 
 pub use alike::are_alike;
+pub use directive::directive_of;
 pub use form::{EXIT, FINALIZE, Form, UPDATE, UPDATE_IF_PRESENT, kind_of, over};
 pub use items::{copy, copyin, copyout, create, delete, item, present};
 pub use operation::{

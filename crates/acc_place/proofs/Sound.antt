@@ -233,10 +233,9 @@ own_low (negsuc (suc zero)) = omega arith
 own_low (negsuc (suc (suc n))) = omega arith
 
 queue_low : (default v : ℤ) → or_sync (queue_of default v) < 8
-queue_low default (pos v) = omega arith
 queue_low default (negsuc zero) = own_low default
-queue_low default (negsuc (suc zero)) = omega arith
-queue_low default (negsuc (suc (suc n))) = omega arith
+queue_low default (pos v) = own_low (pos v)
+queue_low default (negsuc (suc n)) = own_low (negsuc (suc n))
 
 target_low : (default : ℤ) (t : Target) → or_sync (target_queue default t) < 8
 target_low default Plain = omega arith

@@ -2,6 +2,8 @@ pub mod Accepting
 pub mod AwaitExamples
 pub mod BatchExamples
 pub mod Batches
+pub mod ClauseExamples
+pub mod Clauses
 pub mod Counts
 pub mod Devices
 pub mod Directives

@@ -21,10 +21,8 @@ queue_of_own (negsuc (suc (suc n))) = None
 
 -- where a clause says acc_async_noval, the host's default is meant
 abbrev pub queue_of : ℤ → ℤ → Option ℕ
-queue_of default (pos v) = Some (v % 6 + 2)
 queue_of default (negsuc zero) = queue_of_own default
-queue_of default (negsuc (suc zero)) = Some 0
-queue_of default (negsuc (suc (suc n))) = None
+queue_of default v = queue_of_own v
 
 -- the queue that an async clause names; without one it is sync
 abbrev pub target_queue : ℤ → Target → Option ℕ

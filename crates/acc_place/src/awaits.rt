@@ -72,6 +72,10 @@ pub fn awaited_numbers(
 }
 
 /// Adds an await of each other queue of which a batch is awaited, by these numbers, in queue order.
+///
+/// # Errors
+///
+/// `Memory` where memory is refused; some may have been added then.
 pub fn add_awaits(own: QueueId, queue: u8, numbers: &[u64], ops: &mut Few<Op>) -> Result<(), Fault>
     requires { queue + length numbers.now ≤ QUEUES }
     ensures ops { OnOk result (ops.new ≡ ops.old ++ awaits_from own queue numbers.now) }

@@ -1,4 +1,4 @@
-ghost use Rattle.std.specs.Prelude.{◌≡◌, IfOk, IfErr};
+ghost use Rattle.std.specs.Prelude.{◌≡◌, true, IfOk, IfErr};
 
 use acc_base::{DeviceId, Fault, Few, HostId, Listed, QueueAt, Range, Shared};
 use acc_kernel::Kernel;
@@ -142,14 +142,16 @@ impl Kind {
 
 impl Directive {
     ghost use Rattle.acc_base.specs.declared.fault.Fault.TheVariants as fault;
+    ghost use Rattle.acc_place.specs.Clauses.{is_well_formed};
     ghost use Rattle.acc_place.specs.Directives.{written_first};
 
-    /// What is written, for device 0 and `acc_async_noval`, a host's first ones.
+    /// What is written, for device 0 and `acc_async_noval`, a host's first ones. Condition: by `Written::is_well_formed`.
     ///
     /// # Errors
     ///
     /// `Memory` where memory is refused.
     pub fn new(alloc: Global, written: Written) -> Result<Self, Fault>
+        requires form { is_well_formed written ≡ true }
         ensures given { IfOk result (λ d. d ≡ written_first written) }
         ensures fault { IfErr result (λ f. f ≡ fault.Memory) }
     {

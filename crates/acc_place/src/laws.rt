@@ -1,5 +1,6 @@
 ghost use Rattle.acc_place.specs.AwaitExamples.{ReleaseAwaitsTheLoop, UsesAwaitTheMaker, FullWhereItIsPresent, WaitsAlone, NoSuchQueue, DevicesApart, CountsOfWaits, QueuesOfValues};
 ghost use Rattle.acc_place.specs.BatchExamples.{GroupByGroup, PartIsCopiedOut, LeavesOnce, EntersAgain, EmptyBatch};
+ghost use Rattle.acc_place.specs.ClauseExamples.{DataClauses, ItemCounts, AsyncClauses, WaitClauses};
 ghost use Rattle.acc_place.specs.LoopExamples.{RunsOnPresent, CopiesImplicitly, TakesClauses, UsesConstructs, UsesOwnConstructs, StaysInRange, TakesNoTurn, LimitsItems, JudgesItems};
 ghost use Rattle.acc_place.specs.RefusalExamples.{EarlierItemFirst, ItemBeforeCounts, LimitsFirst, LastDirective, RangesOutside, CapacityReached};
 ghost use Rattle.acc_place.specs.RegionExamples.{AbsentAtEntry, PresentAtEntry, LastExit, NotTheLastExit, Nested, OwnRegion, Depth, Entries, ExitsInside, Updates, Questions, ItemsInTurn};
@@ -51,6 +52,15 @@ pub fn worked_directives()
     ensures updates { Updates }
     ensures questions { Questions }
     ensures items { ItemsInTurn }
+{}
+
+/// Which clauses a directive may have, computed: data clauses by kind, how many items, and which directives go to a queue
+/// or wait for some.
+pub fn worked_clauses()
+    ensures data { DataClauses }
+    ensures counts { ItemCounts }
+    ensures targets { AsyncClauses }
+    ensures waits { WaitClauses }
 {}
 
 /// The first fault of a directive computed on corner cases: several faulty items, an item after those

@@ -2,6 +2,7 @@
 #![tactic(auto)]
 
 mod awaits;
+mod clauses;
 mod device;
 mod directive;
 mod judge;
@@ -21,7 +22,7 @@ pub use directive::{
 };
 pub use laws::{
     accepted_directives_are_counted, accepted_labels_are_sound, accepted_labels_are_there,
-    plans_are_kept, plans_outlast_their_batches, reach_is_judged, worked_batches,
+    plans_are_kept, plans_outlast_their_batches, reach_is_judged, worked_batches, worked_clauses,
     worked_directives, worked_loops, worked_queues, worked_refusals, worked_regions,
 };
 pub use place::Place;

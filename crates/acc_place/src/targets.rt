@@ -106,8 +106,7 @@ fn queue_of(default: i64, value: i64) -> Option<QueueId>
 {
     match value {
         ASYNC_NOVAL => queue_of_own(default),
-        ASYNC_SYNC => Some(QueueId::SYNC),
-        _ => queue_of_value(value),
+        _ => queue_of_own(value),
     }
 }
 

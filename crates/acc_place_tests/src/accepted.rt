@@ -155,8 +155,8 @@ pub fn check_accepted(
     Ok(())
 }
 
-/// Two ranges enter; parts of one enter and leave, which counts alone; both leave by parts; nothing enters; two enter
-/// up to the capacity; one leaves twice.
+/// Two ranges enter; parts of one enter and leave, which counts alone; both leave by parts; what is absent leaves; two
+/// enter up to the capacity; one leaves twice.
 #[test]
 fn entries_and_exits(rt: HostRuntime) -> Result<(), Fail> {
     let steps = [
@@ -193,7 +193,13 @@ fn entries_and_exits(rt: HostRuntime) -> Result<(), Fail> {
             ops: &[copy_out(1, a(2, 2)), release(2), release(1)],
             present: &[],
         },
-        given(0, Form::EnterData, &[]),
+        Step {
+            host: 0,
+            form: EXIT,
+            items: &[delete(a(0, 4))],
+            ops: &[],
+            present: &[],
+        },
         Step {
             host: 1,
             form: Form::EnterData,

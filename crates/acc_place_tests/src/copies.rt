@@ -1,27 +1,11 @@
 use crate::fixtures::{a, b, check_directive, check_waits, synchronous};
-use acc_base::{DeviceId, Fault, Few, Listed};
-use acc_forms::{EXIT, Form, UPDATE, copyin, copyout, delete, kind_of, over};
+use acc_base::{DeviceId, Listed};
+use acc_forms::{EXIT, Form, UPDATE, copyin, copyout, create, delete, directive_of, item, over};
 use acc_parts::Body;
-use acc_place::{ASYNC_NOVAL, Directive, Item, Target, Waits, Written};
+use acc_place::{ASYNC_NOVAL, Clause, Target, Waits};
 use acc_scarce::at_each_amount;
 use std::alloc::{AllocError, Global};
 use std::test::Fail;
-
-fn directive_of(
-    alloc: Global,
-    form: Form,
-    items: &[Item],
-    target: Target,
-    waits: Waits,
-) -> Result<Directive, Fault> {
-    let written = Written {
-        kind: kind_of(alloc, form)?,
-        items: Few::from_slice(alloc, items)?,
-        target,
-        waits,
-    };
-    Directive::new(alloc, written)
-}
 
 fn listed(alloc: Global, values: &[i64]) -> Result<Waits, AllocError> {
     Ok(Waits::Listed {
@@ -40,14 +24,25 @@ fn all_waits(alloc: Global) -> Result<[Waits; 4], AllocError> {
 fn directives_are_copied(rt: HostRuntime) -> Result<(), Fail> {
     let alloc = rt.alloc();
     let wanted_waits = all_waits(alloc)?;
-    let targets = [
-        (Target::Plain, Form::EnterData),
-        (Target::Unvalued, EXIT),
-        (Target::Value { value: i64::MAX }, UPDATE),
-        (Target::Value { value: 5 }, over(-3, 65_536, Body::Next)),
+    let entered = [copyin(a(1, 2)), create(b(3, 4)), copyin(a(5, 0))];
+    let left = [copyout(a(1, 2)), delete(b(3, 4)), delete(a(5, 0))];
+    let updated = [
+        item(Clause::UpdateSelf, a(1, 2)),
+        item(Clause::UpdateDevice, b(3, 4)),
+        item(Clause::UpdateSelf, a(5, 0)),
     ];
-    let items = [copyin(a(1, 2)), copyout(b(3, 4)), delete(a(5, 0))];
-    for (target, form) in targets {
+    let used = [copyin(a(1, 2)), copyout(b(3, 4)), create(a(5, 0))];
+    let directives = [
+        (Form::EnterData, Target::Plain, entered),
+        (EXIT, Target::Unvalued, left),
+        (UPDATE, Target::Value { value: i64::MAX }, updated),
+        (
+            over(-3, 65_536, Body::Next),
+            Target::Value { value: 5 },
+            used,
+        ),
+    ];
+    for (form, target, items) in directives {
         for (waits, wanted) in all_waits(alloc)?.into_iter().zip(&wanted_waits) {
             let directive = directive_of(alloc, form, &items, target, waits)?;
             let copy = directive.try_clone()?;
@@ -64,7 +59,7 @@ fn directives_are_copied(rt: HostRuntime) -> Result<(), Fail> {
 #[test]
 fn copies_have_devices_of_their_own(rt: HostRuntime) -> Result<(), Fail> {
     let alloc = rt.alloc();
-    let items = [copyin(a(1, 2)), delete(b(3, 4))];
+    let items = [copyin(a(1, 2)), copyout(b(3, 4))];
     let form = over(0, 4, Body::Counted);
     let directive = directive_of(alloc, form, &items, Target::Plain, Waits::Nothing)?;
     let mut copy = directive.try_clone()?;

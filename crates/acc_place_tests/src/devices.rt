@@ -1,6 +1,6 @@
 use crate::fixtures::{a, accepted, answer, b, bare, entry, synchronous};
 use acc_base::{Config, DeviceId, Fault, Range};
-use acc_forms::{EXIT, Form, copy, copyin, copyout, queue};
+use acc_forms::{EXIT, Form, copy, copyin, copyout, delete, queue};
 use acc_place::{Item, Place, Placed};
 use acc_present::Entry;
 use std::alloc::Global;
@@ -145,11 +145,14 @@ fn each_device_has_the_capacity(rt: HostRuntime) -> Result<(), Fail> {
         assert_eq!(rt; more, Some(Fault::DeviceFull));
         assert_eq!(rt; place.placed_count(queue(device, 0)), 1);
     }
-    for form in [Form::Data, EXIT, Form::EndData] {
-        assert_eq!(rt;
-            refusal_of(alloc, &mut place, 1, 3, form, &[]),
-            Some(Fault::BadDevice)
-        );
-    }
+    let one = [delete(b(0, 1))];
+    assert_eq!(rt;
+        refusal_of(alloc, &mut place, 1, 3, EXIT, &one),
+        Some(Fault::BadDevice)
+    );
+    assert_eq!(rt;
+        refusal_of(alloc, &mut place, 1, 3, Form::EndData, &[]),
+        Some(Fault::BadDevice)
+    );
     Ok(())
 }

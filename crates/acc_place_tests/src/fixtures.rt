@@ -1,9 +1,9 @@
 ghost use Rattle.std.specs.Prelude.{◌≡◌};
 
-use acc_base::{BlockId, Config, DeviceId, Fault, Few, HostId, QueueAt, QueueId, Range};
+use acc_base::{BlockId, Config, DeviceId, Fault, HostId, QueueAt, QueueId, Range};
 use acc_batch::{Batch, Label, Op, Task, Tasks};
-use acc_forms::{Form, Operation, are_alike, kind_of, operation_of, performed_by, sync};
-use acc_place::{ASYNC_NOVAL, Directive, Item, Place, Placed, Plan, Target, Waits, Written};
+use acc_forms::{Form, Operation, are_alike, directive_of, operation_of, performed_by, sync};
+use acc_place::{ASYNC_NOVAL, Directive, Item, Place, Placed, Plan, Target, Waits};
 use acc_present::Entry;
 use acc_raw::Cells;
 use std::alloc::Global;
@@ -74,13 +74,7 @@ pub fn synchronous(
     form: Form,
     items: &[Item],
 ) -> Result<Directive, Fault> {
-    let written = Written {
-        kind: kind_of(alloc, form)?,
-        items: Few::from_slice(alloc, items)?,
-        target: Target::Plain,
-        waits: Waits::Nothing,
-    };
-    let mut directive = Directive::new(alloc, written)?;
+    let mut directive = directive_of(alloc, form, items, Target::Plain, Waits::Nothing)?;
     directive.set_ids(DeviceId::new(device), ASYNC_NOVAL);
     Ok(directive)
 }

@@ -1,15 +1,13 @@
 use crate::fixtures::{a, answer, b, check_ops, check_tasks};
 use crate::memory::plan_at_each_amount;
-use acc_base::{Config, DeviceId, Fault, Few, HostId, Listed, QueueId};
+use acc_base::{Config, DeviceId, Fault, HostId, Listed, QueueId};
 use acc_batch::Batch;
 use acc_forms::{
     EXIT, Form, Operation, UPDATE, UPDATE_IF_PRESENT, copy_in, copy_out, copyin, copyout, create,
-    delete, item, kind_of, make, over, present, queue, release, run, used,
+    delete, directive_of, item, make, over, present, queue, release, run, used,
 };
 use acc_parts::Body;
-use acc_place::{
-    ASYNC_NOVAL, ASYNC_SYNC, Clause, Directive, Item, Place, Placed, Target, Waits, Written,
-};
+use acc_place::{ASYNC_NOVAL, ASYNC_SYNC, Clause, Directive, Item, Place, Placed, Target, Waits};
 use std::alloc::{AllocError, Global};
 use std::process::Abort;
 use std::test::Fail;
@@ -152,19 +150,14 @@ fn waits_of(alloc: Global, named: Named) -> Result<Waits, AllocError> {
     }
 }
 
-fn directive_of(
+fn directive_with(
     alloc: Global,
     clauses: Clauses,
     form: Form,
     items: &[Item],
 ) -> Result<Directive, Fault> {
-    let written = Written {
-        kind: kind_of(alloc, form)?,
-        items: Few::from_slice(alloc, items)?,
-        target: clauses.target,
-        waits: waits_of(alloc, clauses.waits)?,
-    };
-    let mut directive = Directive::new(alloc, written)?;
+    let waits = waits_of(alloc, clauses.waits)?;
+    let mut directive = directive_of(alloc, form, items, clauses.target, waits)?;
     directive.set_ids(DeviceId::new(clauses.device), clauses.default);
     Ok(directive)
 }
@@ -200,7 +193,7 @@ fn check_placed(rt: &impl Abort, place: &Place, case: &Case) {
 
 // Accepts a case, and looks at its batch and its answer.
 fn check_case(rt: &impl Abort, alloc: Global, place: &mut Place, case: &Case) -> Result<(), Fault> {
-    let directive = directive_of(alloc, case.clauses, case.form, case.items)?;
+    let directive = directive_with(alloc, case.clauses, case.form, case.items)?;
     let mut plan = place.plan(HostId::new(case.clauses.host), 0, &directive)?;
     check_batch(rt, plan.take_batch(), case.ops);
     let answer = place.accept(plan);
@@ -301,22 +294,29 @@ fn uses_await_the_maker_and_not_the_uses(rt: HostRuntime) -> Result<(), Fail> {
     check_cases(&rt, rt.alloc(), &cases)
 }
 
-/// A data construct's end is on queue sync, whatever its clause, and awaits the queue that its construct was entered on.
+/// A data construct's end is on queue sync, and awaits what used its block on another queue.
 #[test]
-fn a_constructs_end_is_on_queue_sync(rt: HostRuntime) -> Result<(), Fail> {
+fn a_constructs_end_awaits_other_queues(rt: HostRuntime) -> Result<(), Fail> {
     let cases = [
         Case {
-            clauses: async_on(1),
+            clauses: PLAIN,
             form: Form::Data,
             items: &[copyin(a(0, 4))],
-            answer: batch(0, 3, 1),
+            answer: batch(0, 0, 1),
             ops: &[make(1, a(0, 4)), copy_in(1, a(0, 4))],
         },
         Case {
             clauses: async_on(1),
+            form: UPDATE,
+            items: &[item(Clause::UpdateSelf, a(0, 1))],
+            answer: batch(0, 3, 1),
+            ops: &[awaits(0, 1), copy_out(1, a(0, 1))],
+        },
+        Case {
+            clauses: PLAIN,
             form: Form::EndData,
             items: &[],
-            answer: batch(0, 0, 1),
+            answer: batch(0, 0, 2),
             ops: &[awaits(3, 1), release(1)],
         },
     ];
@@ -451,6 +451,7 @@ fn hosts_share_the_queues_of_each_device(rt: HostRuntime) -> Result<(), Fail> {
 fn a_wait_clause_needs_a_batch(rt: HostRuntime) -> Result<(), Fail> {
     let wait = waiting_on(2, Named::One(1));
     let absent = [item(Clause::UpdateSelf, b(0, 1))];
+    let gone = [delete(b(0, 1))];
     let cases = [
         Case {
             clauses: async_on(1),
@@ -460,7 +461,7 @@ fn a_wait_clause_needs_a_batch(rt: HostRuntime) -> Result<(), Fail> {
             ops: &[make(1, a(0, 4))],
         },
         nothing(wait, UPDATE_IF_PRESENT, &absent),
-        nothing(wait, Form::Data, &[]),
+        nothing(wait, EXIT, &gone),
         Case {
             clauses: wait,
             form: UPDATE_IF_PRESENT,
@@ -504,7 +505,7 @@ fn check_target(
         target,
         ..PLAIN
     };
-    let directive = directive_of(alloc, clauses, Form::EnterData, &[create(a(0, 1))])?;
+    let directive = directive_with(alloc, clauses, Form::EnterData, &[create(a(0, 1))])?;
     let mut place = place_of(alloc)?;
     match place.plan(HostId::new(0), 0, &directive) {
         Err(fault) => {
@@ -559,7 +560,7 @@ fn check_fault(
     items: &[Item],
     wanted: Option<Fault>,
 ) -> Result<(), Fault> {
-    let directive = directive_of(alloc, clauses, Form::EnterData, items)?;
+    let directive = directive_with(alloc, clauses, Form::EnterData, items)?;
     let mut place = place_of(alloc)?;
     let fault = place.plan(HostId::new(0), 0, &directive).err();
     assert_eq!(rt; fault, wanted, "{clauses:?}");
@@ -636,7 +637,7 @@ fn a_batch_with_four_awaits_is_refused_until_there_is_memory(rt: HostRuntime) ->
     };
     let mut place = place_of(alloc)?;
     use_on_each_queue(&rt, alloc, &mut place)?;
-    let directive = directive_of(alloc, exit.clauses, exit.form, exit.items)?;
+    let directive = directive_with(alloc, exit.clauses, exit.form, exit.items)?;
     let mut plan = plan_at_each_amount(&rt, alloc, &mut place, 0, &directive)?;
     check_batch(&rt, plan.take_batch(), exit.ops);
     check_case(&rt, alloc, &mut place, &exit)?;

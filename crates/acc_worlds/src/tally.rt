@@ -1,6 +1,6 @@
-use crate::script::{Script, sync};
+use crate::script::Script;
 use crate::workloads::{ARRAYS, Failure, OTHER_CELLS, Workload};
-use acc_base::{Config, Fault, HostId, Listed, MAX_CAPACITY, MAX_ROOM};
+use acc_base::{Config, DeviceId, Fault, HostId, Listed, MAX_CAPACITY, QUEUES, QueueAt, QueueId};
 use acc_core::{HostProgram, Reply, Statement, Told, WorkEntry, World};
 use std::alloc::{AllocError, Global};
 use std::fmt::{self, Display, Formatter, Write};
@@ -12,8 +12,9 @@ pub struct Tally {
     pub events: usize,
     /// How many of them did something.
     pub did: u64,
+    /// How many batches were placed on all queues.
     pub batches: u64,
-    /// How many operations were performed.
+    /// How many operations all queues performed.
     pub operations: u64,
     /// What the last print showed, as one number.
     pub sum: i64,
@@ -50,15 +51,18 @@ pub fn tally_of(
         opening.min(events.len())
     };
     let replies = world.run(&events[..count])?;
-    let totals = world.totals(sync());
+    let (batches, operations) = totals_of(&world);
     Ok(Tally {
         events: count,
         did: did_in(replies.as_slice()),
-        batches: totals.batches,
-        operations: totals.performed,
+        batches,
+        operations,
         sum: sum_of(world.log()),
     })
 }
+
+// How many batches a queue holds; it never has more than one here.
+const ROOM: u32 = 4;
 
 // One host with these statements.
 fn world_of(
@@ -67,7 +71,7 @@ fn world_of(
     statements: Vec<Statement>,
 ) -> Result<World, Fault> {
     let arrays = arrays_of(alloc, workload)?;
-    let config = Config::new(1, 1, arrays, MAX_CAPACITY, MAX_ROOM)?;
+    let config = Config::new(workload.devices, 1, arrays, MAX_CAPACITY, ROOM)?;
     let program = HostProgram {
         host: HostId::new(0),
         statements: Listed::from_vec(statements),
@@ -95,6 +99,23 @@ fn cells_of(alloc: Global, factor: u32, count: u32) -> Result<Vec<i64>, AllocErr
         cells.push(i64::from(n.wrapping_mul(factor) % 101))?;
     }
     Ok(cells)
+}
+
+// How many batches were placed on all queues, and how many operations they performed.
+fn totals_of(world: &World) -> (u64, u64) {
+    let mut batches = 0u64;
+    let mut operations = 0u64;
+    for device in 0..world.devices() {
+        for queue in 0..QUEUES {
+            let totals = world.totals(QueueAt {
+                device: DeviceId::new(device),
+                queue: QueueId::new(queue),
+            });
+            batches = batches.wrapping_add(totals.batches);
+            operations = operations.wrapping_add(totals.performed);
+        }
+    }
+    (batches, operations)
 }
 
 fn did_in(replies: &[Reply]) -> u64 {

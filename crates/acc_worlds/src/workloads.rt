@@ -1,6 +1,6 @@
-use crate::script::Script;
+use crate::script::{Script, queue_of, waits_for};
 use acc_base::{Fault, Range, Shared};
-use acc_core::{Clause, Item, Kind};
+use acc_core::{Clause, Item, Kind, Waits};
 use acc_kernel::{Kernel, KernelFault};
 use acc_parts::{PLUS, Part, TIMES, statements_of};
 use std::alloc::{AllocError, Global};
@@ -26,11 +26,19 @@ enum Turn {
     Copies,
     /// Array 1 is updated on the host or on the device, in turns.
     Update,
+    /// Array 1 is entered, updated and left on three queues of a device.
+    Queues { device: u8 },
+    /// The same on the next device each time.
+    Devices,
+    /// Array 1 is updated on a queue, and again on another that waits for the first; a third waits for both, and the host for
+    /// all.
+    Waits,
 }
 
 /// What a world does, over arrays 0 and 1.
 #[derive(Clone, Copy)]
 pub struct Workload {
+    pub devices: u8,
     /// How many cells each of the two arrays has.
     pub cells: u32,
     /// Whether ranges of other arrays are present all the time.
@@ -41,7 +49,7 @@ pub struct Workload {
 }
 
 /// The names of the workloads.
-pub const NAMES: [&str; 7] = [
+pub const NAMES: [&str; 10] = [
     "loops",
     "large-loops",
     "implicit",
@@ -49,6 +57,9 @@ pub const NAMES: [&str; 7] = [
     "large-copies",
     "updates",
     "live",
+    "queues",
+    "devices",
+    "waits",
 ];
 
 const SMALL: u32 = 8;
@@ -64,15 +75,26 @@ pub fn workload_of(name: &str) -> Option<Workload> {
         "copies" => (SMALL, false, Turn::Copies),
         "large-copies" => (LARGE, false, Turn::Copies),
         "updates" => (SMALL, true, Turn::Update),
+        "queues" => (SMALL, false, Turn::Queues { device: 0 }),
+        "devices" => (SMALL, false, Turn::Devices),
+        "waits" => (SMALL, true, Turn::Waits),
         _ => return None,
     };
     Some(Workload {
+        devices: if matches!(turn, Turn::Devices) {
+            DEVICES
+        } else {
+            1
+        },
         cells,
         has_others: name == "live",
         has_region,
         turn,
     })
 }
+
+// The most devices.
+const DEVICES: u8 = 4;
 
 /// The number behind the last array's, where there are others.
 pub const ARRAYS: u8 = 64;
@@ -106,10 +128,16 @@ impl Workload {
         script.opening = script.events.len();
         let kernel = Shared::new(alloc, kernel_of(alloc, self.cells)?)?;
         for number in 0..turns {
-            self.add_turn(&kernel, number, &mut script)?;
+            self.add_turn(alloc, &kernel, number, &mut script)?;
         }
         if self.has_region {
-            script.place(Kind::EndData, &[], 4)?;
+            // behind waits, it awaits the two queues that used array 1
+            let operations = if matches!(self.turn, Turn::Waits) {
+                6
+            } else {
+                4
+            };
+            script.place(Kind::EndData, &[], operations)?;
         }
         script.print(self.range(1))?;
         Ok(script)
@@ -117,6 +145,7 @@ impl Workload {
 
     fn add_turn(
         &self,
+        alloc: Global,
         kernel: &Shared<Kernel>,
         number: u32,
         script: &mut Script,
@@ -143,7 +172,43 @@ impl Workload {
                 let updated = [self.whole(1, clause)];
                 script.place(Kind::Update { if_present: false }, updated.as_slice(), 1)
             }
+            Turn::Queues { device } => self.add_queues(device, script),
+            Turn::Devices => {
+                let device = (number % u32::from(DEVICES)) as u8;
+                script.set_device(device)?;
+                self.add_queues(device, script)
+            }
+            Turn::Waits => self.add_waits(alloc, script),
         }
+    }
+
+    // What is entered by one queue is used by another, which awaits the first, and left by a third, which awaits both.
+    fn add_queues(&self, device: u8, script: &mut Script) -> Result<(), Fault> {
+        let entered = [self.whole(1, Clause::Copyin)];
+        let used = [self.whole(1, Clause::UpdateSelf)];
+        let left = [self.whole(1, Clause::Copyout)];
+        let first = queue_of(device, 1);
+        script.place_on(first, Kind::EnterData, &entered, Waits::Nothing, 2)?;
+        let second = queue_of(device, 2);
+        let update = Kind::Update { if_present: false };
+        script.place_on(second, update, &used, Waits::Nothing, 2)?;
+        let third = queue_of(device, 3);
+        let exit = Kind::ExitData { finalize: false };
+        script.place_on(third, exit, &left, Waits::Nothing, 4)
+    }
+
+    // Each use awaits queue sync, which made the block, and what its wait clause names.
+    fn add_waits(&self, alloc: Global, script: &mut Script) -> Result<(), Fault> {
+        let sent = [self.whole(1, Clause::UpdateDevice)];
+        let fetched = [self.whole(1, Clause::UpdateSelf)];
+        let update = Kind::Update { if_present: false };
+        script.place_on(queue_of(0, 1), update, &sent, Waits::Nothing, 2)?;
+        let update = Kind::Update { if_present: false };
+        let one = waits_for(alloc, &[1])?;
+        script.place_on(queue_of(0, 2), update, &fetched, one, 3)?;
+        let both = waits_for(alloc, &[1, 2])?;
+        script.place_on(queue_of(0, 3), Kind::Wait, &[], both, 2)?;
+        script.wait()
     }
 
     fn whole(&self, array: u8, clause: Clause) -> Item {
