@@ -25,6 +25,7 @@ use Rattle.acc_work.specs.declared.log.WorkEntry.TheVariants as entry
 use Rattle.acc_batch.specs.declared.operation.Op.TheVariants.{Make, CopyIn, CopyOut, Release, Run}
 use Rattle.acc_host.specs.declared.program.Act.{Act}
 use Rattle.acc_host.specs.declared.program.Act.TheVariants as act
+use Rattle.acc_host.specs.declared.program.HostProgram.{HostProgram}
 use Rattle.acc_host.specs.declared.state.Phase.{Phase}
 use Rattle.acc_host.specs.declared.state.Phase.TheVariants as phase
 use Rattle.acc_host.specs.Hosts.{HostView}
@@ -45,11 +46,15 @@ abbrev pub all_from : List Event → Played → Played
 all_from [] r = r
 all_from (e ∷ es) r = all_from es (ran_on r (step false r.state e))
 
--- one host with these acts, over these arrays
+abbrev pub program_of : ℕ → List Act → HostProgram
+program_of host acts = record { host = host; statements = map (λ a. record { line = 1; act = a }) acts }
+
+-- one host with these acts, over these arrays, and a device of so many cells
+abbrev pub world_within : ℕ → List (List ℤ) → List Act → State
+world_within capacity arrays acts = opening (configuration 1 1 arrays capacity 64) (program_of 0 acts ∷ [])
+
 abbrev pub world : List (List ℤ) → List Act → State
-world arrays acts =
-    opening (configuration 1 1 arrays 4194304 64)
-    (record { host = 0; statements = map (λ a. record { line = 1; act = a }) acts } ∷ [])
+world = world_within 4194304
 
 abbrev pub sync : QueueAt
 sync = record { device = 0; queue = 0 }

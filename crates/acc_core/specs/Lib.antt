@@ -1,6 +1,7 @@
 pub mod Answers
 pub mod Examples
 pub mod Following
+pub mod HostExamples
 pub mod Legality
 pub mod Machine
 pub mod Place

@@ -1,14 +1,16 @@
 -- The machine computed on programs that use several queues (OpenACC API 3.0, 2.16, Asynchronous Behavior).
 use Rattle.std.specs.Prelude.{◌≡◌, ℕ, false, List, [], ◌∷◌, ◌++◌, replicate, ℤ, pos, negsuc}
+use Rattle.std.specs.List.{flat_map}
+use Rattle.acc_base.specs.Queues.{every_queue}
 use Rattle.acc_base.specs.declared.ids.QueueAt.{QueueAt}
-use Rattle.acc_base.specs.declared.fault.Fault.TheVariants.{BadAsync}
+use Rattle.acc_base.specs.declared.fault.Fault.TheVariants.{BadAsync, DeviceFull}
 use Rattle.acc_base.specs.declared.range.Range.{Range}
 use Rattle.acc_batch.specs.declared.operation.Op.TheVariants.{Make, CopyIn, CopyOut, Release, Run, Await}
 use Rattle.acc_kernel.specs.declared.operator.Operator.TheVariants.{Plus, Times}
 use Rattle.acc_kernel.specs.Kernels.{Loop, loop}
 use Rattle.acc_kernel.specs.Trees.{Number, Read, Index, Binary}
 use Rattle.acc_place.specs.declared.directive.Clause.{Clause}
-use Rattle.acc_place.specs.declared.directive.Clause.TheVariants.{Copyin, Copyout, Create, Present, UpdateSelf}
+use Rattle.acc_place.specs.declared.directive.Clause.TheVariants.{Copyin, Copyout, Create, Delete, Present, UpdateSelf}
 use Rattle.acc_place.specs.declared.directive.Item.{Item}
 use Rattle.acc_place.specs.declared.directive.Kind.{Kind}
 use Rattle.acc_place.specs.declared.directive.Kind.TheVariants as kind
@@ -24,7 +26,7 @@ use Rattle.acc_work.specs.declared.log.Told.TheVariants as shown
 use Rattle.acc_work.specs.declared.log.WorkEntry.TheVariants as entry
 use Rattle.acc_core.specs.declared.event.Event.{Event}
 use Rattle.acc_core.specs.declared.event.Event.TheVariants as event
-use Rattle.acc_core.specs.Examples.{Look, host, look_after, world}
+use Rattle.acc_core.specs.Examples.{Look, batches_seen, host, look_after, place, sync, world, world_within}
 
 -- both cells of the only array
 abbrev pub both : Range
@@ -119,7 +121,6 @@ AsyncValuesNameQueues =
       phases = phase.Refused BadAsync ∷ [];
     }
 
--- `async` without a value is the queue of the host's default, and a `wait` without queues names all of them.
 abbrev pub first_cell : Range
 first_cell = record { array = 0; lo = 0; len = 1 }
 
@@ -132,6 +133,7 @@ times_six = loop (pos 0) (pos 1) (record { array = 0; value = Binary Times (Read
 abbrev pub place_unvalued : Kind → Clause → Act
 place_unvalued k c = place_on k (record { clause = c; range = first_cell } ∷ []) Unvalued Nothing
 
+-- `async` without a value is the queue of the host's default, and a `wait` without queues names all of them.
 abbrev pub DefaultQueueRunsInOrder : Type 0
 DefaultQueueRunsInOrder =
     look_after
@@ -154,10 +156,10 @@ DefaultQueueRunsInOrder =
       phases = phase.Ready ∷ [];
     }
 
--- A `wait` that goes to a queue is a batch there where it awaits something on another, and holds no host back.
 abbrev pub wait_on : ℤ → Waits → Act
 wait_on v waits = place_on kind.Wait [] (Value v) waits
 
+-- A `wait` that goes to a queue is a batch there where it awaits something on another, and holds no host back.
 abbrev pub WaitsAreBatches : Type 0
 WaitsAreBatches =
     look_after
@@ -172,4 +174,40 @@ WaitsAreBatches =
       work = entry.Op second (Await 3 1) ∷ entry.Op second (Await 3 1) ∷ entry.Op first (Make 1 both) ∷ [];
       ended = 5 ∷ [];
       phases = phase.Ready ∷ [];
+    }
+
+-- each queue of a device takes a batch and performs an operation
+abbrev pub turn_of : ℕ → ℕ → List Event
+turn_of device q = event.Take (record { device = device; queue = q }) ∷ event.Perform (record { device = device; queue = q }) ∷ []
+
+abbrev pub queues_go_on : ℕ → List Event
+queues_go_on device = flat_map (turn_of device) every_queue
+
+-- the host goes on, and then each queue
+abbrev pub round : List Event
+round = host ∷ queues_go_on 0
+
+abbrev pub eight_cells : Range
+eight_cells = record { array = 0; lo = 0; len = 8 }
+
+abbrev pub other_cell : Range
+other_cell = record { array = 1; lo = 0; len = 1 }
+
+-- A range that has left needs none of the capacity, though its release has not been performed; what has come since does.
+abbrev pub CapacityIsOfWhatIsPresent : Type 0
+CapacityIsOfWhatIsPresent =
+    look_after (round ++ round ++ replicate 3 host)
+    (world_within 8 (replicate 8 (pos 0) ∷ (pos 0 ∷ []) ∷ [])
+    (place kind.EnterData Create eight_cells
+    ∷ place_on (kind.ExitData false) (record { clause = Delete; range = eight_cells } ∷ []) (Value (pos 1)) Nothing
+    ∷ place_on kind.EnterData (record { clause = Create; range = other_cell } ∷ []) (Value (pos 2)) Nothing
+    ∷ place_on kind.EnterData (record { clause = Create; range = eight_cells } ∷ []) (Value (pos 2)) Nothing ∷ []))
+    ≡ record {
+      replies =
+          replicate 3 reply.Did ++ replicate 14 reply.Idle
+          ++ reply.Did ∷ replicate 16 reply.Idle ++ reply.Did ∷ reply.Did ∷ reply.Refused DeviceFull ∷ [];
+      present = record { range = other_cell; block = 2; s = 0; d = 1 } ∷ [];
+      work = batches_seen 1 ∷ entry.Op sync (Make 1 eight_cells) ∷ [];
+      ended = 3 ∷ [];
+      phases = phase.Refused DeviceFull ∷ [];
     }

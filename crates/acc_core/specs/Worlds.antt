@@ -1,8 +1,6 @@
 -- The hosts with the accelerator that they share: how a run begins, what it gives, and what it leaves.
-use Rattle.std.specs.Prelude.{◌≡◌, ℕ, ◌+◌, ◌≤◌, Bool, nat_lt, List, [], ◌∷◌, ◌++◌, length, map, Option, Some, None, if◌then◌else◌}
+use Rattle.std.specs.Prelude.{◌≡◌, ℕ, ◌+◌, ◌≤◌, List, [], ◌∷◌, ◌++◌, length, map}
 use Rattle.acc_base.specs.declared.config.TheConstants.{MAX_HOSTS}
-use Rattle.acc_base.specs.declared.fault.Fault.{Fault}
-use Rattle.acc_base.specs.declared.fault.Fault.TheVariants.{TooMany, Memory}
 use Rattle.acc_base.specs.Configurations.{Configuration}
 use Rattle.acc_core.specs.declared.event.Event.{Event}
 use Rattle.acc_host.specs.declared.state.Reply.{Reply}
@@ -22,10 +20,6 @@ AreNumbered n (program ∷ programs) = (program.host ≡ n) × AreNumbered (n + 
 pub record OnePerHost (config : Configuration) (programs : List HostProgram) : Type 0 where
   pub count : length programs ≡ config.hosts
   pub numbered : AreNumbered 0 programs
-
--- the fault of a world, where memory is refused or not
-abbrev pub world_fault : Bool → Configuration → Option Fault
-world_fault no_memory config = if nat_lt 1 config.hosts then Some TooMany else (if no_memory then Some Memory else None)
 
 -- Nothing is accepted, performed, taken or shown, and each host is ready for its first statement.
 abbrev pub opening : Configuration → List HostProgram → State

@@ -1,6 +1,7 @@
 ghost use Rattle.acc_core.specs.Examples.{EnteredTwice, OverlapRefused, StaleHostCopy, LoopRuns, LoopOnPresent};
 ghost use Rattle.acc_core.specs.Machine.{EachQueueIsCounted};
-ghost use Rattle.acc_core.specs.QueueExamples.{UseAwaitsItsMaker, ReleaseAwaitsEachUse, AsyncValuesNameQueues, DefaultQueueRunsInOrder, WaitsAreBatches};
+ghost use Rattle.acc_core.specs.HostExamples.{OneHostIsRefused, LoopIsDoneAtTheWait, QuestionsTellTheirMoment};
+ghost use Rattle.acc_core.specs.QueueExamples.{UseAwaitsItsMaker, ReleaseAwaitsEachUse, AsyncValuesNameQueues, DefaultQueueRunsInOrder, WaitsAreBatches, CapacityIsOfWhatIsPresent};
 
 /// The machine computed on five programs: a range that enters twice and leaves once, a range that
 /// overlaps a present one, a host write under a present range, a loop with clauses that runs where another one is
@@ -14,13 +15,23 @@ pub fn worked_programs()
 {}
 
 /// The machine computed on programs with several queues: a use that awaits its maker, a release that awaits each use, the
-/// queues that async values name, a host's default queue, and waits that are batches.
+/// queues that async values name, a host's default queue, waits that are batches, and capacity that a queued release doesn't
+/// hold.
 pub fn worked_queues()
     ensures use_awaits { UseAwaitsItsMaker }
     ensures release_awaits { ReleaseAwaitsEachUse }
     ensures values { AsyncValuesNameQueues }
     ensures in_order { DefaultQueueRunsInOrder }
     ensures waits { WaitsAreBatches }
+    ensures capacity { CapacityIsOfWhatIsPresent }
+{}
+
+/// The machine computed on programs with several hosts and devices: a host that is refused beside one that goes on, a loop
+/// that is performed at its wait, and questions that tell their moment.
+pub fn worked_hosts()
+    ensures refused { OneHostIsRefused }
+    ensures loops { LoopIsDoneAtTheWait }
+    ensures questions { QuestionsTellTheirMoment }
 {}
 
 /// Among the counts of batches that were taken, each queue of each device has its own, whatever the number

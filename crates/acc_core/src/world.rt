@@ -1,4 +1,4 @@
-ghost use Rattle.std.specs.Prelude.{List, ◌≡◌, ◌+◌, ◌<◌, ◌≤◌, length, map, All, reverse, slice_get, IfOk, IfErr, OnOk, OnErr, OnSome, None, Some, true, false, Bool, ◌^◌};
+ghost use Rattle.std.specs.Prelude.{List, ◌≡◌, ◌+◌, ◌<◌, ◌≤◌, length, map, All, reverse, slice_get, IfOk, IfErr, OnErr, OnSome, true, false, ◌^◌};
 ghost use Rattle.std.specs.Option.{option_map};
 ghost use Rattle.acc_present.specs.Presences.{presences, holder};
 ghost use Rattle.acc_present.specs.Tables.{entry_presence};
@@ -9,7 +9,7 @@ ghost use Rattle.acc_host.specs.declared.state.Reply.{Reply};
 ghost use Rattle.acc_host.specs.Hosts.{ready, state_of};
 ghost use Rattle.acc_batch.specs.Labels.{on_queue, ops_of};
 ghost use Rattle.acc_work.specs.Logs.{performed};
-ghost use Rattle.acc_core.specs.Worlds.{OnePerHost, AreNumbered, world_fault, opening, Ran};
+ghost use Rattle.acc_core.specs.Worlds.{OnePerHost, opening, Ran};
 
 use crate::accelerator::Accelerator;
 use crate::event::Event;
@@ -55,28 +55,14 @@ impl World {
     ///
     /// # Errors
     ///
-    /// The first of: `TooMany` for more than one host, `Memory` for want of memory.
+    /// `Memory` for want of memory.
     pub fn new(alloc: Global, config: Config, programs: Vec<HostProgram>) -> Result<World, Fault>
         requires { OnePerHost config programs.items }
-        ensures opened { IfOk result (λ w. w ≡ opening config programs.items) }
-        ensures allowed { OnOk result (world_fault false config ≡ None) }
-        ensures refused { IfErr result (λ fault. (no_memory : Bool) × (world_fault no_memory config ≡ Some fault)) }
-    {
-        config.keeps_limits();
-        if config.hosts() > 1 {
-            return Err(Fault::TooMany);
-        }
-        World::open(alloc, config, programs)
-    }
-
-    // The world before the first step.
-    fn open(alloc: Global, config: Config, programs: Vec<HostProgram>) -> Result<World, Fault>
-        requires few_hosts { length programs.items ≤ MAX_HOSTS }
-        requires numbered { AreNumbered 0 programs.items }
         ensures opened { IfOk result (λ w. w ≡ opening config programs.items) }
         ensures refused { IfErr result (λ fault. fault ≡ Memory) }
     {
         hosts_follow();
+        config.keeps_limits();
         let states = Vec::with_capacity(alloc, programs.len())?;
         let hosts = ready_hosts(alloc, programs)?;
         let accelerator = Accelerator::new(alloc, config)?;

@@ -18,6 +18,8 @@ mod memory;
 #[cfg(test)]
 mod queues;
 #[cfg(test)]
+mod races;
+#[cfg(test)]
 mod regions;
 #[cfg(test)]
 mod updates;

@@ -6,7 +6,7 @@ use Rattle.std.specs.Prelude.{Option, Some, None, IfSome, All, ℤ, ◌==◌}
 use Rattle.std.proofs.lemmas.List.Folds.{list_any_none}
 use Rattle.std.proofs.lemmas.Bool.Decides.{nat_tests}
 use Rattle.acc_base.specs.declared.config.TheConstants.{MAX_ARRAYS, MAX_CELLS, MAX_HOSTS, MAX_CAPACITY, MAX_ROOM}
-use Rattle.acc_base.specs.Configurations.{is_outside, has_long_array, has_empty_array}
+use Rattle.acc_base.specs.Configurations.{fault_of, is_outside, has_long_array, has_empty_array}
 use Rattle.acc_driver.specs.Arrays.{IsDeclared}
 use Rattle.acc_driver.specs.declared.fault.DriverFault.{DriverFault}
 use Rattle.acc_driver.specs.declared.fault.DriverFault.TheVariants as fault
@@ -17,7 +17,7 @@ use Rattle.acc_driver.specs.declared.options.Options.{Options}
 use Rattle.acc_driver.specs.declared.replay.TheConstants.{INPUT_LIMIT}
 use Rattle.acc_core.specs.declared.event.Event.{Event}
 use Rattle.acc_driver.specs.Inputs.{Parts, parts, within}
-use Rattle.acc_driver.specs.Replays.{events_in, configured, runtime_fault, IsOpeningFault, Says, RunAnswers, AnswersRun, Answers, AreUsable, IsRun}
+use Rattle.acc_driver.specs.Replays.{events_in, configured, IsOpeningFault, Says, RunAnswers, AnswersRun, Answers, AreUsable, IsRun}
 use Rattle.acc_driver.specs.Schedules.{events_from, lines, schedule_of}
 use Rattle.acc_driver.specs.Scripts.{Program, program_at, script_of}
 use Rattle.acc_driver.proofs.Splitting.{capped, cut_is_enough, capped_is_enough}
@@ -92,7 +92,7 @@ inside : (limit n : ℕ) → (1 ≤ n) × (n ≤ limit) → is_outside limit n �
 inside limit n h = let low = h.0 in let high = h.1 in grind (arith, nat_tests, low, high)
 
 usable_config : (options : Options) (program : Program) → AreUsable options → IsDeclared (record { names = program.names; cells = program.arrays })
-    → length program.programs ≤ 1 → runtime_fault (configured options program) ≡ None
+    → length program.programs ≤ 1 → fault_of (configured options program) ≡ None
 usable_config options program usable declared few =
     let same = declared.one_each in
     let is_few = declared.few in
@@ -106,7 +106,6 @@ usable_config options program usable declared few =
       none_is_empty program.arrays declared.sizes,
       inside MAX_CAPACITY options.cells usable.cells,
       inside MAX_ROOM options.room usable.room,
-      le-ltb 1 (length program.programs) few,
     ) refl
 
 -- With usable options the one reason not to open a world is want of memory.

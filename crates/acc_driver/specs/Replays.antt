@@ -3,14 +3,13 @@ use Rattle.std.specs.Prelude.{◌≡◌, ◌≤◌, ℕ, zero, suc, Bool, true, 
 use Rattle.std.specs.Io.KnownBytes.{Appends}
 use Rattle.std.specs.Option.{option_map}
 use Rattle.acc_base.specs.declared.config.TheConstants.{MAX_CAPACITY, MAX_ROOM}
-use Rattle.acc_base.specs.declared.fault.Fault.{Fault}
 use Rattle.acc_base.specs.Configurations.{Configuration, configuration, fault_of}
 use Rattle.acc_core.specs.declared.event.Event.{Event}
 use Rattle.acc_host.specs.declared.state.Reply.{Reply}
 use Rattle.acc_host.specs.declared.state.HostState.{HostState}
 use Rattle.acc_host.specs.declared.state.HostState.TheVariants as state
 use Rattle.acc_core.specs.Machine.{State, Runs}
-use Rattle.acc_core.specs.Worlds.{opening, world_fault}
+use Rattle.acc_core.specs.Worlds.{opening}
 use Rattle.acc_host.specs.Hosts.{state_of}
 use Rattle.acc_driver.specs.declared.fault.DriverFault.{DriverFault}
 use Rattle.acc_driver.specs.declared.fault.DriverFault.TheVariants as fault
@@ -31,18 +30,10 @@ abbrev pub configured : Options → Program → Configuration
 configured options program =
     configuration options.devices (length program.programs) program.arrays options.cells options.room
 
--- the first fault of the configuration, or of a world with it, want of memory apart
-abbrev pub fault_behind : Configuration → Option Fault → Option Fault
-fault_behind config (Some f) = Some f
-fault_behind config None = world_fault false config
-
-abbrev pub runtime_fault : Configuration → Option Fault
-runtime_fault config = fault_behind config (fault_of config)
-
 -- Why there is no world of a configuration.
 abbrev pub IsOpeningFault : Configuration → DriverFault → Type 0
 IsOpeningFault config fault.Memory = Unit {0}
-IsOpeningFault config (fault.Runtime f) = runtime_fault config ≡ Some f
+IsOpeningFault config (fault.Runtime f) = fault_of config ≡ Some f
 IsOpeningFault config fault.Input = ⊥
 IsOpeningFault config fault.Output = ⊥
 IsOpeningFault config (fault.Script f) = ⊥
@@ -93,7 +84,7 @@ RunAnswers options program events old new (Ok ended) = Reported options program 
 RunAnswers options program events old new (Err fault.Output) = CutOff options program events old new
 RunAnswers options program events old new (Err fault.Memory) = Appends old new []
 RunAnswers options program events old new (Err (fault.Runtime f)) =
-    (runtime_fault (configured options program) ≡ Some f) × Appends old new []
+    (fault_of (configured options program) ≡ Some f) × Appends old new []
 RunAnswers options program events old new (Err (fault.Script f)) = ⊥
 RunAnswers options program events old new (Err (fault.Schedule f)) = ⊥
 RunAnswers options program events old new (Err fault.Input) = ⊥

@@ -136,8 +136,7 @@ fn open(
     };
     match World::new(alloc, config, programs) {
         Ok(world) => Ok(world),
-        Err(Fault::Memory) => Err(DriverFault::Memory),
-        Err(fault) => Err(DriverFault::Runtime(fault)),
+        Err(_) => Err(DriverFault::Memory),
     }
 }
 

@@ -28,3 +28,7 @@ returns-clause-in_order c = refl
 pub returns-clause-waits : goal.returns-clause-waits
 unfolding int_wrap standing walk_of batch_of answer_of refusal presences live opened is_before range_contains range_overlaps
 returns-clause-waits c = refl
+
+pub returns-clause-capacity : goal.returns-clause-capacity
+unfolding int_wrap standing walk_of batch_of answer_of refusal presences live opened is_before range_contains range_overlaps
+returns-clause-capacity c = refl
