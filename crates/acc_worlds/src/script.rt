@@ -116,9 +116,10 @@ impl Script {
 
     // A queue takes its next batch, and performs all of it.
     fn perform(&mut self, at: QueueAt, operations: u32) -> Result<(), Fault> {
-        self.events.push(Event::Take(at))?;
+        let QueueAt { device, queue } = at;
+        self.events.push(Event::Take(QueueAt { device, queue }))?;
         for _ in 0..operations {
-            self.events.push(Event::Perform(at))?;
+            self.events.push(Event::Perform(QueueAt { device, queue }))?;
         }
         Ok(())
     }
