@@ -172,6 +172,7 @@ fn check_state(rt: &impl Abort, world: &World, state: HostState) {
 
 // The ranges that are present on a device, with their counters.
 pub fn check_present(rt: &impl Abort, world: &World, device: u8, ranges: &[(Range, u64, u64)]) {
+    assert!(rt; device < world.devices());
     for (place, wanted) in ranges.iter().enumerate() {
         let entry = world.nth(DeviceId::new(device), place);
         assert_eq!(rt; entry.map(|e| (e.range, e.s, e.d)), Some(*wanted));

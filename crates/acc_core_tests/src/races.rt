@@ -353,6 +353,7 @@ fn one_of_eight_hosts_is_refused(rt: HostRuntime) -> Result<(), Fail> {
     assert_eq!(rt; prints_of(alloc, &world)?.len(), 7);
     check_queue(&rt, &world, on(0), 2, 2, 2);
     check_queue(&rt, &world, on(5), 1, 1, 1);
+    assert_eq!(rt; world.devices(), 1);
     assert!(rt; world.counters(DeviceId::new(0), cells(3, 1)).is_none());
     Ok(())
 }
