@@ -3,7 +3,7 @@ use crate::queues::{
     BOTH, PRESENT, SMALL, Setting, check_present, check_queue, config_of, create, directive, on,
     one, program_of, turn, value, wait, wait_for_all,
 };
-use acc_base::{DeviceId, Fault, HostId, Listed};
+use acc_base::{DeviceId, Fault, HostId, Listed, Range};
 use acc_core::{Act, Clause, Event, HostState, Reply, Target, Told, Waits, WorkEntry, World};
 use acc_forms::{EXIT, Form, UPDATE, item, over};
 use acc_parts::Body;
@@ -354,6 +354,11 @@ fn one_of_eight_hosts_is_refused(rt: HostRuntime) -> Result<(), Fail> {
     check_queue(&rt, &world, on(0), 2, 2, 2);
     check_queue(&rt, &world, on(5), 1, 1, 1);
     assert_eq!(rt; world.devices(), 1);
-    assert!(rt; world.counters(DeviceId::new(0), cells(3, 1)).is_none());
+    let refused_cell = Range {
+        array: 0,
+        lo: 3,
+        len: 1,
+    };
+    assert!(rt; world.counters(DeviceId::new(0), refused_cell).is_none());
     Ok(())
 }
