@@ -130,15 +130,25 @@ pub fn statements_of(alloc: Global, lines: &[Line]) -> Result<Vec<Statement>, Fa
     Ok(statements)
 }
 
-// One host with these statements, over these arrays, and a device with this capacity. A queue has room for four batches, so
-// that a world takes little memory.
+// One host with these statements, over these arrays, and a device with this capacity.
 pub fn world_with(
     alloc: Global,
     arrays: Vec<Vec<i64>>,
     capacity: u64,
     statements: Vec<Statement>,
 ) -> Result<World, Fault> {
-    let config = Config::new(1, 1, arrays, capacity, 4)?;
+    world_with_room(alloc, arrays, capacity, 64, statements)
+}
+
+// The same, whose queues have room for so many batches: a world takes the memory for them.
+pub fn world_with_room(
+    alloc: Global,
+    arrays: Vec<Vec<i64>>,
+    capacity: u64,
+    room: u32,
+    statements: Vec<Statement>,
+) -> Result<World, Fault> {
+    let config = Config::new(1, 1, arrays, capacity, room)?;
     let program = HostProgram {
         host: HostId::new(0),
         statements: Listed::from_vec(statements),

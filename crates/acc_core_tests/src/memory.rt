@@ -1,5 +1,6 @@
 use crate::fixtures::{
-    ALL, FINISHED, Line, host, perform, printed, refused, reply_to, take, turns, world_of,
+    ALL, FINISHED, Line, host, perform, printed, refused, reply_to, statements_of, take, turns,
+    world_of, world_with_room,
 };
 use acc_base::{Config, DeviceId, Fault, HostId};
 use acc_core::{Clause, Counts, Event, Outcome, Reply, World};
@@ -23,10 +24,17 @@ const DOUBLE: Line = Line::Bare(Form::Loop(Loop {
 /// Whether there is memory for an event, the event, and its reply.
 type Tried = (bool, Event, Reply);
 
-// A step for which there is no memory.
+// A step for which there is no memory, nor a piece of the size of a new log that was let go.
 fn scarce_step(alloc: Global, world: &mut World, event: Event) -> Result<Reply, AllocError> {
+    let mut pieces: Vec<Vec<u8>> = Vec::with_capacity(alloc, 64)?;
     let mut hoard = Hoard::new(alloc)?;
     hoard.fill(alloc);
+    for _ in 0..64u32 {
+        match Vec::with_capacity(alloc, 192) {
+            Ok(piece) => pieces.push(piece)?,
+            Err(_) => break,
+        }
+    }
     let reply = reply_to(world, event);
     hoard.free();
     Ok(reply)
@@ -226,9 +234,11 @@ fn counts_are_refused_until_there_is_memory(rt: HostRuntime) -> Result<(), Fail>
     Ok(())
 }
 
-// A world of these lines whose host has placed the first one; the worlds that were made are counted.
+// A world of these lines, with short queues, whose host has placed the first one; the worlds that were made are counted.
 fn placed_world(alloc: Global, lines: &[Line], worlds: &mut u32) -> Result<World, Fault> {
-    let mut world = world_of(alloc, lines)?;
+    let cells = Vec::from_slice(alloc, &[1i64, 2, 3, 4])?;
+    let arrays = vec![in alloc; cells]?;
+    let mut world = world_with_room(alloc, arrays, 4, 4, statements_of(alloc, lines)?)?;
     *worlds = worlds.wrapping_add(1);
     match reply_to(&mut world, host()) {
         Reply::Did => Ok(world),
