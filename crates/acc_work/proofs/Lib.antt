@@ -1,8 +1,10 @@
 pub mod Counters
+pub mod Frontiers
 pub mod Keeping
 pub mod Lanes
 pub mod Logged
 pub mod Members
+pub mod NeverStuck
 pub mod Next
 pub mod Places
 pub mod Splits

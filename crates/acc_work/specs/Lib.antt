@@ -1,4 +1,5 @@
 pub mod Counted
+pub mod Enabled
 pub mod Items
 pub mod Lanes
 pub mod Lives

@@ -1,11 +1,12 @@
 -- Counts of performed batches, and prints, computed on short histories.
-use Rattle.std.specs.Prelude.{◌≡◌, ℕ, List, [], ◌∷◌, map, ℤ, pos}
+use Rattle.std.specs.Prelude.{◌≡◌, ℕ, List, [], ◌∷◌, map, ℤ, pos, true, false}
 use Rattle.acc_base.specs.declared.ids.QueueAt.{QueueAt}
-use Rattle.acc_batch.specs.declared.operation.Op.TheVariants.{Make, CopyIn, CopyOut, Run}
+use Rattle.acc_batch.specs.declared.operation.Op.TheVariants.{Make, CopyIn, CopyOut, Run, Await}
 use Rattle.acc_batch.specs.Labels.{whole}
 use Rattle.acc_work.specs.declared.log.Told.TheVariants.{Write}
 use Rattle.acc_work.specs.declared.log.WorkEntry.{WorkEntry}
 use Rattle.acc_work.specs.declared.log.WorkEntry.TheVariants as entry
+use Rattle.acc_work.specs.Enabled.{any_left, any_enabled, enabled}
 use Rattle.acc_work.specs.Logs.{value, done}
 use Rattle.acc_memory.specs.Values.{values_of}
 use Rattle.acc_base.specs.declared.range.Range.{Range}
@@ -78,3 +79,26 @@ LoopIsSeen =
     (values_of (value four_values counted_up) (cells 0 4) ≡ pos 8 ∷ pos 9 ∷ pos 3 ∷ pos 4 ∷ [])
     × (values_of (value four_values (entry.Op sync (CopyOut 1 (cells 0 4)) ∷ counted_up)) (cells 0 4)
     ≡ pos 3 ∷ pos 4 ∷ pos 4 ∷ pos 4 ∷ [])
+
+-- a batch of the first host on queue noval, behind so many of its items
+abbrev pub on_noval : ℕ → List Op → Label
+on_noval items_done ops = record { at = noval; number = 1; host = 0; items_done = items_done; ops = ops }
+
+-- all that was placed on each queue was taken
+abbrev pub one_of_each : QueueAt → ℕ
+one_of_each at = 1
+
+-- A batch that awaits another goes on behind it. Two that await each other are stuck, and so is one whose host doesn't have
+-- the items before it: what `never_stuck` asks of labels is needed.
+abbrev pub StuckWithoutOrder : Type 0
+StuckWithoutOrder =
+    let make = Make 1 (cells 0 4) in
+    let in_order = batch 1 (make ∷ []) ∷ on_noval 0 (Await 0 1 ∷ []) ∷ [] in
+    let in_a_ring = batch 1 (Await 1 1 ∷ []) ∷ on_noval 0 (Await 0 1 ∷ []) ∷ [] in
+    let without_its_item = on_noval 1 (make ∷ []) ∷ [] in
+    (enabled in_order [] 1 noval ≡ false)
+    × (enabled in_order (entry.Op sync make ∷ []) 1 noval ≡ true)
+    × (any_left in_a_ring [] ≡ true)
+    × (any_enabled in_a_ring [] one_of_each ≡ false)
+    × (any_left without_its_item [] ≡ true)
+    × (any_enabled without_its_item [] one_of_each ≡ false)

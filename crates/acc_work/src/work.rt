@@ -285,8 +285,9 @@ impl Work {
         }
     }
 
-    // Whether the next operation of a queue can be performed now.
-    fn goes_on(&self, at: QueueAt) -> bool
+    /// Whether the next operation of a queue can be performed now: there is one in its lane, what it awaits is performed, and
+    /// the host of its batch has the items that stand before it.
+    pub fn goes_on(&self, at: QueueAt) -> bool
         ensures goes { result ≡ goes_on self.now at (lane_at self.now at).left }
         ensures there { IsTrue result → (seat at < length self.now.lanes) × HasQueue self.now at }
     {
