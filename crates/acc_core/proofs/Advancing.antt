@@ -83,7 +83,7 @@ has_advanced v v' at h = by_left (lane_at v at).left refl h
     by_left (op ∷ ops) e g = by_test op ops (goes_on v at (op ∷ ops)) e refl g
 
 -- the machine lets the next operation be performed where the work side does
-goes_next : (w : State) (v : WorkView) (queues : List QueueView) (waiting : ℕ) (at : QueueAt) (op : Op) (ops : List Op) → Queued w v queues waiting → KeepsOrder v → (lane_at v at).left ≡ op ∷ ops → v.work ≡ w.work
+pub goes_next : (w : State) (v : WorkView) (queues : List QueueView) (waiting : ℕ) (at : QueueAt) (op : Op) (ops : List Op) → Queued w v queues waiting → KeepsOrder v → (lane_at v at).left ≡ op ∷ ops → v.work ≡ w.work
     → can_perform (labels_of w) w.work at op ≡ goes_on v at (op ∷ ops)
 goes_next w v queues waiting at op ops q k e same =
     let lane = lane_at v at in

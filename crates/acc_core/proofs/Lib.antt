@@ -1,9 +1,11 @@
 mod Advancing
 mod Changes
 mod Done
+mod Enabling
 mod Entries
 mod Following
 mod Growing
+mod HavingItems
 mod HostLaws
 mod HostSteps
 mod Keeping

@@ -1,4 +1,5 @@
 pub mod Answers
+pub mod Enabled
 pub mod Examples
 pub mod Following
 pub mod HostExamples

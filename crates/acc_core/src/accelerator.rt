@@ -1,7 +1,8 @@
-ghost use Rattle.std.specs.Prelude.{reverse, ◌≡◌, ◌+◌, ◌<◌, ◌≤◌, [], length, IfOk, IfErr, OnErr, OnSome, true, false, slice_get, ◌^◌, Ok};
+ghost use Rattle.std.specs.Prelude.{reverse, ◌≡◌, ◌+◌, ◌<◌, ◌≤◌, [], length, IfOk, IfErr, OnErr, OnSome, true, false, slice_get, IsTrue, ◌^◌, Ok};
 ghost use Rattle.acc_base.specs.declared.config.TheConstants.{MAX_HOSTS};
 ghost use Rattle.acc_host.specs.Engines.{Wait, Record, MayRecord, without_item};
 ghost use Rattle.acc_core.specs.Answers.{Makes, Places};
+ghost use Rattle.acc_core.specs.Enabled.{is_enabled, is_left, SomeEnabled};
 ghost use Rattle.acc_core.specs.Legality.{AllRise};
 ghost use Rattle.acc_core.specs.Ties.{has_cells};
 ghost use Rattle.acc_batch.specs.Labels.{on_queue, ops_of};
@@ -253,6 +254,30 @@ impl Accelerator {
             }
             Done::Idle => Reply::Idle,
         }
+    }
+
+    /// Whether a queue can take a batch or perform an operation.
+    pub fn enabled(&self, at: QueueAt) -> bool
+        ensures { result ≡ is_enabled self.now at }
+    {
+        let QueueAt { device, queue } = at;
+        if !self.place.config().has_queue(QueueAt { device, queue }) {
+            return false;
+        }
+        self.work.keeps_order();
+        if self.work.lane_empty(QueueAt { device, queue }) {
+            return self.queues[QueueAt { device, queue }.seat()].len() > 0;
+        }
+        self.work.goes_on(QueueAt { device, queue })
+    }
+
+    /// Whether an operation was placed and isn't performed.
+    pub fn any_left(&self) -> bool
+        ensures left { result ≡ is_left self.now }
+        ensures enabled { IsTrue result → SomeEnabled self.now }
+    {
+        self.work.keeps_order();
+        self.waiting > 0
     }
 
     /// The configuration, the place history with its counts, and the work log, the latest last.

@@ -1,8 +1,9 @@
-ghost use Rattle.std.specs.Prelude.{List, ◌≡◌, ◌+◌, ◌<◌, ◌≤◌, length, map, All, reverse, slice_get, IfOk, IfErr, OnErr, OnSome, true, false, ◌^◌};
+ghost use Rattle.std.specs.Prelude.{List, ◌≡◌, ◌+◌, ◌<◌, ◌≤◌, length, map, All, reverse, slice_get, IfOk, IfErr, IsTrue, OnErr, OnSome, true, false, ◌^◌};
 ghost use Rattle.std.specs.Option.{option_map};
 ghost use Rattle.acc_present.specs.Presences.{presences, holder};
 ghost use Rattle.acc_present.specs.Tables.{entry_presence};
 ghost use Rattle.acc_base.specs.declared.config.TheConstants.{MAX_HOSTS};
+ghost use Rattle.acc_core.specs.Enabled.{is_enabled, is_left, SomeEnabled};
 ghost use Rattle.acc_core.specs.Legality.{AllFollow, Legal};
 ghost use Rattle.acc_core.specs.Machine.{Step, standing_of, labels_of};
 ghost use Rattle.acc_host.specs.declared.state.Reply.{Reply};
@@ -155,6 +156,21 @@ impl World {
         ensures few { result ≤ MAX_HOSTS }
     {
         self.hosts.len() as u8
+    }
+
+    /// Whether a queue is enabled: it takes a batch or performs an operation at its next event. One that isn't there is not.
+    pub fn enabled(&self, at: QueueAt) -> bool
+        ensures { result ≡ is_enabled self.now at }
+    {
+        self.accelerator.enabled(at)
+    }
+
+    /// Whether an operation was placed and isn't performed. A run is never stuck: some queue is enabled then.
+    pub fn any_left(&self) -> bool
+        ensures left { result ≡ is_left self.now }
+        ensures enabled { IsTrue result → SomeEnabled self.now }
+    {
+        self.accelerator.any_left()
     }
 
     /// What was performed and shown so far, in order.
