@@ -1,6 +1,10 @@
-use crate::fixtures::{Line, act_of, host, operations_of, perform, printed, take, world_over};
-use acc_base::{DeviceId, HostId, Range};
-use acc_core::{Act, Directive, Event, HostState, PlaceEntry, Reply, Totals, WorkEntry, World};
+use crate::checks::{check_present, check_prints, check_queue, check_states};
+use crate::fixtures::{host, perform, take};
+use crate::lines::{Line, act_of};
+use crate::log::operations_of;
+use crate::worlds::{FOUR, Setting, world_of};
+use acc_base::{DeviceId, Fault, HostId, Range};
+use acc_core::{Act, Directive, Event, HostState, PlaceEntry, Reply, WorkEntry};
 use acc_forms::{Operation, are_alike, sync};
 use std::alloc::{AllocError, Global};
 use std::process::Abort;
@@ -24,19 +28,20 @@ pub struct Case<'a> {
 }
 
 pub fn check(rt: &impl Abort, alloc: Global, case: &Case) -> Result<(), Fail> {
-    let mut world = world_over(alloc, case.arrays, case.capacity, case.lines)?;
+    let setting = Setting {
+        arrays: case.arrays,
+        capacity: case.capacity,
+        ..FOUR
+    };
+    let mut world = world_of(alloc, &setting, &[case.lines])?;
     let events = turn_events(alloc, 100)?;
     let replies = world.run(events.as_slice())?;
     check_replies(rt, alloc, replies.as_slice(), case)?;
-    check_present(rt, &world, case.present);
+    assert_eq!(rt; world.devices(), 1);
+    check_present(rt, &world, 0, case.present);
     let count = case.operations.len() as u64;
-    let totals = Totals {
-        batches: case.batches,
-        operations: count,
-        performed: count,
-    };
-    assert_eq!(rt; world.totals(sync()), totals);
-    assert_eq!(rt; world.state(HostId::new(0)), Some(case.state));
+    check_queue(rt, &world, sync(), case.batches, count, count);
+    check_states(rt, &world, &[case.state]);
     let outcome = world.outcome();
     assert_eq!(rt; outcome.hosts.as_slice(), [case.state].as_slice());
     check_places(rt, alloc, outcome.places.as_slice(), case.lines, case.state)?;
@@ -80,16 +85,6 @@ fn check_replies(
     Ok(())
 }
 
-// These ranges are present, and no others.
-fn check_present(rt: &impl Abort, world: &World, ranges: &[(Range, u64, u64)]) {
-    assert_eq!(rt; world.devices(), 1);
-    for (place, wanted) in ranges.iter().enumerate() {
-        let entry = world.nth(DeviceId::new(0), place);
-        assert_eq!(rt; entry.map(|e| (e.range, e.s, e.d)), Some(*wanted));
-    }
-    assert!(rt; world.nth(DeviceId::new(0), ranges.len()).is_none());
-}
-
 /// The place history has the directives of the lines before the one that was refused, if one was, in their order.
 pub fn check_places(
     rt: &impl Abort,
@@ -98,32 +93,41 @@ pub fn check_places(
     lines: &[Line],
     state: HostState,
 ) -> Result<(), Fail> {
-    let ended = match state {
-        HostState::Refused { ended, .. } | HostState::Running { ended } => ended,
-        HostState::Finished => lines.len(),
-    };
-    let mut count = 0usize;
-    for line in lines.iter().take(ended) {
-        if let Act::Place { directive } = act_of(alloc, *line)? {
-            check_accepted(rt, places.get(count), &directive);
-            count = count.wrapping_add(1);
-        }
+    let directives = directives_of(alloc, lines, ended_of(lines, state))?;
+    assert_eq!(rt; places.len(), directives.len());
+    for (entry, wanted) in places.iter().zip(directives.as_slice()) {
+        assert!(rt; is_accepted(entry, wanted));
     }
-    assert_eq!(rt; places.len(), count);
     Ok(())
 }
 
-// The host gave this directive.
-fn check_accepted(rt: &impl Abort, entry: Option<&PlaceEntry>, wanted: &Directive) {
-    match entry {
-        Some(PlaceEntry::Accepted { host, directive }) => {
-            assert_eq!(rt; *host, HostId::new(0));
-            assert_eq!(rt; directive.device(), DeviceId::new(0));
-            assert!(rt; are_alike(directive.kind(), wanted.kind()));
-            assert_eq!(rt; directive.items().as_slice(), wanted.items().as_slice());
-        }
-        None => panic!(rt; "a directive is missing"),
+// How many lines a host with this state has ended.
+fn ended_of(lines: &[Line], state: HostState) -> usize {
+    match state {
+        HostState::Refused { ended, .. } | HostState::Running { ended } => ended,
+        HostState::Finished => lines.len(),
     }
+}
+
+// The directives of so many lines.
+fn directives_of(alloc: Global, lines: &[Line], ended: usize) -> Result<Vec<Directive>, Fault> {
+    let mut directives = Vec::new(alloc);
+    for line in lines.iter().take(ended) {
+        if let Act::Place { directive } = act_of(alloc, *line)? {
+            directives.push(directive)?;
+        }
+    }
+    Ok(directives)
+}
+
+// Whether the first host gave this directive.
+fn is_accepted(entry: &PlaceEntry, wanted: &Directive) -> bool {
+    let PlaceEntry::Accepted { host, directive } = entry;
+    *host == HostId::new(0)
+        && directive.device() == DeviceId::new(0)
+        && are_alike(directive.kind(), wanted.kind())
+        && directive.items().as_slice() == wanted.items().as_slice()
+        && directive.target() == wanted.target()
 }
 
 // The operations and the prints, each in their order.
@@ -135,13 +139,6 @@ fn check_works(
 ) -> Result<(), AllocError> {
     let operations = operations_of(alloc, works)?;
     assert_eq!(rt; operations.as_slice(), case.operations);
-    let mut count = 0usize;
-    for entry in works {
-        if let Some(values) = printed(Some(entry)) {
-            assert_eq!(rt; Some(values), case.shown.get(count).copied());
-            count = count.wrapping_add(1);
-        }
-    }
-    assert_eq!(rt; count, case.shown.len());
+    check_prints(rt, works, case.shown);
     Ok(())
 }

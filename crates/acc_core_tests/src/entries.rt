@@ -1,5 +1,6 @@
 use crate::case::{Case, check};
-use crate::fixtures::{ALL, COUNTED, END, FINISHED, Line, ZEROS, cells, refused};
+use crate::fixtures::{ALL, COUNTED, FINISHED, ZEROS, cells, refused};
+use crate::lines::{END, Line};
 use acc_base::Fault;
 use acc_core::Clause;
 use acc_forms::{EXIT, FINALIZE, Form, copy_in, copy_out, make, release};

@@ -4,6 +4,8 @@
 #[cfg(test)]
 mod case;
 #[cfg(test)]
+mod checks;
+#[cfg(test)]
 mod devices;
 #[cfg(test)]
 mod entries;
@@ -11,6 +13,10 @@ mod entries;
 mod fixtures;
 #[cfg(test)]
 mod hosts;
+#[cfg(test)]
+mod lines;
+#[cfg(test)]
+mod log;
 #[cfg(test)]
 mod loops;
 #[cfg(test)]
@@ -25,3 +31,5 @@ mod regions;
 mod updates;
 #[cfg(test)]
 mod world;
+#[cfg(test)]
+mod worlds;

@@ -1,5 +1,6 @@
 use crate::case::{Case, check};
-use crate::fixtures::{ALL, COUNTED, END, FINISHED, Line, ZEROS, cells, refused, second_cells};
+use crate::fixtures::{ALL, BOTH, COUNTED, FINISHED, ZEROS, cells, refused, second_cells};
+use crate::lines::{END, Line};
 use acc_base::Fault;
 use acc_core::Clause;
 use acc_forms::{
@@ -114,7 +115,7 @@ fn a_loop_of_sixteen_copies(rt: HostRuntime) -> Result<(), Fail> {
         arrays: &[&[5; 16]],
         capacity: 16,
         lines: &[
-            Line::Each(over(0, 1, Body::Counted), Clause::Copy, 16),
+            Line::Each(over(0, 1, Body::Counted), Clause::Copy, 16, 1),
             Line::Print(cells(0, 16)),
         ],
         did: 69,
@@ -274,17 +275,16 @@ fn a_partly_present_array(rt: HostRuntime) -> Result<(), Fail> {
 /// The range of the first one is used, and the loop is refused where it reaches past this, though more is present.
 #[test]
 fn a_loop_stays_in_the_range_of_its_first_item(rt: HostRuntime) -> Result<(), Fail> {
-    let half = cells(0, 2);
     let case = Case {
         arrays: COUNTED,
         capacity: 4,
         lines: &[
             Line::One(Form::EnterData, Clause::Copyin, ALL),
-            Line::Two(over(0, 4, Body::Doubled), present(ALL), present(half)),
-            Line::Two(over(0, 2, Body::Doubled), present(half), present(ALL)),
+            Line::Two(over(0, 4, Body::Doubled), present(ALL), present(BOTH)),
+            Line::Two(over(0, 2, Body::Doubled), present(BOTH), present(ALL)),
             Line::One(UPDATE, Clause::UpdateSelf, ALL),
             Line::Print(ALL),
-            Line::Two(over(0, 3, Body::Doubled), present(half), present(ALL)),
+            Line::Two(over(0, 3, Body::Doubled), present(BOTH), present(ALL)),
         ],
         did: 18,
         present: &[(ALL, 0, 1)],
@@ -293,7 +293,7 @@ fn a_loop_stays_in_the_range_of_its_first_item(rt: HostRuntime) -> Result<(), Fa
             make(1, ALL),
             copy_in(1, ALL),
             run(&[used(1, ALL)]),
-            run(&[used(1, half)]),
+            run(&[used(1, BOTH)]),
             copy_out(1, ALL),
         ],
         state: refused(5, Fault::OutsideRange),

@@ -1,8 +1,8 @@
-use crate::fixtures::{
-    ALL, FINISHED, Line, host, perform, printed, refused, reply_to, statements_of, take, turns,
-    world_of, world_with_room,
-};
-use acc_base::{Config, DeviceId, Fault, HostId};
+use crate::checks::{check_last_print, check_present, check_states, check_steps};
+use crate::fixtures::{ALL, FINISHED, host, perform, refused, take};
+use crate::lines::Line;
+use crate::worlds::{FOUR, Setting, reply_to, turns, world_of};
+use acc_base::{Config, Fault};
 use acc_core::{Clause, Counts, Event, Outcome, Reply, World};
 use acc_forms::{EXIT, Form};
 use acc_parts::{Body, Loop};
@@ -76,12 +76,11 @@ fn scarce_outcome(alloc: Global, world: World) -> Result<Outcome, AllocError> {
 }
 
 fn check_scarce_run(rt: &impl Abort, alloc: Global, line: Line) -> Result<(), Fail> {
-    let mut world = world_of(alloc, &[line])?;
+    let mut world = world_of(alloc, &FOUR, &[&[line]])?;
     let refused = scarce_run(alloc, &mut world)?;
     assert_eq!(rt; refused, Some(Fault::Memory));
-    assert_eq!(rt; world.devices(), 1);
-    assert_eq!(rt; world.nth(DeviceId::new(0), 0).copied(), None);
-    assert_eq!(rt; reply_to(&mut world, host()), Reply::Did);
+    check_present(rt, &world, 0, &[]);
+    check_steps(rt, &mut world, 1);
     Ok(())
 }
 
@@ -125,31 +124,31 @@ fn memory_is_refused_to_a_step(rt: HostRuntime) -> Result<(), Fail> {
         (true, host(), Reply::Idle),
     ];
     let exit = Line::One(EXIT, Clause::Copyout, ALL);
-    let mut world = world_of(alloc, &[ENTER, exit])?;
+    let mut world = world_of(alloc, &FOUR, &[&[ENTER, exit]])?;
     check_replies(&rt, alloc, &mut world, &events)?;
-    assert_eq!(rt; world.devices(), 1);
-    assert_eq!(rt; world.counters(DeviceId::new(0), ALL), Some((0, 1)));
+    check_present(&rt, &world, 0, &[(ALL, 0, 1)]);
     check_outcome(&rt, alloc, world, 1)?;
+    Ok(())
+}
+
+// A statement for which there is no memory leaves no entry.
+fn check_scarce_statement(rt: &impl Abort, alloc: Global, line: Line) -> Result<(), Fail> {
+    let events = [
+        (false, host(), Reply::Refused(Fault::Memory)),
+        (true, host(), Reply::Idle),
+    ];
+    let mut world = world_of(alloc, &FOUR, &[&[line]])?;
+    check_replies(rt, alloc, &mut world, &events)?;
+    assert_eq!(rt; world.log().len(), 0);
+    check_states(rt, &world, &[refused(0, Fault::Memory)]);
     Ok(())
 }
 
 /// A write and a print leave no entry then.
 #[test]
 fn memory_is_refused_to_a_write_and_a_print(rt: HostRuntime) -> Result<(), Fail> {
-    let events = [
-        (false, host(), Reply::Refused(Fault::Memory)),
-        (true, host(), Reply::Idle),
-    ];
-    for line in [Line::Write(0, 9), Line::Print(ALL)] {
-        let mut world = world_of(rt.alloc(), &[line])?;
-        check_replies(&rt, rt.alloc(), &mut world, &events)?;
-        assert_eq!(rt; world.log().len(), 0);
-        assert_eq!(rt;
-            world.state(HostId::new(0)),
-            Some(refused(0, Fault::Memory))
-        );
-    }
-    Ok(())
+    check_scarce_statement(&rt, rt.alloc(), Line::Write(0, 9))?;
+    check_scarce_statement(&rt, rt.alloc(), Line::Print(ALL))
 }
 
 /// A loop whose host can't note that it is performed stays accepted and performed.
@@ -167,7 +166,7 @@ fn memory_is_refused_to_a_host_that_waited(rt: HostRuntime) -> Result<(), Fail> 
         (false, host(), Reply::Refused(Fault::Memory)),
         (true, host(), Reply::Idle),
     ];
-    let mut world = world_of(alloc, &[DOUBLE, Line::Print(ALL)])?;
+    let mut world = world_of(alloc, &FOUR, &[&[DOUBLE, Line::Print(ALL)]])?;
     check_replies(&rt, alloc, &mut world, &events)?;
     assert_eq!(rt; world.log().len(), 5);
     check_outcome(&rt, alloc, world, 0)?;
@@ -192,11 +191,10 @@ fn memory_is_refused_to_a_loop(rt: HostRuntime) -> Result<(), Fail> {
         (false, host(), Reply::Refused(Fault::Memory)),
         (true, host(), Reply::Idle),
     ];
-    let mut world = world_of(alloc, &[DOUBLE, Line::Print(ALL), DOUBLE])?;
+    let mut world = world_of(alloc, &FOUR, &[&[DOUBLE, Line::Print(ALL), DOUBLE]])?;
     check_replies(&rt, alloc, &mut world, &events)?;
-    assert_eq!(rt; printed(world.log().last()), Some([2, 4, 6, 8].as_slice()));
-    assert_eq!(rt; world.devices(), 1);
-    assert_eq!(rt; world.counters(DeviceId::new(0), ALL), None);
+    check_last_print(&rt, world.log(), &[2, 4, 6, 8]);
+    check_present(&rt, &world, 0, &[]);
     check_outcome(&rt, alloc, world, 2)?;
     Ok(())
 }
@@ -236,9 +234,8 @@ fn counts_are_refused_until_there_is_memory(rt: HostRuntime) -> Result<(), Fail>
 
 // A world of these lines, with short queues, whose host has placed the first one; the worlds that were made are counted.
 fn placed_world(alloc: Global, lines: &[Line], worlds: &mut u32) -> Result<World, Fault> {
-    let cells = Vec::from_slice(alloc, &[1i64, 2, 3, 4])?;
-    let arrays = vec![in alloc; cells]?;
-    let mut world = world_with_room(alloc, arrays, 4, 4, statements_of(alloc, lines)?)?;
+    let setting = Setting { room: 4, ..FOUR };
+    let mut world = world_of(alloc, &setting, &[lines])?;
     *worlds = worlds.wrapping_add(1);
     match reply_to(&mut world, host()) {
         Reply::Did => Ok(world),
@@ -259,7 +256,7 @@ fn a_world_and_its_loop_are_refused_until_there_is_memory(rt: HostRuntime) -> Re
         "{worlds} worlds, {refusals} refusals"
     );
     turns(&mut world, 20);
-    assert_eq!(rt; world.state(HostId::new(0)), Some(FINISHED));
-    assert_eq!(rt; printed(world.log().last()), Some([2, 4, 6, 8].as_slice()));
+    check_states(&rt, &world, &[FINISHED]);
+    check_last_print(&rt, world.log(), &[2, 4, 6, 8]);
     Ok(())
 }

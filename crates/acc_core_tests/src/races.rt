@@ -1,63 +1,36 @@
-use crate::fixtures::{FINISHED, cells, host, printed, refused, reply_to};
-use crate::queues::{
-    BOTH, PRESENT, SMALL, Setting, check_present, check_queue, config_of, create, directive, on,
-    one, program_of, turn, value, wait, wait_for_all,
+use crate::checks::{
+    check_present, check_prints, check_queue, check_replies, check_states, check_steps,
 };
-use acc_base::{DeviceId, Fault, HostId, Listed, Range};
-use acc_core::{Act, Clause, Event, HostState, Reply, Target, Told, Waits, WorkEntry, World};
-use acc_forms::{EXIT, Form, UPDATE, item, over};
+use crate::fixtures::{BOTH, FINISHED, cells, host, on, other, refused, value};
+use crate::lines::Line;
+use crate::log::{answered, printed};
+use crate::queues::SMALL;
+use crate::worlds::{Setting, reply_to, turn, turns, world_of};
+use acc_base::Fault;
+use acc_core::{Clause, Event, Reply, Target, WorkEntry, World};
+use acc_forms::{EXIT, Form, UPDATE, over};
 use acc_parts::Body;
 use std::alloc::Global;
 use std::process::Abort;
 use std::test::Fail;
 
-// Two hosts with these acts.
-fn world_of_two(
-    alloc: Global,
-    setting: &Setting,
-    first: Vec<Act>,
-    second: Vec<Act>,
-) -> Result<World, Fault> {
-    let config = config_of(alloc, setting, 2)?;
-    let programs = vec![in alloc; program_of(alloc, 0, first)?, program_of(alloc, 1, second)?]?;
-    World::new(alloc, config, programs)
-}
-
-fn other() -> Event {
-    Event::Host(HostId::new(1))
-}
-
-fn check_states(rt: &impl Abort, world: &World, states: &[HostState]) {
-    let mut number = 0u8;
-    for state in states {
-        assert_eq!(rt;
-            world.state(HostId::new(number)),
-            Some(*state),
-            "host {number}"
-        );
-        number = number.wrapping_add(1);
-    }
-}
-
 /// A host whose batch finds its queue full is refused, and stops; the other goes on.
 #[test]
 fn a_full_queue_stops_one_host(rt: HostRuntime) -> Result<(), Fail> {
-    let alloc = rt.alloc();
     let setting = Setting { room: 1, ..SMALL };
-    let first = vec![in alloc;
-        create(alloc, BOTH, value(1))?,
-        one(alloc, UPDATE, Clause::UpdateDevice, BOTH, value(1))?,
-    ]?;
-    let second = vec![in alloc; one(alloc, UPDATE, Clause::UpdateDevice, BOTH, value(1))?]?;
-    let mut world = world_of_two(alloc, &setting, first, second)?;
-    assert_eq!(rt; reply_to(&mut world, host()), Reply::Did);
-    let full = Reply::Refused(Fault::QueueFull);
-    assert_eq!(rt; reply_to(&mut world, other()), full);
-    assert_eq!(rt; reply_to(&mut world, Event::Take(on(1))), Reply::Did);
-    assert_eq!(rt; reply_to(&mut world, host()), Reply::Did);
+    let create = Line::Async(Form::EnterData, Clause::Create, BOTH, value(1));
+    let update = Line::Async(UPDATE, Clause::UpdateDevice, BOTH, value(1));
+    let mut world = world_of(rt.alloc(), &setting, &[&[create, update], &[update]])?;
+    let events = [
+        (host(), Reply::Did),
+        (other(), Reply::Refused(Fault::QueueFull)),
+        (Event::Take(on(1)), Reply::Did),
+        (host(), Reply::Did),
+    ];
+    check_replies(&rt, &mut world, &events);
     for _ in 0..5u32 {
-        turn(&mut world, 1);
-        assert_eq!(rt; reply_to(&mut world, other()), Reply::Idle);
+        turn(&mut world);
+        check_replies(&rt, &mut world, &[(other(), Reply::Idle)]);
     }
     check_states(&rt, &world, &[FINISHED, refused(0, Fault::QueueFull)]);
     check_present(&rt, &world, 0, &[(BOTH, 0, 1)]);
@@ -65,127 +38,66 @@ fn a_full_queue_stops_one_host(rt: HostRuntime) -> Result<(), Fail> {
     Ok(())
 }
 
-// What each print of the log showed, one after the other, up to four cells.
-fn prints_of(alloc: Global, world: &World) -> Result<Vec<i64>, Fault> {
-    let mut values = Vec::new(alloc);
-    for entry in world.log() {
-        for shown in printed(Some(entry)).unwrap_or(&[]) {
-            values.push(*shown)?;
-        }
-    }
-    Ok(values)
-}
-
 /// What a loop counts leaves with its directive; its copies are performed later, and seen behind a wait.
 #[test]
 fn a_loop_is_seen_behind_its_wait(rt: HostRuntime) -> Result<(), Fail> {
-    let alloc = rt.alloc();
     let setting = Setting {
         arrays: &[&[1, 2]],
         ..SMALL
     };
-    let question = directive(
-        alloc,
-        Form::IsPresent,
-        &[item(PRESENT, BOTH)],
-        Target::Plain,
-        Waits::Nothing,
-    )?;
-    let acts = vec![in alloc;
-        one(
-            alloc,
-            over(0, 2, Body::Doubled),
-            Clause::Copy,
-            BOTH,
-            value(1)
-        )?,
-        question,
-        Act::Print { range: BOTH },
-        wait(alloc, &[1], Target::Plain)?,
-        Act::Print { range: BOTH },
-    ]?;
-    let mut world = world_of_two(alloc, &setting, acts, Vec::new(alloc))?;
-    for _ in 0..3u32 {
-        assert_eq!(rt; reply_to(&mut world, host()), Reply::Did);
-    }
+    let lines = [
+        Line::Async(over(0, 2, Body::Doubled), Clause::Copy, BOTH, value(1)),
+        Line::One(Form::IsPresent, Clause::Present, BOTH),
+        Line::Print(BOTH),
+        Line::Wait(&[1], Target::Plain),
+        Line::Print(BOTH),
+    ];
+    let mut world = world_of(rt.alloc(), &setting, &[&lines, &[]])?;
+    check_steps(&rt, &mut world, 3);
     check_present(&rt, &world, 0, &[]);
-    for _ in 0..20u32 {
-        turn(&mut world, 1);
-    }
+    turns(&mut world, 20);
     check_states(&rt, &world, &[FINISHED, FINISHED]);
-    assert_eq!(rt;
-        prints_of(alloc, &world)?.as_slice(),
-        [1i64, 2, 2, 4].as_slice()
-    );
+    check_prints(&rt, world.log(), &[&[1, 2], &[2, 4]]);
     check_queue(&rt, &world, on(1), 1, 5, 5);
     Ok(())
 }
 
-// A test of all queues, or of one.
-fn test_of(alloc: Global, queues: &[i64]) -> Result<Act, Fault> {
-    let waits = if queues.is_empty() {
-        Waits::All
-    } else {
-        let values = Listed::from_vec(Vec::from_slice(alloc, queues)?);
-        Waits::Listed { values }
-    };
-    directive(alloc, Form::AsyncTest, &[], Target::Plain, waits)
-}
-
-// What each test of the log was answered.
-fn tests_of(alloc: Global, world: &World) -> Result<Vec<bool>, Fault> {
-    let mut answers = Vec::new(alloc);
-    for entry in world.log() {
-        if let WorkEntry::Item {
-            what: Told::Test { answer, .. },
-            ..
-        } = entry
-        {
-            answers.push(*answer)?;
+// What the tests of a log were answered, in their order.
+fn check_answers(rt: &impl Abort, log: &[WorkEntry], answers: &[bool]) {
+    let mut count = 0usize;
+    for entry in log {
+        if let Some(answer) = answered(Some(entry)) {
+            assert_eq!(rt; Some(answer), answers.get(count).copied());
+            count = count.wrapping_add(1);
         }
     }
-    Ok(answers)
+    assert_eq!(rt; count, answers.len());
 }
 
 /// A test tells the moment of its second step, and leaves no entry where nothing was placed; each device has its own ranges.
 #[test]
 fn questions_tell_their_moment(rt: HostRuntime) -> Result<(), Fail> {
-    let alloc = rt.alloc();
     let setting = Setting {
         devices: 2,
         ..SMALL
     };
-    let question = directive(
-        alloc,
-        Form::IsPresent,
-        &[item(PRESENT, BOTH)],
-        Target::Plain,
-        Waits::Nothing,
-    )?;
-    let acts = vec![in alloc;
-        create(alloc, BOTH, value(1))?,
-        test_of(alloc, &[1])?,
-        test_of(alloc, &[2])?,
-        wait(alloc, &[1], Target::Plain)?,
-        test_of(alloc, &[])?,
-        Act::SetDevice { device: 1 },
-        Act::ShowDevice,
-        Act::ShowDevices,
-        question,
-        Act::SetDevice { device: 2 },
-    ]?;
-    let mut world = world_of_two(alloc, &setting, acts, Vec::new(alloc))?;
-    for _ in 0..4u32 {
-        assert_eq!(rt; reply_to(&mut world, host()), Reply::Did);
-    }
-    for _ in 0..20u32 {
-        turn(&mut world, 2);
-    }
+    let lines = [
+        Line::Async(Form::EnterData, Clause::Create, BOTH, value(1)),
+        Line::Test(&[1]),
+        Line::Test(&[2]),
+        Line::Wait(&[1], Target::Plain),
+        Line::TestAll,
+        Line::SetDevice(1),
+        Line::ShowDevice,
+        Line::ShowDevices,
+        Line::One(Form::IsPresent, Clause::Present, BOTH),
+        Line::SetDevice(2),
+    ];
+    let mut world = world_of(rt.alloc(), &setting, &[&lines, &[]])?;
+    check_steps(&rt, &mut world, 4);
+    turns(&mut world, 20);
     check_states(&rt, &world, &[refused(9, Fault::BadDevice), FINISHED]);
-    assert_eq!(rt;
-        tests_of(alloc, &world)?.as_slice(),
-        [false, true].as_slice()
-    );
+    check_answers(&rt, world.log(), &[false, true]);
     check_present(&rt, &world, 0, &[(BOTH, 0, 1)]);
     check_present(&rt, &world, 1, &[]);
     check_queue(&rt, &world, on(1), 1, 1, 1);
@@ -194,20 +106,15 @@ fn questions_tell_their_moment(rt: HostRuntime) -> Result<(), Fail> {
 
 // A host writes its number and one into the first cell, and enters and leaves it on a queue; at the end it waits for all and
 // prints the cell.
-fn racer(alloc: Global, number: i64) -> Result<Vec<Act>, Fault> {
+fn racer(number: i64) -> [Line; 5] {
     let first = cells(0, 1);
-    let acts = vec![in alloc;
-        Act::Write {
-            array: 0,
-            cell: 0,
-            value: number.wrapping_add(1)
-        },
-        one(alloc, Form::EnterData, Clause::Copyin, first, value(1))?,
-        one(alloc, EXIT, Clause::Copyout, first, value(1))?,
-        wait_for_all(alloc, Target::Plain)?,
-        Act::Print { range: first },
-    ]?;
-    Ok(acts)
+    [
+        Line::Write(0, number.wrapping_add(1)),
+        Line::Async(Form::EnterData, Clause::Copyin, first, value(1)),
+        Line::Async(EXIT, Clause::Copyout, first, value(1)),
+        Line::WaitAll(Target::Plain),
+        Line::Print(first),
+    ]
 }
 
 /// Which of the schedule's words a step is.
@@ -257,30 +164,42 @@ fn is_apart(words: &[Word; 8]) -> bool {
     false
 }
 
-fn run_race(rt: &impl Abort, alloc: Global, words: &[Word; 8]) -> Result<(), Fault> {
-    let mut world = world_of_two(alloc, &SMALL, racer(alloc, 0)?, racer(alloc, 1)?)?;
+// The steps of a schedule, of which a host's do something, and then turns.
+fn run_words(rt: &impl Abort, world: &mut World, words: &[Word; 8]) {
     for word in words {
         match word {
-            Word::First => assert_eq!(rt; reply_to(&mut world, host()), Reply::Did),
-            Word::Second => assert_eq!(rt; reply_to(&mut world, other()), Reply::Did),
+            Word::First => check_replies(rt, world, &[(host(), Reply::Did)]),
+            Word::Second => check_replies(rt, world, &[(other(), Reply::Did)]),
             Word::Queue => {
-                let _ = reply_to(&mut world, Event::Take(on(1)));
-                let _ = reply_to(&mut world, Event::Perform(on(1)));
+                let _ = reply_to(world, Event::Take(on(1)));
+                let _ = reply_to(world, Event::Perform(on(1)));
             }
         }
     }
-    for _ in 0..12u32 {
-        turn(&mut world, 1);
-        let _ = reply_to(&mut world, other());
+    turns(world, 12);
+}
+
+// Each cell that was printed has the value of one of the hosts.
+fn check_racers(rt: &impl Abort, log: &[WorkEntry]) {
+    let mut count = 0u32;
+    for entry in log {
+        if let Some(values) = printed(Some(entry)) {
+            assert!(rt; matches!(values, [1] | [2]), "{values:?}");
+            count = count.wrapping_add(1);
+        }
     }
+    assert_eq!(rt; count, 2);
+}
+
+fn run_race(rt: &impl Abort, alloc: Global, words: &[Word; 8]) -> Result<(), Fault> {
+    let mut world = world_of(alloc, &SMALL, &[&racer(0), &racer(1)])?;
+    run_words(rt, &mut world, words);
     check_states(rt, &world, &[FINISHED, FINISHED]);
     check_present(rt, &world, 0, &[]);
     // alone, each host makes, copies in, copies out and releases; else the first to enter and the last to leave do
     let (batches, operations) = if is_apart(words) { (4, 8) } else { (2, 4) };
     check_queue(rt, &world, on(1), batches, operations, operations);
-    for value in prints_of(alloc, &world)? {
-        assert!(rt; value == 1 || value == 2, "{words:?} {value}");
-    }
+    check_racers(rt, world.log());
     Ok(())
 }
 
@@ -303,62 +222,56 @@ fn two_hosts_race_in_every_order(rt: HostRuntime) -> Result<(), Fail> {
 }
 
 // A host enters a cell of its own on a queue, and waits.
-fn worker(alloc: Global, number: u32, async_value: i64) -> Result<Vec<Act>, Fault> {
-    let acts = vec![in alloc;
-        create(alloc, cells(number, 1), value(async_value))?,
-        wait_for_all(alloc, Target::Plain)?,
-        Act::Print {
-            range: cells(number, 1)
-        },
-    ]?;
-    Ok(acts)
-}
-
-// Eight hosts, of which the fourth names no queue.
-fn world_of_eight(alloc: Global, setting: &Setting) -> Result<World, Fault> {
-    let config = config_of(alloc, setting, 8)?;
-    let programs = vec![in alloc;
-        program_of(alloc, 0, worker(alloc, 0, 0)?)?,
-        program_of(alloc, 1, worker(alloc, 1, 1)?)?,
-        program_of(alloc, 2, worker(alloc, 2, 2)?)?,
-        program_of(alloc, 3, worker(alloc, 3, -5)?)?,
-        program_of(alloc, 4, worker(alloc, 4, 3)?)?,
-        program_of(alloc, 5, worker(alloc, 5, 4)?)?,
-        program_of(alloc, 6, worker(alloc, 6, 5)?)?,
-        program_of(alloc, 7, worker(alloc, 7, 6)?)?,
-    ]?;
-    World::new(alloc, config, programs)
+fn worker(number: u32, async_value: i64) -> [Line; 3] {
+    let own = cells(number, 1);
+    [
+        Line::Async(Form::EnterData, Clause::Create, own, value(async_value)),
+        Line::WaitAll(Target::Plain),
+        Line::Print(own),
+    ]
 }
 
 /// The others go on, each with its own cell, and see what the others placed.
 #[test]
 fn one_of_eight_hosts_is_refused(rt: HostRuntime) -> Result<(), Fail> {
-    let alloc = rt.alloc();
     let setting = Setting {
         arrays: &[&[1, 2, 3, 4, 5, 6, 7, 8]],
         ..SMALL
     };
-    let mut world = world_of_eight(alloc, &setting)?;
-    for _ in 0..20u32 {
-        for number in 1..8u8 {
-            let _ = reply_to(&mut world, Event::Host(HostId::new(number)));
-        }
-        turn(&mut world, 1);
-    }
+    // the fourth names no queue
+    let hosts: [&[Line]; 8] = [
+        &worker(0, 0),
+        &worker(1, 1),
+        &worker(2, 2),
+        &worker(3, -5),
+        &worker(4, 3),
+        &worker(5, 4),
+        &worker(6, 5),
+        &worker(7, 6),
+    ];
+    let mut world = world_of(rt.alloc(), &setting, &hosts)?;
+    turns(&mut world, 20);
     let bad = refused(0, Fault::BadAsync);
     let states = [
         FINISHED, FINISHED, FINISHED, bad, FINISHED, FINISHED, FINISHED, FINISHED,
     ];
+    let present = [
+        (cells(0, 1), 0, 1),
+        (cells(1, 1), 0, 1),
+        (cells(2, 1), 0, 1),
+        (cells(4, 1), 0, 1),
+        (cells(5, 1), 0, 1),
+        (cells(6, 1), 0, 1),
+        (cells(7, 1), 0, 1),
+    ];
     check_states(&rt, &world, &states);
-    assert_eq!(rt; prints_of(alloc, &world)?.len(), 7);
+    check_prints(
+        &rt,
+        world.log(),
+        &[&[1], &[2], &[3], &[5], &[6], &[7], &[8]],
+    );
     check_queue(&rt, &world, on(0), 2, 2, 2);
     check_queue(&rt, &world, on(5), 1, 1, 1);
-    assert_eq!(rt; world.devices(), 1);
-    let refused_cell = Range {
-        array: 0,
-        lo: 3,
-        len: 1,
-    };
-    assert!(rt; world.counters(DeviceId::new(0), refused_cell).is_none());
+    check_present(&rt, &world, 0, &present);
     Ok(())
 }

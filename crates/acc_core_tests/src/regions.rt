@@ -1,5 +1,6 @@
 use crate::case::{Case, check};
-use crate::fixtures::{ALL, COUNTED, END, FINISHED, Line, ZEROS, cells, refused};
+use crate::fixtures::{ALL, BOTH, COUNTED, FINISHED, ZEROS, cells, refused};
+use crate::lines::{END, Line};
 use acc_base::Fault;
 use acc_core::Clause;
 use acc_forms::{EXIT, Form, Operation, copy_in, copy_out, create, make, release};
@@ -8,25 +9,24 @@ use std::test::Fail;
 /// The inner one is only counted, so what the host wrote is copied over at the outer one's end.
 #[test]
 fn the_outer_region_copies_out(rt: HostRuntime) -> Result<(), Fail> {
-    let both = cells(0, 2);
     let case = Case {
         arrays: &[&[1, 2]],
         capacity: 2,
         lines: &[
-            Line::One(Form::Data, Clause::Copy, both),
+            Line::One(Form::Data, Clause::Copy, BOTH),
             Line::One(Form::Data, Clause::Copyout, cells(0, 1)),
             END,
             Line::Write(0, 5),
             END,
-            Line::Print(both),
+            Line::Print(BOTH),
         ],
         did: 14,
         present: &[],
         batches: 2,
         operations: &[
-            make(1, both),
-            copy_in(1, both),
-            copy_out(1, both),
+            make(1, BOTH),
+            copy_in(1, BOTH),
+            copy_out(1, BOTH),
             release(1),
         ],
         state: FINISHED,

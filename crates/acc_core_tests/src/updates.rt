@@ -1,5 +1,6 @@
 use crate::case::{Case, check};
-use crate::fixtures::{ALL, COUNTED, FINISHED, Line, cells, refused};
+use crate::fixtures::{ALL, BOTH, COUNTED, FINISHED, cells, refused};
+use crate::lines::Line;
 use acc_base::Fault;
 use acc_core::Clause;
 use acc_forms::{EXIT, Form, UPDATE, UPDATE_IF_PRESENT, copy_in, copy_out, item, make};
@@ -7,14 +8,13 @@ use std::test::Fail;
 
 #[test]
 fn an_absent_range_is_no_exit_and_no_update(rt: HostRuntime) -> Result<(), Fail> {
-    let both = cells(0, 2);
     let case = Case {
         arrays: &[&[3, 4]],
         capacity: 2,
         lines: &[
-            Line::One(EXIT, Clause::Copyout, both),
-            Line::One(UPDATE_IF_PRESENT, Clause::UpdateSelf, both),
-            Line::One(UPDATE, Clause::UpdateSelf, both),
+            Line::One(EXIT, Clause::Copyout, BOTH),
+            Line::One(UPDATE_IF_PRESENT, Clause::UpdateSelf, BOTH),
+            Line::One(UPDATE, Clause::UpdateSelf, BOTH),
         ],
         did: 2,
         present: &[],

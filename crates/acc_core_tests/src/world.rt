@@ -1,16 +1,13 @@
 use crate::case::check_places;
-use crate::fixtures::{
-    ALL, COUNTED, FINISHED, Line, ZEROS, cells, host, perform, performed, place, printed, refused,
-    reply_to, seen, statement, take, turns, world_of, world_over, world_with,
-};
-use acc_base::{Config, DeviceId, Fault, HostId, Listed, Range};
-use acc_core::{
-    Clause, Event, HostProgram, HostState, Item, Outcome, Reply, Statement, Totals, WorkEntry,
-    World,
-};
+use crate::checks::{check_idle, check_present, check_queue, check_replies, check_states};
+use crate::fixtures::{ALL, COUNTED, FINISHED, ZEROS, cells, host, other, perform, refused, take};
+use crate::lines::Line;
+use crate::log::{performed, printed, seen};
+use crate::worlds::{FOUR, Setting, turns, world_of};
+use acc_base::{DeviceId, Fault, HostId, Range};
+use acc_core::{Clause, Event, HostState, Outcome, Reply, WorkEntry, World};
 use acc_forms::{
-    EXIT, Form, Operation, copy_in, copy_out, copyin, create, item, make, over, queue, release,
-    run, sync, used,
+    EXIT, Form, Operation, copy_in, copy_out, copyin, create, make, over, release, run, sync, used,
 };
 use acc_parts::Body;
 use std::alloc::{AllocError, Global};
@@ -49,7 +46,7 @@ fn events_of(alloc: Global, run: &Run) -> Result<Vec<Event>, AllocError> {
     Ok(events)
 }
 
-fn check_replies(rt: &impl Abort, replies: &[Reply], run: &Run) {
+fn check_all_replies(rt: &impl Abort, replies: &[Reply], run: &Run) {
     assert_eq!(rt; replies.len(), run.events.len());
     for (reply, (event, wanted)) in replies.iter().zip(run.events) {
         assert_eq!(rt; *reply, *wanted, "{event:?}");
@@ -105,25 +102,32 @@ fn check_outcome(rt: &impl Abort, alloc: Global, outcome: &Outcome, run: &Run) -
 fn check_world(rt: &impl Abort, alloc: Global, world: World, run: &Run) -> Result<(), Fail> {
     check_counters(rt, &world, run);
     check_log(rt, world.log(), run);
-    assert_eq!(rt; world.state(HostId::new(0)), Some(run.state));
+    check_states(rt, &world, &[run.state]);
     assert_eq!(rt; world.state(HostId::new(1)), None);
-    let totals = Totals {
-        batches: run.batches,
-        operations: run.operations,
-        performed: run.operations,
-    };
-    assert_eq!(rt; world.totals(sync()), totals);
+    check_queue(
+        rt,
+        &world,
+        sync(),
+        run.batches,
+        run.operations,
+        run.operations,
+    );
     check_outcome(rt, alloc, &world.outcome(), run)
 }
 
 // With replies and without.
 fn check(rt: &impl Abort, alloc: Global, run: &Run) -> Result<(), Fail> {
     let events = events_of(alloc, run)?;
-    let mut world = world_over(alloc, run.arrays, 8, run.lines)?;
+    let setting = Setting {
+        arrays: run.arrays,
+        capacity: 8,
+        ..FOUR
+    };
+    let mut world = world_of(alloc, &setting, &[run.lines])?;
     let replies = world.run(events.as_slice())?;
-    check_replies(rt, replies.as_slice(), run);
+    check_all_replies(rt, replies.as_slice(), run);
     check_world(rt, alloc, world, run)?;
-    let mut world = world_over(alloc, run.arrays, 8, run.lines)?;
+    let mut world = world_of(alloc, &setting, &[run.lines])?;
     world.advance(events.as_slice());
     check_world(rt, alloc, world, run)
 }
@@ -301,74 +305,63 @@ fn seventeen_ranges_are_too_many(rt: HostRuntime) -> Result<(), Fail> {
     check(&rt, rt.alloc(), &run)
 }
 
-// Neither a batch is taken from the queue nor an operation performed there.
-fn check_unused(rt: &impl Abort, world: &mut World, device: u8, number: u8) {
-    let taken = reply_to(world, Event::Take(queue(device, number)));
-    let performed = reply_to(world, Event::Perform(queue(device, number)));
-    assert_eq!(rt; (taken, performed), (Reply::Idle, Reply::Idle));
-}
-
 #[test]
 fn nothing_happens_on_queues_and_hosts_that_are_not_used(rt: HostRuntime) -> Result<(), Fail> {
     let lines = [Line::One(Form::EnterData, Clause::Copyin, ALL)];
-    let mut world = world_of(rt.alloc(), &lines)?;
-    assert_eq!(rt; reply_to(&mut world, host()), Reply::Did);
-    for number in 1..8u8 {
-        check_unused(&rt, &mut world, 0, number);
-    }
-    check_unused(&rt, &mut world, 1, 0);
-    assert_eq!(rt;
-        reply_to(&mut world, Event::Host(HostId::new(1))),
-        Reply::Idle
-    );
-    assert_eq!(rt; reply_to(&mut world, take()), Reply::Did);
+    let mut world = world_of(rt.alloc(), &FOUR, &[&lines])?;
+    check_replies(&rt, &mut world, &[(host(), Reply::Did)]);
+    let others = [
+        (0, 1),
+        (0, 2),
+        (0, 3),
+        (0, 4),
+        (0, 5),
+        (0, 6),
+        (0, 7),
+        (1, 0),
+    ];
+    check_idle(&rt, &mut world, &others);
+    let events = [(other(), Reply::Idle), (take(), Reply::Did)];
+    check_replies(&rt, &mut world, &events);
     Ok(())
 }
 
-// Sixteen ranges of a thousand cells each.
-fn sixteen_ranges(alloc: Global, clause: Clause) -> Result<Vec<Item>, AllocError> {
-    let mut items = Vec::new(alloc);
-    for number in 0..16u32 {
-        items.push(item(clause, cells(number * 1_000, 1_000)))?;
-    }
-    Ok(items)
-}
-
-// They enter and leave so often.
-fn rounds_of(alloc: Global, count: u32) -> Result<Vec<Statement>, Fault> {
-    let mut statements = Vec::new(alloc);
+// Sixteen ranges of a thousand cells each enter and leave so often.
+fn rounds_of(alloc: Global, count: u32) -> Result<Vec<Line>, AllocError> {
+    let mut lines = Vec::new(alloc);
     for _ in 0..count {
-        let entered = sixteen_ranges(alloc, Clause::Copyin)?;
-        statements.push(statement(0, place(alloc, Form::EnterData, entered.as_slice())?))?;
-        let left = sixteen_ranges(alloc, Clause::Copyout)?;
-        statements.push(statement(0, place(alloc, EXIT, left.as_slice())?))?;
+        lines.push(Line::Each(Form::EnterData, Clause::Copyin, 16, 1_000))?;
+        lines.push(Line::Each(EXIT, Clause::Copyout, 16, 1_000))?;
     }
-    Ok(statements)
+    Ok(lines)
 }
 
 // One of their directives is placed and performed.
 fn perform_round(rt: &impl Abort, world: &mut World) {
-    assert_eq!(rt; reply_to(world, host()), Reply::Did);
-    assert_eq!(rt; reply_to(world, take()), Reply::Did);
+    check_replies(rt, world, &[(host(), Reply::Did), (take(), Reply::Did)]);
     for _ in 0..32u32 {
-        assert_eq!(rt; reply_to(world, perform()), Reply::Did);
+        check_replies(rt, world, &[(perform(), Reply::Did)]);
     }
-    assert_eq!(rt; reply_to(world, perform()), Reply::Idle);
-    assert_eq!(rt; reply_to(world, host()), Reply::Did);
+    check_replies(rt, world, &[(perform(), Reply::Idle), (host(), Reply::Did)]);
 }
 
 #[test]
 fn three_hundred_rounds_of_sixteen_ranges(rt: HostRuntime) -> Result<(), Fail> {
     let alloc = rt.alloc();
-    let statements = rounds_of(alloc, 300)?;
-    let arrays = vec![in alloc; vec![in alloc; 5i64; 16_000]?]?;
-    let mut world = world_with(alloc, arrays, 16_000, statements)?;
+    let lines = rounds_of(alloc, 300)?;
+    let fives = vec![in alloc; 5i64; 16_000]?;
+    let setting = Setting {
+        arrays: &[fives.as_slice()],
+        capacity: 16_000,
+        ..FOUR
+    };
+    let mut world = world_of(alloc, &setting, &[lines.as_slice()])?;
     for _ in 0..600u32 {
         perform_round(&rt, &mut world);
     }
-    assert_eq!(rt; world.step(host()), Reply::Idle);
+    check_replies(&rt, &mut world, &[(host(), Reply::Idle)]);
     assert_eq!(rt; world.devices(), 1);
-    assert_eq!(rt; world.nth(DeviceId::new(0), 0).copied(), None);
+    check_present(&rt, &world, 0, &[]);
     let outcome = world.outcome();
     assert_eq!(rt; outcome.places.len(), 600);
     assert_eq!(rt; outcome.works.len(), 600 * 33);
@@ -382,11 +375,11 @@ fn eleven_hundred_entries_of_one_range(rt: HostRuntime) -> Result<(), Fail> {
     let alloc = rt.alloc();
     let enter = Line::One(Form::EnterData, Clause::Copyin, ALL);
     let lines = vec![in alloc; enter; 1_100]?;
-    let mut world = world_of(alloc, lines.as_slice())?;
+    let mut world = world_of(alloc, &FOUR, &[lines.as_slice()])?;
     turns(&mut world, 1_110);
-    assert_eq!(rt; world.state(HostId::new(0)), Some(FINISHED));
+    check_states(&rt, &world, &[FINISHED]);
     assert_eq!(rt; world.devices(), 1);
-    assert_eq!(rt; world.counters(DeviceId::new(0), ALL), Some((0, 1_100)));
+    check_present(&rt, &world, 0, &[(ALL, 0, 1_100)]);
     let outcome = world.outcome();
     assert_eq!(rt; outcome.places.len(), 1_100);
     assert_eq!(rt; outcome.works.len(), 3);
