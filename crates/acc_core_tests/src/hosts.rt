@@ -84,18 +84,21 @@ fn a_copied_program_runs_alike(rt: HostRuntime) -> Result<(), Fail> {
     Ok(())
 }
 
+// A host that is refused from outside, and then stands so.
+fn check_refusal(rt: &impl Abort, host: &mut Host, fault: Fault, state: HostState) {
+    host.refuse(fault);
+    assert_eq!(rt; host.state(), state);
+}
+
 /// It stands at its next statement then, and stays so.
 #[test]
 fn a_host_is_refused_from_outside(rt: HostRuntime) -> Result<(), Fail> {
-    let alloc = rt.alloc();
-    let mut running = Host::new(program_of(alloc, 0, LINES)?);
+    let mut running = Host::new(program_of(rt.alloc(), 0, LINES)?);
     assert_eq!(rt; running.state(), HostState::Running { ended: 0 });
-    running.refuse(Fault::Memory);
-    assert_eq!(rt; running.state(), refused(0, Fault::Memory));
-    running.refuse(Fault::QueueFull);
-    assert_eq!(rt; running.state(), refused(0, Fault::Memory));
-    let mut finished = Host::new(program_of(alloc, 0, &[])?);
-    finished.refuse(Fault::Memory);
-    assert_eq!(rt; finished.state(), FINISHED);
+    let state = refused(0, Fault::Memory);
+    check_refusal(&rt, &mut running, Fault::Memory, state);
+    check_refusal(&rt, &mut running, Fault::QueueFull, state);
+    let mut finished = Host::new(program_of(rt.alloc(), 0, &[])?);
+    check_refusal(&rt, &mut finished, Fault::Memory, FINISHED);
     Ok(())
 }
