@@ -28,6 +28,8 @@ mod races;
 #[cfg(test)]
 mod regions;
 #[cfg(test)]
+mod stuck;
+#[cfg(test)]
 mod updates;
 #[cfg(test)]
 mod world;
