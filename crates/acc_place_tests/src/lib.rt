@@ -21,3 +21,5 @@ mod plans;
 mod queues;
 #[cfg(test)]
 mod refused;
+#[cfg(test)]
+mod tables;

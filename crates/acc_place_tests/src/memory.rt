@@ -1,31 +1,39 @@
 use crate::fixtures::{
-    Shown, Step, a, accept_each, accepted, answer, b, check_batch, check_present, entry, place_of,
-    planned, shown_by, synchronous,
+    Shown, accept_each, accepted, answer, check_batch, check_present, place_of, planned, shown_by,
+    synchronous,
 };
+use crate::tables::Cells::{A, B};
+use crate::tables::Deed::{In, Make, Out, Release, Run};
+use crate::tables::Step;
+use crate::tables::Word::{Ask, Data, End, Enter, Exit, Finalize, Over, Update};
 use acc_base::{Config, Fault, HostId};
-use acc_forms::{
-    EXIT, FINALIZE, Form, UPDATE, copy, copy_in, copy_out, copyin, copyout, create, delete, item,
-    make, over, present, release, run, sync, used,
-};
+use acc_forms::sync;
 use acc_parts::Body;
-use acc_place::{Clause, Directive, Place, Placed, Plan};
+use acc_place::Clause::{Copy, Copyin, Copyout, Create, Delete, Present, UpdateDevice, UpdateSelf};
+use acc_place::{Directive, Place, Placed, Plan};
 use acc_scarce::{Hoard, at_each_amount};
 use std::alloc::Global;
 use std::process::Abort;
 use std::test::Fail;
 
+fn new_place(alloc: Global) -> Result<Place, Fault> {
+    let config = Config::new(1, 0, Vec::new(alloc), 12, 64)?;
+    Place::new(alloc, config)
+}
+
+fn check_new_place(rt: &impl Abort, place: &Place) {
+    assert!(rt; place.config().capacity() == 12);
+    assert!(rt; place.history().is_empty());
+    assert!(rt; place.placed_count(sync()) == 0);
+    check_present(rt, place, &[]);
+}
+
 #[test]
 fn a_new_place_is_refused_until_there_is_memory(rt: HostRuntime) -> Result<(), Fail> {
     let alloc = rt.alloc();
-    let (refusals, place) = at_each_amount(alloc, || {
-        let config = Config::new(1, 0, Vec::new(alloc), 12, 64)?;
-        Place::new(alloc, config)
-    })?;
+    let (refusals, place) = at_each_amount(alloc, || new_place(alloc))?;
     assert!(rt; 1 < refusals);
-    assert_eq!(rt; place.config().capacity(), 12);
-    assert_eq!(rt; place.history().len(), 0);
-    assert_eq!(rt; place.placed_count(sync()), 0);
-    check_present(&rt, &place, &[]);
+    check_new_place(&rt, &place);
     Ok(())
 }
 
@@ -43,21 +51,25 @@ fn accepted_scarcely(
     Ok(placed)
 }
 
+// Three ranges enter a new place so.
+fn check_accepting(rt: &impl Abort, alloc: Global, place: &mut Place) -> Result<(), Fault> {
+    let items = [(Copyin, A(4, 4)), (Copyin, A(0, 4)), (Copyin, B(0, 4))];
+    let directive = synchronous(alloc, 0, Enter, &items)?;
+    let placed = accepted_scarcely(alloc, place, &directive)?;
+    assert!(rt; placed == answer(Some((sync(), 1)), false));
+    Ok(())
+}
+
 #[test]
 fn accepting_takes_no_memory(rt: HostRuntime) -> Result<(), Fail> {
-    let alloc = rt.alloc();
-    let items = [copyin(a(4, 4)), copyin(a(0, 4)), copyin(b(0, 4))];
-    let directive = synchronous(alloc, 0, Form::EnterData, &items)?;
-    let mut place = place_of(alloc, 12)?;
-    let placed = accepted_scarcely(alloc, &mut place, &directive)?;
-    assert_eq!(rt; placed, answer(Some((sync(), 1)), false));
-    let present = [
-        entry(a(0, 4), 2, 0, 1),
-        entry(a(4, 4), 1, 0, 1),
-        entry(b(0, 4), 3, 0, 1),
-    ];
-    check_present(&rt, &place, &present);
-    assert_eq!(rt; place.history().len(), 1);
+    let mut place = place_of(rt.alloc(), 12)?;
+    check_accepting(&rt, rt.alloc(), &mut place)?;
+    check_present(
+        &rt,
+        &place,
+        &[(A(0, 4), 2, 0, 1), (A(4, 4), 1, 0, 1), (B(0, 4), 3, 0, 1)],
+    );
+    assert!(rt; place.history().len() == 1);
     Ok(())
 }
 
@@ -85,6 +97,12 @@ fn try_plan(
     answer
 }
 
+fn check_tries(rt: &impl Abort, tries: Tried, refusals: u32) {
+    assert!(rt; 8 < refusals, "{refusals} refusals");
+    assert!(rt; tries.times == refusals.wrapping_add(1));
+    assert!(rt; tries.changes == 0);
+}
+
 // Plans a host's directive with each amount of memory: as long as it is refused, the place shows what it showed.
 pub fn plan_at_each_amount(
     rt: &impl Abort,
@@ -101,19 +119,19 @@ pub fn plan_at_each_amount(
     let (refusals, plan) = at_each_amount(alloc, || {
         try_plan(rt, place, host, directive, &shown, &mut tries)
     })?;
-    assert!(rt; 8 < refusals, "{refusals} refusals");
-    assert_eq!(rt; tries.times, refusals.wrapping_add(1));
-    assert_eq!(rt; tries.changes, 0);
+    check_tries(rt, tries, refusals);
     Ok(plan)
 }
 
 // The answer to a step: its batch, with this number, or to a question that the range is present.
 fn answer_to(step: &Step, number: u64) -> Placed {
-    if step.ops.is_empty() {
-        answer(None, true)
+    let is_question = step.ops.is_empty();
+    let batch = if is_question {
+        None
     } else {
-        answer(Some((sync(), number)), false)
-    }
+        Some((sync(), number))
+    };
+    answer(batch, is_question)
 }
 
 // Accepts a step, whose batch has this number.
@@ -124,134 +142,131 @@ fn check_accepted(
     step: &Step,
     number: u64,
 ) -> Result<(), Fault> {
-    let directive = synchronous(alloc, 0, step.form, step.items)?;
-    let placed = accepted(place, step.host, &directive)?;
-    assert_eq!(rt; placed, answer_to(step, number));
+    let placed = accepted(alloc, place, step.host, 0, step.word, step.items)?;
+    assert!(rt; placed == answer_to(step, number));
     check_present(rt, place, step.present);
     Ok(())
 }
 
-// Behind the steps before it, which have so many batches, the last one is planned once there is memory, and then
-// accepted by a plan of its own.
-fn check(
+// A step, behind so many others that each have a batch, is planned once there is memory.
+fn check_plan(
     rt: &impl Abort,
     alloc: Global,
-    before: &[Step],
-    batches: u64,
-    last: &Step,
+    place: &mut Place,
+    step: &Step,
+    before: u64,
 ) -> Result<(), Fault> {
-    let mut place = place_of(alloc, 12)?;
-    accept_each(alloc, &mut place, before)?;
-    assert_eq!(rt; place.placed_count(sync()), batches);
-    let number = batches.wrapping_add(1);
-    let directive = synchronous(alloc, 0, last.form, last.items)?;
-    let mut plan = plan_at_each_amount(rt, alloc, &mut place, last.host, &directive)?;
-    check_batch(rt, plan.take_batch(), last, number, before.len() as u64);
-    check_accepted(rt, alloc, &mut place, last, number)
+    let directive = synchronous(alloc, 0, step.word, step.items)?;
+    let mut plan = plan_at_each_amount(rt, alloc, place, step.host, &directive)?;
+    check_batch(rt, plan.take_batch(), step, before.wrapping_add(1), before);
+    Ok(())
 }
+
+/// Steps that each have a batch, and one behind them.
+type Last = (&'static [Step], Step);
+
+// The last step is planned once there is memory, and then accepted by a plan of its own.
+fn check_last(rt: &impl Abort, alloc: Global, case: &Last) -> Result<(), Fault> {
+    let (steps, last) = case;
+    let before = steps.len() as u64;
+    let mut place = place_of(alloc, 12)?;
+    accept_each(alloc, &mut place, steps)?;
+    assert!(rt; place.placed_count(sync()) == before);
+    check_plan(rt, alloc, &mut place, last, before)?;
+    check_accepted(rt, alloc, &mut place, last, before.wrapping_add(1))
+}
+
+fn check(rt: &impl Abort, alloc: Global, cases: &[Last]) -> Result<(), Fail> {
+    for case in cases {
+        check_last(rt, alloc, case)?;
+    }
+    Ok(())
+}
+
+/// A data construct is entered.
+const OUTER: Step = Step {
+    host: 0,
+    word: Data,
+    items: &[(Copy, A(0, 3)), (Create, B(2, 2))],
+    ops: &[Make(1, A(0, 3)), Make(2, B(2, 2)), In(1, A(0, 3))],
+    present: &[(A(0, 3), 1, 1, 0), (B(2, 2), 2, 1, 0)],
+};
 
 /// On a new place, and on one that has spare memory from the directives that it accepted.
 #[test]
 fn plans_are_refused_until_there_is_memory(rt: HostRuntime) -> Result<(), Fail> {
-    let enter = Step {
+    const ENTER: Step = Step {
         host: 0,
-        form: Form::EnterData,
-        items: &[copyin(a(0, 3)), copyin(a(1, 1)), copyin(b(2, 2))],
+        word: Enter,
+        items: &[(Copyin, A(0, 3)), (Copyin, A(1, 1)), (Copyin, B(2, 2))],
         ops: &[
-            make(1, a(0, 3)),
-            make(2, b(2, 2)),
-            copy_in(1, a(0, 3)),
-            copy_in(2, b(2, 2)),
+            Make(1, A(0, 3)),
+            Make(2, B(2, 2)),
+            In(1, A(0, 3)),
+            In(2, B(2, 2)),
         ],
-        present: &[entry(a(0, 3), 1, 0, 2), entry(b(2, 2), 2, 0, 1)],
+        present: &[(A(0, 3), 1, 0, 2), (B(2, 2), 2, 0, 1)],
     };
-    let exit = Step {
+    const EXIT: Step = Step {
         host: 1,
-        form: EXIT,
-        items: &[copyout(b(2, 2)), delete(a(0, 1)), copyout(a(1, 1))],
-        ops: &[
-            copy_out(2, b(2, 2)),
-            copy_out(1, a(1, 1)),
-            release(2),
-            release(1),
-        ],
+        word: Exit,
+        items: &[(Copyout, B(2, 2)), (Delete, A(0, 1)), (Copyout, A(1, 1))],
+        ops: &[Out(2, B(2, 2)), Out(1, A(1, 1)), Release(2), Release(1)],
         present: &[],
     };
-    check(&rt, rt.alloc(), &[], 0, &enter)?;
-    check(&rt, rt.alloc(), &[enter], 1, &exit)?;
-    Ok(())
+    const CASES: &[Last] = &[(&[], ENTER), (&[ENTER], EXIT)];
+    check(&rt, rt.alloc(), CASES)
 }
 
 /// The same of a data construct and its end.
 #[test]
 fn plans_of_regions_are_refused_until_there_is_memory(rt: HostRuntime) -> Result<(), Fail> {
-    let outer = Step {
+    const INNER: Step = Step {
         host: 0,
-        form: Form::Data,
-        items: &[copy(a(0, 3)), create(b(2, 2))],
-        ops: &[make(1, a(0, 3)), make(2, b(2, 2)), copy_in(1, a(0, 3))],
-        present: &[entry(a(0, 3), 1, 1, 0), entry(b(2, 2), 2, 1, 0)],
+        word: Data,
+        items: &[(Copyout, A(1, 1)), (Copyin, B(0, 2))],
+        ops: &[Make(3, B(0, 2)), In(3, B(0, 2))],
+        present: &[(A(0, 3), 1, 2, 0), (B(0, 2), 3, 1, 0), (B(2, 2), 2, 1, 0)],
     };
-    let inner = Step {
+    const END: Step = Step {
         host: 0,
-        form: Form::Data,
-        items: &[copyout(a(1, 1)), copyin(b(0, 2))],
-        ops: &[make(3, b(0, 2)), copy_in(3, b(0, 2))],
-        present: &[
-            entry(a(0, 3), 1, 2, 0),
-            entry(b(0, 2), 3, 1, 0),
-            entry(b(2, 2), 2, 1, 0),
-        ],
-    };
-    let end = Step {
-        host: 0,
-        form: Form::EndData,
+        word: End,
         items: &[],
-        ops: &[copy_out(1, a(0, 3)), release(1), release(2)],
+        ops: &[Out(1, A(0, 3)), Release(1), Release(2)],
         present: &[],
     };
-    check(&rt, rt.alloc(), &[], 0, &outer)?;
-    check(&rt, rt.alloc(), &[outer], 1, &inner)?;
-    check(&rt, rt.alloc(), &[outer], 1, &end)?;
-    Ok(())
+    const CASES: &[Last] = &[(&[], OUTER), (&[OUTER], INNER), (&[OUTER], END)];
+    check(&rt, rt.alloc(), CASES)
 }
 
 /// The same of loops: with clauses and an implicit item, and in a data construct.
 #[test]
 fn plans_of_loops_are_refused_until_there_is_memory(rt: HostRuntime) -> Result<(), Fail> {
-    let outer = Step {
+    const ALONE: Step = Step {
         host: 0,
-        form: Form::Data,
-        items: &[copy(a(0, 3)), create(b(2, 2))],
-        ops: &[make(1, a(0, 3)), make(2, b(2, 2)), copy_in(1, a(0, 3))],
-        present: &[entry(a(0, 3), 1, 1, 0), entry(b(2, 2), 2, 1, 0)],
-    };
-    let alone = Step {
-        host: 0,
-        form: over(0, 3, Body::Next),
-        items: &[copyin(a(1, 3))],
+        word: Over(0, 3, Body::Next),
+        items: &[(Copyin, A(1, 3))],
         ops: &[
-            make(1, a(1, 3)),
-            make(2, b(0, 4)),
-            copy_in(1, a(1, 3)),
-            copy_in(2, b(0, 4)),
-            run(&[used(2, b(0, 4)), used(1, a(1, 3))]),
-            copy_out(2, b(0, 4)),
-            release(1),
-            release(2),
+            Make(1, A(1, 3)),
+            Make(2, B(0, 4)),
+            In(1, A(1, 3)),
+            In(2, B(0, 4)),
+            Run(&[(2, B(0, 4)), (1, A(1, 3))]),
+            Out(2, B(0, 4)),
+            Release(1),
+            Release(2),
         ],
         present: &[],
     };
-    let inside = Step {
+    const INSIDE: Step = Step {
         host: 0,
-        form: over(0, 3, Body::Counted),
+        word: Over(0, 3, Body::Counted),
         items: &[],
-        ops: &[run(&[used(1, a(0, 3))])],
-        present: outer.present,
+        ops: &[Run(&[(1, A(0, 3))])],
+        present: &[(A(0, 3), 1, 1, 0), (B(2, 2), 2, 1, 0)],
     };
-    check(&rt, rt.alloc(), &[], 0, &alone)?;
-    check(&rt, rt.alloc(), &[outer], 1, &inside)?;
-    Ok(())
+    const CASES: &[Last] = &[(&[], ALONE), (&[OUTER], INSIDE)];
+    check(&rt, rt.alloc(), CASES)
 }
 
 /// The same of updates, of an exit that ends all entries, and of a question, which has no batch.
@@ -259,39 +274,38 @@ fn plans_of_loops_are_refused_until_there_is_memory(rt: HostRuntime) -> Result<(
 fn plans_of_updates_and_questions_are_refused_until_there_is_memory(
     rt: HostRuntime,
 ) -> Result<(), Fail> {
-    let enter = Step {
+    const ENTER: Step = Step {
         host: 0,
-        form: Form::EnterData,
-        items: &[copyin(a(0, 3)), copyin(a(1, 1))],
-        ops: &[make(1, a(0, 3)), copy_in(1, a(0, 3))],
-        present: &[entry(a(0, 3), 1, 0, 2)],
+        word: Enter,
+        items: &[(Copyin, A(0, 3)), (Copyin, A(1, 1))],
+        ops: &[Make(1, A(0, 3)), In(1, A(0, 3))],
+        present: &[(A(0, 3), 1, 0, 2)],
     };
-    let update = Step {
+    const UPDATE: Step = Step {
         host: 1,
-        form: UPDATE,
-        items: &[
-            item(Clause::UpdateSelf, a(0, 1)),
-            item(Clause::UpdateDevice, a(1, 2)),
-        ],
-        ops: &[copy_out(1, a(0, 1)), copy_in(1, a(1, 2))],
-        present: enter.present,
+        word: Update,
+        items: &[(UpdateSelf, A(0, 1)), (UpdateDevice, A(1, 2))],
+        ops: &[Out(1, A(0, 1)), In(1, A(1, 2))],
+        present: &[(A(0, 3), 1, 0, 2)],
     };
-    let finalize = Step {
+    const FINALIZE: Step = Step {
         host: 0,
-        form: FINALIZE,
-        items: &[copyout(a(1, 2))],
-        ops: &[copy_out(1, a(1, 2)), release(1)],
+        word: Finalize,
+        items: &[(Copyout, A(1, 2))],
+        ops: &[Out(1, A(1, 2)), Release(1)],
         present: &[],
     };
-    let question = Step {
+    const QUESTION: Step = Step {
         host: 0,
-        form: Form::IsPresent,
-        items: &[present(a(2, 1))],
+        word: Ask,
+        items: &[(Present, A(2, 1))],
         ops: &[],
-        present: enter.present,
+        present: &[(A(0, 3), 1, 0, 2)],
     };
-    for last in [update, finalize, question] {
-        check(&rt, rt.alloc(), &[enter], 1, &last)?;
-    }
-    Ok(())
+    const CASES: &[Last] = &[
+        (&[ENTER], UPDATE),
+        (&[ENTER], FINALIZE),
+        (&[ENTER], QUESTION),
+    ];
+    check(&rt, rt.alloc(), CASES)
 }

@@ -1,12 +1,22 @@
 ghost use Rattle.std.specs.Prelude.{IfOk};
 ghost use Rattle.acc_place.specs.Plans.{IsPlanOf};
 
-use crate::fixtures::{Step, a, answer, check_batch, check_present, entry, place_of, synchronous};
+use crate::fixtures::{answer, check_batch, check_present, place_of, synchronous};
+use crate::tables::Cells::A;
+use crate::tables::Deed::{In, Make};
+use crate::tables::Step;
+use crate::tables::Word::Enter;
 use acc_base::{Fault, HostId};
-use acc_forms::{Form, copy_in, copyin, make, sync};
-use acc_place::{Directive, Place, Plan, plans_are_kept};
+use acc_forms::sync;
+use acc_place::Clause::Copyin;
+use acc_place::{Directive, Place, Placed, Plan, plans_are_kept};
+use std::alloc::Global;
 use std::process::Abort;
 use std::test::Fail;
+
+fn is_batch(placed: Placed, number: u64) -> bool {
+    placed == answer(Some((sync(), number)), false)
+}
 
 // Plans two directives and accepts the second: the plan of the first, which doesn't fit any more.
 fn left_behind(
@@ -22,7 +32,7 @@ fn left_behind(
     let other = place.plan(HostId::new(0), 3, second)?;
     assert!(rt; one.fits(place));
     assert!(rt; other.fits(place));
-    assert_eq!(rt; place.accept(other), answer(Some((sync(), 1)), false));
+    assert!(rt; is_batch(place.accept(other), 1));
     assert!(rt; !one.fits(place));
     Ok(one)
 }
@@ -42,26 +52,40 @@ fn check_anew(
     assert!(rt; !before.fits(place));
     assert!(rt; anew.fits(place));
     check_batch(rt, anew.take_batch(), step, 2, 1);
-    assert_eq!(rt; place.accept(anew), answer(Some((sync(), 2)), false));
+    assert!(rt; is_batch(place.accept(anew), 2));
     Ok(())
+}
+
+/// It enters behind another range, which the first block is of.
+const STEP: Step = Step {
+    host: 0,
+    word: Enter,
+    items: &[(Copyin, A(0, 4))],
+    ops: &[Make(2, A(0, 4)), In(2, A(0, 4))],
+    present: &[(A(0, 4), 2, 0, 1), (A(4, 4), 1, 0, 1)],
+};
+
+fn check(
+    rt: &impl Abort,
+    place: &mut Place,
+    one: &Directive,
+    other: &Directive,
+) -> Result<(), Fault> {
+    let before = left_behind(rt, place, one, other)?;
+    check_anew(rt, place, one, &before, &STEP)
+}
+
+fn check_in(rt: &impl Abort, alloc: Global, place: &mut Place) -> Result<(), Fault> {
+    let one = synchronous(alloc, 0, STEP.word, STEP.items)?;
+    let other = synchronous(alloc, 0, Enter, &[(Copyin, A(4, 4))])?;
+    check(rt, place, &one, &other)
 }
 
 /// A plan that was made before another directive was accepted has that one's block and number, and doesn't fit.
 #[test]
 fn a_plan_fits_until_another_directive_is_accepted(rt: HostRuntime) -> Result<(), Fail> {
-    let alloc = rt.alloc();
-    let one = synchronous(alloc, 0, Form::EnterData, &[copyin(a(0, 4))])?;
-    let other = synchronous(alloc, 0, Form::EnterData, &[copyin(a(4, 4))])?;
-    let mut place = place_of(alloc, 12)?;
-    let before = left_behind(&rt, &mut place, &one, &other)?;
-    let step = Step {
-        host: 0,
-        form: Form::EnterData,
-        items: &[copyin(a(0, 4))],
-        ops: &[make(2, a(0, 4)), copy_in(2, a(0, 4))],
-        present: &[entry(a(0, 4), 2, 0, 1), entry(a(4, 4), 1, 0, 1)],
-    };
-    check_anew(&rt, &mut place, &one, &before, &step)?;
-    check_present(&rt, &place, step.present);
+    let mut place = place_of(rt.alloc(), 12)?;
+    check_in(&rt, rt.alloc(), &mut place)?;
+    check_present(&rt, &place, STEP.present);
     Ok(())
 }

@@ -1,31 +1,47 @@
-use crate::fixtures::{
-    Shown, Step, a, accept_each, b, given, place_of, planned, shown_by, synchronous,
-};
-use acc_base::{Fault, Range};
-use acc_forms::{
-    EXIT, FINALIZE, Form, UPDATE, UPDATE_IF_PRESENT, copyin, copyout, create, delete, item, present,
-};
-use acc_place::{Clause, Item, Place};
+use crate::fixtures::{Shown, accept_each, given, place_of, plan_of, shown_by};
+use crate::tables::Cells::{self, A, B, C};
+use crate::tables::Word::{self, Ask, Data, End, Enter, Exit, Finalize, Update, UpdateIfPresent};
+use crate::tables::{Step, range_of};
+use acc_base::{Config, Fault, Range};
+use acc_place::Clause::{self, Copyin, Copyout, Create, Delete, Present, UpdateSelf};
+use acc_place::Place;
 use std::alloc::Global;
 use std::process::Abort;
 use std::test::Fail;
 
 /// A directive of host 0 for a device, and its fault.
-pub type Refused<'a> = (u8, Form, &'a [Item], Fault);
+pub type Refused = (u8, Word, &'static [(Clause, Cells)], Fault);
 
-// The directive is refused with its fault, and the place shows what it showed.
-fn check_one(
+// The fault of a case's directive.
+fn fault_of(alloc: Global, place: &mut Place, case: &Refused) -> Option<Fault> {
+    let (device, word, items, _) = *case;
+    plan_of(alloc, place, 0, device, word, items).err()
+}
+
+// The directive is refused with its fault.
+fn check_one(rt: &impl Abort, alloc: Global, place: &mut Place, number: usize, case: &Refused) {
+    let fault = fault_of(alloc, place, case);
+    assert!(rt; fault == Some(case.3), "case {number}: {fault:?}");
+}
+
+// Each of the directives is refused, and the place shows what it showed.
+fn check_each(rt: &impl Abort, alloc: Global, place: &mut Place, cases: &[Refused]) {
+    let shown = shown_by(rt, place);
+    for (number, case) in cases.iter().enumerate() {
+        check_one(rt, alloc, place, number, case);
+        assert!(rt; shown_by(rt, place) == shown, "case {number}");
+    }
+}
+
+fn check_behind(
     rt: &impl Abort,
     alloc: Global,
-    place: &mut Place,
-    case: &Refused,
-    shown: &Shown,
+    steps: &[Step],
+    cases: &[Refused],
 ) -> Result<(), Fault> {
-    let (device, form, items, fault) = *case;
-    let directive = synchronous(alloc, device, form, items)?;
-    let refused = planned(place, 0, &directive).err();
-    assert_eq!(rt; refused, Some(fault), "{form:?} {items:?}");
-    assert_eq!(rt; shown_by(rt, place), *shown);
+    let mut place = place_of(alloc, 6)?;
+    accept_each(alloc, &mut place, steps)?;
+    check_each(rt, alloc, &mut place, cases);
     Ok(())
 }
 
@@ -36,240 +52,241 @@ pub fn check_refused(
     steps: &[Step],
     cases: &[Refused],
 ) -> Result<(), Fail> {
-    let mut place = place_of(alloc, 6)?;
-    accept_each(alloc, &mut place, steps)?;
-    let shown = shown_by(rt, &place);
-    for case in cases {
-        check_one(rt, alloc, &mut place, case, &shown)?;
-    }
-    Ok(())
+    Ok(check_behind(rt, alloc, steps, cases)?)
 }
 
-const NO_ARRAY: Range = Range {
-    array: 2,
-    lo: 0,
-    len: 1,
-};
+const NO_ARRAY: Cells = C(0, 1);
 
 // Three cells that are present.
-const HELD: Range = Range {
-    array: 0,
-    lo: 2,
-    len: 3,
-};
+const HELD: Cells = A(2, 3);
 
 // Behind two entries of these cells.
 fn check_holding(rt: &impl Abort, alloc: Global, cases: &[Refused]) -> Result<(), Fail> {
-    let items = [copyin(HELD); 2];
-    check_refused(rt, alloc, &[given(0, Form::EnterData, &items)], cases)
+    check_refused(rt, alloc, &[given(0, Enter, &[(Copyin, HELD); 2])], cases)
 }
 
 /// By each fault, also of the last item, judged behind the others.
 #[test]
 fn entries_and_exits(rt: HostRuntime) -> Result<(), Fail> {
-    let enter = Form::EnterData;
-    let cases: [Refused; 24] = [
-        (1, enter, &[copyin(HELD)], Fault::BadDevice),
-        (255, EXIT, &[delete(HELD)], Fault::BadDevice),
-        (0, enter, &[copyin(HELD); 17], Fault::TooMany),
-        (0, enter, &[copyin(a(2, 0))], Fault::BadRange),
-        (0, EXIT, &[delete(a(2, 0))], Fault::BadRange),
-        (0, enter, &[copyin(a(7, 2))], Fault::BadRange),
-        (0, EXIT, &[copyout(b(4, 1))], Fault::BadRange),
-        (0, enter, &[copyin(a(u32::MAX, u32::MAX))], Fault::BadRange),
-        (0, enter, &[copyin(NO_ARRAY)], Fault::BadRange),
-        (0, EXIT, &[delete(NO_ARRAY)], Fault::BadRange),
-        (0, enter, &[copyin(a(1, 2))], Fault::PartlyPresent),
-        (0, enter, &[copyin(a(4, 2))], Fault::PartlyPresent),
-        (0, enter, &[copyin(a(0, 8))], Fault::PartlyPresent),
-        (0, EXIT, &[copyout(a(1, 5))], Fault::PartlyPresent),
-        (0, EXIT, &[delete(a(4, 2))], Fault::PartlyPresent),
-        (0, FINALIZE, &[copyout(a(1, 2))], Fault::PartlyPresent),
-        (0, FINALIZE, &[delete(a(0, 8))], Fault::PartlyPresent),
-        (0, enter, &[copyin(b(0, 4))], Fault::DeviceFull),
+    const CASES: &[Refused] = &[
+        (1, Enter, &[(Copyin, HELD)], Fault::BadDevice),
+        (255, Exit, &[(Delete, HELD)], Fault::BadDevice),
+        (0, Enter, &[(Copyin, HELD); 17], Fault::TooMany),
+        (0, Enter, &[(Copyin, A(2, 0))], Fault::BadRange),
+        (0, Exit, &[(Delete, A(2, 0))], Fault::BadRange),
+        (0, Enter, &[(Copyin, A(7, 2))], Fault::BadRange),
+        (0, Exit, &[(Copyout, B(4, 1))], Fault::BadRange),
+        (
+            0,
+            Enter,
+            &[(Copyin, A(u32::MAX, u32::MAX))],
+            Fault::BadRange,
+        ),
+        (0, Enter, &[(Copyin, NO_ARRAY)], Fault::BadRange),
+        (0, Exit, &[(Delete, NO_ARRAY)], Fault::BadRange),
+        (0, Enter, &[(Copyin, A(1, 2))], Fault::PartlyPresent),
+        (0, Enter, &[(Copyin, A(4, 2))], Fault::PartlyPresent),
+        (0, Enter, &[(Copyin, A(0, 8))], Fault::PartlyPresent),
+        (0, Exit, &[(Copyout, A(1, 5))], Fault::PartlyPresent),
+        (0, Exit, &[(Delete, A(4, 2))], Fault::PartlyPresent),
+        (0, Finalize, &[(Copyout, A(1, 2))], Fault::PartlyPresent),
+        (0, Finalize, &[(Delete, A(0, 8))], Fault::PartlyPresent),
+        (0, Enter, &[(Copyin, B(0, 4))], Fault::DeviceFull),
         // behind other items
-        (0, enter, &[copyin(HELD), copyin(a(9, 1))], Fault::BadRange),
         (
             0,
-            enter,
-            &[copyin(b(0, 2)), copyin(b(1, 2))],
+            Enter,
+            &[(Copyin, HELD), (Copyin, A(9, 1))],
+            Fault::BadRange,
+        ),
+        (
+            0,
+            Enter,
+            &[(Copyin, B(0, 2)), (Copyin, B(1, 2))],
             Fault::PartlyPresent,
         ),
         (
             0,
-            EXIT,
-            &[delete(a(2, 1)), delete(a(1, 2))],
+            Exit,
+            &[(Delete, A(2, 1)), (Delete, A(1, 2))],
             Fault::PartlyPresent,
         ),
         (
             0,
-            FINALIZE,
-            &[delete(b(0, 1)), delete(a(1, 2))],
+            Finalize,
+            &[(Delete, B(0, 1)), (Delete, A(1, 2))],
             Fault::PartlyPresent,
         ),
         (
             0,
-            enter,
-            &[copyin(a(0, 2)), copyin(b(0, 1)), copyin(b(2, 1))],
+            Enter,
+            &[(Copyin, A(0, 2)), (Copyin, B(0, 1)), (Copyin, B(2, 1))],
             Fault::DeviceFull,
         ),
-        (0, EXIT, &[delete(a(2, 1)); 17], Fault::TooMany),
+        (0, Exit, &[(Delete, A(2, 1)); 17], Fault::TooMany),
     ];
-    check_holding(&rt, rt.alloc(), &cases)
+    check_holding(&rt, rt.alloc(), CASES)
 }
 
 #[test]
 fn regions(rt: HostRuntime) -> Result<(), Fail> {
-    let data = Form::Data;
-    let cases: [Refused; 11] = [
-        (1, data, &[create(HELD)], Fault::BadDevice),
-        (0, data, &[create(HELD); 17], Fault::TooMany),
-        (0, data, &[create(a(2, 0))], Fault::BadRange),
-        (0, data, &[present(NO_ARRAY)], Fault::BadRange),
-        (0, data, &[create(a(4, 2))], Fault::PartlyPresent),
-        (0, data, &[present(a(1, 2))], Fault::PartlyPresent),
-        (0, data, &[present(b(0, 1))], Fault::NotPresent),
+    const CASES: &[Refused] = &[
+        (1, Data, &[(Create, HELD)], Fault::BadDevice),
+        (0, Data, &[(Create, HELD); 17], Fault::TooMany),
+        (0, Data, &[(Create, A(2, 0))], Fault::BadRange),
+        (0, Data, &[(Present, NO_ARRAY)], Fault::BadRange),
+        (0, Data, &[(Create, A(4, 2))], Fault::PartlyPresent),
+        (0, Data, &[(Present, A(1, 2))], Fault::PartlyPresent),
+        (0, Data, &[(Present, B(0, 1))], Fault::NotPresent),
         (
             0,
-            data,
-            &[create(b(0, 1)), present(b(1, 1))],
+            Data,
+            &[(Create, B(0, 1)), (Present, B(1, 1))],
             Fault::NotPresent,
         ),
-        (0, data, &[copyout(b(0, 4))], Fault::DeviceFull),
+        (0, Data, &[(Copyout, B(0, 4))], Fault::DeviceFull),
         (
             0,
-            data,
-            &[create(a(0, 2)), create(HELD), create(b(0, 2))],
+            Data,
+            &[(Create, A(0, 2)), (Create, HELD), (Create, B(0, 2))],
             Fault::DeviceFull,
         ),
-        (0, Form::EndData, &[], Fault::NoRegion),
+        (0, End, &[], Fault::NoRegion),
     ];
-    check_holding(&rt, rt.alloc(), &cases)
+    check_holding(&rt, rt.alloc(), CASES)
 }
 
 #[test]
 fn updates_and_questions(rt: HostRuntime) -> Result<(), Fail> {
-    let to_self = |range| item(Clause::UpdateSelf, range);
-    let cases: [Refused; 11] = [
-        (1, UPDATE, &[to_self(HELD)], Fault::BadDevice),
-        (0, UPDATE, &[to_self(HELD); 17], Fault::TooMany),
-        (0, UPDATE, &[to_self(a(2, 0))], Fault::BadRange),
-        (0, UPDATE, &[to_self(b(0, 1))], Fault::NotPresent),
+    const CASES: &[Refused] = &[
+        (1, Update, &[(UpdateSelf, HELD)], Fault::BadDevice),
+        (0, Update, &[(UpdateSelf, HELD); 17], Fault::TooMany),
+        (0, Update, &[(UpdateSelf, A(2, 0))], Fault::BadRange),
+        (0, Update, &[(UpdateSelf, B(0, 1))], Fault::NotPresent),
         (
             0,
-            UPDATE,
-            &[to_self(HELD), to_self(b(0, 1))],
+            Update,
+            &[(UpdateSelf, HELD), (UpdateSelf, B(0, 1))],
             Fault::NotPresent,
         ),
-        (0, UPDATE, &[to_self(a(3, 4))], Fault::PartlyPresent),
+        (0, Update, &[(UpdateSelf, A(3, 4))], Fault::PartlyPresent),
         (
             0,
-            UPDATE_IF_PRESENT,
-            &[to_self(b(0, 1)), to_self(a(3, 4))],
+            UpdateIfPresent,
+            &[(UpdateSelf, B(0, 1)), (UpdateSelf, A(3, 4))],
             Fault::PartlyPresent,
         ),
-        (0, UPDATE_IF_PRESENT, &[to_self(b(4, 1))], Fault::BadRange),
-        (1, Form::IsPresent, &[present(HELD)], Fault::BadDevice),
-        (0, Form::IsPresent, &[present(b(0, 0))], Fault::BadRange),
-        (0, Form::IsPresent, &[present(a(7, 2))], Fault::BadRange),
+        (
+            0,
+            UpdateIfPresent,
+            &[(UpdateSelf, B(4, 1))],
+            Fault::BadRange,
+        ),
+        (1, Ask, &[(Present, HELD)], Fault::BadDevice),
+        (0, Ask, &[(Present, B(0, 0))], Fault::BadRange),
+        (0, Ask, &[(Present, A(7, 2))], Fault::BadRange),
     ];
-    check_holding(&rt, rt.alloc(), &cases)
+    check_holding(&rt, rt.alloc(), CASES)
 }
 
 /// The device comes before all else, the limits and a missing region before the items, and an earlier item before a
 /// later one.
 #[test]
 fn the_first_fault_of_several(rt: HostRuntime) -> Result<(), Fail> {
-    let enter = Form::EnterData;
-    let cases: [Refused; 8] = [
-        (1, EXIT, &[delete(a(2, 0)); 17], Fault::BadDevice),
-        (1, Form::EndData, &[], Fault::BadDevice),
-        (1, Form::Data, &[create(a(2, 0))], Fault::BadDevice),
-        (0, EXIT, &[delete(a(2, 0)); 17], Fault::TooMany),
+    const CASES: &[Refused] = &[
+        (1, Exit, &[(Delete, A(2, 0)); 17], Fault::BadDevice),
+        (1, End, &[], Fault::BadDevice),
+        (1, Data, &[(Create, A(2, 0))], Fault::BadDevice),
+        (0, Exit, &[(Delete, A(2, 0)); 17], Fault::TooMany),
         (
             0,
-            enter,
-            &[copyin(b(3, 2)), copyin(a(1, 2))],
+            Enter,
+            &[(Copyin, B(3, 2)), (Copyin, A(1, 2))],
             Fault::BadRange,
         ),
         (
             0,
-            enter,
-            &[copyin(a(1, 2)), copyin(b(3, 2))],
+            Enter,
+            &[(Copyin, A(1, 2)), (Copyin, B(3, 2))],
             Fault::PartlyPresent,
         ),
         (
             0,
-            enter,
-            &[copyin(b(0, 4)), copyin(a(1, 2))],
+            Enter,
+            &[(Copyin, B(0, 4)), (Copyin, A(1, 2))],
             Fault::DeviceFull,
         ),
         (
             0,
-            Form::Data,
-            &[create(b(0, 4)), create(b(4, 1))],
+            Data,
+            &[(Create, B(0, 4)), (Create, B(4, 1))],
             Fault::DeviceFull,
         ),
     ];
-    check_holding(&rt, rt.alloc(), &cases)
+    check_holding(&rt, rt.alloc(), CASES)
 }
 
 /// Inside thirty-two regions no further one is entered, whatever its ranges.
 #[test]
 fn a_thirty_third_region(rt: HostRuntime) -> Result<(), Fail> {
-    let cases: [Refused; 4] = [
-        (0, Form::Data, &[create(HELD)], Fault::TooMany),
-        (0, Form::Data, &[create(a(2, 0))], Fault::TooMany),
-        (0, Form::Data, &[create(a(1, 2))], Fault::TooMany),
-        (1, Form::Data, &[create(a(2, 0))], Fault::BadDevice),
+    const CASES: &[Refused] = &[
+        (0, Data, &[(Create, HELD)], Fault::TooMany),
+        (0, Data, &[(Create, A(2, 0))], Fault::TooMany),
+        (0, Data, &[(Create, A(1, 2))], Fault::TooMany),
+        (1, Data, &[(Create, A(2, 0))], Fault::BadDevice),
     ];
-    let items = [create(HELD)];
-    check_refused(&rt, rt.alloc(), &[given(0, Form::Data, &items); 32], &cases)
+    let steps = [given(0, Data, &[(Create, HELD)]); 32];
+    check_refused(&rt, rt.alloc(), &steps, CASES)
 }
 
 /// A host that has left its region is inside none, though another host is inside one.
 #[test]
 fn an_end_without_a_region(rt: HostRuntime) -> Result<(), Fail> {
-    let items = [create(HELD)];
+    const CASES: &[Refused] = &[
+        (0, End, &[], Fault::NoRegion),
+        (1, End, &[], Fault::BadDevice),
+    ];
     let steps = [
-        given(0, Form::Data, &items),
-        given(1, Form::Data, &items),
-        given(0, Form::EndData, &[]),
+        given(0, Data, &[(Create, HELD)]),
+        given(1, Data, &[(Create, HELD)]),
+        given(0, End, &[]),
     ];
-    let cases: [Refused; 2] = [
-        (0, Form::EndData, &[], Fault::NoRegion),
-        (1, Form::EndData, &[], Fault::BadDevice),
-    ];
-    check_refused(&rt, rt.alloc(), &steps, &cases)
+    check_refused(&rt, rt.alloc(), &steps, CASES)
+}
+
+// Whether each of the cells are a range of their array.
+fn check_ranges(rt: &impl Abort, config: &Config, cases: &[(Cells, bool)]) {
+    for (cells, wanted) in cases {
+        let range = range_of(*cells);
+        assert!(rt; config.is_in_array(range) == *wanted, "{range:?}");
+    }
 }
 
 #[test]
 fn a_range_lies_in_its_array(rt: HostRuntime) -> Result<(), Fail> {
-    let place = place_of(rt.alloc(), 12)?;
-    let first_of = |array| Range {
-        array,
+    const CASES: &[(Cells, bool)] = &[
+        (A(0, 8), true),
+        (A(7, 1), true),
+        (B(0, 4), true),
+        (B(3, 1), true),
+        (A(0, 9), false),
+        (A(8, 1), false),
+        (B(3, 2), false),
+        (A(0, 0), false),
+        (A(8, 0), false),
+        (B(0, 1), true),
+        (C(0, 1), false),
+        (A(u32::MAX, 1), false),
+        (A(1, u32::MAX), false),
+        (A(u32::MAX, u32::MAX), false),
+    ];
+    let last = Range {
+        array: 255,
         lo: 0,
         len: 1,
     };
-    let cases = [
-        (a(0, 8), true),
-        (a(7, 1), true),
-        (b(0, 4), true),
-        (b(3, 1), true),
-        (a(0, 9), false),
-        (a(8, 1), false),
-        (b(3, 2), false),
-        (a(0, 0), false),
-        (a(8, 0), false),
-        (first_of(1), true),
-        (first_of(2), false),
-        (first_of(255), false),
-        (a(u32::MAX, 1), false),
-        (a(1, u32::MAX), false),
-        (a(u32::MAX, u32::MAX), false),
-    ];
-    for (range, wanted) in cases {
-        assert_eq!(rt; place.config().is_in_array(range), wanted, "{range:?}");
-    }
+    let place = place_of(rt.alloc(), 12)?;
+    check_ranges(&rt, place.config(), CASES);
+    assert!(rt; !place.config().is_in_array(last));
     Ok(())
 }
