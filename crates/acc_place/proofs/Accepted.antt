@@ -8,7 +8,7 @@ use Rattle.std.proofs.lemmas.Bool.Decides.{eqb_tells}
 use Rattle.std.proofs.lemmas.List.{length-map, append-nil}
 use Rattle.std.proofs.lemmas.List.Elements.{All-cons, All-head, All-nil, All-tail}
 use Rattle.acc_base.specs.declared.fault.Fault.{Fault}
-use Rattle.acc_base.specs.declared.fault.Fault.TheVariants.{BadAsync, BadDevice, TooMany, NoRegion}
+use Rattle.acc_base.specs.declared.fault.Fault.TheVariants.{BadAsync, BadDevice, Closed, TooMany, NoRegion}
 use Rattle.acc_base.specs.declared.ids.QueueAt.{QueueAt}
 use Rattle.acc_base.specs.declared.range.Range.{Range}
 use Rattle.acc_base.specs.Configurations.{Configuration}
@@ -98,27 +98,36 @@ limit_in st host d = limit_fault st.accepted st.regions host d (length (items_in
 abbrev faults_in : Configuration → Standing → Subject → Kind → Option Fault
 faults_in config st s k = first_fault (map (fault_at config k) (visits (st.marks s.device) (all_asked (change_by k) s.items)))
 
--- the device before everything else
-pub refused_device : (config : Configuration) (st : Standing) (host : ℕ) (d : Directive) → config.devices ≤ d.device → refusal config st host d ≡ Some BadDevice
+-- closing before everything else, then the device
+pub refused_closing : (config : Configuration) (st : Standing) (host : ℕ) (d : Directive) → st.closing ≡ true → refusal config st host d ≡ Some Closed
 unfolding refusal
-refused_device config st host d past = rw (le-leb config.devices d.device past) refl
+refused_closing config st host d begun = rw begun refl
 
-device_first : (bad : Bool) (fs : List (Option Fault)) → first_fault (fault_where bad BadDevice ∷ fs) ≡ None → bad ≡ false
-device_first true fs none = absurd cc
-device_first false fs none = refl
+pub refused_device : (config : Configuration) (st : Standing) (host : ℕ) (d : Directive) → st.closing ≡ false → config.devices ≤ d.device → refusal config st host d ≡ Some BadDevice
+unfolding refusal
+refused_device config st host d early past = rw (early, le-leb config.devices d.device past) refl
+
+two_first : (closing bad : Bool) (fs : List (Option Fault)) → first_fault (fault_where closing Closed ∷ fault_where bad BadDevice ∷ fs) ≡ None → (closing ≡ false) × (bad ≡ false)
+two_first true bad fs none = absurd cc
+two_first false true fs none = absurd cc
+two_first false false fs none = (refl, refl)
+
+pub accepted_open : (config : Configuration) (st : Standing) (host : ℕ) (d : Directive) → refusal config st host d ≡ None → st.closing ≡ false
+unfolding refusal
+accepted_open config st host d none = (two_first st.closing (nat_le config.devices d.device) _ none).0
 
 pub accepted_device : (config : Configuration) (st : Standing) (host : ℕ) (d : Directive) → refusal config st host d ≡ None → d.device < config.devices
 unfolding refusal
-accepted_device config st host d none = leb-false config.devices d.device (device_first (nat_le config.devices d.device) _ none)
+accepted_device config st host d none = leb-false config.devices d.device (two_first st.closing (nat_le config.devices d.device) _ none).1
 
-refusal_is : (config : Configuration) (st : Standing) (host : ℕ) (d : Directive) → d.device < config.devices
+refusal_is : (config : Configuration) (st : Standing) (host : ℕ) (d : Directive) → st.closing ≡ false → d.device < config.devices
     → refusal config st host d ≡ fault_or (limit_in st host d) (fault_or (faults_in config st (subject_of st host d) d.kind) (past_fault (loop_of d.kind) (items_in st host d)))
 unfolding refusal limit_fault walk_of
-refusal_is config st host d here =
+refusal_is config st host d early here =
     let s = subject_of st host d in
     let faults = map (fault_at config d.kind) (visits (st.marks s.device) (all_asked (change_by d.kind) s.items)) in
     let past = past_fault (loop_of d.kind) s.items in
-    rw (lt-leb config.devices d.device here, length-map s.items, items_asked (change_by d.kind) s.items)
+    rw (early, lt-leb config.devices d.device here, length-map s.items, items_asked (change_by d.kind) s.items)
     (three_first (has_bad_queue d) (nat_lt MAX_ITEMS (length s.items) || (waits_on_too_many d.waits || (is_deep d.kind host st.regions || nat_le MAX_DIRECTIVES st.accepted))) (is_outside d.kind (open_region host st.regions)) (faults ++ past ∷ [])
     ∙ ap (fault_or (limit_in st host d)) (first_behind faults (past ∷ []) ∙ ap (fault_or (first_fault faults)) (first_one past)))
 
@@ -174,12 +183,12 @@ abbrev items_faults : Configuration → Standing → ℕ → Directive → Prese
 items_faults config st host d t blocks =
     fault_or (first_fault_in config d.kind (holding t.presences blocks) (items_in st host d)) (past_fault (loop_of d.kind) (items_in st host d))
 
-pub refused_by : (config : Configuration) (st : Standing) (host : ℕ) (d : Directive) (t : Present) (blocks : ℕ) → IsTiedAt config st host d t blocks → d.device < config.devices
+pub refused_by : (config : Configuration) (st : Standing) (host : ℕ) (d : Directive) (t : Present) (blocks : ℕ) → IsTiedAt config st host d t blocks → st.closing ≡ false → d.device < config.devices
     → refusal config st host d ≡ fault_or (limit_in st host d) (items_faults config st host d t blocks)
-refused_by config st host d t blocks tied here =
+refused_by config st host d t blocks tied early here =
     let s = subject_of st host d in
     let sub = is_subject st host d t blocks tied in
-    refusal_is config st host d here
+    refusal_is config st host d early here
     ∙ ap (λ f. fault_or (limit_in st host d) (fault_or f (past_fault (loop_of d.kind) s.items))) (faults_are config d.kind (st.marks s.device) s.items sub.legal sub.entered ∙ ap (λ h. first_fault_in config d.kind h s.items) (sym sub.held))
 
 none_or : (a b : Option Fault) → fault_or a b ≡ None → a ≡ None
@@ -220,7 +229,7 @@ pub is_free : (config : Configuration) (st : Standing) (host : ℕ) (d : Directi
     → refusal config st host d ≡ None → IsFree config st host d t blocks
 is_free config st host d t blocks tied accepted =
     let here = accepted_device config st host d accepted in
-    let is = sym (refused_by config st host d t blocks tied here) ∙ accepted in
+    let is = sym (refused_by config st host d t blocks tied (accepted_open config st host d accepted) here) ∙ accepted in
     let none = none_or (limit_in st host d) _ is in
     let items = items_in st host d in
     let within = is_within st.accepted st.regions host d (length items) none in
@@ -432,7 +441,7 @@ tied_after config st d host items_done t after blocks next tied free is same not
       low = AllLow-fewer (MAX_ITEMS * st.accepted + MAX_ITEMS) (MAX_ITEMS * (st.accepted + 1)) 0 0 after.presences (omega arith) low2;
     }
 
-noted_alike : (f g : Range → ℕ → Note) (ns : List Noted) → ((r : Range) (b : ℕ) → f r b ≡ g r b) → HasNotes f ns → HasNotes g ns
+pub noted_alike : (f g : Range → ℕ → Note) (ns : List Noted) → ((r : Range) (b : ℕ) → f r b ≡ g r b) → HasNotes f ns → HasNotes g ns
 noted_alike f g [] same h = All-nil (λ (n : Noted). n.note ≡ g n.range n.block)
 noted_alike f g (n ∷ ns) same h =
     All-cons (λ (k : Noted). k.note ≡ g k.range k.block) n ns (All-head (λ (k : Noted). k.note ≡ f k.range k.block) n ns h ∙ same n.range n.block)

@@ -26,6 +26,7 @@ use Rattle.acc_place.specs.Places.{IsTiedOn}
 use Rattle.acc_place.specs.Regions.{open_region, region_of, regions_after}
 use Rattle.acc_place.specs.Standings.{Standing, change_by, left_by, loop_of, subject_by}
 use Rattle.acc_place.specs.Walks.{Holding, holding, holding_after, holding_behind, fault_in, fault_or, first_fault_in, limit_fault, past_fault, AllEntered}
+use Rattle.acc_place.proofs.Closing.{tied_begun, tied_closed}
 use Rattle.acc_place.proofs.Accepted.{device_in, items_in, is_free, refused_by, entered_in, tied_after, tied_beside}
 use Rattle.acc_place.proofs.Entered.{is_held, open_has, without_all}
 use Rattle.acc_place.proofs.Judging.{inside_item}
@@ -58,6 +59,12 @@ tables config (entry.Accepted host d ∷ before) counts device all =
           let other = tables config before (drop 1 counts) device all.1 in
           record { table = other.table; blocks = other.blocks; tied = tied_beside config st d host items_done device other.table other.blocks away.1 free.within.few other.tied }
     ]
+tables config (entry.Closing ∷ before) counts device all =
+    let h = tables config before counts device all.1 in
+    record { table = h.table; blocks = h.blocks; tied = tied_begun config (standing config before counts) device h.table h.blocks h.tied }
+tables config (entry.Closed at ∷ before) counts device all =
+    let h = tables config before counts device all.1 in
+    record { table = h.table; blocks = h.blocks; tied = tied_closed config (standing config before counts) at device h.table h.blocks h.tied }
 
 pub accepted_counted : AcceptedAreCounted
 accepted_counted config history counts device all =
@@ -105,6 +112,8 @@ all_sound config (entry.Accepted host d ∷ before) counts all =
     let inside = all_inside config d.kind (holding h.table.presences h.blocks) (items_in st host d) free.faultless in
     sound_after config st.lengths host d d.kind st.regions free.within.short inside
     (all_sound config before (drop 1 counts) all.1)
+all_sound config (entry.Closing ∷ before) counts all = all_sound config before counts all.1
+all_sound config (entry.Closed at ∷ before) counts all = all_sound config before counts all.1
 
 -- ## A region's end
 
@@ -131,7 +140,7 @@ at_end : (k : Kind) (h : Holding) (items : List Item) → k ≡ EndData → AllE
 at_end k h items is entered = rw is at entered
 
 pub entered_left : EnteredCanBeLeft
-entered_left config history counts host d r all few end plain nothing here inside =
+entered_left config history counts host d r all early few end plain nothing here inside =
     let st = standing config history counts in
     let h = tables config history counts (device_in st host d) all in
     let xs = items_in st host d in
@@ -140,7 +149,7 @@ entered_left config history counts host d r all few end plain nothing here insid
     let limit = no_limit st.accepted st.regions host d (length xs) r few end plain nothing inside (rw items sound.0) in
     let held = holding h.table.presences h.blocks in
     let entered : AllEntered (Some StructuredDown) held xs = at_end d.kind held xs end (entered_in st host d h.table h.blocks h.tied) in
-    refused_by config st host d h.table h.blocks h.tied here
+    refused_by config st host d h.table h.blocks h.tied early here
     ∙ (ap (λ f. fault_or f (fault_or (first_fault_in config d.kind held xs) (past_fault (loop_of d.kind) xs))) limit
     ∙ (ap (λ k. fault_or (first_fault_in config k held xs) (past_fault (loop_of k) xs)) end
     ∙ ap (λ f. fault_or f None) (no_faults config held xs (rw items sound.1) entered)))

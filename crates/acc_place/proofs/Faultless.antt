@@ -2,7 +2,7 @@
 use Rattle.std.proofs.Common.{◌≡◌, ℕ, Bool, true, false, List, [], ◌∷◌, ◌++◌, map, refl, None, Some, Option}
 use Rattle.std.specs.Prelude.{not, nat_le}
 use Rattle.acc_base.specs.declared.fault.Fault.{Fault}
-use Rattle.acc_base.specs.declared.fault.Fault.TheVariants.{BadDevice, BadAsync, TooMany, OutsideRange, NoRegion}
+use Rattle.acc_base.specs.declared.fault.Fault.TheVariants.{Closed, BadDevice, BadAsync, TooMany, OutsideRange, NoRegion}
 use Rattle.acc_base.specs.Configurations.{Configuration}
 use Rattle.acc_place.specs.Directives.{Directive}
 use Rattle.acc_place.specs.Targets.{has_bad_queue}
@@ -47,7 +47,9 @@ no_fault_of config st host d h =
     let region = fault_where (is_outside d.kind (open_region host st.regions)) NoRegion in
     let limits = fault_where (has_too_many st host d walk) TooMany in
     let bad = fault_where (has_bad_queue d) BadAsync in
-    let first = first_fault_none (fault_where (nat_le config.devices d.device) BadDevice) (bad ∷ limits ∷ region ∷ (items ++ past)) h in
+    let device = fault_where (nat_le config.devices d.device) BadDevice in
+    let early = first_fault_none (fault_where st.closing Closed) (device ∷ bad ∷ limits ∷ region ∷ (items ++ past)) h in
+    let first = first_fault_none device (bad ∷ limits ∷ region ∷ (items ++ past)) early.1 in
     let second = first_fault_none bad (limits ∷ region ∷ (items ++ past)) first.1 in
     let third = first_fault_none limits (region ∷ (items ++ past)) second.1 in
     let fourth = first_fault_none region (items ++ past) third.1 in

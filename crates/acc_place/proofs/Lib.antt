@@ -3,6 +3,7 @@ mod Accepting
 mod Ahead
 mod Awaiting
 mod Celled
+mod Closing
 mod Counted
 pub mod Ends
 mod Entered
@@ -16,6 +17,7 @@ pub mod Groups
 pub mod InArrays
 mod Inside
 mod Judging
+mod KeptCloses
 mod Looping
 mod Marking
 mod Noted

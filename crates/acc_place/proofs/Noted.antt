@@ -147,6 +147,16 @@ note_beside device labels l b away =
     ap (last_number (touches_block b)) (on_other at labels l other)) in
     rw (maker, uses) refl
 
+-- nor does one that touches no block, of whatever device
+pub note_untouched : (device : ℕ) (labels : List Label) (l : Label) (b : ℕ) → touches_block b l ≡ false → note_of device (labels ++ l ∷ []) b ≡ note_of device labels b
+unfolding note_of
+note_untouched device labels l b fails = elim (cases_Bool (l.at.device == device)) [
+  | inl here ↦
+      subst (λ d. note_of d (labels ++ l ∷ []) b ≡ note_of d labels b) (eqb-true l.at.device device here)
+      (rw (maker_same labels l b (makes_none b l fails), same_uses (last_use l.at.device labels b) (last_use l.at.device (labels ++ l ∷ []) b) every_queue (λ q. use_same labels l b q fails)) refl)
+  | inr away ↦ note_beside device labels l b away
+]
+
 -- the last that passes is no later than a bound on all that do
 last_most : (test : Label → Bool) (ls : List Label) (n : ℕ) → ((m : Label) → Contains ls m → test m ≡ true → m.number ≤ n) → last_number test ls ≤ n
 last_most test [] n h = omega arith

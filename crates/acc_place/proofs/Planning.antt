@@ -26,19 +26,20 @@ use Rattle.acc_present.specs.Presences.{Presence, presences, holder, is_present}
 use Rattle.acc_present.specs.Tables.{Present}
 use Rattle.acc_place.specs.declared.device.Device.{Device}
 use Rattle.acc_place.specs.Devices.{held_on, IsEmpty}
+use Rattle.acc_place.specs.Closing.{KeptByClosing}
 use Rattle.acc_place.specs.Directives.{Directive}
 use Rattle.acc_place.specs.declared.directive.Item.{Item}
 use Rattle.acc_place.specs.declared.directive.Kind.{Kind}
 use Rattle.acc_place.specs.declared.directive.Kind.TheVariants.{Data, EndData, EnterData, ExitData, Update, Loop, Wait, AsyncTest, IsPresent}
 use Rattle.acc_place.specs.declared.directive.PlaceEntry.{PlaceEntry}
-use Rattle.acc_place.specs.declared.directive.PlaceEntry.TheVariants.{Accepted}
+use Rattle.acc_place.specs.declared.directive.PlaceEntry.TheVariants.{Accepted, Closing, Closed}
 use Rattle.acc_place.specs.declared.directive.Region.{Region}
 use Rattle.acc_place.specs.declared.directive.TheConstants.{MAX_ITEMS}
 use Rattle.acc_place.specs.declared.judge.Known.{Known}
 use Rattle.acc_place.specs.Accepting.{refusal}
 use Rattle.acc_place.specs.Batches.{answer_of, batch_of, count_of, counts_by, counts_queues, is_answered, next_number, operations_of, placed_batch, walk_at}
-use Rattle.acc_place.specs.Histories.{at_first, standing, after_directive, AllAccepted}
-use Rattle.acc_place.specs.Places.{IsPlace, IsQueue, IsThere, IsTied, IsTiedOn, nth_batch, queue_in, queues_after}
+use Rattle.acc_place.specs.Histories.{at_first, standing, after_directive, AllAccepted, IsQueue}
+use Rattle.acc_place.specs.Places.{IsPlace, IsThere, IsTied, IsTiedOn, nth_batch, queue_in, queues_after}
 use Rattle.acc_place.specs.Plans.{KeptByAccepting, KeptByPlanning, KeptByTaking, PlaceView, PlanView, Room, standing_in, IsRefusal, IsRoomy, IsPlanOf, Fits, label_for, label_in, opened_region, place_after, queue_for}
 use Rattle.acc_place.specs.Loops.{lengths_of}
 use Rattle.acc_place.specs.Regions.{regions_after}
@@ -58,7 +59,7 @@ use Rattle.acc_place.proofs.RegionsOn.{subject_device}
 use Rattle.acc_place.proofs.Setting.{shown_at}
 use Rattle.acc_place.proofs.Trying.{all_taken}
 
-reverse-push : {X : Type 0} (xs : List X) (x : X) → reverse (xs ++ x ∷ []) ≡ x ∷ reverse xs
+pub reverse-push : {X : Type 0} (xs : List X) (x : X) → reverse (xs ++ x ∷ []) ≡ x ∷ reverse xs
 reverse-push xs x = reverse-append xs (x ∷ [])
 
 -- as many entries as the vector says
@@ -70,6 +71,17 @@ lengths_kept : (config : Configuration) (history : List PlaceEntry) (counts : Li
 unfolding standing
 lengths_kept config [] counts = refl
 lengths_kept config (Accepted host d ∷ before) counts = lengths_kept config before (drop 1 counts)
+lengths_kept config (Closing ∷ before) counts = lengths_kept config before counts
+lengths_kept config (Closed at ∷ before) counts = lengths_kept config before counts
+
+-- before closing each entry is a directive
+pub early_history : (config : Configuration) (history : List PlaceEntry) (counts : List ℕ) → AllAccepted config history counts → (standing config history counts).closing ≡ false
+    → length history ≡ (standing config history counts).accepted
+unfolding standing
+early_history config [] counts h early = refl
+early_history config (Accepted host d ∷ before) counts h early = omega (arith, early_history config before (drop 1 counts) h.1 early)
+early_history config (Closing ∷ before) counts h early = absurd cc
+early_history config (Closed at ∷ before) counts h early = (let w : true ≡ false = sym h.0.begun ∙ early in absurd cc)
 
 -- the items that were put in, and those of the directive
 abbrev pub ArePut : PlaceView → ℕ → Directive → List Item → Type 0
@@ -81,6 +93,7 @@ are_put p host d regions xs here put =
 
 -- What is known where a place tries a directive, on a device that is there.
 pub record IsKnownOf (p : PlaceView) (host : ℕ) (d : Directive) (k : Known) : Type 0 where
+  pub early : (standing_in p).closing ≡ false
   pub here : d.device < p.config.devices
   pub tied : IsTiedAt p.config (standing_in p) host d k.table.now k.opened
   pub config : k.config.now ≡ p.config
@@ -119,20 +132,21 @@ own_device p host d k h =
 
 -- what the place has, from its parts
 pub known_of : (p : PlaceView) (host : ℕ) (d : Directive) (k : Known) (devices : List Device) (regions : List Region) (queues : List (List Label)) (n : ℕ) (v : Device) (at_queue : QueueAt)
-    → IsPlace p.config p.history p.counts devices regions queues → d.device < p.config.devices → at_queue ≡ queue_for p host d → IsQueue p.config at_queue
+    → IsPlace p.config p.history p.counts devices regions queues → (standing_in p).closing ≡ false → d.device < p.config.devices → at_queue ≡ queue_for p host d → IsQueue p.config at_queue
     → n ≡ at_queue.device → v ≡ slice_index_or devices n v → k.config.now ≡ p.config → k.table.now ≡ v.table → k.opened ≡ v.opened → k.regions.now ≡ regions → k.accepted ≡ length p.history → k.at ≡ at_queue
     → k.labels.now.queues ≡ queues → IsKnownOf p host d k
-known_of p host d k devices regions queues n v at_queue h here is there device found config table blocks open_regions accepted at_k labels =
+known_of p host d k devices regions queues n v at_queue h early here is there device found config table blocks open_regions accepted at_k labels =
     let st = standing_in p in
     let get = slice_get_read devices (length devices) n v refl (omega (arith, device, there.0, h.tied.all_devices)) found in
     let own : IsTiedOn p.config st n v.table v.opened = h.tied.on_devices n v get in
     let acts : n ≡ device_in st host d = device ∙ (ap (λ (q : QueueAt). q.device) is ∙ device_at p host d) in
     record {
+      early = early;
       here = here;
       tied = rw (table, blocks) (subst (λ m. IsTiedOn p.config st m v.table v.opened) acts own);
       config = config;
       regions = open_regions ∙ sym h.tied.inside;
-      accepted = accepted ∙ h.accepted;
+      accepted = accepted ∙ early_history p.config p.history p.counts h.lawful early;
       at_queue = at_k ∙ is;
       labelled = λ at. ap (λ qs. queue_in qs at) labels ∙ h.tied.labelled at;
     }
@@ -150,7 +164,7 @@ fault_known p host d k h =
     let items = items_by k host d in
     let fault : Configuration → ℕ → List Region → List Item → Option Fault =
     λ config n rs xs. fault_or (limit_fault n rs host d (length xs)) (fault_or (first_fault_in config d.kind (held_by k) xs) (past_fault (loop_of d.kind) xs)) in
-    refused_by p.config st host d k.table.now k.opened h.tied h.here
+    refused_by p.config st host d k.table.now k.opened h.tied h.early h.here
     ∙ (ap (fault p.config st.accepted st.regions) (sym (items_known p host d k h))
     ∙ (ap (λ n. fault p.config n st.regions items) (sym h.accepted)
     ∙ (ap (λ rs. fault p.config k.accepted rs items) (sym h.regions) ∙ ap (λ config. fault config k.accepted k.regions.now items) (sym h.config))))
@@ -297,35 +311,34 @@ accepted_place : (p : PlaceView) (q : PlanView) (devices : List Device) (regions
 accepted_place p q devices regions queues v after h fits at_device is same noted =
     let st = standing_after p q in
     record {
-      accepted = omega (arith, h.accepted, ap (λ (k : Standing). k.accepted) st);
-      counted = omega (arith, h.counted);
+      counted = omega (arith, h.counted, ap (λ (k : Standing). k.accepted) st);
       lawful = (fits.accepted, h.lawful);
       tied = rw st (tied_all p q devices regions queues v after h.tied fits at_device is same noted);
     }
 
-abbrev pub viewed : Configuration → List PlaceEntry → List ℕ → Room → PlaceView
-viewed config history counts room = record { config = config; history = reverse history; counts = reverse counts; room = room }
+abbrev pub viewed : Configuration → List PlaceEntry → List ℕ → List Bool → Room → PlaceView
+viewed config history counts closes room = record { config = config; history = reverse history; counts = reverse counts; closes = closes; room = room }
 
 -- the two vectors, which have the latest at their ends
-pub pushed_view : (config : Configuration) (history history2 : List PlaceEntry) (counts counts2 : List ℕ) (room : Room) (q : PlanView)
-    → history2 ≡ history ++ Accepted q.host q.directive ∷ [] → counts2 ≡ counts ++ q.items_done ∷ [] → viewed config history2 counts2 room ≡ place_after (viewed config history counts room) q
-pushed_view config history history2 counts counts2 room q more_history more_counts =
+pub pushed_view : (config : Configuration) (history history2 : List PlaceEntry) (counts counts2 : List ℕ) (closes : List Bool) (room : Room) (q : PlanView)
+    → history2 ≡ history ++ Accepted q.host q.directive ∷ [] → counts2 ≡ counts ++ q.items_done ∷ [] → viewed config history2 counts2 closes room ≡ place_after (viewed config history counts closes room) q
+pushed_view config history history2 counts counts2 closes room q more_history more_counts =
     let e : reverse history2 ≡ Accepted q.host q.directive ∷ reverse history = ap reverse more_history ∙ reverse-push history (Accepted q.host q.directive) in
     let f : reverse counts2 ≡ q.items_done ∷ reverse counts = ap reverse more_counts ∙ reverse-push counts q.items_done in
     rw (e, f) refl
 
-pub place_pushed : (config : Configuration) (history history2 : List PlaceEntry) (counts counts2 : List ℕ) (room : Room) (q : PlanView) (devices devices2 : List Device) (regions regions2 : List Region) (queues queues2 : List (List Label)) (v after : Device)
+pub place_pushed : (config : Configuration) (history history2 : List PlaceEntry) (counts counts2 : List ℕ) (closes : List Bool) (room : Room) (q : PlanView) (devices devices2 : List Device) (regions regions2 : List Region) (queues queues2 : List (List Label)) (v after : Device)
     → history2 ≡ history ++ Accepted q.host q.directive ∷ [] → counts2 ≡ counts ++ q.items_done ∷ [] → regions2 ≡ regions_after q.host q.directive q.directive.kind regions → queues2 ≡ queues_after queues q.label
-    → devices2 ≡ slice_set devices (device_in (standing_in (viewed config history counts room)) q.host q.directive) after
-    → IsPlace config (reverse history) (reverse counts) devices regions queues → Fits (viewed config history counts room) q
-    → slice_get devices (device_in (standing_in (viewed config history counts room)) q.host q.directive) ≡ Some v
-    → holding after.table.presences after.opened ≡ holding_behind q.directive.kind (holding v.table.presences v.opened) (items_in (standing_in (viewed config history counts room)) q.host q.directive) → after.table.capacity ≡ v.table.capacity
-    → HasNotes (notes_on (device_in (standing_in (viewed config history counts room)) q.host q.directive) (after_directive (standing_in (viewed config history counts room)) q.host q.items_done q.directive).labels) after.table.notes
+    → devices2 ≡ slice_set devices (device_in (standing_in (viewed config history counts closes room)) q.host q.directive) after
+    → IsPlace config (reverse history) (reverse counts) devices regions queues → Fits (viewed config history counts closes room) q
+    → slice_get devices (device_in (standing_in (viewed config history counts closes room)) q.host q.directive) ≡ Some v
+    → holding after.table.presences after.opened ≡ holding_behind q.directive.kind (holding v.table.presences v.opened) (items_in (standing_in (viewed config history counts closes room)) q.host q.directive) → after.table.capacity ≡ v.table.capacity
+    → HasNotes (notes_on (device_in (standing_in (viewed config history counts closes room)) q.host q.directive) (after_directive (standing_in (viewed config history counts closes room)) q.host q.items_done q.directive).labels) after.table.notes
     → IsPlace config (reverse history2) (reverse counts2) devices2 regions2 queues2
-place_pushed config history history2 counts counts2 room q devices devices2 regions regions2 queues queues2 v after more_history more_counts more_regions more_queues more_devices h fits at_device is same noted =
+place_pushed config history history2 counts counts2 closes room q devices devices2 regions regions2 queues queues2 v after more_history more_counts more_regions more_queues more_devices h fits at_device is same noted =
     let e : reverse history2 ≡ Accepted q.host q.directive ∷ reverse history = ap reverse more_history ∙ reverse-push history (Accepted q.host q.directive) in
     let f : reverse counts2 ≡ q.items_done ∷ reverse counts = ap reverse more_counts ∙ reverse-push counts q.items_done in
-    rw (e, f, more_regions, more_queues, more_devices) (accepted_place (viewed config history counts room) q devices regions queues v after h fits at_device is same noted)
+    rw (e, f, more_regions, more_queues, more_devices) (accepted_place (viewed config history counts closes room) q devices regions queues v after h fits at_device is same noted)
 
 -- ## The answer
 
@@ -396,7 +409,6 @@ unfolding standing
 first_place config history counts devices regions queues no_history no_counts no_regions all_devices empty all_queues none =
     rw (no_history, no_counts, no_regions)
     (record {
-      accepted = refl;
       counted = refl;
       lawful = tt;
       tied =
@@ -444,7 +456,6 @@ place_spared config history counts devices regions queues n v w h low found held
     let there = slice_get_read devices (length devices) n v refl (omega (arith, low, h.tied.all_devices)) found in
     let own = tied_like config st n v w held notes same (h.tied.on_devices n v there) in
     record {
-      accepted = h.accepted;
       counted = h.counted;
       lawful = h.lawful;
       tied =
@@ -459,25 +470,26 @@ place_spared config history counts devices regions queues n v w h low found held
     }
 
 -- what is roomy for as much as there is
-pub roomy_by : (p q : PlaceView) (at_queue : QueueAt) → q.config ≡ p.config → q.history ≡ p.history → q.counts ≡ p.counts → length p.history < q.room.directives → length (standing_in p).regions < q.room.regions
+pub roomy_by : (p q : PlaceView) (at_queue : QueueAt) → q.config ≡ p.config → q.history ≡ p.history → q.counts ≡ p.counts → length p.history < q.room.entries → length p.counts < q.room.counts → length (standing_in p).regions < q.room.regions
     → length (on_queue at_queue (standing_in p).labels) < slice_index_or q.room.batches (seat at_queue) 0
     → length (presences ((standing_in p).marks at_queue.device)) + 2 * MAX_ITEMS ≤ slice_index_or q.room.ranges at_queue.device 0 → IsRoomy q at_queue
-roomy_by p q at_queue config history counts directives regions batches ranges =
+roomy_by p q at_queue config history counts entries counted regions batches ranges =
     let st : standing_in q ≡ standing_in p =
     ap (λ c. standing c q.history q.counts) config ∙ (ap (λ xs. standing p.config xs q.counts) history ∙ ap (standing p.config p.history) counts) in
     record {
-      directives = omega (arith, directives, ap length history);
+      entries = omega (arith, entries, ap length history);
+      counts = omega (arith, counted, ap length counts);
       regions = omega (arith, regions, ap (λ (s : Standing). length s.regions) st);
       batches = omega (arith, batches, ap (λ (s : Standing). length (on_queue at_queue s.labels)) st);
       ranges = omega (arith, ranges, ap (λ (s : Standing). length (presences (s.marks at_queue.device))) st);
     }
 
 -- what is roomy stays so where no room falls
-pub roomier : (p q : PlaceView) (at_queue : QueueAt) → q.config ≡ p.config → q.history ≡ p.history → q.counts ≡ p.counts → p.room.directives ≤ q.room.directives → p.room.regions ≤ q.room.regions
+pub roomier : (p q : PlaceView) (at_queue : QueueAt) → q.config ≡ p.config → q.history ≡ p.history → q.counts ≡ p.counts → p.room.entries ≤ q.room.entries → p.room.counts ≤ q.room.counts → p.room.regions ≤ q.room.regions
     → slice_index_or p.room.batches (seat at_queue) 0 ≤ slice_index_or q.room.batches (seat at_queue) 0 → slice_index_or p.room.ranges at_queue.device 0 ≤ slice_index_or q.room.ranges at_queue.device 0
     → IsRoomy p at_queue → IsRoomy q at_queue
-roomier p q at_queue config history counts directives regions batches ranges h =
-    roomy_by p q at_queue config history counts (omega (arith, h.directives, directives)) (omega (arith, h.regions, regions)) (omega (arith, h.batches, batches)) (omega (arith, h.ranges, ranges))
+roomier p q at_queue config history counts entries counted regions batches ranges h =
+    roomy_by p q at_queue config history counts (omega (arith, h.entries, entries)) (omega (arith, h.counts, counted)) (omega (arith, h.regions, regions)) (omega (arith, h.batches, batches)) (omega (arith, h.ranges, ranges))
 
 -- what is present on a device of a queue
 pub present_there : (p : PlaceView) (devices : List Device) (regions : List Region) (queues : List (List Label)) (n : ℕ) (v : Device) (at_queue : QueueAt) → IsTied p.config (standing_in p) devices regions queues
@@ -495,9 +507,9 @@ placed_there p devices regions queues at_queue tied there = sym (tied.labelled a
 -- ## A plan
 
 -- a place that shows the same but for its room
-pub same_place : (p : PlaceView) (config : Configuration) (history : List PlaceEntry) (counts : List ℕ) → p.config ≡ config → p.history ≡ history → p.counts ≡ counts
-    → p ≡ record { config = config; history = history; counts = counts; room = p.room }
-same_place p config history counts a b c = rw (← a, ← b, ← c) refl
+pub same_place : (p : PlaceView) (config : Configuration) (history : List PlaceEntry) (counts : List ℕ) (closes : List Bool) → p.config ≡ config → p.history ≡ history → p.counts ≡ counts → p.closes ≡ closes
+    → p ≡ record { config = config; history = history; counts = counts; closes = closes; room = p.room }
+same_place p config history counts closes a b c d = rw (← a, ← b, ← c, ← d) refl
 
 -- one for what the place knows
 -- what is planned to stand behind its awaits is the definition's batch
@@ -554,6 +566,13 @@ fits_known p host d k q h all none by is inside named roomy =
       roomy = roomy;
     })
 
+-- neither room nor plan depends on which closes are at hand
+roomy_then : (p : PlaceView) (at_queue : QueueAt) (closes : List Bool) → IsRoomy p at_queue → IsRoomy (record p { closes = closes }) at_queue
+roomy_then p at_queue closes h = record { entries = h.entries; counts = h.counts; regions = h.regions; batches = h.batches; ranges = h.ranges }
+
+fits_then : (p : PlaceView) (q : PlanView) (closes : List Bool) → Fits p q → Fits (record p { closes = closes }) q
+fits_then p q closes h = record { accepted = h.accepted; region = h.region; labelled = h.labelled; roomy = roomy_then p (queue_for p q.host q.directive) closes h.roomy }
+
 -- a plan that was just made
 pub plan_of_now : (p : PlaceView) (q : PlanView) → Fits p q → q.stamp ≡ length p.history → IsPlanOf p q
 plan_of_now p q fits stamped =
@@ -565,9 +584,9 @@ plan_of_now p q fits stamped =
       room_then = p.room;
       history = refl;
       counts = refl;
-      counted = refl;
+      counted = omega arith;
       stamped = stamped;
-      fitted = fits;
+      fitted = fits_then p q [] fits;
       roomy = λ none. fits.roomy;
     }
 
@@ -580,7 +599,7 @@ pub still_fits : (p : PlaceView) (q : PlanView) → IsPlanOf p q → q.stamp ≡
 still_fits p q h same =
     let len : length p.history ≡ length h.history_since + length h.history_then = ap length h.history ∙ length-append h.history_since h.history_then in
     let none : h.history_since ≡ [] = no_items h.history_since (omega (arith, len, same, h.stamped)) in
-    let none_counted : h.counts_since ≡ [] = no_items h.counts_since (h.counted ∙ ap length none) in
+    let none_counted : h.counts_since ≡ [] = no_items h.counts_since (omega (arith, h.counted, ap length none)) in
     let is_history : p.history ≡ h.history_then = h.history ∙ ap (λ xs. xs ++ h.history_then) none in
     let is_counts : p.counts ≡ h.counts_then = h.counts ∙ ap (λ xs. xs ++ h.counts_then) none_counted in
     let st : standing_in p ≡ standing p.config h.history_then h.counts_then = ap (λ xs. standing p.config xs p.counts) is_history ∙ ap (standing p.config h.history_then) is_counts in
@@ -626,6 +645,34 @@ plan_beside p after q config history counts roomy h =
       fitted = rw config h.fitted;
       roomy = λ none. subst (λ s. IsRoomy after (walk_at (walk_of s q.host q.directive))) (sym st) (roomy (queue_for p q.host q.directive) (h.roomy none));
     }
+
+-- and where closing goes on
+plan_closed : (p : PlaceView) (q : PlanView) (e : PlaceEntry) → IsPlanOf p q → IsPlanOf (record p { history = e ∷ p.history }) q
+plan_closed p q e h =
+    record {
+      history_then = h.history_then;
+      history_since = e ∷ h.history_since;
+      counts_then = h.counts_then;
+      counts_since = h.counts_since;
+      room_then = h.room_then;
+      history = ap (λ xs. e ∷ xs) h.history;
+      counts = h.counts;
+      counted = omega (arith, h.counted);
+      stamped = h.stamped;
+      fitted = h.fitted;
+      roomy = λ none. absurd (cc);
+    }
+
+plan_lent : (p : PlaceView) (q : PlanView) (closes : List Bool) → IsPlanOf p q → IsPlanOf (record p { closes = closes }) q
+plan_lent p q closes h = plan_beside p (record p { closes = closes }) q refl refl refl (λ at_queue roomy. roomy_then p at_queue closes roomy) h
+
+pub plan_at_closing : KeptByClosing
+plan_at_closing p q at_queue h = (
+  elim (standing_in p).closing as (λ v. IsPlanOf (record p { history = cond v p.history (Closing ∷ p.history) }) q) [ true ↦ h | false ↦ plan_closed p q Closing h ],
+  plan_lent p q _ h,
+  plan_lent p q _ h,
+  plan_closed p q (Closed at_queue) h,
+)
 
 -- and where its batch is handed out
 pub plan_without : KeptByTaking

@@ -1,8 +1,8 @@
 -- The labels of each queue, where one more is added.
 use Rattle.std.proofs.Common.{inl, inr, subst, ◌≡◌, ℕ, zero, suc, ◌<◌, true, false, cond, List, [], ◌∷◌, ◌++◌, length, refl, sym, ap, ◌∙◌, arith, Option, Some, None}
-use Rattle.std.specs.Prelude.{All, IfSome, nat_lt, slice_index_or}
+use Rattle.std.specs.Prelude.{All, IfSome, nat_lt, ◌&&◌, slice_index_or}
 use Rattle.std.specs.Option.{option_to_list}
-use Rattle.std.proofs.lemmas.Bool.{cases_Bool, ltb-true, lt-ltb}
+use Rattle.std.proofs.lemmas.Bool.{and_parts, cases_Bool, ltb-true, lt-ltb}
 use Rattle.std.proofs.lemmas.List.{append-nil, get_or-set_same, get_or-set_other}
 use Rattle.std.proofs.lemmas.List.Elements.{All-head, All-tail, filter-append}
 use Rattle.acc_base.specs.declared.ids.QueueAt.{QueueAt}
@@ -13,11 +13,18 @@ use Rattle.acc_base.proofs.SameQueue.{same_queue_is}
 use Rattle.acc_batch.specs.declared.operation.Label.{Label}
 use Rattle.acc_batch.specs.Labels.{on_queue}
 use Rattle.acc_batch.proofs.Seats.{one_seat}
-use Rattle.acc_place.specs.Places.{queue_in, queues_after, IsQueue}
+use Rattle.acc_place.specs.Histories.{IsQueue}
+use Rattle.acc_place.specs.Places.{queue_in, queues_after}
 
 -- the seat of a queue that is there
 pub seat_low : (config : Configuration) (at_queue : QueueAt) (count : ℕ) → IsQueue config at_queue → count ≡ queue_count config → seat at_queue < count
 seat_low config at_queue count there is = omega (arith, there.0, there.1, is)
+
+-- it is there where it is tested to be
+pub is_queue : (config : Configuration) (at_queue : QueueAt) → (nat_lt at_queue.device config.devices && nat_lt at_queue.queue QUEUES) ≡ true → IsQueue config at_queue
+is_queue config at_queue passes =
+    let parts = and_parts (nat_lt at_queue.device config.devices) (nat_lt at_queue.queue QUEUES) passes in
+    (ltb-true at_queue.device config.devices parts.0, ltb-true at_queue.queue QUEUES parts.1)
 
 -- the labels of a queue that is there
 pub queue_there : (queues : List (List Label)) (at_queue : QueueAt) → at_queue.queue < QUEUES → queue_in queues at_queue ≡ slice_index_or queues (seat at_queue) []

@@ -22,7 +22,7 @@ use Rattle.acc_batch.specs.Labels.{ops_of}
 use Rattle.acc_batch.specs.Lives.{made, released, AllUse, on_device, IsSound}
 use Rattle.acc_batch.specs.Awaits.{is_await, IsOrdered, AllOrdered, IsNumbered}
 use Rattle.acc_batch.proofs.Labels.{ops_of-append}
-use Rattle.acc_batch.proofs.Ordered.{behind_is, label_ordered, ordered_push}
+use Rattle.acc_batch.proofs.Ordered.{behind_is, close_ordered, label_ordered, ordered_push}
 use Rattle.acc_kernel.specs.Kernels.{Loop}
 use Rattle.acc_place.specs.declared.directive.Clause.{Clause}
 use Rattle.acc_place.specs.declared.directive.Clause.TheVariants.{Copy, Copyin, Copyout, Create, Present, Delete, UpdateSelf, UpdateDevice}
@@ -37,7 +37,7 @@ use Rattle.acc_place.specs.declared.directive.Target.TheVariants.{Plain, Unvalue
 use Rattle.acc_place.specs.Targets.{queue_of_own, queue_of, target_queue, or_sync, queue_by}
 use Rattle.acc_place.specs.Standings.{Standing, Walk, Visit, all_visits, walk_of, marks_behind}
 use Rattle.acc_place.specs.Batches.{walk_at, makes, copy_ins, runs, runs_by, updates, updates_by, copy_outs, releases, copies_in, copies_out, opened_blocks, ended_blocks, holding_blocks, grouped, operations_of, batch_of, next_number, labelled}
-use Rattle.acc_place.specs.Histories.{AllAccepted, standing, at_first, after_walk}
+use Rattle.acc_place.specs.Histories.{AllAccepted, standing, at_first, after_close, after_walk}
 use Rattle.acc_place.proofs.Ends.{asks_of}
 use Rattle.acc_place.proofs.Groups.{AllInArrays}
 use Rattle.acc_place.proofs.InArrays.{accepted_fits}
@@ -225,6 +225,33 @@ sound_more config st host items_done d walk h inside low =
       ];
     }
 
+-- The operations of one more close use no block, and make and release none.
+closed_ops : (config : Configuration) (st : Standing) (at : QueueAt) (d : ℕ) → Sound config st
+    → (AllUse config.arrays [] (ops_of (on_device d (after_close st at).labels)))
+    × Booked (st.marks d) (made (ops_of (on_device d (after_close st at).labels))) (released (ops_of (on_device d (after_close st at).labels)))
+closed_ops config st at d h = elim (cases_Bool (at.device == d)) [
+  | inl same ↦
+      let before = ops_of (on_device d st.labels) in
+      let here : at.device ≡ d = eqb-true at.device d same in
+      let all : ops_of (on_device d (after_close st at).labels) ≡ before ++ Close ∷ [] =
+      ap (λ n. ops_of (on_device n (after_close st at).labels)) (sym here) ∙ (ops_here at 0 0 st.labels (Close ∷ []) ∙ ap (λ n. ops_of (on_device n st.labels) ++ Close ∷ []) here) in
+      rw (all, made_quiet before (Close ∷ []) refl, released_quiet before (Close ∷ []) refl)
+      (AllUse-append config.arrays [] before (Close ∷ []) (h.use_live d) (tt, tt), h.booked d)
+  | inr differ ↦ rw (ops_there d at 0 0 st.labels (Close ∷ []) differ) (h.use_live d, h.booked d)
+]
+
+-- One more close leaves the labels sound.
+pub sound_close : (config : Configuration) (st : Standing) (at : QueueAt) → Sound config st → at.queue < 8 → Sound config (after_close st at)
+sound_close config st at h low = record {
+  use_live = λ d. (closed_ops config st at d h).0;
+  booked = λ d. (closed_ops config st at d h).1;
+  ordered = ordered_push [] st.labels _ h.ordered (close_ordered at st.labels);
+  numbered = λ m c. elim (Contains-push_cases st.labels _ m c) [
+    | inl old ↦ h.numbered m old
+    | inr new ↦ rw (← new) (omega arith, low)
+  ];
+}
+
 -- each queue that a directive names is one of its device
 own_low : (v : ℤ) → or_sync (queue_of_own v) < 8
 own_low (pos v) = omega arith
@@ -265,6 +292,10 @@ all_sound config (noted.Accepted host d ∷ before) counts h =
     let st = standing config before (drop 1 counts) in
     let fit = accepted_fits config st host d h.0 in
     sound_more config st host (slice_index_or counts 0 0) d (walk_of st host d) (all_sound config before (drop 1 counts) h.1) fit.inside (walk_low st host d)
+all_sound config (noted.Closing ∷ before) counts h =
+    let s = all_sound config before counts h.1 in
+    record { use_live = s.use_live; booked = s.booked; ordered = s.ordered; numbered = s.numbered }
+all_sound config (noted.Closed at ∷ before) counts h = sound_close config (standing config before counts) at (all_sound config before counts h.1) h.0.there.1
 
 pub labels_sound : (config : Configuration) (history : List PlaceEntry) (counts : List ℕ) → AllAccepted config history counts → IsSound config.arrays (standing config history counts).labels
 labels_sound config history counts h = (let s = all_sound config history counts h in record { use_live = s.use_live; ordered = s.ordered })

@@ -7,6 +7,7 @@ use Rattle.acc_base.specs.declared.ids.QueueAt.{QueueAt}
 use Rattle.acc_base.specs.Configurations.{Configuration}
 use Rattle.acc_batch.specs.declared.operation.Label.{Label}
 use Rattle.acc_batch.specs.declared.operation.Op.{Op}
+use Rattle.acc_batch.specs.declared.operation.Op.TheVariants.{Close}
 use Rattle.acc_place.specs.Directives.{Directive}
 use Rattle.acc_place.specs.declared.directive.Kind.{Kind}
 use Rattle.acc_place.specs.declared.directive.Kind.TheVariants as kind
@@ -84,6 +85,15 @@ all_there config (noted.Accepted host d ∷ before) counts h =
     record {
       labels = labels_in config.devices (walk_at walk) host (slice_index_or counts 0 0) st.labels (batch_of st walk) t.labels (walk_in config.devices st host d t.regions fit.device) (walk_low st host d);
       regions = regions_in config.devices host d d.kind st.regions t.regions fit.device;
+    }
+all_there config (noted.Closing ∷ before) counts h =
+    let t = all_there config before counts h.1 in
+    record { labels = t.labels; regions = t.regions }
+all_there config (noted.Closed at ∷ before) counts h =
+    let t = all_there config before counts h.1 in
+    record {
+      labels = labels_in config.devices at 0 0 (standing config before counts).labels (Close ∷ []) t.labels h.0.there.0 h.0.there.1;
+      regions = t.regions;
     }
 
 pub labels_there : AcceptedAreThere

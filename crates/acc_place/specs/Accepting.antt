@@ -3,7 +3,7 @@
 use Rattle.std.specs.Prelude.{ℕ, ◌+◌, Bool, true, false, ◌&&◌, ◌||◌, not, nat_lt, nat_le, List, [], ◌∷◌, ◌++◌, length, map, Option, Some, None, pos, int_lt, int_le}
 use Rattle.std.specs.List.{list_any}
 use Rattle.acc_base.specs.declared.fault.Fault.{Fault}
-use Rattle.acc_base.specs.declared.fault.Fault.TheVariants.{BadDevice, BadRange, BadAsync, TooMany, PartlyPresent, NotPresent, DeviceFull, OutsideRange, NoRegion}
+use Rattle.acc_base.specs.declared.fault.Fault.TheVariants.{Closed, BadDevice, BadRange, BadAsync, TooMany, PartlyPresent, NotPresent, DeviceFull, OutsideRange, NoRegion}
 use Rattle.acc_base.specs.Configurations.{Configuration, is_in_array}
 use Rattle.acc_kernel.specs.declared.reach.Reach.{Reach}
 use Rattle.acc_kernel.specs.Kernels.{Loop, arrays_of, reach_of}
@@ -85,11 +85,13 @@ abbrev pub is_past : Option Loop → List Item → Bool
 is_past None items = false
 is_past (Some k) items = list_any (λ array. reaches_past (reach_of k array) (item_of array items)) (arrays_of k)
 
--- The items are judged in turn, and a loop's reach after all of them.
+-- Once closing has begun no directive is accepted, whatever else it is refused for. The items are judged in turn, and a loop's
+-- reach after all of them.
 abbrev pub refusal_on : Configuration → Standing → ℕ → Directive → Walk → Option Fault
 refusal_on config st host d walk =
     first_fault (
-    fault_where (nat_le config.devices d.device) BadDevice
+    fault_where st.closing Closed
+    ∷ fault_where (nat_le config.devices d.device) BadDevice
     ∷ fault_where (has_bad_queue d) BadAsync
     ∷ fault_where (has_too_many st host d walk) TooMany
     ∷ fault_where (is_outside d.kind (open_region host st.regions)) NoRegion

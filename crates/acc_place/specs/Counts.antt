@@ -1,6 +1,6 @@
 -- The counters and the data constructs that hosts are inside (OpenACC API 3.0, 2.6.7, Reference Counters): what holds of
 -- them after directives that were each accepted after those before it.
-use Rattle.std.specs.Prelude.{◌≡◌, ℕ, ◌<◌, true, List, length, map, filter, All, Some, None}
+use Rattle.std.specs.Prelude.{◌≡◌, ℕ, ◌<◌, true, false, List, length, map, filter, All, Some, None}
 use Rattle.std.specs.List.{flat_map}
 use Rattle.acc_base.specs.declared.range.Range.{Range}
 use Rattle.acc_base.specs.Ranges.{range_contains}
@@ -44,10 +44,10 @@ AcceptedAreCounted =
     (config : Configuration) (history : List PlaceEntry) (counts : List ℕ) (device : ℕ)
     → AllAccepted config history counts → IsCountedOn device (standing config history counts)
 
--- and a data construct that a host is inside can be left, until the last directive of a run.
+-- and a data construct that a host is inside can be left, until closing begins or the last directive of a run.
 abbrev pub EnteredCanBeLeft : Type 0
 EnteredCanBeLeft =
     (config : Configuration) (history : List PlaceEntry) (counts : List ℕ) (host : ℕ) (d : Directive) (r : Region)
-    → AllAccepted config history counts → (standing config history counts).accepted < MAX_DIRECTIVES
+    → AllAccepted config history counts → (standing config history counts).closing ≡ false → (standing config history counts).accepted < MAX_DIRECTIVES
     → d.kind ≡ EndData → d.target ≡ Plain → d.waits ≡ Nothing → d.device < config.devices → open_region host (standing config history counts).regions ≡ Some r
     → refusal config (standing config history counts) host d ≡ None

@@ -4,6 +4,8 @@ pub mod BatchExamples
 pub mod Batches
 pub mod ClauseExamples
 pub mod Clauses
+pub mod CloseExamples
+pub mod Closing
 pub mod Counts
 pub mod Devices
 pub mod Directives

@@ -1,22 +1,24 @@
 -- What a place keeps between directives.
-use Rattle.std.specs.Prelude.{◌≡◌, ℕ, ◌*◌, ◌<◌, ◌≤◌, zero, suc, nat_lt, List, [], length, All, slice_get, slice_index_or, slice_set, ◌++◌, ◌∷◌, Option, Some, None, if◌then◌else◌}
+use Rattle.std.specs.Prelude.{◌≡◌, ℕ, ◌+◌, ◌*◌, ◌<◌, ◌≤◌, zero, suc, Bool, true, false, not, nat_lt, List, [], length, filter, All, slice_get, slice_index_or, slice_set, ◌++◌, ◌∷◌, Option, Some, None, IfSome, is_some, if◌then◌else◌}
 use Rattle.acc_base.specs.declared.ids.QueueAt.{QueueAt}
 use Rattle.acc_base.specs.declared.ids.TheConstants.{QUEUES}
 use Rattle.acc_base.specs.Configurations.{Configuration}
 use Rattle.acc_base.specs.Queues.{queue_count, seat}
 use Rattle.acc_batch.specs.declared.operation.Label.{Label}
+use Rattle.acc_batch.specs.Awaits.{close_label}
 use Rattle.acc_batch.specs.Labels.{on_queue}
 use Rattle.acc_present.specs.Legality.{AllLegal}
 use Rattle.acc_present.specs.Lifetimes.{opened}
 use Rattle.acc_present.specs.Notes.{HasNotes}
 use Rattle.acc_present.specs.Presences.{presences}
 use Rattle.acc_present.specs.Tables.{Present}
+use Rattle.acc_place.specs.declared.closes.Close.{Close}
 use Rattle.acc_place.specs.declared.device.Device.{Device}
 use Rattle.acc_place.specs.declared.directive.PlaceEntry.{PlaceEntry}
 use Rattle.acc_place.specs.declared.directive.Region.{Region}
 use Rattle.acc_place.specs.declared.directive.TheConstants.{MAX_ITEMS, MAX_DIRECTIVES}
 use Rattle.acc_place.specs.Counts.{IsEnteredBy, entered_ranges}
-use Rattle.acc_place.specs.Histories.{standing, AllAccepted}
+use Rattle.acc_place.specs.Histories.{is_closed, standing, AllAccepted, IsQueue}
 use Rattle.acc_place.specs.Noting.{notes_on}
 use Rattle.acc_place.specs.Regions.{regions_on}
 use Rattle.acc_place.specs.Standings.{Standing}
@@ -53,12 +55,9 @@ pub record IsTiedOn (config : Configuration) (st : Standing) (device : ℕ) (t :
   pub few_blocks : blocks ≤ MAX_ITEMS * st.accepted
   pub low : AllLow (MAX_ITEMS * st.accepted) 0 t.presences
 
--- a region is on a device that is there, and so is a queue
+-- a region is on a device that is there
 abbrev pub IsThere : Configuration → Region → Type 0
 IsThere config r = r.device < config.devices
-
-abbrev pub IsQueue : Configuration → QueueAt → Type 0
-IsQueue config at = (at.device < config.devices) × (at.queue < QUEUES)
 
 -- The devices, the regions and the labels are those of the histories.
 pub record IsTied (config : Configuration) (st : Standing) (devices : List Device) (regions : List Region) (labels : List (List Label)) : Type 0 where
@@ -71,7 +70,52 @@ pub record IsTied (config : Configuration) (st : Standing) (devices : List Devic
 
 -- What a place keeps of its configuration and its histories.
 pub record IsPlace (config : Configuration) (history : List PlaceEntry) (counts : List ℕ) (devices : List Device) (regions : List Region) (labels : List (List Label)) : Type 0 where
-  pub accepted : length history ≡ (standing config history counts).accepted
-  pub counted : length counts ≡ length history
+  pub counted : length counts ≡ (standing config history counts).accepted
   pub lawful : AllAccepted config history counts
   pub tied : IsTied config (standing config history counts) devices regions labels
+
+-- ## Closes
+
+-- a label is that of a queue's close, whatever its number
+abbrev pub ClosesQueue : QueueAt → Label → Type 0
+ClosesQueue at l = l ≡ record (close_label at []) { number = l.number }
+
+-- how many entries of the history closing takes: one, and one for each queue
+abbrev pub closing_entries : Configuration → ℕ
+closing_entries config = queue_count config + 1
+
+abbrev pub no_close : Close
+no_close = record { batch = None; label = None }
+
+-- what is kept of a queue's close
+abbrev pub close_in : List Close → QueueAt → Close
+close_in closes at = slice_index_or closes (seat at) no_close
+
+-- nothing was placed yet
+abbrev pub new_close : QueueAt → Close
+new_close at = record { batch = Some (close_label at []); label = Some (close_label at []) }
+
+-- Its batch is kept unless it is out or placed, and its label until that is placed.
+pub record IsCloseOf (st : Standing) (at : QueueAt) (c : Close) : Type 0 where
+  pub batch : IfSome c.batch (ClosesQueue at)
+  pub label : IfSome c.label (ClosesQueue at)
+  pub unplaced : is_some c.batch ≡ true → is_closed st at ≡ false
+  pub left : is_some c.label ≡ not (is_closed st at)
+
+-- how many queues aren't closed yet, and how many entries closing still takes
+abbrev pub left_open : List Close → ℕ
+left_open closes = length (filter (λ (c : Close). is_some c.label) closes)
+
+abbrev pub entries_left : Bool → List Close → ℕ
+entries_left true closes = left_open closes
+entries_left false closes = left_open closes + 1
+
+-- The closes are those of the histories, and there is room for them, among so many entries of the history and so many
+-- batches of each queue.
+pub record KeepsCloses (config : Configuration) (st : Standing) (closing : Bool) (closes : List Close) (entries room : ℕ) (batches : List ℕ) : Type 0 where
+  pub begun : closing ≡ st.closing
+  pub all_queues : length closes ≡ queue_count config
+  pub each : (at : QueueAt) → IsQueue config at → IsCloseOf st at (close_in closes at)
+  pub history_room : entries + entries_left closing closes ≤ room
+  pub label_room :
+      (at : QueueAt) → IsQueue config at → is_closed st at ≡ false → length (on_queue at st.labels) ≤ slice_index_or batches (seat at) 0

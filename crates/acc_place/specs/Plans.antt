@@ -1,5 +1,5 @@
 -- What a place shows and what it answers to a directive; what a plan is, and when it fits.
-use Rattle.std.specs.Prelude.{◌≡◌, ℕ, ◌+◌, ◌*◌, ◌<◌, ◌≤◌, List, [], ◌∷◌, ◌++◌, length, slice_index_or, Option, Some, None}
+use Rattle.std.specs.Prelude.{◌≡◌, ℕ, ◌+◌, ◌*◌, ◌<◌, ◌≤◌, Bool, List, [], ◌∷◌, ◌++◌, length, slice_index_or, Option, Some, None}
 use Rattle.acc_base.specs.declared.fault.Fault.{Fault}
 use Rattle.acc_base.specs.declared.fault.Fault.TheVariants.{Memory}
 use Rattle.acc_base.specs.declared.ids.QueueAt.{QueueAt}
@@ -22,19 +22,23 @@ use Rattle.acc_place.specs.Histories.{standing}
 use Rattle.acc_place.specs.Regions.{region_of}
 use Rattle.acc_place.specs.Standings.{Standing, Walk, walk_of}
 
--- For how many accepted directives, open data constructs, batches of each queue, by device, then in queue order, and
--- present ranges of each device there is room, those that are there among them.
+-- For how many entries of the place history, but for those of closing, counts, open data constructs, batches of each queue, but
+-- for its close, by device, then in queue order, and present ranges of each device there is room, those that are there among
+-- them.
 pub record Room : Type 0 where
-  pub directives : ℕ
+  pub entries : ℕ
+  pub counts : ℕ
   pub regions : ℕ
   pub batches : List ℕ
   pub ranges : List ℕ
 
--- The configuration, the place history with its counts, the latest first, and the room.
+-- The configuration, the place history with its counts, the latest first; of which queues the close is at hand, by device, then
+-- in queue order; and the room.
 pub record PlaceView : Type 0 where
   pub config : Configuration
   pub history : List PlaceEntry
   pub counts : List ℕ
+  pub closes : List Bool
   pub room : Room
 
 abbrev pub standing_in : PlaceView → Standing
@@ -43,7 +47,8 @@ standing_in p = standing p.config p.history p.counts
 -- There is room for one more directive with a batch on this queue: in the histories, among the regions and the queue's
 -- batches, and in the device's table for its items and their ends.
 pub record IsRoomy (p : PlaceView) (at : QueueAt) : Type 0 where
-  pub directives : length p.history < p.room.directives
+  pub entries : length p.history < p.room.entries
+  pub counts : length p.counts < p.room.counts
   pub regions : length (standing_in p).regions < p.room.regions
   pub batches : length (on_queue at (standing_in p).labels) < slice_index_or p.room.batches (seat at) 0
   pub ranges : length (presences ((standing_in p).marks at.device)) + 2 * MAX_ITEMS ≤ slice_index_or p.room.ranges at.device 0
@@ -95,7 +100,7 @@ abbrev pub place_after : PlaceView → PlanView → PlaceView
 place_after p q =
     record p { history = Accepted q.host q.directive ∷ p.history; counts = q.items_done ∷ p.counts }
 
--- The plan was made of this place, now or before; and if no directive was accepted since, the room is still there.
+-- The plan was made of this place, now or before; and if nothing was accepted or closed since, the room is still there.
 pub record IsPlanOf (p : PlaceView) (q : PlanView) : Type 0 where
   pub history_then : List PlaceEntry
   pub history_since : List PlaceEntry
@@ -104,9 +109,9 @@ pub record IsPlanOf (p : PlaceView) (q : PlanView) : Type 0 where
   pub room_then : Room
   pub history : p.history ≡ history_since ++ history_then
   pub counts : p.counts ≡ counts_since ++ counts_then
-  pub counted : length counts_since ≡ length history_since
+  pub counted : length counts_since ≤ length history_since
   pub stamped : q.stamp ≡ length history_then
-  pub fitted : Fits (record { config = p.config; history = history_then; counts = counts_then; room = room_then }) q
+  pub fitted : Fits (record { config = p.config; history = history_then; counts = counts_then; closes = []; room = room_then }) q
   pub roomy : history_since ≡ [] → IsRoomy p (queue_for p q.host q.directive)
 
 -- A plan stays one of its place where another directive is accepted,

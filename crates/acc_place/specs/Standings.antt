@@ -1,6 +1,7 @@
 -- What a history leaves, and what a directive marks after it, item by item (OpenACC API 3.0, 2.6.5, Data Construct,
 -- 2.6.6, Enter Data and Exit Data Directives, 2.6.7, Reference Counters, 2.7, Data Clauses, and 2.11, Combined Constructs).
 use Rattle.std.specs.Prelude.{ℕ, Bool, true, false, List, [], ◌∷◌, ◌++◌, map, Option, Some, None, ◌==◌, if◌then◌else◌}
+use Rattle.acc_base.specs.declared.ids.QueueAt.{QueueAt}
 use Rattle.acc_base.specs.declared.range.Range.{Range}
 use Rattle.acc_batch.specs.declared.operation.Label.{Label}
 use Rattle.acc_place.specs.Directives.{Directive}
@@ -19,13 +20,15 @@ use Rattle.acc_place.specs.Targets.{is_alone, queue_by, queues_named}
 
 -- What a directive finds: how many cells each host array has; and what a history leaves, which is the marks on each
 -- device, the latest first, the data constructs that the hosts are inside, the latest first, the batches, in the order of
--- placing, and how many directives were accepted.
+-- placing, how many directives were accepted, whether closing has begun, and which queues are closed.
 pub record Standing : Type 0 where
   pub lengths : List ℕ
   pub marks : ℕ → List Mark
   pub regions : List Region
   pub labels : List Label
   pub accepted : ℕ
+  pub closing : Bool
+  pub closed : List QueueAt
 
 -- An item in its turn, and the change that is asked for, if any.
 pub record Asked : Type 0 where

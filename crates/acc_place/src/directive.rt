@@ -254,6 +254,10 @@ pub struct Placed {
 #[derive(Drop)]
 pub enum PlaceEntry {
     Accepted { host: HostId, directive: Directive },
+    /// Closing begins: from here on no directive is accepted.
+    Closing,
+    /// The queue's close is placed, its last batch.
+    Closed { at: QueueAt },
 }
 
 // The history keeps each.

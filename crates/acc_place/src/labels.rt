@@ -9,7 +9,7 @@ use acc_batch::Label;
 use std::alloc::Global;
 use std::marker::Model;
 
-/// The labels of the batches on each queue of each device.
+/// The labels of the batches on each queue of each device. Each queue has room for its close besides.
 #[derive(Drop)]
 pub struct Labels {
     // by device, then in queue order
@@ -17,7 +17,7 @@ pub struct Labels {
 }
 
 impl Model for Labels {
-    ghost use Rattle.std.specs.Prelude.{map, vec_capacity};
+    ghost use Rattle.std.specs.Prelude.{All, map, vec_capacity, ◌-◌, ◌<◌};
     ghost use Rattle.std.specs.Coded.{codes};
     ghost use Rattle.acc_kernel.specs.contracts.expr.Expr as expr;
     ghost use Rattle.acc_place.specs.Places.{LabelsView};
@@ -26,7 +26,9 @@ impl Model for Labels {
 
     ghost coded = { Prim.hlevel (codes, expr.the_row.coded) };
 
-    ghost view = { λ w. record { queues = map (λ v. v.items) w.queues.items; room = map (λ v. vec_capacity v) w.queues.items } };
+    ghost view = { λ w. record { queues = map (λ v. v.items) w.queues.items; room = map (λ v. vec_capacity v - 1) w.queues.items } };
+
+    ghost invariant = { λ w. All (λ v. 0 < vec_capacity v) w.queues.items };
 }
 
 impl Labels {
@@ -42,7 +44,7 @@ impl Labels {
     {
         let mut queues = Vec::new(alloc);
         for _ in 0..u16::from(devices) * u16::from(QUEUES) {
-            queues.push(Vec::new(alloc))?;
+            queues.push(Vec::with_capacity(alloc, 1)?)?;
         }
         Ok(Labels { queues })
     }
@@ -73,14 +75,14 @@ impl Labels {
         ensures fault { IfErr result (λ fault. fault ≡ Memory) }
         ensures missing { OnErr result (¬ (length (slice_index_or self.old.queues (seat at) []) < slice_index_or self.old.room (seat at) 0)) }
     {
-        self.queues[at.seat()].reserve(1)?;
+        self.queues[at.seat()].reserve(2)?;
         Ok(())
     }
 
-    /// Adds a label to its queue. Takes no memory.
+    /// Adds a label to its queue, which may be its close. Takes no memory.
     pub fn push(&mut self, label: Label)
         requires seat { seat label.at < length self.old.queues }
-        requires room { length (slice_index_or self.old.queues (seat label.at) []) < slice_index_or self.old.room (seat label.at) 0 }
+        requires room { length (slice_index_or self.old.queues (seat label.at) []) ≤ slice_index_or self.old.room (seat label.at) 0 }
         ensures queues { self.new.queues ≡ slice_set self.old.queues (seat label.at) (slice_index_or self.old.queues (seat label.at) [] ++ label ∷ []) }
         ensures room { self.new.room ≡ self.old.room }
     {

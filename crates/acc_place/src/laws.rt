@@ -7,6 +7,8 @@ ghost use Rattle.acc_place.specs.RegionExamples.{AbsentAtEntry, PresentAtEntry, 
 ghost use Rattle.acc_place.specs.Sound.{AcceptedAreSound, AcceptedAreThere};
 ghost use Rattle.acc_place.specs.Counts.{AcceptedAreCounted, EnteredCanBeLeft};
 ghost use Rattle.acc_place.specs.Loops.{ReachIsJudged};
+ghost use Rattle.acc_place.specs.CloseExamples.{LastBatches, RefusedForClosing, RegionsStay, ClosedOnce};
+ghost use Rattle.acc_place.specs.Closing.{KeptByClosing};
 ghost use Rattle.acc_place.specs.Plans.{KeptByAccepting, KeptByPlanning, KeptByTaking};
 
 /// After accepted directives the structured counter of each present range is the number of the ranges inside it that
@@ -21,10 +23,11 @@ pub fn reach_is_judged()
     ensures { ReachIsJudged }
 {}
 
-/// A plan stays one of its place, whatever is accepted or planned since: `Plan::fits` can always be asked.
+/// A plan stays one of its place, whatever is accepted, planned or closed since: `Plan::fits` can always be asked.
 pub fn plans_are_kept()
     ensures accepted { KeptByAccepting }
     ensures planned { KeptByPlanning }
+    ensures closed { KeptByClosing }
 {}
 
 /// It stays one, and fits as it did, where its batch is handed out.
@@ -110,6 +113,15 @@ pub fn worked_queues()
     ensures devices { DevicesApart }
     ensures counts { CountsOfWaits }
     ensures values { QueuesOfValues }
+{}
+
+/// What closing leaves, computed likewise: the last batch of each queue, the first fault of every directive, data constructs
+/// that can't be left any more, and which histories there are.
+pub fn worked_closing()
+    ensures last { LastBatches }
+    ensures refused { RefusedForClosing }
+    ensures regions { RegionsStay }
+    ensures once { ClosedOnce }
 {}
 
 /// What accepted directives place uses live blocks on each device in the order of placing, and each batch awaits those

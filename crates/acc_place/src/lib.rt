@@ -3,6 +3,7 @@
 
 mod awaits;
 mod clauses;
+mod closes;
 mod device;
 mod directive;
 mod judge;
@@ -23,7 +24,8 @@ pub use directive::{
 pub use laws::{
     accepted_directives_are_counted, accepted_labels_are_sound, accepted_labels_are_there,
     plans_are_kept, plans_outlast_their_batches, reach_is_judged, worked_batches, worked_clauses,
-    worked_directives, worked_loops, worked_queues, worked_refusals, worked_regions,
+    worked_closing, worked_directives, worked_loops, worked_queues, worked_refusals,
+    worked_regions,
 };
 pub use place::Place;
 pub use plan::Plan;

@@ -1,4 +1,4 @@
-ghost use Rattle.std.specs.Prelude.{ℕ, All, reverse, ◌≡◌, ◌+◌, ◌<◌, ◌==◌, ◌++◌, [], ◌∷◌, length, true, None, IfOk, IfErr, OnOk, OnErr, OnSome, IfSome, slice_get, slice_index_or, ◌^◌};
+ghost use Rattle.std.specs.Prelude.{ℕ, All, reverse, false, ◌≡◌, ◌+◌, ◌<◌, ◌==◌, ◌++◌, [], ◌∷◌, length, true, None, IfOk, IfErr, OnOk, OnErr, OnSome, IfSome, slice_get, slice_index_or, ◌^◌};
 ghost use Rattle.std.specs.List.{flat_map};
 ghost use Rattle.std.specs.Option.{option_map, option_to_list};
 ghost use Rattle.acc_base.specs.declared.fault.Fault.TheVariants.{Memory};
@@ -11,17 +11,19 @@ ghost use Rattle.acc_place.specs.Accepting.{refusal};
 ghost use Rattle.acc_base.specs.declared.ids.TheConstants.{QUEUES};
 ghost use Rattle.acc_base.specs.declared.range.Range.{Range};
 ghost use Rattle.acc_present.specs.Notes.{Note, HasNotes};
-ghost use Rattle.acc_place.specs.Batches.{answer_of, counts_queues, is_answered};
+ghost use Rattle.acc_place.specs.Batches.{answer_of, counts_queues, is_answered, next_number};
 ghost use Rattle.acc_place.specs.Devices.{held_on};
 ghost use Rattle.acc_place.specs.Noting.{noted_ranges, noted_with};
 ghost use Rattle.acc_place.specs.Targets.{queue_by, queues_named};
 ghost use Rattle.acc_place.specs.Trials.{counts_in};
-ghost use Rattle.acc_place.specs.Histories.{AllAccepted};
-ghost use Rattle.acc_place.specs.Places.{nth_batch, queues_after, IsQueue};
+ghost use Rattle.acc_place.specs.Closing.{begun, close_of, closed, handed_back, handed_out, is_at_hand, IsOut};
+ghost use Rattle.acc_place.specs.Histories.{AllAccepted, IsQueue};
+ghost use Rattle.acc_place.specs.Places.{nth_batch, queues_after, ClosesQueue};
 ghost use Rattle.acc_place.specs.Plans.{standing_in, IsRefusal, IsPlanOf, IsRoomy, Fits, place_after, queue_for};
 ghost use Rattle.acc_place.specs.Standings.{walk_of};
 
 use crate::awaits::named_counts;
+use crate::closes::{Close, closes_of};
 use crate::device::{Device, devices_of};
 use crate::directive::{Directive, Item, Kind, PlaceEntry, Placed, Region};
 use crate::judge::Known;
@@ -32,7 +34,7 @@ use crate::subject::ends_of;
 use crate::targets::queue_by;
 use crate::trial::Trial;
 use acc_base::{Config, DeviceId, Fault, HostId, QueueAt, QueueId, Range};
-use acc_batch::Label;
+use acc_batch::{Batch, Label};
 use acc_present::{Change, Entry, Table};
 use std::alloc::Global;
 use std::marker::Model;
@@ -47,6 +49,9 @@ pub struct Place {
     devices: Vec<Device>,
     history: Vec<PlaceEntry>,
     counts: Vec<u64>,
+    closing: bool,
+    // by device, then in queue order
+    closes: Vec<Close>,
     // the data constructs that the hosts are inside, the latest first
     regions: Vec<Region>,
     labels: Labels,
@@ -55,23 +60,24 @@ pub struct Place {
 }
 
 impl Model for Place {
-    ghost use Rattle.std.specs.Prelude.{map, min, reverse, vec_capacity};
+    ghost use Rattle.std.specs.Prelude.{is_some, length, map, reverse, vec_capacity, ◌-◌};
     ghost use Rattle.std.specs.Coded.{codes};
     ghost use Rattle.acc_kernel.specs.contracts.expr.Expr as expr;
     ghost use Rattle.acc_place.specs.Plans.{PlaceView};
-    ghost use Rattle.acc_place.specs.Places.{IsPlace};
+    ghost use Rattle.acc_place.specs.Histories.{standing};
+    ghost use Rattle.acc_place.specs.Places.{closing_entries, IsPlace, KeepsCloses};
 
     ghost Value = { PlaceView };
 
     ghost coded = { Prim.hlevel (codes, expr.the_row.coded) };
 
-    ghost view = { λ w. record { config = w.config; history = reverse w.history.items; counts = reverse w.counts.items; room = record { directives = min (vec_capacity w.history) (vec_capacity w.counts); regions = vec_capacity w.regions; batches = w.labels.room; ranges = map (λ v. v.table.room) w.devices.items } } };
+    ghost view = { λ w. record { config = w.config; history = reverse w.history.items; counts = reverse w.counts.items; closes = map (λ c. is_some c.batch) w.closes.items; room = record { entries = vec_capacity w.history - closing_entries w.config; counts = vec_capacity w.counts; regions = vec_capacity w.regions; batches = w.labels.room; ranges = map (λ v. v.table.room) w.devices.items } } };
 
-    ghost invariant = { λ w. IsPlace w.config (reverse w.history.items) (reverse w.counts.items) w.devices.items w.regions.items w.labels.queues };
+    ghost invariant = { λ w. IsPlace w.config (reverse w.history.items) (reverse w.counts.items) w.devices.items w.regions.items w.labels.queues × KeepsCloses w.config (standing w.config (reverse w.history.items) (reverse w.counts.items)) w.closing w.closes.items (length w.history.items) (vec_capacity w.history) w.labels.room };
 }
 
 impl Place {
-    /// A place without directives.
+    /// A place without directives, which has the memory that closing needs.
     ///
     /// # Errors
     ///
@@ -80,17 +86,22 @@ impl Place {
         ensures config { IfOk result (λ p. p.config ≡ config) }
         ensures history { IfOk result (λ p. p.history ≡ []) }
         ensures counts { IfOk result (λ p. p.counts ≡ []) }
+        ensures closes { IfOk result (λ p. (at : QueueAt) → IsQueue config at → is_at_hand p at ≡ true) }
         ensures fault { IfErr result (λ fault. fault ≡ Memory) }
     {
         let devices = devices_of(alloc, &config)?;
         let labels = Labels::new(alloc, config.devices())?;
+        let closes = closes_of(alloc, &config)?;
+        let history = Vec::with_capacity(alloc, closes.len() + 1)?;
         let trial = Trial::new(alloc)?;
         Ok(Place {
             alloc,
             config,
             devices,
-            history: Vec::new(alloc),
+            history,
             counts: Vec::new(alloc),
+            closing: false,
+            closes,
             regions: Vec::new(alloc),
             labels,
             trial,
@@ -112,6 +123,7 @@ impl Place {
         ensures config { self.new.config ≡ self.old.config }
         ensures history { self.new.history ≡ self.old.history }
         ensures counts { self.new.counts ≡ self.old.counts }
+        ensures closes { self.new.closes ≡ self.old.closes }
         ensures roomy { (at : QueueAt) → IsRoomy self.old at → IsRoomy self.new at }
         ensures refused { IfErr result (λ fault. IsRefusal (refusal self.old.config (standing_in self.old) host directive.now) fault) }
         ensures plan { IfOk result (λ q. (q.host ≡ host) × (q.items_done ≡ items_done) × (q.directive ≡ directive.now)) }
@@ -140,13 +152,17 @@ impl Place {
         Ok(plan)
     }
 
-    // The queue of a host's directive, if its device is there.
+    // The queue of a host's directive, if closing hasn't begun and its device is there.
     fn queue_for(&self, host: HostId, directive: &Directive) -> Result<QueueAt, Fault>
         ensures refused { IfErr result (λ fault. refusal self.now.config (standing_in self.now) host directive.now ≡ Some fault) }
+        ensures early { OnOk result ((standing_in self.now).closing ≡ false) }
         ensures device { OnOk result (directive.now.device < self.now.config.devices) }
         ensures at { IfOk result (λ at. at ≡ queue_for self.now host directive.now) }
         ensures there { IfOk result (λ at. IsQueue self.now.config at) }
     {
+        if self.closing {
+            return Err(Fault::Closed);
+        }
         if !self.config.has_device(directive.device()) {
             return Err(Fault::BadDevice);
         }
@@ -157,19 +173,20 @@ impl Place {
         })
     }
 
-    // Makes room for one more directive with a batch on this queue, where it is missing.
+    // Makes room for one more directive with a batch on this queue, and for closing behind it, where it is missing.
     fn make_room(&mut self, at: QueueAt) -> Result<(), Fault>
         requires there { IsQueue self.old.config at }
         ensures config { self.new.config ≡ self.old.config }
         ensures history { self.new.history ≡ self.old.history }
         ensures counts { self.new.counts ≡ self.old.counts }
+        ensures closes { self.new.closes ≡ self.old.closes }
         ensures roomy { (other : QueueAt) → IsRoomy self.old other → IsRoomy self.new other }
         ensures ok { OnOk result (IsRoomy self.new at) }
         ensures fault { IfErr result (λ fault. fault ≡ Memory) }
         ensures missing { OnErr result (¬ IsRoomy self.old at) }
     {
         let device = usize::from(at.device.number());
-        self.history.reserve(1)?;
+        self.history.reserve(self.closes.len() + 2)?;
         self.counts.reserve(1)?;
         self.regions.reserve(1)?;
         self.labels.spare(at)?;
@@ -215,6 +232,63 @@ impl Place {
         }
     }
 
+    /// Closing begins, if it hasn't: from then on no directive is accepted. Takes no memory.
+    pub fn close_begin(&mut self)
+        ensures place { self.new ≡ begun self.old }
+        ensures closing { (standing_in self.new).closing ≡ true }
+    {
+        if !self.closing {
+            self.closing = true;
+            self.history.push_reserved(PlaceEntry::Closing);
+        }
+    }
+
+    /// Hands out the close of a queue, numbered as its last batch, unless it is out or placed, or the queue isn't there. Takes
+    /// no memory.
+    pub fn close_batch(&mut self, at: QueueAt) -> Option<Batch>
+        ensures batch { result ≡ close_of self.old at }
+        ensures place { self.new ≡ handed_out self.old at }
+        ensures out { OnSome result (IsOut self.new at) }
+    {
+        let QueueAt { device, queue } = at;
+        if !self.config.has_queue(QueueAt { device, queue }) {
+            return None;
+        }
+        let number = self.next_number(QueueAt { device, queue });
+        let mut batch = self.closes[QueueAt { device, queue }.seat()].batch.take()?;
+        batch.renumber(number);
+        Some(batch)
+    }
+
+    /// Takes back the close of a queue, as `close_batch` handed it out. Takes no memory.
+    pub fn close_back(&mut self, at: QueueAt, batch: Batch)
+        requires out { IsOut self.old at }
+        requires batch { ClosesQueue at batch }
+        ensures { self.new ≡ handed_back self.old at }
+    {
+        self.closes[at.seat()].batch = Some(batch);
+    }
+
+    /// A queue's close is placed, which `close_batch` handed out, once closing has begun. Takes no memory.
+    pub fn close_done(&mut self, at: QueueAt)
+        requires out { IsOut self.old at }
+        requires begun { (standing_in self.old).closing ≡ true }
+        ensures { self.new ≡ closed self.old at }
+    {
+        let QueueAt { device, queue } = at;
+        let number = self.next_number(QueueAt { device, queue });
+        match self.closes[QueueAt { device, queue }.seat()].label.take() {
+            None => {}
+            Some(mut label) => {
+                label.number = number;
+                self.labels.push(label);
+                self.history.push_reserved(PlaceEntry::Closed {
+                    at: QueueAt { device, queue },
+                });
+            }
+        }
+    }
+
     /// Whether a range with a cell is present on a device, one that `Config::has_device` knows.
     #[tactic(auto, using(crate::proofs::Planning::held_is_present))]
     pub fn is_present(&self, device: DeviceId, range: Range) -> bool
@@ -252,6 +326,14 @@ impl Place {
         self.labels.on(at).len() as u64
     }
 
+    // The number of a queue's next batch.
+    fn next_number(&self, at: QueueAt) -> u64
+        ensures { result ≡ next_number at (standing_in self.now).labels }
+    {
+        let placed = self.labels.on(at);
+        placed.len() as u64 + 1
+    }
+
     /// The label of the batch with this number on a queue, from 1.
     #[tactic(auto, using(crate::proofs::Planning::nth_is))]
     pub fn placed(&self, at: QueueAt, number: u64) -> Option<&Label>
@@ -263,7 +345,7 @@ impl Place {
         self.labels.on(at).get(number as usize - 1)
     }
 
-    /// The directives that were accepted, in order, each after those before it.
+    /// What was accepted and closed, in order: each directive after those before it, and each queue once, behind the closing.
     pub fn history(&self) -> &[PlaceEntry]
         ensures history { result.now ≡ reverse self.now.history }
         ensures accepted { AllAccepted self.now.config self.now.history self.now.counts }
@@ -278,7 +360,7 @@ impl Place {
         &self.config
     }
 
-    /// The configuration, and the place history with its counts, the latest last.
+    /// The configuration, and the place history with the counts of its directives, the latest last.
     pub fn into_histories(self) -> (Config, Vec<PlaceEntry>, Vec<u64>)
         ensures config { result.0 ≡ self.config }
         ensures history { result.1.items ≡ reverse self.history }

@@ -1,5 +1,5 @@
 use Rattle.std.proofs.Common.{[], ◌∷◌, ◌++◌, map, sym, ap, ◌∙◌}
-use Rattle.std.specs.Prelude.{slice_set, vec_capacity}
+use Rattle.std.specs.Prelude.{slice_set, vec_capacity, ◌-◌}
 use Rattle.std.proofs.lemmas.List.{length-map, map-set}
 use Rattle.acc_base.specs.Queues.{seat}
 use Rattle.acc_place.proofs.Setting.{shown_at, shown_same}
@@ -18,4 +18,4 @@ returns-clause-queues c =
 
 pub returns-clause-room : goal.returns-clause-room
 returns-clause-room c =
-    rw (← c.self.view_is) (shown_same (λ v. vec_capacity v) c.self.inside.queues.items c.seat-seat.result c.index_mut.result.now c.push_reserved.new.self c.index_mut.ensures.value c.push_reserved.ensures.capacity)
+    rw (← c.self.view_is) (shown_same (λ v. vec_capacity v - 1) c.self.inside.queues.items c.seat-seat.result c.index_mut.result.now c.push_reserved.new.self c.index_mut.ensures.value (ap (λ n. n - 1) c.push_reserved.ensures.capacity))

@@ -1,7 +1,8 @@
-use Rattle.std.proofs.Common.{refl, ◌≡◌, ◌+◌, length, Some, ap, sym, ◌∙◌, arith}
-use Rattle.std.specs.Prelude.{slice_set}
+use Rattle.std.proofs.Common.{refl, ◌≡◌, ◌+◌, length, map, Some, ap, sym, ◌∙◌, arith}
+use Rattle.std.specs.Prelude.{is_some, slice_set}
 use Rattle.acc_present.specs.declared.change.Change.TheVariants.{StructuredDown}
 use Rattle.acc_place.specs.declared.plan.Plan.TheInside.{Inside as PlanInside}
+use Rattle.acc_place.specs.declared.closes.Close.{Close}
 use Rattle.acc_place.specs.declared.device.Device.{Device}
 use Rattle.acc_place.specs.Devices.{held_on}
 use Rattle.acc_place.specs.Plans.{PlanView, standing_in, Fits}
@@ -12,6 +13,7 @@ use Rattle.acc_place.specs.Targets.{queue_by, queues_named}
 use Rattle.acc_place.specs.Trials.{counts_in}
 use Rattle.acc_place.proofs.Accepted.{accepted_device, all_cells, device_in, entered_in, items_in, length-ends, room_for}
 use Rattle.acc_place.proofs.Accepting.{label_cells, notes_then}
+use Rattle.acc_place.proofs.KeptCloses.{closes_pushed}
 use Rattle.acc_place.proofs.Planning.{acted_on, are_put, device_low, label_room, place_pushed, pushed_view, answer_is}
 use Rattle.acc_place.proofs.Seen.{room_of, seen}
 use Rattle.acc_place.proofs.Setting.{shown_same}
@@ -24,7 +26,7 @@ planned q = record { host = q.host; items_done = q.items_done; directive = q.dir
 pub index_mut-there-requires : goal.index_mut-there-requires
 index_mut-there-requires c =
     let w = c.self.inside in
-    let h = c.self.invariant in
+    let h = c.self.invariant.0 in
     let q = planned c.plan.inside in
     let fits : Fits (seen w) q = rw (← c.self.view_is, ← c.plan.view_is) at c.requires in
     let n = c.from.ensures ∙ (c.number.ensures ∙ c.device_of-device.ensures) in
@@ -34,7 +36,7 @@ index_mut-there-requires c =
 pub is_answered-present-requires : goal.is_answered-present-requires
 is_answered-present-requires c =
     let w = c.self.inside in
-    let h = c.self.invariant in
+    let h = c.self.invariant.0 in
     let q = planned c.plan.inside in
     let fits : Fits (seen w) q = rw (← c.self.view_is, ← c.plan.view_is) at c.requires in
     let n = c.from.ensures ∙ (c.number.ensures ∙ c.device_of-device.ensures) in
@@ -47,7 +49,7 @@ is_answered-present-requires c =
 pub mark_all-requires-clause-fine : goal.mark_all-requires-clause-fine
 mark_all-requires-clause-fine c =
     let w = c.self.inside in
-    let h = c.self.invariant in
+    let h = c.self.invariant.0 in
     let q = planned c.plan.inside in
     let fits : Fits (seen w) q = rw (← c.self.view_is, ← c.plan.view_is) at c.requires in
     let n = c.from.ensures ∙ (c.number.ensures ∙ c.device_of-device.ensures) in
@@ -59,7 +61,7 @@ mark_all-requires-clause-fine c =
 pub mark_all-requires-clause-entered : goal.mark_all-requires-clause-entered
 mark_all-requires-clause-entered c =
     let w = c.self.inside in
-    let h = c.self.invariant in
+    let h = c.self.invariant.0 in
     let q = planned c.plan.inside in
     let fits : Fits (seen w) q = rw (← c.self.view_is, ← c.plan.view_is) at c.requires in
     let n = c.from.ensures ∙ (c.number.ensures ∙ c.device_of-device.ensures) in
@@ -71,7 +73,7 @@ mark_all-requires-clause-entered c =
 pub mark_all-requires-clause-room : goal.mark_all-requires-clause-room
 mark_all-requires-clause-room c =
     let w = c.self.inside in
-    let h = c.self.invariant in
+    let h = c.self.invariant.0 in
     let q = planned c.plan.inside in
     let fits : Fits (seen w) q = rw (← c.self.view_is, ← c.plan.view_is) at c.requires in
     let n = c.from.ensures ∙ (c.number.ensures ∙ c.device_of-device.ensures) in
@@ -84,7 +86,7 @@ mark_all-requires-clause-room c =
 pub note_label-requires : goal.note_label-requires
 note_label-requires c =
     let w = c.self.inside in
-    let h = c.self.invariant in
+    let h = c.self.invariant.0 in
     let q = planned c.plan.inside in
     let fits : Fits (seen w) q = rw (← c.self.view_is, ← c.plan.view_is) at c.requires in
     let n = c.from.ensures ∙ (c.number.ensures ∙ c.device_of-device.ensures) in
@@ -96,7 +98,7 @@ note_label-requires c =
 pub mark_all-requires-2-clause-fine : goal.mark_all-requires-2-clause-fine
 mark_all-requires-2-clause-fine c =
     let w = c.self.inside in
-    let h = c.self.invariant in
+    let h = c.self.invariant.0 in
     let q = planned c.plan.inside in
     let fits : Fits (seen w) q = rw (← c.self.view_is, ← c.plan.view_is) at c.requires in
     let n = c.from.ensures ∙ (c.number.ensures ∙ c.device_of-device.ensures) in
@@ -111,7 +113,7 @@ mark_all-requires-2-clause-fine c =
 pub mark_all-requires-2-clause-entered : goal.mark_all-requires-2-clause-entered
 mark_all-requires-2-clause-entered c =
     let w = c.self.inside in
-    let h = c.self.invariant in
+    let h = c.self.invariant.0 in
     let q = planned c.plan.inside in
     let fits : Fits (seen w) q = rw (← c.self.view_is, ← c.plan.view_is) at c.requires in
     let n = c.from.ensures ∙ (c.number.ensures ∙ c.device_of-device.ensures) in
@@ -126,7 +128,7 @@ mark_all-requires-2-clause-entered c =
 pub mark_all-requires-2-clause-room : goal.mark_all-requires-2-clause-room
 mark_all-requires-2-clause-room c =
     let w = c.self.inside in
-    let h = c.self.invariant in
+    let h = c.self.invariant.0 in
     let q = planned c.plan.inside in
     let fits : Fits (seen w) q = rw (← c.self.view_is, ← c.plan.view_is) at c.requires in
     let n = c.from.ensures ∙ (c.number.ensures ∙ c.device_of-device.ensures) in
@@ -143,7 +145,7 @@ mark_all-requires-2-clause-room c =
 pub push_label-batch-requires : goal.push_label-batch-requires
 push_label-batch-requires c =
     let w = c.self.inside in
-    let h = c.self.invariant in
+    let h = c.self.invariant.0 in
     let q = planned c.plan.inside in
     let fits : Fits (seen w) q = rw (← c.self.view_is, ← c.plan.view_is) at c.requires in
     label_room (seen w) q w.devices.items w.regions.items w.labels.queues h.tied fits
@@ -151,7 +153,7 @@ push_label-batch-requires c =
 pub invariant_of-self : goal.invariant_of-self
 invariant_of-self c =
     let w = c.self.inside in
-    let h = c.self.invariant in
+    let h = c.self.invariant.0 in
     let q = planned c.plan.inside in
     let fits : Fits (seen w) q = rw (← c.self.view_is, ← c.plan.view_is) at c.requires in
     let n = c.from.ensures ∙ (c.number.ensures ∙ c.device_of-device.ensures) in
@@ -170,10 +172,15 @@ invariant_of-self c =
     let notes =
     notes_then (seen w) q v c.mark_all.new.self noted after a.tied fits h.lawful (rw (a.own, c.change.ensures, c.kind-kind.ensures) at c.mark_all.ensures.holding) c.note_label.ensures.held
     c.mark_all.ensures.notes c.note_label.ensures.notes c.mark_all-2.ensures.notes c.keeps_order.ensures.noted in
-    place_pushed w.config w.history.items c.push_reserved.new.self.items w.counts.items c.push_reserved-2.new.self.items (room_of w) q w.devices.items (slice_set w.devices.items c.from.result after)
-    w.regions.items c.settle.new.regions.items w.labels.queues c.push_label-batch.new.labels.queues v after
-    c.push_reserved.ensures.items c.push_reserved-2.ensures.items c.settle.ensures.regions c.push_label-batch.ensures.queues (ap (λ k. slice_set w.devices.items k after) a.device) h fits
-    (rw a.device at a.there) is (c.mark_all-2.ensures.capacity ∙ (c.note_label.ensures.capacity ∙ c.mark_all.ensures.capacity)) notes
+    let closes = map (λ (x : Close). is_some x.batch) w.closes.items in (
+      place_pushed w.config w.history.items c.push_reserved.new.self.items w.counts.items c.push_reserved-2.new.self.items closes (room_of w) q w.devices.items (slice_set w.devices.items c.from.result after)
+          w.regions.items c.settle.new.regions.items w.labels.queues c.push_label-batch.new.labels.queues v after
+          c.push_reserved.ensures.items c.push_reserved-2.ensures.items c.settle.ensures.regions c.push_label-batch.ensures.queues (ap (λ k. slice_set w.devices.items k after) a.device) h fits
+          (rw a.device at a.there) is (c.mark_all-2.ensures.capacity ∙ (c.note_label.ensures.capacity ∙ c.mark_all.ensures.capacity)) notes,
+      rw (c.push_reserved.ensures.capacity, c.push_label-batch.ensures.room)
+          (closes_pushed w.config w.history.items c.push_reserved.new.self.items w.counts.items c.push_reserved-2.new.self.items closes (room_of w) q w.closing w.closes.items _ c.push_reserved.ensures.items c.push_reserved-2.ensures.items
+          c.self.invariant.1 fits refl),
+    )
 
 pub returns-clause-place : goal.returns-clause-place
 returns-clause-place c =
@@ -182,12 +189,12 @@ returns-clause-place c =
     let v = c.index_mut-there.result.now in
     let rooms = shown_same (λ (x : Device). x.table.room) w.devices.items c.from.result v c.mark_all-2.new.self c.index_mut-there.ensures.value (c.mark_all-2.ensures.room ∙ (c.note_label.ensures.room ∙ c.mark_all.ensures.room)) in
     rw (← c.self.view_is, ← c.plan.view_is, c.push_reserved.ensures.capacity, c.push_reserved-2.ensures.capacity, c.settle.ensures.room, c.push_label-batch.ensures.room, rooms)
-    (pushed_view w.config w.history.items c.push_reserved.new.self.items w.counts.items c.push_reserved-2.new.self.items (room_of w) q c.push_reserved.ensures.items c.push_reserved-2.ensures.items)
+    (pushed_view w.config w.history.items c.push_reserved.new.self.items w.counts.items c.push_reserved-2.new.self.items (map (λ (x : Close). is_some x.batch) w.closes.items) (room_of w) q c.push_reserved.ensures.items c.push_reserved-2.ensures.items)
 
 pub returns-clause-answer : goal.returns-clause-answer
 returns-clause-answer c =
     let w = c.self.inside in
-    let h = c.self.invariant in
+    let h = c.self.invariant.0 in
     let q = planned c.plan.inside in
     let fits : Fits (seen w) q = rw (← c.self.view_is, ← c.plan.view_is) at c.requires in
     let n = c.from.ensures ∙ (c.number.ensures ∙ c.device_of-device.ensures) in

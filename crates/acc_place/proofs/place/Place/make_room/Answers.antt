@@ -4,9 +4,10 @@ use Rattle.std.proofs.lemmas.List.{length-reverse}
 use Rattle.std.proofs.lemmas.Result.{err_from_is_err_and}
 use Rattle.acc_base.specs.Queues.{seat}
 use Rattle.acc_place.specs.declared.device.Device.{Device}
-use Rattle.acc_place.specs.Places.{IsQueue}
+use Rattle.acc_place.specs.Histories.{standing, IsQueue}
 use Rattle.acc_place.specs.Plans.{IsRoomy}
 use Rattle.acc_place.specs.Walks.{Holding}
+use Rattle.acc_place.proofs.KeptCloses.{closes_spared}
 use Rattle.acc_place.proofs.Planning.{place_spared, placed_there, present_there, roomier, roomy_by}
 use Rattle.acc_place.proofs.Seen.{seen}
 use Rattle.acc_place.proofs.Setting.{shown_at, shown_more, shown_new}
@@ -15,7 +16,7 @@ use Rattle.acc_place.proofs.place.Place.make_room.Goals as goal
 pub invariant_of-self-in_err-spare-2 : goal.invariant_of-self-in_err-spare-2
 invariant_of-self-in_err-spare-2 c =
     let w = c.self.inside in
-    let h = c.self.invariant in
+    let h = c.self.invariant.0 in
     let at_queue = c.args.at in
     let there : IsQueue w.config at_queue = rw (← c.self.view_is) at c.requires.there in
     let n = c.from-device.result in
@@ -23,14 +24,17 @@ invariant_of-self-in_err-spare-2 c =
     let v = c.index_mut.result.now in
     let low : n < length w.devices.items = omega (arith, is, there.0, h.tied.all_devices) in
     let found = c.index_mut.ensures.value in
-    rw (c.reserve.ensures.items, c.reserve-2.ensures.items, c.reserve-3.ensures.items, c.spare.ensures.queues)
-    (place_spared w.config (reverse w.history.items) (reverse w.counts.items) w.devices.items w.regions.items w.labels.queues n v c.spare-2.new.self h
-    (omega (arith, is, there.0)) found c.spare-2.ensures.held c.spare-2.ensures.notes c.spare-2.ensures.capacity)
+    rw (c.reserve.ensures.items, c.reserve-2.ensures.items, c.reserve-3.ensures.items, c.spare.ensures.queues) (
+      place_spared w.config (reverse w.history.items) (reverse w.counts.items) w.devices.items w.regions.items w.labels.queues n v c.spare-2.new.self h
+          (omega (arith, is, there.0)) found c.spare-2.ensures.held c.spare-2.ensures.notes c.spare-2.ensures.capacity,
+      closes_spared w.config (standing w.config (reverse w.history.items) (reverse w.counts.items)) w.closing w.closes.items (length w.history.items) _ _ w.labels.room _ c.self.invariant.1
+          c.reserve.ensures.capacity c.spare.ensures.room,
+    )
 
 pub returns-in_err-spare-2-clause-roomy : goal.returns-in_err-spare-2-clause-roomy
 returns-in_err-spare-2-clause-roomy c =
     let w = c.self.inside in
-    let h = c.self.invariant in
+    let h = c.self.invariant.0 in
     let at_queue = c.args.at in
     let there : IsQueue w.config at_queue = rw (← c.self.view_is) at c.requires.there in
     let n = c.from-device.result in
@@ -40,14 +44,14 @@ returns-in_err-spare-2-clause-roomy c =
     let found = c.index_mut.ensures.value in
     λ other roomy.
     roomier (seen w) _ other refl (ap reverse c.reserve.ensures.items) (ap reverse c.reserve-2.ensures.items)
-    (omega (arith, c.reserve.ensures.capacity, c.reserve-2.ensures.capacity)) c.reserve-3.ensures.capacity (c.spare.ensures.room (seat other))
+    (omega (arith, c.reserve.ensures.capacity)) c.reserve-2.ensures.capacity c.reserve-3.ensures.capacity (c.spare.ensures.room (seat other))
     (shown_more (λ (x : Device). x.table.room) w.devices.items n v c.spare-2.new.self other.device low found c.spare-2.ensures.room)
     (rw (← c.self.view_is) at roomy)
 
 pub returns-in_err-spare-2-clause-missing : goal.returns-in_err-spare-2-clause-missing
 returns-in_err-spare-2-clause-missing c =
     let w = c.self.inside in
-    let h = c.self.invariant in
+    let h = c.self.invariant.0 in
     let at_queue = c.args.at in
     let there : IsQueue w.config at_queue = rw (← c.self.view_is) at c.requires.there in
     let n = c.from-device.result in
@@ -63,7 +67,7 @@ returns-in_err-spare-2-clause-missing c =
 pub invariant_of-self-2 : goal.invariant_of-self-2
 invariant_of-self-2 c =
     let w = c.self.inside in
-    let h = c.self.invariant in
+    let h = c.self.invariant.0 in
     let at_queue = c.args.at in
     let there : IsQueue w.config at_queue = rw (← c.self.view_is) at c.requires.there in
     let n = c.from-device.result in
@@ -71,14 +75,17 @@ invariant_of-self-2 c =
     let v = c.index_mut.result.now in
     let low : n < length w.devices.items = omega (arith, is, there.0, h.tied.all_devices) in
     let found = c.index_mut.ensures.value in
-    rw (c.reserve.ensures.items, c.reserve-2.ensures.items, c.reserve-3.ensures.items, c.spare.ensures.queues)
-    (place_spared w.config (reverse w.history.items) (reverse w.counts.items) w.devices.items w.regions.items w.labels.queues n v c.spare-2.new.self h
-    (omega (arith, is, there.0)) found c.spare-2.ensures.held c.spare-2.ensures.notes c.spare-2.ensures.capacity)
+    rw (c.reserve.ensures.items, c.reserve-2.ensures.items, c.reserve-3.ensures.items, c.spare.ensures.queues) (
+      place_spared w.config (reverse w.history.items) (reverse w.counts.items) w.devices.items w.regions.items w.labels.queues n v c.spare-2.new.self h
+          (omega (arith, is, there.0)) found c.spare-2.ensures.held c.spare-2.ensures.notes c.spare-2.ensures.capacity,
+      closes_spared w.config (standing w.config (reverse w.history.items) (reverse w.counts.items)) w.closing w.closes.items (length w.history.items) _ _ w.labels.room _ c.self.invariant.1
+          c.reserve.ensures.capacity c.spare.ensures.room,
+    )
 
 pub returns-clause-roomy : goal.returns-clause-roomy
 returns-clause-roomy c =
     let w = c.self.inside in
-    let h = c.self.invariant in
+    let h = c.self.invariant.0 in
     let at_queue = c.args.at in
     let there : IsQueue w.config at_queue = rw (← c.self.view_is) at c.requires.there in
     let n = c.from-device.result in
@@ -88,14 +95,14 @@ returns-clause-roomy c =
     let found = c.index_mut.ensures.value in
     λ other roomy.
     roomier (seen w) _ other refl (ap reverse c.reserve.ensures.items) (ap reverse c.reserve-2.ensures.items)
-    (omega (arith, c.reserve.ensures.capacity, c.reserve-2.ensures.capacity)) c.reserve-3.ensures.capacity (c.spare.ensures.room (seat other))
+    (omega (arith, c.reserve.ensures.capacity)) c.reserve-2.ensures.capacity c.reserve-3.ensures.capacity (c.spare.ensures.room (seat other))
     (shown_more (λ (x : Device). x.table.room) w.devices.items n v c.spare-2.new.self other.device low found c.spare-2.ensures.room)
     (rw (← c.self.view_is) at roomy)
 
 pub returns-clause-ok : goal.returns-clause-ok
 returns-clause-ok c =
     let w = c.self.inside in
-    let h = c.self.invariant in
+    let h = c.self.invariant.0 in
     let at_queue = c.args.at in
     let there : IsQueue w.config at_queue = rw (← c.self.view_is) at c.requires.there in
     let n = c.from-device.result in
@@ -108,7 +115,8 @@ returns-clause-ok c =
     let rooms = ap (λ k. slice_index_or (map (λ (x : Device). x.table.room) (slice_set w.devices.items n c.spare-2.new.self)) k 0) (sym is) ∙ shown_new (λ (x : Device). x.table.room) w.devices.items n c.spare-2.new.self 0 low in
     let same = ap (λ (g : Holding). length g.presences) c.spare-2.ensures.held in
     roomy_by (seen w) _ at_queue refl (ap reverse c.reserve.ensures.items) (ap reverse c.reserve-2.ensures.items)
-    (omega (arith, c.in_ok-reserve.ensures.ok, c.in_ok-reserve-2.ensures.ok, ap length c.reserve.ensures.items, ap length c.reserve-2.ensures.items, length-reverse w.history.items, length-reverse w.counts.items, h.counted))
+    (omega (arith, c.in_ok-reserve.ensures.ok, c.len.ensures, c.self.invariant.1.all_queues, ap length c.reserve.ensures.items, length-reverse w.history.items))
+    (omega (arith, c.in_ok-reserve-2.ensures.ok, ap length c.reserve-2.ensures.items, length-reverse w.counts.items))
     (omega (arith, c.in_ok-reserve-3.ensures.ok, ap length c.reserve-3.ensures.items, ap length h.tied.inside))
     (omega (arith, c.in_ok-spare.ensures.ok, ap length placed, ap (λ qs. length (slice_index_or qs (seat at_queue) [])) c.spare.ensures.queues))
     (omega (arith, c.in_ok-spare-2.ensures.ok, present, rooms, same))

@@ -1,8 +1,10 @@
-use Rattle.std.proofs.Common.{◌≡◌, ◌<◌, reverse, refl, sym, ap, subst, ◌∙◌}
+use Rattle.std.proofs.Common.{◌≡◌, ◌<◌, false, map, reverse, refl, sym, ap, subst, ◌∙◌}
+use Rattle.std.specs.Prelude.{is_some}
 use Rattle.std.proofs.lemmas.Result.{err_from_is_err_and}
+use Rattle.acc_place.specs.declared.closes.Close.{Close}
 use Rattle.acc_place.specs.declared.judge.Known.{Known}
 use Rattle.acc_place.specs.Accepting.{refusal}
-use Rattle.acc_place.specs.Places.{IsQueue}
+use Rattle.acc_place.specs.Histories.{IsQueue}
 use Rattle.acc_place.specs.Plans.{PlaceView, queue_for, standing_in, Fits, IsPlanOf, IsRoomy, label_for}
 use Rattle.acc_place.specs.Noting.{notes_on}
 use Rattle.acc_place.specs.Trials.{behind_noted, next_in, ops_by, steps_by}
@@ -18,11 +20,12 @@ judge-requires-clause-known c =
     let host = c.args.host in
     let d = c.args.directive.now in
     let at_queue = c.in_ok-device.field-0 in
+    let early : (standing_in p).closing ≡ false = rw (← c.self.view_is) at c.in_ok-device.ensures.early in
     let here : d.device < w.config.devices = rw (← c.self.view_is) at c.in_ok-device.ensures.device in
     let is : at_queue ≡ queue_for p host d = rw (← c.self.view_is) at c.in_ok-device.ensures.at in
     let there : IsQueue w.config at_queue = rw (← c.self.view_is) at c.in_ok-device.ensures.there in
     let known =
-    known_of p host d _ w.devices.items w.regions.items w.labels.queues c.from.result c.index-there.result.now at_queue c.self.invariant here is there
+    known_of p host d _ w.devices.items w.regions.items w.labels.queues c.from.result c.index-there.result.now at_queue c.self.invariant.0 early here is there
     (c.from.ensures ∙ c.number.ensures) c.index-there.ensures refl refl refl c.as_slice.ensures.value (counted_by w.history.items c.len.result w.history.len c.len.ensures w.history.ok.0) refl refl in
     known_in p host d _ known
 
@@ -33,6 +36,7 @@ judge-requires-clause-device c =
     let host = c.args.host in
     let d = c.args.directive.now in
     let at_queue = c.in_ok-device.field-0 in
+    let early : (standing_in p).closing ≡ false = rw (← c.self.view_is) at c.in_ok-device.ensures.early in
     let here : d.device < w.config.devices = rw (← c.self.view_is) at c.in_ok-device.ensures.device in
     let is : at_queue ≡ queue_for p host d = rw (← c.self.view_is) at c.in_ok-device.ensures.at in
     let there : IsQueue w.config at_queue = rw (← c.self.view_is) at c.in_ok-device.ensures.there in
@@ -48,7 +52,7 @@ judge-requires-clause-device c =
       at = at_queue;
     } in
     let known =
-    known_of p host d k w.devices.items w.regions.items w.labels.queues c.from.result c.index-there.result.now at_queue c.self.invariant here is there
+    known_of p host d k w.devices.items w.regions.items w.labels.queues c.from.result c.index-there.result.now at_queue c.self.invariant.0 early here is there
     (c.from.ensures ∙ c.number.ensures) c.index-there.ensures refl refl refl c.as_slice.ensures.value (counted_by w.history.items c.len.result w.history.len c.len.ensures w.history.ok.0) refl refl in
     own_device p host d k known
 
@@ -59,11 +63,12 @@ plan-requires-clause-known c =
     let host = c.args.host in
     let d = c.args.directive.now in
     let at_queue = c.in_ok-device.field-0 in
+    let early : (standing_in p).closing ≡ false = rw (← c.self.view_is) at c.in_ok-device.ensures.early in
     let here : d.device < w.config.devices = rw (← c.self.view_is) at c.in_ok-device.ensures.device in
     let is : at_queue ≡ queue_for p host d = rw (← c.self.view_is) at c.in_ok-device.ensures.at in
     let there : IsQueue w.config at_queue = rw (← c.self.view_is) at c.in_ok-device.ensures.there in
     let known =
-    known_of p host d _ w.devices.items w.regions.items w.labels.queues c.from.result c.index-there.result.now at_queue c.self.invariant here is there
+    known_of p host d _ w.devices.items w.regions.items w.labels.queues c.from.result c.index-there.result.now at_queue c.self.invariant.0 early here is there
     (c.from.ensures ∙ c.number.ensures) c.index-there.ensures refl refl refl c.as_slice.ensures.value (counted_by w.history.items c.len.result w.history.len c.len.ensures w.history.ok.0) refl refl in
     known_in p host d _ known
 
@@ -74,6 +79,7 @@ returns-in-Some-clause-refused c =
     let host = c.args.host in
     let d = c.args.directive.now in
     let at_queue = c.in_ok-device.field-0 in
+    let early : (standing_in p).closing ≡ false = rw (← c.self.view_is) at c.in_ok-device.ensures.early in
     let here : d.device < w.config.devices = rw (← c.self.view_is) at c.in_ok-device.ensures.device in
     let is : at_queue ≡ queue_for p host d = rw (← c.self.view_is) at c.in_ok-device.ensures.at in
     let there : IsQueue w.config at_queue = rw (← c.self.view_is) at c.in_ok-device.ensures.there in
@@ -89,7 +95,7 @@ returns-in-Some-clause-refused c =
       at = at_queue;
     } in
     let known =
-    known_of p host d k w.devices.items w.regions.items w.labels.queues c.from.result c.index-there.result.now at_queue c.self.invariant here is there
+    known_of p host d k w.devices.items w.regions.items w.labels.queues c.from.result c.index-there.result.now at_queue c.self.invariant.0 early here is there
     (c.from.ensures ∙ c.number.ensures) c.index-there.ensures refl refl refl c.as_slice.ensures.value (counted_by w.history.items c.len.result w.history.len c.len.ensures w.history.ok.0) refl refl in
     let found = fault_known p host d k known ∙ sym c.in-Some.ensures.fault in
     rw (← c.self.view_is) (refused_as (refusal w.config (standing_in p) host d) c.in-Some.fault found)
@@ -101,6 +107,7 @@ returns-in_err-plan-clause-refused c =
     let host = c.args.host in
     let d = c.args.directive.now in
     let at_queue = c.in_ok-device.field-0 in
+    let early : (standing_in p).closing ≡ false = rw (← c.self.view_is) at c.in_ok-device.ensures.early in
     let here : d.device < w.config.devices = rw (← c.self.view_is) at c.in_ok-device.ensures.device in
     let is : at_queue ≡ queue_for p host d = rw (← c.self.view_is) at c.in_ok-device.ensures.at in
     let there : IsQueue w.config at_queue = rw (← c.self.view_is) at c.in_ok-device.ensures.there in
@@ -116,7 +123,7 @@ returns-in_err-plan-clause-refused c =
       at = at_queue;
     } in
     let known =
-    known_of p host d k w.devices.items w.regions.items w.labels.queues c.from.result c.index-there.result.now at_queue c.self.invariant here is there
+    known_of p host d k w.devices.items w.regions.items w.labels.queues c.from.result c.index-there.result.now at_queue c.self.invariant.0 early here is there
     (c.from.ensures ∙ c.number.ensures) c.index-there.ensures refl refl refl c.as_slice.ensures.value (counted_by w.history.items c.len.result w.history.len c.len.ensures w.history.ok.0) refl refl in
     let none = fault_known p host d k known ∙ sym c.in_default.ensures.fault in
     let q = err_from_is_err_and c.from_residual-in_err-plan.result c.from_residual-in_err-plan.ensures.1 in
@@ -129,6 +136,7 @@ returns-in_err-make_room-clause-refused c =
     let host = c.args.host in
     let d = c.args.directive.now in
     let at_queue = c.in_ok-device.field-0 in
+    let early : (standing_in p).closing ≡ false = rw (← c.self.view_is) at c.in_ok-device.ensures.early in
     let here : d.device < w.config.devices = rw (← c.self.view_is) at c.in_ok-device.ensures.device in
     let is : at_queue ≡ queue_for p host d = rw (← c.self.view_is) at c.in_ok-device.ensures.at in
     let there : IsQueue w.config at_queue = rw (← c.self.view_is) at c.in_ok-device.ensures.there in
@@ -144,7 +152,7 @@ returns-in_err-make_room-clause-refused c =
       at = at_queue;
     } in
     let known =
-    known_of p host d k w.devices.items w.regions.items w.labels.queues c.from.result c.index-there.result.now at_queue c.self.invariant here is there
+    known_of p host d k w.devices.items w.regions.items w.labels.queues c.from.result c.index-there.result.now at_queue c.self.invariant.0 early here is there
     (c.from.ensures ∙ c.number.ensures) c.index-there.ensures refl refl refl c.as_slice.ensures.value (counted_by w.history.items c.len.result w.history.len c.len.ensures w.history.ok.0) refl refl in
     let none = fault_known p host d k known ∙ sym c.in_default.ensures.fault in
     let q = err_from_is_err_and c.from_residual-in_err-make_room.result c.from_residual-in_err-make_room.ensures.1 in
@@ -159,6 +167,7 @@ returns-clause-fits c =
     let host = c.args.host in
     let d = c.args.directive.now in
     let at_queue = c.in_ok-device.field-0 in
+    let early : (standing_in p).closing ≡ false = rw (← c.self.view_is) at c.in_ok-device.ensures.early in
     let here : d.device < w.config.devices = rw (← c.self.view_is) at c.in_ok-device.ensures.device in
     let is : at_queue ≡ queue_for p host d = rw (← c.self.view_is) at c.in_ok-device.ensures.at in
     let there : IsQueue w.config at_queue = rw (← c.self.view_is) at c.in_ok-device.ensures.there in
@@ -174,13 +183,13 @@ returns-clause-fits c =
       at = at_queue;
     } in
     let known =
-    known_of p host d k w.devices.items w.regions.items w.labels.queues c.from.result c.index-there.result.now at_queue c.self.invariant here is there
+    known_of p host d k w.devices.items w.regions.items w.labels.queues c.from.result c.index-there.result.now at_queue c.self.invariant.0 early here is there
     (c.from.ensures ∙ c.number.ensures) c.index-there.ensures refl refl refl c.as_slice.ensures.value (counted_by w.history.items c.len.result w.history.len c.len.ensures w.history.ok.0) refl refl in
-    let same : c.make_room.new.self ≡ p = same_place c.make_room.new.self w.config (reverse w.history.items) (reverse w.counts.items) made.config made.history made.counts in
+    let same : c.make_room.new.self ≡ p = same_place c.make_room.new.self w.config (reverse w.history.items) (reverse w.counts.items) (map (λ (x : Close). is_some x.batch) w.closes.items) made.config made.history made.counts made.closes in
     let q = c.in_ok-plan.plan in
     let a = c.in_ok-plan.ensures in
     let roomy : IsRoomy p (queue_for p host d) = subst (λ x. IsRoomy p x) is (subst (λ x. IsRoomy x at_queue) same made.ok) in
     let notes = notes_on (device_in (standing_in p) host d) (standing_in p).labels in
     let named = a.label notes known.tied.noted ∙ ap (λ m. label_for k.at (next_in k) host m (behind_noted k notes d (ops_by k host d) (steps_by k host d))) (sym a.host.1) in
-    let fits : Fits p q = fits_known p host d k q known c.self.invariant.lawful (sym c.in_default.ensures.fault) a.host.0 a.directive a.region named roomy in
+    let fits : Fits p q = fits_known p host d k q known c.self.invariant.0.lawful (sym c.in_default.ensures.fault) a.host.0 a.directive a.region named roomy in
     subst (λ (x : PlaceView). Fits x q × IsPlanOf x q) (sym same) (fits, plan_of_now p q fits (a.host.2 ∙ counted_by w.history.items c.len.result w.history.len c.len.ensures w.history.ok.0))

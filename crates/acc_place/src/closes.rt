@@ -1,0 +1,70 @@
+ghost use Rattle.std.specs.Prelude.{◌≡◌, ◌<◌, length, IfOk, IfErr};
+ghost use Rattle.acc_base.specs.declared.fault.Fault.TheVariants.{Memory};
+ghost use Rattle.acc_base.specs.declared.ids.QueueAt.{QueueAt};
+ghost use Rattle.acc_base.specs.declared.ids.TheConstants.{QUEUES};
+ghost use Rattle.acc_base.specs.Queues.{queue_count, seat};
+ghost use Rattle.acc_place.specs.Histories.{IsQueue};
+ghost use Rattle.acc_place.specs.Places.{close_in, new_close};
+
+use acc_base::{Config, DeviceId, Fault, Few, HostId, QUEUES, QueueAt, QueueId, Shared};
+use acc_batch::{Batch, Label, Op};
+use std::alloc::Global;
+
+/// What a place keeps of a queue's close: its batch, unless that is out or placed, and its label, until that is placed.
+#[derive(Drop)]
+pub struct Close {
+    pub batch: Option<Batch>,
+    pub label: Option<Label>,
+}
+
+impl Close {
+    fn new(alloc: Global, at: QueueAt) -> Result<Self, Fault>
+        ensures new { IfOk result (λ c. c ≡ new_close at) }
+        ensures fault { IfErr result (λ f. f ≡ Memory) }
+    {
+        let mut ops = Few::new(alloc);
+        ops.push(Op::Close)?;
+        let label = Label {
+            at,
+            number: 1,
+            host: HostId::new(0),
+            items_done: 0,
+            ops: Shared::new(alloc, ops)?,
+        };
+        let copy = label.try_clone()?;
+        let batch = Batch::new(alloc, copy)?;
+        Ok(Close {
+            batch: Some(batch),
+            label: Some(label),
+        })
+    }
+}
+
+/// The closes of all queues of a configuration, by device, then in queue order.
+///
+/// # Errors
+///
+/// `Memory` where memory is refused.
+pub fn closes_of(alloc: Global, config: &Config) -> Result<Vec<Close>, Fault>
+    ensures count { IfOk result (λ closes. length closes.items ≡ queue_count config.now) }
+    ensures new { IfOk result (λ closes. (at : QueueAt) → IsQueue config.now at → close_in closes.items at ≡ new_close at) }
+    ensures fault { IfErr result (λ f. f ≡ Memory) }
+{
+    let mut closes = Vec::new(alloc);
+    for place in 0..u16::from(config.devices()) * u16::from(QUEUES) {
+        closes.push(Close::new(alloc, queue_at(place))?)?;
+    }
+    Ok(closes)
+}
+
+// The queue at this place among those of all devices.
+fn queue_at(place: u16) -> QueueAt
+    requires { place < 2048 }
+    ensures seat { seat result ≡ place }
+    ensures queue { result.queue < QUEUES }
+{
+    QueueAt {
+        device: DeviceId::new((place / 8) as u8),
+        queue: QueueId::new((place % 8) as u8),
+    }
+}
