@@ -18,6 +18,7 @@ pub mod InArrays
 mod Inside
 mod Judging
 mod KeptCloses
+pub mod LastClose
 mod Looping
 mod Marking
 mod Noted

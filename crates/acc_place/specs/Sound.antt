@@ -1,7 +1,11 @@
 -- What accepted directives place, on all devices and queues (OpenACC API 3.0, 2.16, Asynchronous Behavior).
-use Rattle.std.specs.Prelude.{ℕ, ◌<◌, List, length, All}
+use Rattle.std.specs.Prelude.{◌≡◌, ℕ, ◌<◌, Bool, true, false, List, [], ◌∷◌, length, All}
 use Rattle.acc_base.specs.Configurations.{Configuration}
+use Rattle.acc_base.specs.declared.ids.QueueAt.{QueueAt}
 use Rattle.acc_batch.specs.declared.operation.Label.{Label}
+use Rattle.acc_batch.specs.declared.operation.Op.{Op}
+use Rattle.acc_batch.specs.declared.operation.Op.TheVariants.{Close}
+use Rattle.acc_batch.specs.Labels.{on_queue, ops_of}
 use Rattle.acc_batch.specs.Lives.{IsSound}
 use Rattle.acc_place.specs.declared.directive.PlaceEntry.{PlaceEntry}
 use Rattle.acc_place.specs.Histories.{AllAccepted, standing}
@@ -17,3 +21,18 @@ abbrev pub AcceptedAreThere : Type 0
 AcceptedAreThere =
     (config : Configuration) (history : List PlaceEntry) (counts : List ℕ) → AllAccepted config history counts
     → All (λ (l : Label). (l.at.device < config.devices) × (l.at.queue < 8) × (0 < length l.ops)) (standing config history counts).labels
+
+abbrev pub is_close : Op → Bool
+is_close Close = true
+is_close op = false
+
+-- No operation stands behind a close.
+abbrev pub CloseLast : List Op → Type 0
+CloseLast [] = Unit {0}
+CloseLast (op ∷ ops) = (is_close op ≡ true → ops ≡ []) × CloseLast ops
+
+-- So it is on each queue.
+abbrev pub AcceptedCloseLast : Type 0
+AcceptedCloseLast =
+    (config : Configuration) (history : List PlaceEntry) (counts : List ℕ) (at : QueueAt) → AllAccepted config history counts
+    → CloseLast (ops_of (on_queue at (standing config history counts).labels))

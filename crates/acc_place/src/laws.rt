@@ -4,7 +4,7 @@ ghost use Rattle.acc_place.specs.ClauseExamples.{DataClauses, ItemCounts, AsyncC
 ghost use Rattle.acc_place.specs.LoopExamples.{RunsOnPresent, CopiesImplicitly, TakesClauses, UsesConstructs, UsesOwnConstructs, StaysInRange, TakesNoTurn, LimitsItems, JudgesItems};
 ghost use Rattle.acc_place.specs.RefusalExamples.{EarlierItemFirst, ItemBeforeCounts, LimitsFirst, LastDirective, RangesOutside, CapacityReached};
 ghost use Rattle.acc_place.specs.RegionExamples.{AbsentAtEntry, PresentAtEntry, LastExit, NotTheLastExit, Nested, OwnRegion, Depth, Entries, ExitsInside, Updates, Questions, ItemsInTurn};
-ghost use Rattle.acc_place.specs.Sound.{AcceptedAreSound, AcceptedAreThere};
+ghost use Rattle.acc_place.specs.Sound.{AcceptedAreSound, AcceptedAreThere, AcceptedCloseLast};
 ghost use Rattle.acc_place.specs.Counts.{AcceptedAreCounted, EnteredCanBeLeft};
 ghost use Rattle.acc_place.specs.Loops.{ReachIsJudged};
 ghost use Rattle.acc_place.specs.CloseExamples.{LastBatches, RefusedForClosing, RegionsStay, ClosedOnce};
@@ -133,4 +133,9 @@ pub fn accepted_labels_are_sound()
 /// What accepted directives place is on queues that are there, and each batch has an operation.
 pub fn accepted_labels_are_there()
     ensures { AcceptedAreThere }
+{}
+
+/// No operation is placed on a queue behind its close.
+pub fn accepted_closes_are_last()
+    ensures { AcceptedCloseLast }
 {}

@@ -22,10 +22,10 @@ pub use directive::{
     MAX_WAITS, PlaceEntry, Placed, Region, Target, Waits, Written,
 };
 pub use laws::{
-    accepted_directives_are_counted, accepted_labels_are_sound, accepted_labels_are_there,
-    plans_are_kept, plans_outlast_their_batches, reach_is_judged, worked_batches, worked_clauses,
-    worked_closing, worked_directives, worked_loops, worked_queues, worked_refusals,
-    worked_regions,
+    accepted_closes_are_last, accepted_directives_are_counted, accepted_labels_are_sound,
+    accepted_labels_are_there, plans_are_kept, plans_outlast_their_batches, reach_is_judged,
+    worked_batches, worked_clauses, worked_closing, worked_directives, worked_loops, worked_queues,
+    worked_refusals, worked_regions,
 };
 pub use place::Place;
 pub use plan::Plan;
