@@ -1,17 +1,22 @@
 -- The numbers that a batch awaits, as they are raised range by range.
-use Rattle.std.proofs.Common.{◌≡◌, ℕ, suc, ◌-◌, ◌<◌, ◌≤◌, List, [], ◌∷◌, ◌++◌, length, map, get_or, drop, take, refl, sym, ap, ◌∙◌, arith, Option, Some, None}
-use Rattle.std.specs.Prelude.{All, max, slice_index_or}
+use Rattle.std.proofs.Common.{inl, inr, ◌≡◌, ◌⊎◌, ℕ, suc, ◌-◌, ◌<◌, ◌≤◌, true, false, List, [], ◌∷◌, ◌++◌, length, map, get_or, drop, take, refl, sym, ap, ◌∙◌, arith, Option, Some, None}
+use Rattle.std.specs.Prelude.{All, max, not}
 use Rattle.std.specs.List.{flat_map}
 use Rattle.std.proofs.Math.Seq.{take-length}
+use Rattle.std.proofs.lemmas.Bool.{and_parts, not-true}
 use Rattle.std.proofs.lemmas.List.Elements.{All-head}
 use Rattle.std.proofs.lemmas.Grind.{flat_map-append}
 use Rattle.acc_base.specs.declared.range.Range.{Range}
 use Rattle.acc_base.specs.Queues.{every_queue}
-use Rattle.acc_batch.specs.Labels.{greatest}
 use Rattle.acc_batch.specs.declared.operation.Op.{Op}
 use Rattle.acc_batch.specs.declared.operation.Op.TheVariants.{CopyIn, CopyOut}
 use Rattle.acc_kernel.specs.Jobs.{Use}
 use Rattle.acc_present.specs.Notes.{Note}
+use Rattle.acc_present.specs.Presences.{Presence, holder, is_present, overlaps_any}
+use Rattle.acc_present.specs.Tables.{IsLook}
+use Rattle.acc_present.specs.declared.table.Look.{Look}
+use Rattle.acc_present.specs.declared.table.Look.TheVariants as look
+use Rattle.acc_present.proofs.Searching.{is_present-some}
 use Rattle.acc_place.specs.declared.judge.Marked.{Marked}
 use Rattle.acc_place.specs.declared.plan.Group.{Group}
 use Rattle.acc_place.specs.declared.plan.Group.TheVariants.{Makes, CopyIns, Updates, CopyOuts, Releases}
@@ -27,11 +32,29 @@ pub same_for : (f g : ℕ → ℕ) (qs : List ℕ) → ((q : ℕ) → f q ≡ g 
 same_for f g [] h = refl
 same_for f g (q ∷ qs) h = rw (h q, same_for f g qs h) refl
 
--- ## Two lists, one behind the other
+-- nothing raises no number
+pub none_raised : (f : ℕ → ℕ) → map f every_queue ≡ map (λ q. max (f q) 0) every_queue
+none_raised f = same_for f (λ q. max (f q) 0) every_queue (λ q. omega arith)
 
-pub greatest_both : (ms ns : List ℕ) → greatest (ms ++ ns) ≡ max (greatest ms) (greatest ns)
-greatest_both [] ns = omega arith
-greatest_both (m ∷ ms) ns = (let ih = greatest_both ms ns in omega (arith, ih))
+-- ## Ranges that aren't present
+
+-- what is partly present nothing holds
+partly_held : (ps : List Presence) (r : Range) → overlaps_any ps r ≡ true → not (is_present ps r) ≡ true → holder ps r ≡ None
+partly_held ps r some no_one = by_holder (holder ps r) refl
+  where
+    by_holder : (o : Option Presence) → holder ps r ≡ o → o ≡ None
+    by_holder None e = refl
+    by_holder (Some p) e = (let w : true ≡ false = sym (is_present-some ps r p e) ∙ not-true (is_present ps r) no_one in absurd cc)
+
+-- what is absent or partly present has no entry
+pub no_holder : (ps : List Presence) (r : Range) (l : Look) → IsLook ps r l → (l ≡ look.Absent) ⊎ (l ≡ look.Partly) → holder ps r ≡ None
+no_holder ps r l found (inl absent) = (let none : IsLook ps r look.Absent = rw absent at found in none.0)
+no_holder ps r l found (inr partly) =
+    let some : IsLook ps r look.Partly = rw partly at found in
+    let parts = and_parts (overlaps_any ps r) (not (is_present ps r)) some in
+    partly_held ps r parts.0 parts.1
+
+-- ## Two lists, one behind the other
 
 pub made_both : (found : Range → Note) (us vs : List Use) (q : ℕ) → last_made found (us ++ vs) q ≡ max (last_made found us q) (last_made found vs q)
 made_both found [] vs q = omega arith
@@ -46,9 +69,6 @@ used_both found (u ∷ us) vs q = (let ih = used_both found us vs q in omega (ar
 -- the maker of a range, and then those of others
 pub made_first : (found : Range → Note) (f : ℕ → ℕ) (u : Use) (us : List Use) (q : ℕ) → max (max (f q) (made_at q (found u.1))) (last_made found us q) ≡ max (f q) (last_made found (u ∷ us) q)
 made_first found f u us q = omega arith
-
-pub made_alone : (found : Range → Note) (f : ℕ → ℕ) (u : Use) (q : ℕ) → max (f q) (made_at q (found u.1)) ≡ max (f q) (last_made found (u ∷ []) q)
-made_alone found f u q = omega arith
 
 -- what is raised one after another, at once
 max_assoc : (a b c : ℕ) → max (max a b) c ≡ max a (max b c)
@@ -126,16 +146,3 @@ made_by_groups found run ts q =
       made_both found (uses u) (uses o ++ uses r) q,
       made_both found (uses o) (uses r) q,
     ))
-
--- a list of eight numbers, by the queues
-pub eight_uses : (ns : List ℕ) → length ns ≡ 8 → ns ≡ map (λ q. slice_index_or ns q 0) every_queue
-eight_uses (a ∷ b ∷ c ∷ d ∷ e ∷ f ∷ g ∷ h ∷ []) len = refl
-eight_uses [] len = absurd (omega (arith, len))
-eight_uses (a ∷ []) len = absurd (omega (arith, len))
-eight_uses (a ∷ b ∷ []) len = absurd (omega (arith, len))
-eight_uses (a ∷ b ∷ c ∷ []) len = absurd (omega (arith, len))
-eight_uses (a ∷ b ∷ c ∷ d ∷ []) len = absurd (omega (arith, len))
-eight_uses (a ∷ b ∷ c ∷ d ∷ e ∷ []) len = absurd (omega (arith, len))
-eight_uses (a ∷ b ∷ c ∷ d ∷ e ∷ f ∷ []) len = absurd (omega (arith, len))
-eight_uses (a ∷ b ∷ c ∷ d ∷ e ∷ f ∷ g ∷ []) len = absurd (omega (arith, len))
-eight_uses (a ∷ b ∷ c ∷ d ∷ e ∷ f ∷ g ∷ h ∷ x ∷ ns) len = absurd (omega (arith, len))

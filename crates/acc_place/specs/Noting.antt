@@ -122,6 +122,10 @@ last_made found us q = greatest (map (λ (u : Use). made_at q (found u.1)) us)
 abbrev pub last_used : (Range → Note) → List Use → ℕ → ℕ
 last_used found us q = greatest (map (λ (u : Use). used_at q (found u.1)) us)
 
+-- Numbers by queue are raised by others, where these are greater.
+abbrev pub Raises : List ℕ → (ℕ → ℕ) → List ℕ → Type 0
+Raises old g new = (f : ℕ → ℕ) → old ≡ map f every_queue → new ≡ map (λ q. max (f q) (g q)) every_queue
+
 -- the awaits of a batch on a queue, by the number that is awaited of each, from this queue on
 abbrev pub awaits_from : ℕ → ℕ → List ℕ → List Op
 awaits_from own q [] = []

@@ -1,4 +1,4 @@
-ghost use Rattle.std.specs.Prelude.{ℕ, All, ◌≡◌, ◌+◌, ◌<◌, ◌≤◌, ◌++◌, max, map, length, IfErr, OnOk};
+ghost use Rattle.std.specs.Prelude.{ℕ, All, ◌≡◌, ◌+◌, ◌<◌, ◌≤◌, ◌++◌, ◌==◌, max, map, length, slice_index_or, IfErr, OnOk, if◌then◌else◌};
 ghost use Rattle.std.specs.List.{flat_map};
 ghost use Rattle.std.specs.Option.{option_to_list};
 ghost use Rattle.acc_base.specs.declared.fault.Fault.TheVariants.{Memory};
@@ -6,8 +6,8 @@ ghost use Rattle.acc_base.specs.declared.ids.TheConstants.{QUEUES};
 ghost use Rattle.acc_base.specs.declared.range.Range.{Range};
 ghost use Rattle.acc_base.specs.Queues.{every_queue};
 ghost use Rattle.acc_batch.specs.Awaits.{await_of};
-ghost use Rattle.acc_present.specs.Notes.{Note, entry_note, HasNotes};
-ghost use Rattle.acc_place.specs.Noting.{awaits_from, ended_range, last_made, last_used, made_at, note_found, used_at, used_ranges};
+ghost use Rattle.acc_present.specs.Notes.{Note, HasNotes};
+ghost use Rattle.acc_place.specs.Noting.{awaits_from, ended_range, last_made, last_used, made_at, note_found, used_at, used_ranges, Raises};
 ghost use Rattle.acc_place.specs.Targets.{queues_named};
 ghost use Rattle.acc_place.specs.Trials.{named_count, number_in};
 ghost use Rattle.acc_place.specs.Walks.{group_ops, marked_ops};
@@ -19,8 +19,7 @@ use crate::plan::{Group, op_of};
 use crate::targets::names_queue;
 use acc_base::{BlockId, DeviceId, Fault, Few, QueueAt, QueueId, Range};
 use acc_batch::Op;
-use acc_present::{Entry, Look, Table};
-use std::marker::Model;
+use acc_present::{Look, Table};
 
 /// How many batches were placed on each queue of a device that a directive waits for, and 0 for the others.
 pub fn named_counts(labels: &Labels, device: DeviceId, directive: &Directive) -> [u64; 8]
@@ -63,12 +62,13 @@ pub fn awaited_numbers(
     ensures { (notes : Range → ℕ → Note) → HasNotes notes known.now.table.now.notes → result ≡ map (number_in known.now notes (queues_named directive.now) (marked_ops (option_to_list run.now) steps.now) steps.now) every_queue }
 {
     let table = known.table;
-    let numbers = named_counts(known.labels, known.at.device, directive);
-    let numbers = raise_group(table, Group::CopyIns, steps, numbers);
-    let numbers = raise_if(table, run, numbers);
-    let numbers = raise_group(table, Group::Updates, steps, numbers);
-    let numbers = raise_group(table, Group::CopyOuts, steps, numbers);
-    raise_ended(table, steps, numbers)
+    let mut numbers = named_counts(known.labels, known.at.device, directive);
+    raise_group(table, Group::CopyIns, steps, &mut numbers);
+    raise_if(table, run, &mut numbers);
+    raise_group(table, Group::Updates, steps, &mut numbers);
+    raise_group(table, Group::CopyOuts, steps, &mut numbers);
+    raise_ended(table, steps, &mut numbers);
+    numbers
 }
 
 /// Adds an await of each other queue of which a batch is awaited, by these numbers, in queue order.
@@ -101,95 +101,119 @@ fn add_await(own: QueueId, queue: QueueId, number: u64, ops: &mut Few<Op>) -> Re
 }
 
 // Raises the numbers by the makers of what the steps' operations of this group use.
-fn raise_group(table: &Table, group: Group, steps: &[Marked], numbers: [u64; 8]) -> [u64; 8]
+fn raise_group(table: &Table, group: Group, steps: &[Marked], numbers: &mut [u64; 8])
     requires { All (λ t. 0 < t.item.range.len) steps.now }
-    ensures { (notes : Range → ℕ → Note) (f : ℕ → ℕ) → HasNotes notes table.now.notes → numbers ≡ map f every_queue → result ≡ map (λ q. max (f q) (last_made (note_found notes table.now.presences) (flat_map used_ranges (flat_map (group_ops group) steps.now)) q)) every_queue }
+    ensures { (notes : Range → ℕ → Note) → HasNotes notes table.now.notes → Raises numbers.old (last_made (note_found notes table.now.presences) (flat_map used_ranges (flat_map (group_ops group) steps.now))) numbers.new }
 {
     match steps {
-        [] => numbers,
+        [] => {}
         [first, rest @ ..] => {
-            let raised = raise_if(table, &op_of(group, *first), numbers);
-            raise_group(table, group, rest, raised)
+            raise_if(table, &op_of(group, *first), numbers);
+            raise_group(table, group, rest, numbers);
         }
     }
 }
 
 // Raises the numbers by the makers of what an operation uses, if there is one.
-fn raise_if(table: &Table, op: &Option<Op>, numbers: [u64; 8]) -> [u64; 8]
+fn raise_if(table: &Table, op: &Option<Op>, numbers: &mut [u64; 8])
     requires { All (λ u. 0 < u.1.len) (flat_map used_ranges (option_to_list op.now)) }
-    ensures { (notes : Range → ℕ → Note) (f : ℕ → ℕ) → HasNotes notes table.now.notes → numbers ≡ map f every_queue → result ≡ map (λ q. max (f q) (last_made (note_found notes table.now.presences) (flat_map used_ranges (option_to_list op.now)) q)) every_queue }
+    ensures { (notes : Range → ℕ → Note) → HasNotes notes table.now.notes → Raises numbers.old (last_made (note_found notes table.now.presences) (flat_map used_ranges (option_to_list op.now))) numbers.new }
 {
     match op {
-        None => numbers,
+        None => {}
         Some(op) => raise_op(table, op, numbers),
     }
 }
 
-fn raise_op(table: &Table, op: &Op, numbers: [u64; 8]) -> [u64; 8]
+fn raise_op(table: &Table, op: &Op, numbers: &mut [u64; 8])
     requires { All (λ u. 0 < u.1.len) (used_ranges op.now) }
-    ensures { (notes : Range → ℕ → Note) (f : ℕ → ℕ) → HasNotes notes table.now.notes → numbers ≡ map f every_queue → result ≡ map (λ q. max (f q) (last_made (note_found notes table.now.presences) (used_ranges op.now) q)) every_queue }
+    ensures { (notes : Range → ℕ → Note) → HasNotes notes table.now.notes → Raises numbers.old (last_made (note_found notes table.now.presences) (used_ranges op.now)) numbers.new }
 {
     match op {
         Op::CopyIn { range, .. } => raise_range(table, *range, numbers),
         Op::CopyOut { range, .. } => raise_range(table, *range, numbers),
         Op::Run { uses, .. } => raise_uses(table, uses.get().as_slice(), numbers),
-        Op::Make { .. } | Op::Release { .. } | Op::Await { .. } | Op::Close => numbers,
+        Op::Make { .. } | Op::Release { .. } | Op::Await { .. } | Op::Close => {}
     }
 }
 
-fn raise_uses(table: &Table, uses: &[(BlockId, Range)], numbers: [u64; 8]) -> [u64; 8]
+fn raise_uses(table: &Table, uses: &[(BlockId, Range)], numbers: &mut [u64; 8])
     requires { All (λ u. 0 < u.1.len) uses.now }
-    ensures { (notes : Range → ℕ → Note) (f : ℕ → ℕ) → HasNotes notes table.now.notes → numbers ≡ map f every_queue → result ≡ map (λ q. max (f q) (last_made (note_found notes table.now.presences) uses.now q)) every_queue }
+    ensures { (notes : Range → ℕ → Note) → HasNotes notes table.now.notes → Raises numbers.old (last_made (note_found notes table.now.presences) uses.now) numbers.new }
 {
     match uses {
-        [] => numbers,
+        [] => {}
         [(_, range), rest @ ..] => {
-            let raised = raise_range(table, *range, numbers);
-            raise_uses(table, rest, raised)
+            raise_range(table, *range, numbers);
+            raise_uses(table, rest, numbers);
         }
     }
 }
 
-fn raise_range(table: &Table, range: Range, numbers: [u64; 8]) -> [u64; 8]
+// Raises the numbers by the maker of the block of a range, if the range is present.
+fn raise_range(table: &Table, range: Range, numbers: &mut [u64; 8])
     requires { 0 < range.len }
-    ensures { (notes : Range → ℕ → Note) (f : ℕ → ℕ) → HasNotes notes table.now.notes → numbers ≡ map f every_queue → result ≡ map (λ q. max (f q) (made_at q (note_found notes table.now.presences range))) every_queue }
+    ensures { (notes : Range → ℕ → Note) → HasNotes notes table.now.notes → Raises numbers.old (λ q. made_at q (note_found notes table.now.presences range)) numbers.new }
 {
-    let found = Found::at(table, range);
-    raised(numbers, found.made())
+    match table.look(range) {
+        Look::Present(entry) => {
+            let (queue, number) = entry.maker;
+            raise(numbers, queue, number);
+        }
+        Look::Absent | Look::Partly => {}
+    }
 }
 
 // Raises the numbers by all that made or used the blocks that items ended.
-fn raise_ended(table: &Table, steps: &[Marked], numbers: [u64; 8]) -> [u64; 8]
+fn raise_ended(table: &Table, steps: &[Marked], numbers: &mut [u64; 8])
     requires { All (λ t. 0 < t.item.range.len) steps.now }
-    ensures { (notes : Range → ℕ → Note) (f : ℕ → ℕ) → HasNotes notes table.now.notes → numbers ≡ map f every_queue → result ≡ map (λ q. max (f q) (last_used (note_found notes table.now.presences) (flat_map ended_range steps.now) q)) every_queue }
+    ensures { (notes : Range → ℕ → Note) → HasNotes notes table.now.notes → Raises numbers.old (last_used (note_found notes table.now.presences) (flat_map ended_range steps.now)) numbers.new }
 {
     match steps {
-        [] => numbers,
+        [] => {}
         [first, rest @ ..] => {
-            let raised = raise_step(table, *first, numbers);
-            raise_ended(table, rest, raised)
+            raise_step(table, *first, numbers);
+            raise_ended(table, rest, numbers);
         }
     }
 }
 
-fn raise_step(table: &Table, step: Marked, numbers: [u64; 8]) -> [u64; 8]
+fn raise_step(table: &Table, step: Marked, numbers: &mut [u64; 8])
     requires { 0 < step.item.range.len }
-    ensures { (notes : Range → ℕ → Note) (f : ℕ → ℕ) → HasNotes notes table.now.notes → numbers ≡ map f every_queue → result ≡ map (λ q. max (f q) (last_used (note_found notes table.now.presences) (ended_range step) q)) every_queue }
+    ensures { (notes : Range → ℕ → Note) → HasNotes notes table.now.notes → Raises numbers.old (last_used (note_found notes table.now.presences) (ended_range step)) numbers.new }
 {
     match step.ended {
-        None => numbers,
-        Some(_) => {
-            let found = Found::at(table, step.item.range);
-            raised(numbers, found.used())
-        }
+        None => {}
+        Some(_) => raise_used(table, step.item.range, numbers),
     }
 }
 
-// The greater of two numbers, for each queue.
-fn raised(numbers: [u64; 8], others: [u64; 8]) -> [u64; 8]
-    ensures { (f g : ℕ → ℕ) → numbers ≡ map f every_queue → others ≡ map g every_queue → result ≡ map (λ q. max (f q) (g q)) every_queue }
+// Raises the numbers by all that made or used the block of a range, if the range is present.
+fn raise_used(table: &Table, range: Range, numbers: &mut [u64; 8])
+    requires { 0 < range.len }
+    ensures { (notes : Range → ℕ → Note) → HasNotes notes table.now.notes → Raises numbers.old (λ q. used_at q (note_found notes table.now.presences range)) numbers.new }
 {
-    [
+    match table.look(range) {
+        Look::Present(entry) => raise_all(numbers, &entry.uses),
+        Look::Absent | Look::Partly => {}
+    }
+}
+
+// Raises the number of one queue, if there is such a queue.
+fn raise(numbers: &mut [u64; 8], queue: QueueId, number: u64)
+    ensures { Raises numbers.old (λ q. if queue == q then number else 0) numbers.new }
+{
+    let at = usize::from(queue.number());
+    if at < 8 && numbers[at] < number {
+        numbers[at] = number;
+    }
+}
+
+// Raises the number of each queue.
+fn raise_all(numbers: &mut [u64; 8], others: &[u64; 8])
+    ensures { Raises numbers.old (λ q. slice_index_or others.now q 0) numbers.new }
+{
+    *numbers = [
         greater(numbers[0], others[0]),
         greater(numbers[1], others[1]),
         greater(numbers[2], others[2]),
@@ -198,100 +222,11 @@ fn raised(numbers: [u64; 8], others: [u64; 8]) -> [u64; 8]
         greater(numbers[5], others[5]),
         greater(numbers[6], others[6]),
         greater(numbers[7], others[7]),
-    ]
+    ];
 }
 
 fn greater(a: u64, b: u64) -> u64
     ensures { result ≡ max a b }
 {
     if a < b { b } else { a }
-}
-
-// What a table has noted of a range: the queue and the number of the batch that made its block, and of each queue the number
-// of the last batch that made or used it, or 0.
-#[derive(Drop)]
-struct Found {
-    queue: QueueId,
-    number: u64,
-    uses: [u64; 8],
-}
-
-impl Model for Found {
-    ghost use Rattle.acc_present.specs.Notes.{Note};
-
-    ghost Value = { Note };
-
-    ghost view = { λ n. record { queue = n.queue; number = n.number; uses = n.uses } };
-}
-
-impl Found {
-    // What a look at a range with a cell finds; nothing where it isn't present.
-    fn at(table: &Table, range: Range) -> Self
-        requires { 0 < range.len }
-        ensures { (notes : Range → ℕ → Note) → HasNotes notes table.now.notes → result ≡ note_found notes table.now.presences range }
-    {
-        match table.look(range) {
-            Look::Present(entry) => Found::of(entry),
-            Look::Absent | Look::Partly => Found {
-                queue: QueueId::SYNC,
-                number: 0,
-                uses: [0; 8],
-            },
-        }
-    }
-
-    // What is noted in an entry.
-    fn of(entry: Entry) -> Self
-        ensures { result ≡ entry_note entry }
-    {
-        let Entry { maker, uses, .. } = entry;
-        let (queue, number) = maker;
-        Found {
-            queue,
-            number,
-            uses,
-        }
-    }
-
-    // Of each queue the number of the batch that made the block, if it is of that queue, else 0.
-    fn made(&self) -> [u64; 8]
-        ensures { result ≡ map (λ q. made_at q self.now) every_queue }
-    {
-        [
-            self.made_at(0),
-            self.made_at(1),
-            self.made_at(2),
-            self.made_at(3),
-            self.made_at(4),
-            self.made_at(5),
-            self.made_at(6),
-            self.made_at(7),
-        ]
-    }
-
-    // Of each queue the number of the last batch that made or used it, or 0.
-    fn used(&self) -> [u64; 8]
-        ensures { result ≡ map (λ q. used_at q self.now) every_queue }
-    {
-        [
-            self.uses[0],
-            self.uses[1],
-            self.uses[2],
-            self.uses[3],
-            self.uses[4],
-            self.uses[5],
-            self.uses[6],
-            self.uses[7],
-        ]
-    }
-
-    fn made_at(&self, queue: u8) -> u64
-        ensures { result ≡ made_at queue self.now }
-    {
-        if self.queue.number() == queue {
-            self.number
-        } else {
-            0
-        }
-    }
 }

@@ -13,7 +13,7 @@ abbrev no_step : Marked
 no_step = record { item = record { clause = Copy; range = record { array = 0; lo = 0; len = 0 } }; held = None; opened = None; ended = None }
 
 pub returns-in-len1-up : goal.returns-in-len1-up
-returns-in-len1-up t c = λ notes f h is.
+returns-in-len1-up t c = λ notes h f is.
     let found : Range → Note = note_found notes c.args.table.now.presences in
     let ts = c.args.steps.now in
     let first = get_or ts 0 no_step in
@@ -23,5 +23,5 @@ returns-in-len1-up t c = λ notes f h is.
     let one : ℕ → ℕ = λ q. max (f q) (last_used found (ended_range first) q) in
     let last : (q : ℕ) → max (one q) (last_used found (flat_map ended_range rest) q) ≡ max (f q) (last_used found (flat_map ended_range ts) q) =
     λ q. omega (arith, used_both found (ended_range first) (flat_map ended_range rest) q, ap (λ xs. last_used found xs q) all) in
-    c.raise_ended.ensures notes one h (c.raise_step-raised.ensures notes f h is)
+    c.raise_ended.ensures notes h one (c.raise_step.ensures notes h f is)
     ∙ same_for (λ q. max (one q) (last_used found (flat_map ended_range rest) q)) (λ q. max (f q) (last_used found (flat_map ended_range ts) q)) every_queue last

@@ -17,7 +17,7 @@ abbrev no_step : Marked
 no_step = record { item = record { clause = Copy; range = record { array = 0; lo = 0; len = 0 } }; held = None; opened = None; ended = None }
 
 pub returns-in-len1-up : goal.returns-in-len1-up
-returns-in-len1-up t c = λ notes f h is.
+returns-in-len1-up t c = λ notes h f is.
     let found : Range → Note = note_found notes c.args.table.now.presences in
     let g = c.args.group in
     let ts = c.args.steps.now in
@@ -25,7 +25,7 @@ returns-in-len1-up t c = λ notes f h is.
     let rest = take (length ts - 1) (drop 1 ts) in
     let split = first_and_rest ts no_step c.in-len1-up.len_at_least in
     let uses = λ (ops : List Op). flat_map used_ranges ops in
-    let own = c.raise_if-raised.ensures notes f h is in
+    let own = c.raise_if.ensures notes h f is in
     let made : (q : ℕ) → max (f q) (last_made found (uses (option_to_list c.op_of.result)) q) ≡ max (f q) (last_made found (uses (group_ops g first)) q) =
     λ q. ap (λ o. max (f q) (last_made found (uses (option_to_list o)) q)) c.op_of.ensures in
     let all : uses (flat_map (group_ops g) ts) ≡ uses (group_ops g first) ++ uses (flat_map (group_ops g) rest) =
@@ -33,5 +33,5 @@ returns-in-len1-up t c = λ notes f h is.
     let one : ℕ → ℕ = λ q. max (f q) (last_made found (uses (group_ops g first)) q) in
     let last : (q : ℕ) → max (one q) (last_made found (uses (flat_map (group_ops g) rest)) q) ≡ max (f q) (last_made found (uses (flat_map (group_ops g) ts)) q) =
     λ q. omega (arith, made_both found (uses (group_ops g first)) (uses (flat_map (group_ops g) rest)) q, ap (λ xs. last_made found xs q) all) in
-    c.raise_group.ensures notes one h (own ∙ same_for (λ q. max (f q) (last_made found (uses (option_to_list c.op_of.result)) q)) one every_queue made)
+    c.raise_group.ensures notes h one (own ∙ same_for (λ q. max (f q) (last_made found (uses (option_to_list c.op_of.result)) q)) one every_queue made)
     ∙ same_for (λ q. max (one q) (last_made found (uses (flat_map (group_ops g) rest)) q)) (λ q. max (f q) (last_made found (uses (flat_map (group_ops g) ts)) q)) every_queue last

@@ -8,7 +8,7 @@ use Rattle.acc_place.proofs.Raising.{first_and_rest, made_first, same_for}
 use Rattle.acc_place.proofs.awaits.+raise_uses.Goals as goal
 
 pub returns-in-len1-up : goal.returns-in-len1-up
-returns-in-len1-up t c = λ notes f h is.
+returns-in-len1-up t c = λ notes h f is.
     let found : Range → Note = note_found notes c.args.table.now.presences in
     let us = c.args.uses.now in
     let none : Use = c.index-uses-0.result in
@@ -18,5 +18,5 @@ returns-in-len1-up t c = λ notes f h is.
     let one : ℕ → ℕ = λ q. max (f q) (made_at q (found first.1)) in
     let last : (q : ℕ) → max (one q) (last_made found rest q) ≡ max (f q) (last_made found us q) =
     λ q. made_first found f first rest q ∙ ap (λ xs. max (f q) (last_made found xs q)) (sym split) in
-    c.raise_uses.ensures notes one h (c.raise_range-raised.ensures notes f h is)
+    c.raise_uses.ensures notes h one (c.raise_range.ensures notes h f is)
     ∙ same_for (λ q. max (one q) (last_made found rest q)) (λ q. max (f q) (last_made found us q)) every_queue last

@@ -25,13 +25,13 @@ returns c = λ notes h.
     let two : ℕ → ℕ = λ q. max (one q) (last_made found (flat_map used_ranges run) q) in
     let three : ℕ → ℕ = λ q. max (two q) (uses Updates q) in
     let four : ℕ → ℕ = λ q. max (three q) (uses CopyOuts q) in
-    let first = c.raise_group-numbers.ensures notes named h c.named_counts-numbers.ensures in
-    let second = c.raise_if-numbers.ensures notes one h first in
-    let third = c.raise_group-numbers-2.ensures notes two h second in
-    let fourth = c.raise_group-numbers-3.ensures notes three h third in
+    let first = c.raise_group.ensures notes h named c.named_counts-numbers.ensures in
+    let second = c.raise_if.ensures notes h one first in
+    let third = c.raise_group-2.ensures notes h two second in
+    let fourth = c.raise_group-3.ensures notes h three third in
     let ended : ℕ → ℕ = λ q. last_used found (flat_map ended_range ts) q in
     let all : ℕ → ℕ = number_in k notes (queues_named c.args.directive.now) (marked_ops run ts) ts in
     let last : (q : ℕ) → max (four q) (ended q) ≡ all q =
     λ q. regrouped (named q) (uses CopyIns q) (last_made found (flat_map used_ranges run) q) (uses Updates q) (uses CopyOuts q) (ended q)
     ∙ ap (λ n. max (named q) (max n (ended q))) (sym (made_by_groups found run ts q)) in
-    c.raise_ended.ensures notes four h fourth ∙ same_for (λ q. max (four q) (ended q)) all every_queue last
+    c.raise_ended.ensures notes h four fourth ∙ same_for (λ q. max (four q) (ended q)) all every_queue last

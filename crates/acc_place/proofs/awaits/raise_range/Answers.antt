@@ -1,14 +1,8 @@
-use Rattle.std.proofs.Common.{◌∙◌, ap}
-use Rattle.acc_base.specs.Queues.{every_queue}
-use Rattle.acc_base.specs.declared.range.Range.{Range}
-use Rattle.acc_present.specs.Notes.{Note}
-use Rattle.acc_place.specs.Noting.{made_at, note_found}
-use Rattle.acc_place.proofs.Raising.{same_for}
+use Rattle.std.proofs.Common.{◌∙◌}
+use Rattle.acc_place.proofs.Raising.{no_holder, none_raised}
 use Rattle.acc_place.proofs.awaits.raise_range.Goals as goal
 
-pub returns : goal.returns
-returns c = λ notes f h is.
-    let found : Range → Note = note_found notes c.args.table.now.presences in
-    let r = c.args.range in
-    let made = c.made.ensures ∙ same_for (λ q. made_at q c.at-found.result) (λ q. made_at q (found r)) every_queue (λ q. ap (made_at q) (c.at-found.ensures notes h)) in
-    c.raised.ensures f (λ q. made_at q (found r)) is made
+pub returns-in-Absent : goal.returns-in-Absent
+returns-in-Absent c = λ notes h f is.
+    let none = no_holder c.args.table.now.presences c.args.range c.look.result c.look.ensures.look c.in-Absent.is in
+    rw none (is ∙ none_raised f)
