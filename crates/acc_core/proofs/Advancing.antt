@@ -9,7 +9,8 @@ use Rattle.acc_batch.specs.declared.operation.Op.TheVariants.{Make, CopyIn, Copy
 use Rattle.acc_batch.specs.Labels.{on_queue, batch_at}
 use Rattle.acc_batch.specs.Lives.{made}
 use Rattle.acc_core.specs.declared.event.Event.TheVariants as event
-use Rattle.acc_core.specs.Machine.{State, is_there, perform_step, queue_step, step, idle, did, rest, can_perform, with_op, labels_of}
+use Rattle.acc_core.specs.Machine.{State, is_there, perform_step, queue_step, step, idle, did, rest, can_perform, with_op, labels_of, standing_of}
+use Rattle.acc_place.specs.Histories.{is_closed, IsQueue}
 use Rattle.acc_core.specs.Queues.{QueueView, queue_in, queues_with}
 use Rattle.acc_core.specs.Ties.{IsAccelerator, QueueIs, Queued}
 use Rattle.acc_work.specs.declared.log.WorkEntry.TheVariants as entry
@@ -124,6 +125,10 @@ performed_more w v v' queues waiting at s a k same d =
     let each = both_changed (λ other l k. QueueIs w.config labels other l k) (λ other l k. QueueIs w.config labels other l k) v.lanes queues at (advanced lane d.ops) new s.queue s.lane s.held q.each
     (record { split = h.split; counted = omega (arith, h.counted, left); held_low = h.held_low; lane_room = h.lane_room }) (λ other differ l k same. same) in
     let sum = waiting_changed queues at new s.queue s.held in
+    let room =
+    both_changed (λ other l k. IsQueue w.config other → is_closed (standing_of w) other ≡ false → length l.taken + length k.held < l.room)
+    (λ other l k. IsQueue w.config other → is_closed (standing_of w) other ≡ false → length l.taken + length k.held < l.room) v.lanes queues at (advanced lane d.ops) new s.queue s.lane s.held q.close_room
+    (λ there early. q.close_room at there early) (λ other differ l k same. same) in
     subst (λ log. IsAccelerator (record w { taken = taken_counts v'; work = log }) v' (queues_with queues at new) (waiting - 1)) (sym work) (record {
       legal = legal_taken (with_op w0 at d.op) (taken_counts v') (legal_performed w0 at d.op d.ops a.legal next allowed);
       few_items = a.few_items;
@@ -133,6 +138,7 @@ performed_more w v v' queues waiting at s a k same d =
         devices = d.performed.memory.devices ∙ q.devices;
         roomy = room_changed w.config.room queues at new s.queue s.held q.roomy refl;
         all_waiting = omega (arith, q.all_waiting, sum, waits, all);
+        close_room = rw d.performed.lanes room;
         filled = q.filled;
         hosts = q.hosts;
         log_room = omega (arith, q.log_room, d.performed.room, waits, all);

@@ -1,5 +1,5 @@
--- What a step changes: one of five changes is made, or none. What each of them keeps, each step keeps.
-use Rattle.std.proofs.Common.{◌≡◌, ℕ, Bool, true, false, cond, List, [], ◌∷◌, refl, Some, None, Option, Ok}
+-- What a step changes: one of six changes is made, or none. What each of them keeps, each step keeps.
+use Rattle.std.proofs.Common.{subst, sym, ◌≡◌, ℕ, Bool, true, false, cond, List, [], ◌∷◌, refl, Some, None, Option, Ok}
 use Rattle.std.specs.Prelude.{not, nat_lt, nat_le, slice_get}
 use Rattle.acc_base.specs.declared.ids.QueueAt.{QueueAt}
 use Rattle.acc_base.specs.declared.fault.Fault.{Fault}
@@ -24,8 +24,11 @@ use Rattle.acc_work.specs.Items.{shown_by}
 use Rattle.acc_work.specs.Orders.{ShowsTruth}
 use Rattle.acc_work.specs.Logs.{all_items, all_done}
 use Rattle.acc_work.specs.Works.{item_fault}
+use Rattle.acc_core.specs.Closing.{closed_state}
 use Rattle.acc_core.specs.Machine.{State, Outcome, Step, standing_of, labels_of, is_there, held, rest, with_item, with_op, unless, place_fault, fault_of_place, accepting, placed_state, told_of, can_tell, can_perform, item_state, waited_state, goes_on, host_step, named_step, take_step, perform_step, queue_step, step}
 use Rattle.acc_place.specs.Standings.{walk_of}
+use Rattle.acc_core.proofs.ClosingAtOnce.{close_is}
+use Rattle.acc_core.proofs.Closing.{close_config}
 
 -- P holds of a state, and of each state that one change may make of it.
 pub record Changes (P : State → Type 0) (w : State) : Type 0 where
@@ -36,6 +39,7 @@ pub record Changes (P : State → Type 0) (w : State) : Type 0 where
   pub taken : (taken : List ℕ) → P (record w { taken = taken })
   pub performed : (at : QueueAt) (op : Op) (ops : List Op) → rest w (labels_of w) at ≡ op ∷ ops
       → can_perform (labels_of w) w.work at op ≡ true → P (with_op w at op)
+  pub closed : P (closed_state w)
 
 -- P holds of a choice where it holds of both ways
 if_both : (P : State → Type 0) (b : Bool) (x y : Outcome) → (b ≡ true → P x.state) → (b ≡ false → P y.state) → P (cond b x y).state
@@ -125,6 +129,7 @@ pub by_step : (P : State → Type 0) (no_memory : Bool) (w : State) (e : Event) 
 by_step P no_memory w (event.Host h) c = by_named P no_memory w h (slice_get w.hosts h) c
 by_step P no_memory w (event.Take at) c = by_queue P (is_there w at) w _ c.stays (by_take P w at (rest w (labels_of w) at) c)
 by_step P no_memory w (event.Perform at) c = by_queue P (is_there w at) w _ c.stays (by_perform P w at (rest w (labels_of w) at) c refl)
+by_step P no_memory w event.Close c = subst (λ (o : Outcome). P o.state) (sym (close_is w)) c.closed
 
 -- So it does for each answer that the machine may give.
 pub Step-by : (P : State → Type 0) (old new : State) (e : Event) (r : Reply) → Changes P old → Step old e r new → P new
@@ -141,5 +146,6 @@ step_config old new e r s =
       accepted = λ hosts h d e. refl;
       taken = λ taken. refl;
       performed = λ at op ops e allowed. refl;
+      closed = close_config old;
     })
     s

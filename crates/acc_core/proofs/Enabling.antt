@@ -7,7 +7,7 @@ use Rattle.std.proofs.lemmas.List.Elements.{All-contains}
 use Rattle.std.proofs.lemmas.List.Sums.{sum_by-cons}
 use Rattle.acc_base.specs.declared.ids.QueueAt.{QueueAt}
 use Rattle.acc_base.specs.declared.ids.TheConstants.{QUEUES}
-use Rattle.acc_base.specs.Queues.{same_queue, seat}
+use Rattle.acc_base.specs.Queues.{queue_count, same_queue, seat}
 use Rattle.acc_base.proofs.Members.{member_first, member_rest}
 use Rattle.acc_base.proofs.SameQueue.{same_queue_is}
 use Rattle.acc_batch.specs.declared.operation.Label.{Label}
@@ -21,7 +21,8 @@ use Rattle.acc_work.specs.Works.{WorkView, KeepsOrder, goes_on, lane_at}
 use Rattle.acc_work.proofs.NeverStuck.{passing, passes, never_stuck}
 use Rattle.acc_core.specs.Enabled.{is_did, is_enabled, is_left, SomeEnabled}
 use Rattle.acc_core.specs.Legality.{Legal}
-use Rattle.acc_core.specs.Machine.{State, is_there, labels_of, taken_on, held, rest, take_step, perform_step, can_perform, did, idle, with_op}
+use Rattle.acc_core.specs.Machine.{State, is_there, labels_of, standing_of, taken_on, held, rest, take_step, perform_step, can_perform, did, idle, with_op}
+use Rattle.acc_core.specs.Closing.{left_open}
 use Rattle.acc_core.specs.Queues.{QueueView, no_queue, queue_in}
 use Rattle.acc_core.specs.Ties.{Queued}
 use Rattle.acc_core.proofs.Advancing.{goes_next}
@@ -90,18 +91,22 @@ none_passes : {X : Type 0} (p : X → Bool) → ((x : X) → p x ≡ false) → 
 none_passes p h [] = refl
 none_passes p h (x ∷ xs) = rw (h x) (none_passes p h xs)
 
--- An operation is left where some wait.
-pub left_is : (w : State) (v : WorkView) (queues : List QueueView) (waiting : ℕ) → Queued w v queues waiting → KeepsOrder v → v.work ≡ w.work → is_left w ≡ nat_lt 0 waiting
-left_is w v queues waiting q k same = by_waiting (cases_lt 0 waiting)
+-- An operation is left where more wait than the closes to come.
+pub left_is : (w : State) (v : WorkView) (queues : List QueueView) (waiting unclosed : ℕ) → Queued w v queues waiting → KeepsOrder v → v.work ≡ w.work → unclosed ≡ left_open (standing_of w) (queue_count w.config)
+    → is_left w ≡ nat_lt unclosed waiting
+left_is w v queues waiting unclosed q k same to_come = by_waiting (cases_lt 0 total)
   where
-    none : (at : QueueAt) → waiting ≤ 0 → has_left (labels_of w) w.work at ≡ false
+    total : ℕ
+    total = sum_by (λ (x : QueueView). x.waiting) queues
+
+    none : (at : QueueAt) → total ≤ 0 → has_left (labels_of w) w.work at ≡ false
     none at low =
         let all = operations_are w v queues waiting at q k same in
-        le-ltb (length (performed at w.work)) (length (ops_of (on_queue at (labels_of w)))) (omega (arith, all, waiting_most queues at, q.all_waiting, low))
+        le-ltb (length (performed at w.work)) (length (ops_of (on_queue at (labels_of w)))) (omega (arith, all, waiting_most queues at, low))
 
-    some : 0 < waiting → is_left w ≡ true
+    some : 0 < total → is_left w ≡ true
     some high =
-        let found = waits_at queues (omega (arith, high, q.all_waiting)) in
+        let found = waits_at queues high in
         let at : QueueAt = record { device = found.0 / 8; queue = found.0 % 8 } in
         let place : seat at ≡ found.0 = omega arith in
         let low : nat_lt at.queue QUEUES ≡ true = lt-ltb at.queue QUEUES (omega arith) in
@@ -112,6 +117,8 @@ left_is w v queues waiting q k same = by_waiting (cases_lt 0 waiting)
         passes (λ (l : Label). has_left (labels_of w) w.work l.at) (labels_of w) f.label f.member
         (rw f.here (lt-ltb (length (performed at w.work)) (length (ops_of (on_queue at (labels_of w)))) waits))
 
-    by_waiting : (0 < waiting) ⊎ (waiting ≤ 0) → is_left w ≡ nat_lt 0 waiting
-    by_waiting (inl high) = some high ∙ sym (lt-ltb 0 waiting high)
-    by_waiting (inr low) = none_passes (λ (l : Label). has_left (labels_of w) w.work l.at) (λ l. none l.at low) (labels_of w) ∙ sym (le-ltb 0 waiting low)
+    by_waiting : (0 < total) ⊎ (total ≤ 0) → is_left w ≡ nat_lt unclosed waiting
+    by_waiting (inl high) = some high ∙ sym (lt-ltb unclosed waiting (omega (arith, high, q.all_waiting, to_come)))
+    by_waiting (inr low) =
+        none_passes (λ (l : Label). has_left (labels_of w) w.work l.at) (λ l. none l.at low) (labels_of w)
+        ∙ sym (le-ltb unclosed waiting (omega (arith, low, q.all_waiting, to_come)))

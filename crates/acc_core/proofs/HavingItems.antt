@@ -5,6 +5,7 @@ use Rattle.std.proofs.lemmas.Bool.{eq-eqb}
 use Rattle.std.proofs.lemmas.List.Elements.{All-nil, All-cons, All-append}
 use Rattle.acc_base.specs.declared.ids.QueueAt.{QueueAt}
 use Rattle.acc_base.specs.Configurations.{Configuration}
+use Rattle.acc_batch.specs.Awaits.{close_label}
 use Rattle.acc_batch.specs.declared.operation.Label.{Label}
 use Rattle.acc_batch.specs.declared.operation.Op.{Op}
 use Rattle.acc_place.specs.Batches.{batch_of, labelled, walk_at}
@@ -47,6 +48,11 @@ have_in config (noted.Accepted host d ∷ before) counts work rise =
     let mine : Rise 0 (own_of config host before (drop 1 counts) ++ o ∷ []) (items_of host work) =
     subst (λ b. Rise 0 (one_more b (own_of config host before (drop 1 counts)) o) (items_of host work)) (eq-eqb host host refl) (rise host) in
     one_has work (walk_at (walk_of st host d)) host items st.labels (batch_of st (walk_of st host d)) earlier (rise_parts 0 (own_of config host before (drop 1 counts)) o (items_of host work) mine).1
+have_in config (noted.Closing ∷ before) counts work rise = have_in config before counts work rise
+have_in config (noted.Closed at ∷ before) counts work rise =
+    let st = standing config before counts in
+    All-append (λ (l : Label). l.items_done ≤ items_of l.host work) st.labels (close_label at st.labels ∷ []) (have_in config before counts work rise)
+    (All-cons (λ (l : Label). l.items_done ≤ items_of l.host work) (close_label at st.labels) [] (omega arith) (All-nil (λ (l : Label). l.items_done ≤ items_of l.host work)))
 
 pub have_items : (w : State) → AllRise w → HaveItems (labels_of w) w.work
 have_items w rise = have_in w.config w.history w.counts w.work (λ h. subst (λ n. Rise 0 (own_of w.config h w.history w.counts) n) (items_length h w.work) (rise h))

@@ -1,6 +1,8 @@
 -- The histories are legal at the start, and each step keeps them legal.
-use Rattle.std.proofs.Common.{◌≡◌, ℕ, true, List, [], ◌∷◌, ◌++◌, length, ap, arith, None}
-use Rattle.std.proofs.lemmas.Bool.{and_parts}
+use Rattle.std.proofs.Common.{inl, inr, ◌≡◌, ℕ, true, false, List, [], ◌∷◌, ◌++◌, length, ap, subst, arith, None}
+use Rattle.std.specs.Prelude.{All}
+use Rattle.std.proofs.lemmas.Bool.{and_parts, cases_Bool}
+use Rattle.std.proofs.lemmas.List.Elements.{All-cons, All-nil}
 use Rattle.acc_base.specs.declared.ids.QueueAt.{QueueAt}
 use Rattle.acc_place.specs.Directives.{Directive}
 use Rattle.acc_core.specs.declared.event.Event.{Event}
@@ -19,7 +21,10 @@ use Rattle.acc_work.specs.Logs.{performed, items_of, await_allows, host_allows}
 use Rattle.acc_work.proofs.Keeping.{awaited_more, awaited_performed}
 use Rattle.acc_core.specs.Machine.{State, Step, Runs, standing_of, rest, can_perform, with_item, with_op, accepting}
 use Rattle.acc_place.specs.Standings.{walk_of}
+use Rattle.acc_place.specs.Sound.{is_close, CloseLast}
+use Rattle.acc_place.proofs.LastClose.{closes_last}
 use Rattle.acc_core.proofs.Changes.{Step-by}
+use Rattle.acc_core.proofs.Closing.{legal_close}
 use Rattle.acc_core.proofs.Entries.{rise_accept, rise_item}
 use Rattle.acc_core.proofs.Growing.{in_order-more, host_order-more}
 use Rattle.acc_core.proofs.Performing.{next_of_all, in_order_performed, next_uses_live}
@@ -34,19 +39,20 @@ legal_start w no_history no_work = record {
   awaited = rw no_work tt;
   host_order = rw no_work tt;
   live_blocks = rw no_work tt;
+  behind = rw no_work tt;
 }
 
 -- other hosts leave them legal
 pub legal_hosts : (w : State) (hosts : List HostView) → Legal w → Legal (record w { hosts = hosts })
-legal_hosts w hosts l = record { accepted = l.accepted; counts = l.counts; prefix = l.prefix; awaited = l.awaited; host_order = l.host_order; live_blocks = l.live_blocks }
+legal_hosts w hosts l = record { accepted = l.accepted; counts = l.counts; prefix = l.prefix; awaited = l.awaited; host_order = l.host_order; live_blocks = l.live_blocks; behind = l.behind }
 
 -- so do other counts of batches that were taken
 pub legal_taken : (w : State) (taken : List ℕ) → Legal w → Legal (record w { taken = taken })
-legal_taken w taken l = record { accepted = l.accepted; counts = l.counts; prefix = l.prefix; awaited = l.awaited; host_order = l.host_order; live_blocks = l.live_blocks }
+legal_taken w taken l = record { accepted = l.accepted; counts = l.counts; prefix = l.prefix; awaited = l.awaited; host_order = l.host_order; live_blocks = l.live_blocks; behind = l.behind }
 
 -- so does one more item that shows what is so
 pub legal_item : (w : State) (h : ℕ) (s : Told) → Legal w → ShowsTruth w.config.arrays (standing_of w).labels s w.work → Legal (with_item w h s)
-legal_item w h s l truth = record { accepted = l.accepted; counts = rise_item w h s l.counts; prefix = l.prefix; awaited = l.awaited; host_order = (truth, l.host_order); live_blocks = l.live_blocks }
+legal_item w h s l truth = record { accepted = l.accepted; counts = rise_item w h s l.counts; prefix = l.prefix; awaited = l.awaited; host_order = (truth, l.host_order); live_blocks = l.live_blocks; behind = l.behind }
 
 -- the labels that a directive adds
 abbrev pub more_labels : State → ℕ → Directive → List Label
@@ -71,20 +77,35 @@ legal_accepted w h d l e =
       awaited = rw same (awaited_more labels (more_labels w h d) w.work l.awaited);
       host_order = rw same (host_order-more w.config.arrays labels (more_labels w h d) w.work (added_filled (walk_at (walk_of (standing_of w) h d)) (next_number (walk_at (walk_of (standing_of w) h d)) labels) h (items_of h w.work) (batch_of (standing_of w) (walk_of (standing_of w) h d))) l.prefix l.host_order);
       live_blocks = l.live_blocks;
+      behind = l.behind;
     }
+
+-- what stands before another operation doesn't close
+no_end : (xs : List Op) (op : Op) (later : List Op) → xs ++ op ∷ later ≡ [] → ⊥
+no_end [] op later e = cc
+no_end (x ∷ xs) op later e = cc
+
+none_behind : (done : List Op) (op : Op) (later : List Op) → CloseLast (done ++ op ∷ later) → All (λ (o : Op). is_close o ≡ false) done
+none_behind [] op later h = All-nil (λ (o : Op). is_close o ≡ false)
+none_behind (o ∷ done) op later h = All-cons (λ (o : Op). is_close o ≡ false) o done (goes o done h.0) (none_behind done op later h.1)
+  where
+    goes : (o : Op) (xs : List Op) → (is_close o ≡ true → xs ++ op ∷ later ≡ []) → is_close o ≡ false
+    goes o xs last = elim (cases_Bool (is_close o)) [ inl closes ↦ absurd (no_end xs op later (last closes)) | inr goes_on ↦ goes_on ]
 
 -- so does one more operation, the next of its queue, that can be performed
 pub legal_performed : (w : State) (at : QueueAt) (op : Op) (ops : List Op) → Legal w → rest w (standing_of w).labels at ≡ op ∷ ops → can_perform (standing_of w).labels w.work at op ≡ true → Legal (with_op w at op)
 legal_performed w at op ops l e allowed =
     let labels = (standing_of w).labels in
+    let next = next_of_all w at op ops l.prefix e in
     let both = and_parts (await_allows labels w.work at.device op) (host_allows (batch_at (on_queue at labels) (length (performed at w.work))) w.work) allowed in
     record {
       accepted = l.accepted;
       counts = l.counts;
-      prefix = in_order_performed labels w.work at op l.prefix (next_of_all w at op ops l.prefix e);
+      prefix = in_order_performed labels w.work at op l.prefix next;
       awaited = awaited_performed labels w.work at op l.awaited both.0;
       host_order = (both.1, l.host_order);
       live_blocks = (next_uses_live w at op ops l e, l.live_blocks);
+      behind = (none_behind (performed at w.work) op next.later (subst CloseLast next.split (closes_last w.config w.history w.counts at l.accepted)), l.behind);
     }
 
 -- Each step keeps the histories legal.
@@ -98,6 +119,7 @@ Step-legal old new e r l s =
       accepted = λ hosts h d e. legal_accepted (record old { hosts = hosts }) h d (legal_hosts old hosts l) e;
       taken = λ taken. legal_taken old taken l;
       performed = λ at op ops e allowed. legal_performed old at op ops l e allowed;
+      closed = legal_close old l;
     })
     s
 

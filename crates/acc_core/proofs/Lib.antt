@@ -1,5 +1,10 @@
 mod Advancing
+mod Apart
 mod Changes
+mod Closing
+mod ClosingAtOnce
+mod ClosingInTurn
+mod ClosingQueue
 mod Done
 mod Enabling
 mod Entries
@@ -10,6 +15,7 @@ mod HostLaws
 mod HostSteps
 mod Keeping
 mod Lanes
+mod LastBatches
 mod LiveBlocks
 mod Making
 mod Opening

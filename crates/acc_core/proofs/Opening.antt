@@ -1,5 +1,5 @@
 -- An accelerator before the first event.
-use Rattle.std.proofs.Common.{◌≡◌, ℕ, zero, suc, ◌<◌, ◌≤◌, true, false, cond, List, [], ◌∷◌, length, map, refl, sym, ap, ◌∙◌, arith}
+use Rattle.std.proofs.Common.{◌≡◌, ℕ, zero, suc, ◌<◌, ◌≤◌, true, false, cond, List, [], ◌∷◌, length, map, refl, ap, ◌∙◌, arith}
 use Rattle.std.specs.Prelude.{ℤ, All, IsTrue, nat_lt, replicate, slice_index_or}
 use Rattle.std.specs.List.{sum_by}
 use Rattle.std.proofs.lemmas.List.Elements.{All-nil, All-head, All-tail, All-weaker}
@@ -12,15 +12,17 @@ use Rattle.acc_base.specs.Queues.{queue_count, seat}
 use Rattle.acc_batch.specs.declared.operation.Label.{Label}
 use Rattle.acc_place.specs.Histories.{standing}
 use Rattle.acc_work.specs.Logs.{value}
-use Rattle.acc_core.specs.Machine.{State, state_at_first}
+use Rattle.acc_core.specs.Machine.{State, standing_of, state_at_first}
 use Rattle.acc_memory.specs.Memories.{MemoryView, Shows, rows_on, is_held, cell_of, lengths_of}
 use Rattle.acc_core.specs.Queues.{QueueView, IsEmptyQueue, no_queue, queue_in}
-use Rattle.acc_core.specs.Ties.{QueueIs, Queued, Remembers, IsAccelerator}
+use Rattle.acc_core.specs.Ties.{HasRoom, QueueIs, Queued, Remembers, IsAccelerator}
 use Rattle.acc_memory.specs.Values.{Cell, Host_cell, Block_cell}
 use Rattle.acc_work.specs.Lanes.{LaneView, IsFresh}
-use Rattle.acc_work.specs.Works.{WorkView, lane_at}
+use Rattle.acc_work.specs.Works.{WorkView, HasMadeRoom, lane_at}
 use Rattle.acc_work.proofs.Lanes.{fresh_lane}
 use Rattle.acc_core.proofs.Keeping.{legal_start}
+use Rattle.acc_core.proofs.LastBatches.{left_all}
+use Rattle.acc_core.proofs.Placing.{is_roomier, remembers_room}
 
 -- without blocks a memory shows the values of its arrays
 shows_opening : (m : MemoryView) (arrays : List (List ℤ)) → m.arrays ≡ arrays → ((d : ℕ) → rows_on m d ≡ []) → Shows m (value arrays [])
@@ -62,20 +64,24 @@ none_taken (l ∷ ls) h =
     let first = All-head IsFresh l ls h in
     ap (λ n. n ∷ map (λ (k : LaneView). length k.taken) ls) (ap length first.taken) ∙ ap (λ r. 0 ∷ r) (none_taken ls (All-tail IsFresh l ls h))
 
--- empty queues and lanes hold what is placed
-queued_opening : (config : Configuration) (v : WorkView) (queues : List QueueView) → ((d : ℕ) → rows_on v.memory d ≡ []) → All IsFresh v.lanes → length v.memory.devices ≡ config.devices
-    → length queues ≡ queue_count config → All (IsEmptyQueue config.room) queues → Queued (state_at_first config []) v queues 0
+-- empty queues and lanes hold what is placed, once there is room for the closes
+queued_opening : (config : Configuration) (v v' : WorkView) (queues : List QueueView) → ((d : ℕ) → rows_on v.memory d ≡ []) → All IsFresh v.lanes → length v.memory.devices ≡ config.devices
+    → length queues ≡ queue_count config → All (IsEmptyQueue config.room) queues → v.work ≡ [] → HasMadeRoom v v' → HasRoom v' (queue_count config) → Queued (state_at_first config []) v' queues (queue_count config)
 unfolding standing
-queued_opening config v queues no_rows fresh devices count empty = record {
-  each = λ at. each at;
+queued_opening config v v' queues no_rows fresh devices count empty no_work made room = record {
+  each = λ at. is_roomier (made.lanes at) (each at);
   count = count;
-  devices = devices;
+  devices = made.devices ∙ devices;
   roomy = All-weaker (IsEmptyQueue config.room) (λ (q : QueueView). config.room ≤ q.room) (λ q e. e.enough) queues empty;
-  all_waiting = sym (none_waits config.room queues empty);
+  all_waiting = omega (arith, none_waits config.room queues empty, left_all (standing_of (state_at_first config [])) (queue_count config) refl);
+  close_room =
+      λ at there early.
+      (let fits = room.lanes at (omega (arith, there.0, made.devices, devices)) there.1 in
+      omega (arith, fits, there.0, ap length (empty_queue config.room queues at empty).0));
   filled = All-nil (λ (l : Label). 0 < length l.ops);
   hosts = All-nil (λ (l : Label). l.host < MAX_HOSTS);
-  log_room = omega arith;
-  block_room = λ d low. rw (no_rows d) (omega arith);
+  log_room = omega (arith, room.log);
+  block_room = λ d low. room.blocks d (omega (arith, low, made.devices, devices));
 }
   where
     each : (at : QueueAt) → QueueIs config [] at (lane_at v at) (queue_in queues at)
@@ -90,12 +96,12 @@ queued_opening config v queues no_rows fresh devices count empty = record {
         }
 
 -- What holds of an accelerator holds before the first event.
-pub is_opening : (config : Configuration) (w : State) (v : WorkView) (queues : List QueueView) → w ≡ state_at_first config [] → v.memory.arrays ≡ config.arrays → ((d : ℕ) → rows_on v.memory d ≡ []) → All IsFresh v.lanes
-    → length v.memory.devices ≡ config.devices → length queues ≡ queue_count config → All (IsEmptyQueue config.room) queues → IsAccelerator w v queues 0
-is_opening config w v queues is arrays no_rows fresh devices count empty =
+pub is_opening : (config : Configuration) (w : State) (v v' : WorkView) (queues : List QueueView) → w ≡ state_at_first config [] → v.memory.arrays ≡ config.arrays → ((d : ℕ) → rows_on v.memory d ≡ []) → All IsFresh v.lanes
+    → length v.memory.devices ≡ config.devices → length queues ≡ queue_count config → All (IsEmptyQueue config.room) queues → v.work ≡ [] → HasMadeRoom v v' → HasRoom v' (queue_count config) → IsAccelerator w v' queues (queue_count config)
+is_opening config w v v' queues is arrays no_rows fresh devices count empty no_work made room =
     rw is (record {
       legal = legal_start (state_at_first config []) refl refl;
       few_items = omega arith;
-      parts = queued_opening config v queues no_rows fresh devices count empty;
-      memory = remembers_opening config v arrays no_rows;
+      parts = queued_opening config v v' queues no_rows fresh devices count empty no_work made room;
+      memory = remembers_room (state_at_first config []) (state_at_first config []) v v' (remembers_opening config v arrays no_rows) refl refl made;
     })

@@ -14,16 +14,17 @@ use Rattle.acc_base.specs.declared.fault.Fault.TheVariants.{Memory, QueueFull}
 use Rattle.acc_base.specs.declared.ids.QueueAt.{QueueAt}
 use Rattle.acc_base.specs.declared.ids.TheConstants.{QUEUES}
 use Rattle.acc_base.specs.Configurations.{Configuration}
-use Rattle.acc_base.specs.Queues.{same_queue, seat}
+use Rattle.acc_base.specs.Queues.{queue_count, same_queue, seat}
 use Rattle.acc_place.specs.Accepting.{refusal}
 use Rattle.acc_core.specs.Answers.{Places}
 use Rattle.acc_place.specs.declared.directive.Placed.{Placed}
 use Rattle.acc_place.specs.Batches.{batch_of, answer_of, next_number, walk_at}
-use Rattle.acc_place.specs.Histories.{standing}
+use Rattle.acc_place.specs.Histories.{is_closed, standing, IsQueue}
 use Rattle.acc_place.specs.Plans.{PlaceView, PlanView, standing_in, Fits, label_for, label_in}
 use Rattle.acc_batch.specs.Labels.{on_queue, ops_of}
 use Rattle.acc_core.specs.Legality.{Legal}
 use Rattle.acc_work.specs.Logs.{items_of, value}
+use Rattle.acc_core.specs.Closing.{left_open}
 use Rattle.acc_core.specs.Machine.{State, standing_of, accepting, fault_of_place, place_fault, queue_fault, is_empty, is_full, held, labels_of}
 use Rattle.acc_place.specs.Standings.{walk_of}
 use Rattle.acc_memory.specs.Memories.{rows_on, room_on}
@@ -36,12 +37,18 @@ use Rattle.acc_core.proofs.Keeping.{legal_accepted, labels_accepted}
 use Rattle.acc_base.proofs.SameQueue.{same_queue_itself}
 use Rattle.acc_batch.proofs.Labels.{on_queue-append, ops_of-append}
 use Rattle.acc_batch.proofs.Seats.{each_seat}
+use Rattle.acc_core.proofs.LastBatches.{left_same, left_some}
 use Rattle.acc_core.proofs.Queues.{added}
 use Rattle.acc_core.proofs.Lanes.{few_batches}
 use Rattle.acc_place.proofs.There.{labels_there}
 use Rattle.acc_core.proofs.Done.{held_filled}
 use Rattle.acc_core.proofs.Seats.{IsSeated, seated, room_changed, waiting_changed, waiting_low}
 use Rattle.acc_core.proofs.Taking.{with_taken, held_is}
+
+-- a directive closes no queue
+closed_accepted : (w : State) (host : ℕ) (d : Directive) (at : QueueAt) → is_closed (standing_of (accepting w host d)) at ≡ is_closed (standing_of w) at
+unfolding standing
+closed_accepted w host d at = refl
 
 -- an empty batch adds no label
 labels_empty : (w : State) (host : ℕ) (d : Directive) → batch_of (standing_of w) (walk_of (standing_of w) host d) ≡ [] → labels_of (accepting w host d) ≡ labels_of w
@@ -70,13 +77,14 @@ labels_more w host d some =
     ∙ ap (λ ls. labels_of w ++ ls) (added_one at (next_number at (labels_of w)) host (items_of host w.work) (batch_of (standing_of w) (walk_of (standing_of w) host d)) some)
 
 -- the queues and their lanes depend on the labels and the log alone
-queued_same : (w w' : State) (v : WorkView) (queues : List QueueView) (waiting : ℕ) → w'.config ≡ w.config → labels_of w' ≡ labels_of w → w'.work ≡ w.work → Queued w v queues waiting → Queued w' v queues waiting
-queued_same w w' v queues waiting c e f q = record {
+pub queued_same : (w w' : State) (v : WorkView) (queues : List QueueView) (waiting : ℕ) → w'.config ≡ w.config → labels_of w' ≡ labels_of w → ((at : QueueAt) → is_closed (standing_of w') at ≡ is_closed (standing_of w) at) → w'.work ≡ w.work → Queued w v queues waiting → Queued w' v queues waiting
+queued_same w w' v queues waiting c e closed f q = record {
   each = λ at. subst (λ ls. QueueIs w'.config ls at (lane_at v at) (queue_in queues at)) (sym e) (subst (λ x. QueueIs x (labels_of w) at (lane_at v at) (queue_in queues at)) (sym c) (q.each at));
   count = rw c q.count;
   devices = rw c q.devices;
   roomy = rw c q.roomy;
-  all_waiting = q.all_waiting;
+  all_waiting = omega (arith, q.all_waiting, left_same (standing_of w) (standing_of w') (queue_count w.config) closed, ap (λ x. left_open (standing_of w') (queue_count x)) c);
+  close_room = λ at there early. q.close_room at (rw c at there) (sym (closed at) ∙ early);
   filled = rw e q.filled;
   hosts = rw e q.hosts;
   log_room = rw f q.log_room;
@@ -106,23 +114,29 @@ placed_elsewhere labels b other differ = on_queue-append other labels (b ∷ [])
 ops_more : (ls : List Label) (l : Label) → ops_of (ls ++ l ∷ []) ≡ ops_of ls ++ l.ops
 ops_more ls l = ops_of-append ls (l ∷ []) ∙ ap (λ r. ops_of ls ++ r) (append-nil l.ops)
 
--- batches that wait in a queue are no more than the operations that wait
-few_wait : (w : State) (v : WorkView) (queues : List QueueView) (waiting : ℕ) (at : QueueAt) → IsSeated w.config.devices v queues at → Queued w v queues waiting → length (queue_in queues at).held ≤ waiting
+-- batches that wait in a queue, and the queues that aren't closed, are no more than what waits
+few_wait : (w : State) (v : WorkView) (queues : List QueueView) (waiting : ℕ) (at : QueueAt) → IsSeated w.config.devices v queues at → Queued w v queues waiting → length (queue_in queues at).held + left_open (standing_of w) (queue_count w.config) ≤ waiting
 few_wait w v queues waiting at s q =
     let h = q.each at in
     omega (arith, few_batches (queue_in queues at).held (held_filled w v queues waiting at q), h.counted, waiting_low queues at s.queue s.held, q.all_waiting)
 
 -- One more batch joins its queue, where there is room for its operations.
 queued_more : (w w' : State) (v v' : WorkView) (queues : List QueueView) (b : Label) (waiting waiting' : ℕ) → IsSeated w.config.devices v queues b.at → Queued w v queues waiting → KeepsOrder v → w'.config ≡ w.config
-    → labels_of w' ≡ labels_of w ++ b ∷ [] → w'.work ≡ w.work → HasMadeRoom v v' → b.host < MAX_HOSTS → 0 < length b.ops → length (queue_in queues b.at).held < w.config.room → waiting' ≡ waiting + length b.ops
+    → labels_of w' ≡ labels_of w ++ b ∷ [] → ((at : QueueAt) → is_closed (standing_of w') at ≡ is_closed (standing_of w) at) → w'.work ≡ w.work → HasMadeRoom v v' → b.host < MAX_HOSTS → 0 < length b.ops → length (queue_in queues b.at).held < w.config.room → waiting' ≡ waiting + length b.ops
     → length w.work + waiting' ≤ v'.room → length (lane_at v' b.at).taken + waiting' ≤ (lane_at v' b.at).room → ((d : ℕ) → d < length v'.memory.devices → length (rows_on v'.memory d) + waiting' ≤ room_on v'.memory d)
     → Queued w' v' (queues_with queues b.at (pushed (queue_in queues b.at) b (length b.ops))) waiting'
-queued_more w w' v v' queues b waiting waiting' s q order c e f k host some fits more log_room lane_room block_room =
+queued_more w w' v v' queues b waiting waiting' s q order c e closed f k host some fits more log_room lane_room block_room =
     let at = b.at in
     let ls = labels_of w in
     let queue = queue_in queues at in
     let new = pushed queue b (length b.ops) in
     let few = few_wait w v queues waiting at s q in
+    let room =
+    each_seat (λ other x. IsQueue w.config other → is_closed (standing_of w) other ≡ false → length (lane_at v' other).taken + length x.held < (lane_at v' other).room)
+    (λ other x. IsQueue w.config other → is_closed (standing_of w) other ≡ false → length (lane_at v' other).taken + length x.held < (lane_at v' other).room) no_queue queues at new s.queue s.held
+    (λ other there early. (let m = k.lanes other in omega (arith, q.close_room other there early, m.room, ap (λ (l : LaneView). length l.taken) m.kept)))
+    (λ there early. omega (arith, lane_room, length-append queue.held (b ∷ []), few, more, some, left_some w.config (standing_of w) at there early))
+    (λ other differ x same. same) in
     let h = is_roomier (k.lanes at) (q.each at) in
     let sum = waiting_changed queues at new s.queue s.held in
     let each = each_seat (λ other x. QueueIs w.config ls other (lane_at v' other) x) (λ other x. QueueIs w.config (ls ++ b ∷ []) other (lane_at v' other) x) no_queue queues at new s.queue s.held (λ other. is_roomier (k.lanes other) (q.each other))
@@ -138,7 +152,8 @@ queued_more w w' v v' queues b waiting waiting' s q order c e f k host some fits
       count = rw c (length-set queues (seat at) new ∙ q.count);
       devices = rw c (k.devices ∙ q.devices);
       roomy = rw c (room_changed w.config.room queues at new s.queue s.held q.roomy refl);
-      all_waiting = omega (arith, q.all_waiting, sum, more);
+      all_waiting = omega (arith, q.all_waiting, sum, more, left_same (standing_of w) (standing_of w') (queue_count w.config) closed, ap (λ x. left_open (standing_of w') (queue_count x)) c);
+      close_room = λ other there early. room other (rw c at there) (sym (closed other) ∙ early);
       filled = rw e (All-push (λ (x : Label). 0 < length x.ops) ls b q.filled some);
       hosts = rw e (All-push (λ (x : Label). x.host < MAX_HOSTS) ls b q.hosts host);
       log_room = rw f log_room;
@@ -160,7 +175,7 @@ keeps_empty w w' v queues waiting host d a e none is =
     rw is (record {
       legal = legal_accepted w host d a.legal e;
       few_items = a.few_items;
-      parts = queued_same w (accepting w host d) v queues waiting refl (labels_empty w host d none) refl a.parts;
+      parts = queued_same w (accepting w host d) v queues waiting refl (labels_empty w host d none) (closed_accepted w host d) refl a.parts;
       memory = record { shows = a.memory.shows; blocks = a.memory.blocks; lengths = a.memory.lengths };
     })
 
@@ -212,7 +227,7 @@ keeps_batch w w' v v' queues b waiting waiting' host d a s e is k l low fits mor
     rw is (record {
       legal = legal_accepted w host d a.legal e;
       few_items = a.few_items;
-      parts = queued_more w (accepting w host d) v v' queues b waiting waiting' s a.parts order refl labels refl k (rw l.same low) (rw l.same l.some) fits more log_room lane_room block_room;
+      parts = queued_more w (accepting w host d) v v' queues b waiting waiting' s a.parts order refl labels (closed_accepted w host d) refl k (rw l.same low) (rw l.same l.some) fits more log_room lane_room block_room;
       memory = remembers_room w (accepting w host d) v v' a.memory refl refl k;
     })
 

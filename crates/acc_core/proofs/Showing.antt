@@ -35,6 +35,7 @@ queued_roomier {w = w} {v = v} {v' = v'} {queues = queues} q h = record {
   devices = h.devices ∙ q.devices;
   roomy = q.roomy;
   all_waiting = q.all_waiting;
+  close_room = λ at there early. (let m = h.lanes at in omega (arith, q.close_room at there early, m.room, ap (λ (l : LaneView). length l.taken) m.kept));
   filled = q.filled;
   hosts = q.hosts;
   log_room = omega (arith, q.log_room, h.room);
@@ -65,6 +66,7 @@ told_item w v v' queues waiting h item a same s room few truth =
         devices = ap length s.devices ∙ q.devices;
         roomy = q.roomy;
         all_waiting = q.all_waiting;
+        close_room = λ at there early. subst (λ lanes. length (lane_in lanes at).taken + length (queue_in queues at).held < (lane_in lanes at).room) (sym s.lanes) (q.close_room at there early);
         filled = q.filled;
         hosts = q.hosts;
         log_room = omega (arith, room, s.room, ap length same);

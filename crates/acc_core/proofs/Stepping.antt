@@ -1,5 +1,5 @@
 -- Each step of the machine keeps each host where it stands in its program.
-use Rattle.std.proofs.Common.{inl, inr, ◌≡◌, ℕ, zero, suc, ◌+◌, ◌<◌, Bool, true, false, cond, List, [], ◌∷◌, map, refl, sym, subst, arith, Some, None, Option, Result, Ok, Err}
+use Rattle.std.proofs.Common.{inl, inr, ◌≡◌, ℕ, zero, suc, ◌+◌, ◌<◌, Bool, true, false, cond, List, [], ◌∷◌, map, refl, sym, ap, subst, arith, Some, None, Option, Result, Ok, Err}
 use Rattle.std.specs.Prelude.{nat_lt, slice_get, slice_set}
 use Rattle.acc_base.specs.declared.fault.Fault.{Fault}
 use Rattle.acc_base.specs.declared.ids.QueueAt.{QueueAt}
@@ -23,8 +23,11 @@ use Rattle.acc_core.specs.declared.event.Event.{Event}
 use Rattle.acc_core.specs.declared.event.Event.TheVariants as event
 use Rattle.acc_core.specs.Following.{StandsIn, AllStand}
 use Rattle.acc_core.specs.Legality.{AllRise, Legal, entries_of, AllFollow}
+use Rattle.acc_core.specs.Closing.{closed_state}
 use Rattle.acc_core.specs.Machine.{State, Outcome, Step, Runs, labels_of, is_there, taken_on, held, rest, place_answer, placed_state, wait_answer, waited_state, item_answer, item_state, can_perform, goes_on, host_step, named_step, take_step, perform_step, queue_step, with_op, step}
 use Rattle.acc_core.specs.Worlds.{AreNumbered, opening}
+use Rattle.acc_core.proofs.ClosingAtOnce.{close_is}
+use Rattle.acc_core.proofs.Closing.{close_config, close_hosts, entries_closed}
 use Rattle.acc_core.proofs.Keeping.{Step-legal}
 use Rattle.acc_core.proofs.HostLaws.{HostLaws}
 use Rattle.acc_core.proofs.Making.{KeepsOthers, Makes-lists, keeps_all, keeps_placed, keeps_waited, keeps_recorded}
@@ -176,6 +179,11 @@ stand_queue_step : (there : Bool) (w : State) (o : Outcome) → HostsStand w →
 stand_queue_step true w o a s = s
 stand_queue_step false w o a s = a
 
+-- nor does the owner's close
+stand_close : (w : State) → HostsStand w → HostsStand (closed_state w)
+stand_close w a =
+    rw (close_hosts w) (stand_same w (closed_state w) 0 w.hosts (λ k host s. still_stands w (closed_state w) k host (ap (λ (c : Configuration). c.devices) (close_config w)) (entries_closed w k) s) a)
+
 -- Each step keeps each host where it stands in its program.
 stand_step : (laws : HostLaws) (no_memory : Bool) (w : State) (e : Event) → AllRise w → AllStand w 0 w.hosts → AllStand (step no_memory w e).state 0 (step no_memory w e).state.hosts
 stand_step laws no_memory w (event.Host h) rise a = stand_named_step laws no_memory w h (slice_get w.hosts h) rise a refl
@@ -183,6 +191,7 @@ stand_step laws no_memory w (event.Take at) rise a =
     stand_queue_step (is_there w at) w (take_step w (labels_of w) at (rest w (labels_of w) at)) a (stand_take_step w (labels_of w) at (rest w (labels_of w) at) a)
 stand_step laws no_memory w (event.Perform at) rise a =
     stand_queue_step (is_there w at) w (perform_step w (labels_of w) at (rest w (labels_of w) at)) a (stand_perform_step w (labels_of w) at (rest w (labels_of w) at) a)
+stand_step laws no_memory w event.Close rise a = subst (λ (o : Outcome). HostsStand o.state) (sym (close_is w)) (stand_close w a)
 
 -- a step that the machine may make keeps them
 pub Step-stands : (laws : HostLaws) (old new : State) (e : Event) (r : Reply) → AllRise old → AllStand old 0 old.hosts → Step old e r new → AllStand new 0 new.hosts

@@ -15,7 +15,8 @@ use Rattle.acc_batch.specs.declared.operation.Op.{Op}
 use Rattle.acc_batch.specs.Labels.{on_queue, ops_of}
 use Rattle.acc_batch.proofs.Seats.{seat_there}
 use Rattle.acc_core.specs.declared.event.Event.TheVariants as event
-use Rattle.acc_core.specs.Machine.{State, did, idle, is_there, taken_on, held, rest, queue_step, step, take_step, labels_of}
+use Rattle.acc_core.specs.Machine.{State, did, idle, is_there, taken_on, held, rest, queue_step, step, take_step, labels_of, standing_of}
+use Rattle.acc_place.specs.Histories.{is_closed, IsQueue}
 use Rattle.acc_core.specs.Queues.{QueueView, queue_in, queues_with}
 use Rattle.acc_core.specs.Ties.{QueueIs, Queued}
 use Rattle.acc_work.specs.Lanes.{LaneView, no_lane, filled, lanes_with}
@@ -78,6 +79,11 @@ taken_more w v queues waiting at b more s q none first =
       devices = q.devices;
       roomy = room_changed w.config.room queues at new s.queue s.held q.roomy refl;
       all_waiting = omega (arith, q.all_waiting, sum);
+      close_room =
+          both_changed (λ other l k. IsQueue w.config other → is_closed (standing_of w) other ≡ false → length l.taken + length k.held < l.room)
+          (λ other l k. IsQueue w.config other → is_closed (standing_of w) other ≡ false → length l.taken + length k.held < l.room) v.lanes queues at (filled lane b) new s.queue s.lane s.held q.close_room
+          (λ there early. omega (arith, q.close_room at there early, ap length first, length-append lane.taken (b ∷ [])))
+          (λ other differ l k same. same);
       filled = q.filled;
       hosts = q.hosts;
       log_room = q.log_room;

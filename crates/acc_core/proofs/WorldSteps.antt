@@ -1,5 +1,5 @@
 -- What holds of a world holds after each step.
-use Rattle.std.proofs.Common.{◌≡◌, ℕ, ◌≤◌, Bool, true, false, cond, List, [], ◌∷◌, length, take, refl, ap, ◌∙◌}
+use Rattle.std.proofs.Common.{sym, ◌≡◌, ℕ, ◌≤◌, Bool, true, false, cond, List, [], ◌∷◌, length, take, refl, ap, ◌∙◌}
 use Rattle.std.specs.Prelude.{nat_lt}
 use Rattle.std.proofs.lemmas.List.{length-map}
 use Rattle.acc_base.specs.declared.config.TheConstants.{MAX_HOSTS}
@@ -15,8 +15,13 @@ use Rattle.acc_core.specs.declared.event.Event.{Event}
 use Rattle.acc_core.specs.declared.event.Event.TheVariants as event
 use Rattle.acc_core.specs.Following.{AllStand}
 use Rattle.acc_core.specs.Legality.{Legal}
-use Rattle.acc_core.specs.Machine.{State, Outcome, Step, Runs, labels_of, is_there, held, rest, can_perform, take_step, perform_step, queue_step, step}
+use Rattle.acc_base.specs.Queues.{queue_count}
+use Rattle.acc_host.specs.declared.state.Reply.TheVariants as reply
+use Rattle.acc_core.specs.Closing.{left_open}
+use Rattle.acc_core.specs.Machine.{State, Outcome, Step, Runs, standing_of, labels_of, is_there, held, rest, can_perform, take_step, perform_step, queue_step, step}
 use Rattle.acc_core.specs.Worlds.{AreNumbered, opening, IsWorld, Ran}
+use Rattle.acc_core.proofs.ClosingAtOnce.{close_is}
+use Rattle.acc_core.proofs.Closing.{closed_beside}
 use Rattle.acc_core.proofs.HostLaws.{HostLaws}
 use Rattle.acc_core.proofs.Keeping.{legal_start, Step-legal, runs_legal}
 use Rattle.acc_core.proofs.Runs.{Runs-cut}
@@ -75,6 +80,16 @@ pub performs : (w new : State) (hosts : List HostView) (at : QueueAt) (answer : 
 performs w new hosts at answer e =
     let labels = labels_of w in
     (false, queue_hosts (is_there w at) w hosts _ _ (perform_hosts (rest w labels at) w hosts labels at) ∙ ap (λ o. with_hosts hosts o) e)
+
+-- the owner closes, whichever hosts there are
+pub closes_world : (w new : State) (hosts : List HostView) (answer : Reply) → step false w event.Close ≡ record { reply = answer; state = new } → Step (record w { hosts = hosts }) event.Close answer (record new { hosts = hosts })
+closes_world w new hosts answer e =
+    let same = closed_beside w hosts in (
+      false,
+      close_is (record w { hosts = hosts })
+          ∙ (ap (λ v. record { reply = reply.Remaining (left_open (standing_of v) (queue_count w.config)); state = v }) same
+          ∙ ap (λ o. with_hosts hosts o) (sym (close_is w) ∙ e)),
+    )
 
 -- a run of a world is legal wherever it is cut
 pub has_run : (laws : HostLaws) (old new : State) (events : List Event) (replies : List Reply) → Legal old → AllStand old 0 old.hosts → Runs old events replies new → Ran old events replies new

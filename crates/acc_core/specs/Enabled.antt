@@ -11,6 +11,7 @@ abbrev pub is_did : Reply → Bool
 is_did reply.Did = true
 is_did reply.Idle = false
 is_did (reply.Refused fault) = false
+is_did (reply.Remaining count) = false
 
 -- A queue is enabled where it can take a batch, or perform an operation.
 abbrev pub is_enabled : State → QueueAt → Bool

@@ -21,7 +21,7 @@ use Rattle.acc_work.specs.declared.log.Told.TheVariants as shown
 use Rattle.acc_work.specs.declared.log.WorkEntry.TheVariants as entry
 use Rattle.acc_core.specs.declared.event.Event.{Event}
 use Rattle.acc_core.specs.declared.event.Event.TheVariants as event
-use Rattle.acc_core.specs.Examples.{Look, host, look_after, place, program_of, world}
+use Rattle.acc_core.specs.Examples.{host, look_after, place, program_of, world}
 use Rattle.acc_core.specs.QueueExamples.{both, first, place_async, place_on, queues_go_on, round, wait_for}
 use Rattle.acc_core.specs.Worlds.{opening}
 

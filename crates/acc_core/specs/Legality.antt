@@ -1,5 +1,5 @@
 -- What holds of the histories after any list of events (OpenACC API 3.0, 2.16, Asynchronous Behavior).
-use Rattle.std.specs.Prelude.{ℕ, ◌+◌, ◌-◌, ◌≤◌, ◌==◌, List, [], ◌∷◌, ◌++◌, length, take, drop, slice_index_or}
+use Rattle.std.specs.Prelude.{◌≡◌, ℕ, ◌+◌, ◌-◌, ◌≤◌, ◌==◌, false, All, List, [], ◌∷◌, ◌++◌, length, take, drop, slice_index_or}
 use Rattle.acc_base.specs.Configurations.{Configuration}
 use Rattle.acc_place.specs.Directives.{Directive}
 use Rattle.acc_place.specs.declared.directive.Placed.{Placed}
@@ -13,9 +13,11 @@ use Rattle.acc_host.specs.Hosts.{HostView, state_of}
 use Rattle.acc_work.specs.declared.log.WorkEntry.{WorkEntry}
 use Rattle.acc_work.specs.declared.log.WorkEntry.TheVariants as entry
 use Rattle.acc_place.specs.Batches.{answer_of}
+use Rattle.acc_batch.specs.declared.operation.Op.{Op}
 use Rattle.acc_place.specs.Histories.{AllAccepted, standing}
+use Rattle.acc_place.specs.Sound.{is_close}
 use Rattle.acc_work.specs.Lives.{AllLive}
-use Rattle.acc_work.specs.Logs.{one_more}
+use Rattle.acc_work.specs.Logs.{one_more, performed}
 use Rattle.acc_work.specs.Orders.{InOrder, InHostOrder, AllAwaited}
 use Rattle.acc_core.specs.Machine.{State, standing_of, Runs}
 use Rattle.acc_place.specs.Standings.{Standing, walk_of}
@@ -41,6 +43,8 @@ own_of config host (noted.Accepted h d ∷ before) counts =
     one_more (h == host)
     (own_of config host before (drop 1 counts))
     (own_after (standing config before (drop 1 counts)) h (slice_index_or counts 0 0) d)
+own_of config host (noted.Closing ∷ before) counts = own_of config host before counts
+own_of config host (noted.Closed at ∷ before) counts = own_of config host before counts
 
 -- The counts of items never fall, from `low` on, and none is above `high`.
 abbrev pub Rise : ℕ → List Own → ℕ → Type 0
@@ -51,6 +55,12 @@ Rise low (o ∷ os) high = (low ≤ o.items_before) × Rise o.items_before os hi
 abbrev pub AllRise : State → Type 0
 AllRise w = (h : ℕ) → Rise 0 (own_of w.config h w.history w.counts) (length (items_shown h w.work))
 
+-- Nothing of a queue is performed behind its close.
+abbrev pub NothingBehind : List WorkEntry → Type 0
+NothingBehind [] = Unit {0}
+NothingBehind (entry.Op at op ∷ before) = All (λ (o : Op). is_close o ≡ false) (performed at before) × NothingBehind before
+NothingBehind (entry.Item host shown ∷ before) = NothingBehind before
+
 pub record Legal (w : State) : Type 0 where
   pub accepted : AllAccepted w.config w.history w.counts
   pub counts : AllRise w
@@ -58,6 +68,7 @@ pub record Legal (w : State) : Type 0 where
   pub awaited : AllAwaited (standing_of w).labels w.work
   pub host_order : InHostOrder w.config.arrays (standing_of w).labels w.work
   pub live_blocks : AllLive w.config.arrays w.work
+  pub behind : NothingBehind w.work
 
 -- the directives in their order, each behind as many items as its count says; `gone` items stand already
 abbrev pub merged : ℕ → List Own → List HostEntry → List HostEntry

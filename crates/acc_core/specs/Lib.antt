@@ -1,4 +1,6 @@
 pub mod Answers
+pub mod CloseExamples
+pub mod Closing
 pub mod Enabled
 pub mod Examples
 pub mod Following
@@ -10,5 +12,6 @@ pub mod Present
 pub mod QueueExamples
 pub mod Queues
 pub mod Ties
+pub mod Totals
 pub mod Work
 pub mod Worlds

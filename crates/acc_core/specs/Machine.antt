@@ -1,5 +1,5 @@
 -- The core as a machine. One step is determined but for a refusal of memory, which is the machine's free choice.
-use Rattle.std.specs.Prelude.{◌≡◌, ℕ, ◌+◌, ◌-◌, ◌<◌, Bool, true, false, ◌&&◌, not, nat_lt, ◌==◌, List, [], ◌∷◌, length, replicate, take, drop, slice_get, slice_set, slice_index_or, Option, Some, None, Result, Ok, Err, if◌then◌else◌}
+use Rattle.std.specs.Prelude.{◌≡◌, ℕ, zero, suc, ◌+◌, ◌-◌, ◌/◌, ◌%◌, ◌<◌, Bool, true, false, ◌&&◌, ◌||◌, not, nat_lt, ◌==◌, List, [], ◌∷◌, ◌++◌, length, replicate, take, drop, slice_get, slice_set, slice_index_or, Option, Some, None, Result, Ok, Err, if◌then◌else◌}
 use Rattle.acc_base.specs.declared.ids.QueueAt.{QueueAt}
 use Rattle.acc_base.specs.declared.ids.TheConstants.{QUEUES}
 use Rattle.acc_base.specs.declared.fault.Fault.{Fault}
@@ -29,7 +29,7 @@ use Rattle.acc_batch.specs.declared.operation.Label.{Label}
 use Rattle.acc_batch.specs.declared.operation.Op.{Op}
 use Rattle.acc_place.specs.Accepting.{refusal}
 use Rattle.acc_place.specs.Batches.{batch_of, answer_of, walk_at}
-use Rattle.acc_place.specs.Histories.{standing}
+use Rattle.acc_place.specs.Histories.{is_closed, standing}
 use Rattle.acc_batch.specs.Labels.{on_queue, ops_of, batch_at}
 use Rattle.acc_work.specs.Items.{shown_by}
 use Rattle.acc_work.specs.Logs.{performed, items_of, value, all_done, await_allows, host_allows}
@@ -199,6 +199,36 @@ abbrev pub perform_step : State → List Label → QueueAt → List Op → Outco
 perform_step w labels at [] = idle w
 perform_step w labels at (op ∷ ops) = if can_perform labels w.work at op then did (with_op w at op) else idle w
 
+-- the queue at this place among those of all devices, by device, then in queue order
+abbrev pub queue_at : ℕ → QueueAt
+queue_at place = record { device = place / QUEUES; queue = place % QUEUES }
+
+-- a queue can be closed, if it isn't yet, and holds fewer batches than its room
+abbrev pub can_close : State → Standing → QueueAt → Bool
+can_close w st at = not (is_closed st at) && nat_lt (held w st.labels at) w.config.room
+
+-- of the first n queues, those that can be closed are closed in turn; the latest entry first
+abbrev pub closes : State → Standing → ℕ → List PlaceEntry
+closes w st zero = []
+closes w st (suc n) = if can_close w st (queue_at n) then noted.Closed (queue_at n) ∷ closes w st n else closes w st n
+
+-- how many of them stay open, as they hold their room
+abbrev pub stay_open : State → Standing → ℕ → ℕ
+stay_open w st zero = 0
+stay_open w st (suc n) = if is_closed st (queue_at n) || can_close w st (queue_at n) then stay_open w st n else stay_open w st n + 1
+
+-- closing begins, if it hasn't
+abbrev pub with_closing : Standing → List PlaceEntry → List PlaceEntry
+with_closing st history = if st.closing then history else noted.Closing ∷ history
+
+-- The owner closes.
+abbrev pub close_step : State → Standing → Outcome
+close_step w st =
+    record {
+      reply = reply.Remaining (stay_open w st (queue_count w.config));
+      state = record w { history = closes w st (queue_count w.config) ++ with_closing st w.history };
+    }
+
 abbrev pub queue_step : Bool → State → Outcome → Outcome
 queue_step true w o = o
 queue_step false w o = idle w
@@ -208,6 +238,7 @@ abbrev pub step : Bool → State → Event → Outcome
 step no_memory w (event.Host h) = named_step no_memory w h (slice_get w.hosts h)
 step no_memory w (event.Take at) = queue_step (is_there w at) w (take_step w (labels_of w) at (rest w (labels_of w) at))
 step no_memory w (event.Perform at) = queue_step (is_there w at) w (perform_step w (labels_of w) at (rest w (labels_of w) at))
+step no_memory w event.Close = close_step w (standing_of w)
 
 -- The machine may answer so.
 abbrev pub Step : State → Event → Reply → State → Type 0

@@ -26,7 +26,7 @@ use Rattle.acc_work.specs.declared.log.Told.TheVariants as shown
 use Rattle.acc_work.specs.declared.log.WorkEntry.TheVariants as entry
 use Rattle.acc_core.specs.declared.event.Event.{Event}
 use Rattle.acc_core.specs.declared.event.Event.TheVariants as event
-use Rattle.acc_core.specs.Examples.{Look, batches_seen, host, look_after, place, sync, world, world_within}
+use Rattle.acc_core.specs.Examples.{batches_seen, host, look_after, place, sync, world, world_within}
 
 -- both cells of the only array
 abbrev pub both : Range

@@ -1,8 +1,9 @@
 -- How the running parts of the core stand to its histories.
-use Rattle.std.specs.Prelude.{◌≡◌, ℕ, ℤ, ◌+◌, ◌<◌, ◌≤◌, Bool, true, List, [], ◌∷◌, ◌++◌, length, All}
+use Rattle.std.specs.Prelude.{◌≡◌, ℕ, ℤ, ◌+◌, ◌<◌, ◌≤◌, Bool, true, false, not, List, [], ◌∷◌, ◌++◌, length, All}
 use Rattle.std.specs.List.{sum_by}
 use Rattle.acc_base.specs.declared.config.TheConstants.{MAX_HOSTS}
 use Rattle.acc_base.specs.declared.ids.QueueAt.{QueueAt}
+use Rattle.acc_base.specs.declared.ids.TheConstants.{QUEUES}
 use Rattle.acc_base.specs.Configurations.{Configuration, is_in_array}
 use Rattle.acc_base.specs.Queues.{queue_count}
 use Rattle.acc_work.specs.declared.item.Plain.{Plain}
@@ -13,10 +14,13 @@ use Rattle.acc_batch.specs.declared.operation.Op.{Op}
 use Rattle.acc_batch.specs.Labels.{on_queue, ops_of}
 use Rattle.acc_batch.specs.Lives.{Made}
 use Rattle.acc_core.specs.Legality.{Legal}
-use Rattle.acc_core.specs.Machine.{State, labels_of}
+use Rattle.acc_core.specs.Closing.{left_open}
+use Rattle.acc_core.specs.Machine.{State, labels_of, standing_of}
 use Rattle.acc_core.specs.Queues.{QueueView, queue_in}
 use Rattle.acc_memory.specs.Memories.{Shows, rows_on, room_on, held_blocks, blocks_after, lengths_of}
-use Rattle.acc_place.specs.Plans.{PlaceView}
+use Rattle.acc_place.specs.Closing.{is_at_hand}
+use Rattle.acc_place.specs.Histories.{is_closed, IsQueue}
+use Rattle.acc_place.specs.Plans.{PlaceView, standing_in}
 use Rattle.acc_work.specs.declared.log.TheConstants.{MAX_HOST_ITEMS}
 use Rattle.acc_work.specs.Lanes.{LaneView}
 use Rattle.acc_work.specs.Logs.{device_ops, value, all_items}
@@ -50,13 +54,17 @@ pub record QueueIs (config : Configuration) (labels : List Label) (at : QueueAt)
   pub held_low : length queue.held ≤ config.room
   pub lane_room : length lane.taken + length queue.held ≤ lane.room
 
--- So it is of every queue. There is room for all that waits in the log, and among the blocks of each device.
+-- So it is of every queue. A queue that isn't closed counts for its close, which its lane has room for. There is room for all that
+-- waits in the log, and among the blocks of each device.
 pub record Queued (w : State) (v : WorkView) (queues : List QueueView) (waiting : ℕ) : Type 0 where
   pub each : (at : QueueAt) → QueueIs w.config (labels_of w) at (lane_at v at) (queue_in queues at)
   pub count : length queues ≡ queue_count w.config
   pub devices : length v.memory.devices ≡ w.config.devices
   pub roomy : All (λ (queue : QueueView). w.config.room ≤ queue.room) queues
-  pub all_waiting : waiting ≡ sum_by (λ (queue : QueueView). queue.waiting) queues
+  pub all_waiting : waiting ≡ sum_by (λ (queue : QueueView). queue.waiting) queues + left_open (standing_of w) (queue_count w.config)
+  pub close_room :
+      (at : QueueAt) → IsQueue w.config at → is_closed (standing_of w) at ≡ false
+      → length (lane_at v at).taken + length (queue_in queues at).held < (lane_at v at).room
   pub filled : All (λ (l : Label). 0 < length l.ops) (labels_of w)
   pub hosts : All (λ (l : Label). l.host < MAX_HOSTS) (labels_of w)
   pub log_room : length w.work + waiting ≤ v.room
@@ -67,6 +75,18 @@ pub record Remembers (w : State) (v : WorkView) : Type 0 where
   pub shows : Shows v.memory (value w.config.arrays w.work)
   pub blocks : (d : ℕ) → held_blocks v.memory d ≡ blocks_in d w.work
   pub lengths : lengths_of v.memory.arrays ≡ lengths_of w.config.arrays
+
+-- There is room for so many operations beside those that were performed: in the log, in each lane, and beside the blocks of each
+-- device.
+pub record HasRoom (v : WorkView) (count : ℕ) : Type 0 where
+  pub log : length v.work + count ≤ v.room
+  pub lanes : (at : QueueAt) → at.device < length v.memory.devices → at.queue < QUEUES → length (lane_at v at).taken + count ≤ (lane_at v at).room
+  pub blocks : (d : ℕ) → d < length v.memory.devices → length (rows_on v.memory d) + count ≤ room_on v.memory d
+
+-- The place has the close of each queue that isn't closed, and so many aren't.
+pub record HasCloses (p : PlaceView) (unclosed : ℕ) : Type 0 where
+  pub at_hand : (at : QueueAt) → IsQueue p.config at → is_at_hand p at ≡ not (is_closed (standing_in p) at)
+  pub count : unclosed ≡ left_open (standing_in p) (queue_count p.config)
 
 -- What holds of an accelerator between two calls.
 pub record IsAccelerator (w : State) (v : WorkView) (queues : List QueueView) (waiting : ℕ) : Type 0 where

@@ -1,20 +1,25 @@
-ghost use Rattle.std.specs.Prelude.{reverse, ◌≡◌, ◌+◌, ◌<◌, ◌≤◌, [], length, IfOk, IfErr, OnErr, OnSome, true, false, slice_get, IsTrue, ◌^◌, Ok};
+ghost use Rattle.std.specs.Prelude.{reverse, ◌≡◌, ◌+◌, ◌<◌, ◌≤◌, [], length, IfOk, IfErr, OnOk, OnErr, OnSome, true, false, slice_get, IsTrue, ◌^◌, Ok};
 ghost use Rattle.acc_base.specs.declared.config.TheConstants.{MAX_HOSTS};
 ghost use Rattle.acc_host.specs.Engines.{Wait, Record, MayRecord, without_item};
 ghost use Rattle.acc_core.specs.Answers.{Makes, Places};
 ghost use Rattle.acc_core.specs.Enabled.{is_enabled, is_left, SomeEnabled};
 ghost use Rattle.acc_core.specs.Legality.{AllRise};
-ghost use Rattle.acc_core.specs.Ties.{has_cells};
+ghost use Rattle.acc_core.specs.Ties.{has_cells, HasRoom};
+ghost use Rattle.acc_core.specs.Totals.{plain_batches, plain_ops};
+ghost use Rattle.acc_place.specs.Histories.{is_closed, IsQueue};
+ghost use Rattle.acc_base.specs.Queues.{queue_count};
+ghost use Rattle.acc_work.specs.Works.{HasMadeRoom};
 ghost use Rattle.acc_batch.specs.Labels.{on_queue, ops_of};
 ghost use Rattle.acc_work.specs.Logs.{all_done, performed};
+ghost use Rattle.acc_core.specs.Closing.{begins, closes_one};
 ghost use Rattle.acc_core.specs.Machine.{state_at_first, step, standing_of, labels_of};
 ghost use Rattle.std.specs.Option.{option_map};
 ghost use Rattle.acc_present.specs.Presences.{presences, holder};
 ghost use Rattle.acc_present.specs.Tables.{entry_presence};
 
-use crate::queue::{Queue, queues_of, waiting_in};
+use crate::queue::{Queue, queue_at, queues_of, waiting_in};
 use crate::totals::Totals;
-use acc_base::{Config, DeviceId, Fault, HostId, QueueAt, Range};
+use acc_base::{Config, DeviceId, Fault, HostId, QUEUES, QueueAt, Range};
 use acc_host::{Engine, Reply};
 use acc_place::{Directive, Place, PlaceEntry, Placed};
 use acc_present::Entry;
@@ -30,14 +35,16 @@ pub struct Accelerator {
     work: Work,
     // by device, then in queue order
     queues: Vec<Queue>,
-    // how many operations of all queues were placed and aren't performed
+    // how many operations of all queues were placed and aren't performed, those of the closes to come among them
     waiting: usize,
+    // how many queues aren't closed
+    unclosed: usize,
 }
 
 impl Model for Accelerator {
     ghost use Rattle.std.specs.Coded.{codes};
     ghost use Rattle.acc_core.specs.Machine.{State};
-    ghost use Rattle.acc_core.specs.Ties.{state_of_parts, IsAccelerator};
+    ghost use Rattle.acc_core.specs.Ties.{state_of_parts, HasCloses, IsAccelerator};
     ghost use Rattle.acc_kernel.specs.contracts.expr.Expr as expr;
 
     ghost Value = { State };
@@ -46,14 +53,14 @@ impl Model for Accelerator {
 
     ghost view = { λ a. state_of_parts a.place a.work };
 
-    ghost invariant = { λ a. IsAccelerator (state_of_parts a.place a.work) a.work a.queues.items a.waiting };
+    ghost invariant = { λ a. IsAccelerator (state_of_parts a.place a.work) a.work a.queues.items a.waiting × HasCloses a.place a.unclosed };
 }
 
 impl Accelerator {
     ghost use Rattle.acc_base.specs.declared.fault.Fault.TheVariants.{Memory as no_memory};
     ghost use Rattle.acc_core.specs.declared.event.Event.TheVariants as event;
 
-    /// Nothing is accepted, performed or shown yet.
+    /// Nothing is accepted, performed or shown yet. There is the memory that closing needs.
     ///
     /// # Errors
     ///
@@ -62,15 +69,18 @@ impl Accelerator {
         ensures opened { IfOk result (λ a. a ≡ state_at_first config []) }
         ensures fault { IfErr result (λ f. f ≡ no_memory) }
     {
-        let work = Work::new(alloc, &config)?;
+        let mut work = Work::new(alloc, &config)?;
         let queues = queues_of(alloc, &config)?;
         work.keeps_order();
+        spare_closes(&mut work, &config)?;
+        let waiting = queues.len();
         Ok(Accelerator {
             alloc,
             place: Place::new(alloc, config)?,
             work,
             queues,
-            waiting: 0,
+            waiting,
+            unclosed: waiting,
         })
     }
 
@@ -179,21 +189,24 @@ impl Accelerator {
         self.work.log()
     }
 
-    /// How many batches were placed on a queue, how many operations they have, and how many of these are
+    /// How many batches of directives were placed on a queue, how many operations they have, and how many of these are
     /// performed.
     pub fn totals(&self, at: QueueAt) -> Totals
-        ensures batches { result.batches ≡ length (on_queue at (labels_of self.now)) }
-        ensures operations { result.operations ≡ length (ops_of (on_queue at (labels_of self.now))) }
-        ensures performed { result.performed ≡ length (performed at self.now.work) }
+        ensures batches { result.batches ≡ length (plain_batches (on_queue at (labels_of self.now))) }
+        ensures operations { result.operations ≡ length (plain_ops (ops_of (on_queue at (labels_of self.now)))) }
+        ensures performed { result.performed ≡ length (plain_ops (performed at self.now.work)) }
     {
         self.work.keeps_order();
         let QueueAt { device, queue } = at;
         let performed = self.work.performed(QueueAt { device, queue });
         let waiting = self.waiting_on(QueueAt { device, queue });
+        let close = u64::from(self.place.is_closed(QueueAt { device, queue }));
+        // the close is the last that its queue performs
+        let closed = if waiting == 0 { close } else { 0 };
         Totals {
-            batches: self.place.placed_count(QueueAt { device, queue }),
-            operations: performed + waiting as u64,
-            performed,
+            batches: self.place.placed_count(QueueAt { device, queue }) - close,
+            operations: performed + waiting as u64 - close,
+            performed: performed - closed,
         }
     }
 
@@ -256,6 +269,53 @@ impl Accelerator {
         }
     }
 
+    /// The owner closes.
+    pub fn close(&mut self) -> Reply
+        ensures { step false self.old event.Close ≡ record { reply = result; state = self.new } }
+    {
+        self.begin_closing();
+        let mut remaining = 0u32;
+        for place in 0..u16::from(self.config().devices()) * u16::from(QUEUES) {
+            if !self.close_queue(queue_at(place)) {
+                remaining += 1;
+            }
+        }
+        Reply::Remaining(remaining)
+    }
+
+    // Closing begins, if it hasn't.
+    fn begin_closing(&mut self)
+        ensures state { self.new ≡ begins self.old }
+        ensures closing { (standing_of self.new).closing ≡ true }
+    {
+        self.place.close_begin();
+    }
+
+    // Closes a queue, if it isn't closed and there is room, and answers whether it is closed then.
+    fn close_queue(&mut self, at: QueueAt) -> bool
+        requires there { IsQueue self.old.config at }
+        requires begun { (standing_of self.old).closing ≡ true }
+        ensures state { self.new ≡ closes_one self.old at }
+        ensures closed { result ≡ is_closed (standing_of self.new) at }
+    {
+        self.work.keeps_order();
+        let QueueAt { device, queue } = at;
+        match self.place.close_batch(QueueAt { device, queue }) {
+            None => true,
+            Some(batch) => {
+                let seat = QueueAt { device, queue }.seat();
+                if self.place.config().room() as usize <= self.queues[seat].len() {
+                    self.place.close_back(QueueAt { device, queue }, batch);
+                    return false;
+                }
+                self.place.close_done(QueueAt { device, queue });
+                self.queues[seat].push(batch, 1);
+                self.unclosed -= 1;
+                true
+            }
+        }
+    }
+
     /// Whether a queue can take a batch or perform an operation.
     pub fn enabled(&self, at: QueueAt) -> bool
         ensures { result ≡ is_enabled self.now at }
@@ -277,7 +337,7 @@ impl Accelerator {
         ensures enabled { IsTrue result → SomeEnabled self.now }
     {
         self.work.keeps_order();
-        self.waiting > 0
+        self.waiting > self.unclosed
     }
 
     /// The configuration, the place history with its counts, and the work log, the latest last.
@@ -345,4 +405,19 @@ fn has_cells(config: &Config, item: Plain) -> bool
         Plain::Print { range } => config.is_in_array(range),
         Plain::Seen { .. } | Plain::Test { .. } => true,
     }
+}
+
+// Makes room for the close of each queue: in its lane, in the log, and beside the blocks of each device.
+fn spare_closes(work: &mut Work, config: &Config) -> Result<(), Fault>
+    requires devices { length work.old.memory.devices ≡ config.now.devices }
+    requires log { length work.old.work ≤ work.old.room }
+    ensures kept { HasMadeRoom work.old work.new }
+    ensures room { OnOk result (HasRoom work.new (queue_count config.now)) }
+    ensures fault { IfErr result (λ f. f ≡ Fault.Memory) }
+{
+    let count = u16::from(config.devices()) * u16::from(QUEUES);
+    for place in 0..count {
+        work.spare(queue_at(place), usize::from(count))?;
+    }
+    Ok(())
 }

@@ -9,4 +9,6 @@ pub enum Event {
     Take(QueueAt),
     /// The queue performs one operation.
     Perform(QueueAt),
+    /// Closing begins, if it hasn't, and each queue that isn't closed and has room for it gets its last batch.
+    Close,
 }

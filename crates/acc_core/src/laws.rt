@@ -1,3 +1,4 @@
+ghost use Rattle.acc_core.specs.CloseExamples.{LateIsRefused, FullIsClosedLater, HostsGoOn};
 ghost use Rattle.acc_core.specs.Examples.{EnteredTwice, OverlapRefused, StaleHostCopy, LoopRuns, LoopOnPresent};
 ghost use Rattle.acc_core.specs.Machine.{EachQueueIsCounted};
 ghost use Rattle.acc_core.specs.HostExamples.{OneHostIsRefused, LoopIsDoneAtTheWait, QuestionsTellTheirMoment};
@@ -32,6 +33,14 @@ pub fn worked_hosts()
     ensures refused { OneHostIsRefused }
     ensures loops { LoopIsDoneAtTheWait }
     ensures questions { QuestionsTellTheirMoment }
+{}
+
+/// The machine computed on programs whose owner closes: a late directive that is refused, a full queue that is closed later,
+/// and a host that goes on.
+pub fn worked_closes()
+    ensures late { LateIsRefused }
+    ensures later { FullIsClosedLater }
+    ensures hosts { HostsGoOn }
 {}
 
 /// Among the counts of batches that were taken, each queue of each device has its own, whatever the number

@@ -17,6 +17,8 @@ pub use acc_place::{
 pub use acc_present::Entry;
 pub use acc_work::{Counts, MAX_HOST_ITEMS, Told, WorkEntry};
 pub use event::Event;
-pub use laws::{each_queue_is_counted, worked_hosts, worked_programs, worked_queues};
+pub use laws::{
+    each_queue_is_counted, worked_closes, worked_hosts, worked_programs, worked_queues,
+};
 pub use totals::Totals;
 pub use world::World;

@@ -1,9 +1,10 @@
 ghost use Rattle.std.specs.Prelude.{◌≡◌, ◌+◌, ◌*◌, ◌-◌, ◌<◌, ◌≤◌, [], ◌∷◌, List, All, length, IfOk, IfErr, IfSome, IfNone, ◌^◌};
 ghost use Rattle.acc_base.specs.declared.ids.TheConstants.{QUEUES};
 ghost use Rattle.acc_batch.specs.declared.operation.Label.{Label};
+ghost use Rattle.acc_core.specs.Machine.{queue_at};
 ghost use Rattle.acc_core.specs.Queues.{IsEmptyQueue, pushed, queue_in};
 
-use acc_base::{Config, Fault, QUEUES, QueueAt};
+use acc_base::{Config, DeviceId, Fault, QUEUES, QueueAt, QueueId};
 use acc_batch::Batch;
 use std::alloc::Global;
 use std::collections::VecDeque;
@@ -105,6 +106,17 @@ pub(crate) fn queues_of(alloc: Global, config: &Config) -> Result<Vec<Queue>, Fa
         queues.push(Queue::new(alloc, config.room() as usize)?)?;
     }
     Ok(queues)
+}
+
+/// The queue at this place among those of all devices.
+pub(crate) fn queue_at(place: u16) -> QueueAt
+    requires { place < 2048 }
+    ensures { result ≡ queue_at place }
+{
+    QueueAt {
+        device: DeviceId::new((place / 8) as u8),
+        queue: QueueId::new((place % 8) as u8),
+    }
 }
 
 /// How many operations of a queue wait; none of one that isn't there.

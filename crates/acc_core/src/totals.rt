@@ -1,4 +1,4 @@
-/// How many batches were placed on a queue, how many operations they have, and how many of these are
+/// How many batches of directives were placed on a queue, how many operations they have, and how many of these are
 /// performed.
 #[derive(Clone, Copy, Debug, PartialEq, Eq)]
 pub struct Totals {

@@ -10,6 +10,7 @@ ghost use Rattle.acc_host.specs.declared.state.Reply.{Reply};
 ghost use Rattle.acc_host.specs.Hosts.{ready, state_of};
 ghost use Rattle.acc_batch.specs.Labels.{on_queue, ops_of};
 ghost use Rattle.acc_work.specs.Logs.{performed};
+ghost use Rattle.acc_core.specs.Totals.{plain_batches, plain_ops};
 ghost use Rattle.acc_core.specs.Worlds.{OnePerHost, opening, Ran};
 
 use crate::accelerator::Accelerator;
@@ -75,8 +76,9 @@ impl World {
         })
     }
 
-    /// One step: a host goes on, or a queue takes a batch or performs an operation. `Idle` where that is not
-    /// possible now, or there is no such host or queue.
+    /// One step: a host goes on, a queue takes a batch or performs an operation, or the owner closes. `Idle` where that is
+    /// not possible now, or there is no such host or queue; a close is answered by how many queues are left without their
+    /// last batch, whose room is full. It takes no memory but for a host.
     pub fn step(&mut self, event: Event) -> Reply
         ensures { Step self.old event result self.new }
     {
@@ -92,6 +94,7 @@ impl World {
             }
             Event::Take(at) => self.accelerator.take(at),
             Event::Perform(at) => self.accelerator.perform(at),
+            Event::Close => self.accelerator.close(),
         }
     }
 
@@ -188,12 +191,12 @@ impl World {
         Some(host.state())
     }
 
-    /// How many batches were placed on a queue, how many operations they have, and how many of these are
-    /// performed.
+    /// How many batches of directives were placed on a queue, how many operations they have, and how many of these are
+    /// performed; a close is no batch of a directive.
     pub fn totals(&self, at: QueueAt) -> Totals
-        ensures batches { result.batches ≡ length (on_queue at (labels_of self.now)) }
-        ensures operations { result.operations ≡ length (ops_of (on_queue at (labels_of self.now))) }
-        ensures performed { result.performed ≡ length (performed at self.now.work) }
+        ensures batches { result.batches ≡ length (plain_batches (on_queue at (labels_of self.now))) }
+        ensures operations { result.operations ≡ length (plain_ops (ops_of (on_queue at (labels_of self.now)))) }
+        ensures performed { result.performed ≡ length (plain_ops (performed at self.now.work)) }
     {
         self.accelerator.totals(at)
     }

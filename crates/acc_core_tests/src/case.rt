@@ -122,12 +122,16 @@ fn directives_of(alloc: Global, lines: &[Line], ended: usize) -> Result<Vec<Dire
 
 // Whether the first host gave this directive.
 fn is_accepted(entry: &PlaceEntry, wanted: &Directive) -> bool {
-    let PlaceEntry::Accepted { host, directive } = entry;
-    *host == HostId::new(0)
-        && directive.device() == DeviceId::new(0)
-        && are_alike(directive.kind(), wanted.kind())
-        && directive.items().as_slice() == wanted.items().as_slice()
-        && directive.target() == wanted.target()
+    match entry {
+        PlaceEntry::Accepted { host, directive } => {
+            *host == HostId::new(0)
+                && directive.device() == DeviceId::new(0)
+                && are_alike(directive.kind(), wanted.kind())
+                && directive.items().as_slice() == wanted.items().as_slice()
+                && directive.target() == wanted.target()
+        }
+        PlaceEntry::Closing | PlaceEntry::Closed { .. } => false,
+    }
 }
 
 // The operations and the prints, each in their order.

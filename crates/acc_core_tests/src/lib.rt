@@ -6,6 +6,8 @@ mod case;
 #[cfg(test)]
 mod checks;
 #[cfg(test)]
+mod closing;
+#[cfg(test)]
 mod devices;
 #[cfg(test)]
 mod entries;

@@ -1,9 +1,9 @@
 use crate::checks::{check_last_print, check_present, check_states, check_steps};
-use crate::fixtures::{ALL, FINISHED, host, perform, refused, take};
+use crate::fixtures::{ALL, FINISHED, cells, host, on, perform, refused, take, value};
 use crate::lines::Line;
 use crate::worlds::{FOUR, Setting, reply_to, turns, world_of};
 use acc_base::{Config, Fault};
-use acc_core::{Clause, Counts, Event, Outcome, Reply, World};
+use acc_core::{Clause, Counts, Event, Outcome, Reply, Target, World};
 use acc_forms::{EXIT, Form};
 use acc_parts::{Body, Loop};
 use acc_scarce::{Hoard, at_each_amount};
@@ -93,15 +93,16 @@ fn memory_is_refused_to_a_run(rt: HostRuntime) -> Result<(), Fail> {
     Ok(())
 }
 
-// One directive was accepted, and the host was refused memory at its statement of this number.
+// So many directives were accepted, and the host was refused memory at its statement of this number.
 fn check_outcome(
     rt: &impl Abort,
     alloc: Global,
     world: World,
+    accepted: usize,
     ended: u32,
 ) -> Result<(), AllocError> {
     let outcome = scarce_outcome(alloc, world)?;
-    assert_eq!(rt; outcome.places.len(), 1);
+    assert_eq!(rt; outcome.places.len(), accepted);
     assert_eq!(rt;
         outcome.hosts.as_slice(),
         [refused(ended, Fault::Memory)].as_slice()
@@ -127,7 +128,7 @@ fn memory_is_refused_to_a_step(rt: HostRuntime) -> Result<(), Fail> {
     let mut world = world_of(alloc, &FOUR, &[&[ENTER, exit]])?;
     check_replies(&rt, alloc, &mut world, &events)?;
     check_present(&rt, &world, 0, &[(ALL, 0, 1)]);
-    check_outcome(&rt, alloc, world, 1)?;
+    check_outcome(&rt, alloc, world, 1, 1)?;
     Ok(())
 }
 
@@ -151,29 +152,34 @@ fn memory_is_refused_to_a_write_and_a_print(rt: HostRuntime) -> Result<(), Fail>
     check_scarce_statement(&rt, rt.alloc(), Line::Print(ALL))
 }
 
-/// A loop whose host can't note that it is performed stays accepted and performed.
+/// A wait whose host can't note what is performed stays accepted, and all that it waited for performed.
 #[test]
 fn memory_is_refused_to_a_host_that_waited(rt: HostRuntime) -> Result<(), Fail> {
     let alloc = rt.alloc();
     let events = [
         (true, host(), Reply::Did),
-        (true, take(), Reply::Did),
-        (true, perform(), Reply::Did),
-        (true, perform(), Reply::Did),
-        (true, perform(), Reply::Did),
-        (true, perform(), Reply::Did),
-        (true, perform(), Reply::Did),
+        (true, host(), Reply::Did),
+        (true, host(), Reply::Did),
+        (true, Event::Take(on(1)), Reply::Did),
+        (true, Event::Perform(on(1)), Reply::Did),
+        (true, Event::Take(on(2)), Reply::Did),
+        (true, Event::Perform(on(2)), Reply::Did),
         (false, host(), Reply::Refused(Fault::Memory)),
         (true, host(), Reply::Idle),
     ];
-    let mut world = world_of(alloc, &FOUR, &[&[DOUBLE, Line::Print(ALL)]])?;
+    let lines = [
+        Line::Async(Form::EnterData, Clause::Create, cells(0, 1), value(1)),
+        Line::Async(Form::EnterData, Clause::Create, cells(1, 1), value(2)),
+        Line::WaitAll(Target::Plain),
+    ];
+    let mut world = world_of(alloc, &FOUR, &[&lines])?;
     check_replies(&rt, alloc, &mut world, &events)?;
-    assert_eq!(rt; world.log().len(), 5);
-    check_outcome(&rt, alloc, world, 0)?;
+    assert_eq!(rt; world.log().len(), 2);
+    check_outcome(&rt, alloc, world, 3, 2)?;
     Ok(())
 }
 
-/// The same of loops.
+/// The same of loops as of other directives.
 #[test]
 fn memory_is_refused_to_a_loop(rt: HostRuntime) -> Result<(), Fail> {
     let alloc = rt.alloc();
@@ -195,7 +201,7 @@ fn memory_is_refused_to_a_loop(rt: HostRuntime) -> Result<(), Fail> {
     check_replies(&rt, alloc, &mut world, &events)?;
     check_last_print(&rt, world.log(), &[2, 4, 6, 8]);
     check_present(&rt, &world, 0, &[]);
-    check_outcome(&rt, alloc, world, 2)?;
+    check_outcome(&rt, alloc, world, 1, 2)?;
     Ok(())
 }
 
@@ -240,7 +246,7 @@ fn placed_world(alloc: Global, lines: &[Line], worlds: &mut u32) -> Result<World
     match reply_to(&mut world, host()) {
         Reply::Did => Ok(world),
         Reply::Refused(fault) => Err(fault),
-        Reply::Idle => Err(Fault::Unfinished),
+        Reply::Idle | Reply::Remaining(_) => Err(Fault::Unfinished),
     }
 }
 

@@ -12,6 +12,7 @@ use Rattle.acc_host.specs.declared.state.HostState.{HostState}
 use Rattle.acc_host.specs.declared.state.HostState.TheVariants.{Running, Finished, Refused}
 use Rattle.acc_core.specs.Place.{on_queue, ops_of}
 use Rattle.acc_core.specs.Machine.{State, standing_of}
+use Rattle.acc_core.specs.Totals.{plain_batches, plain_ops}
 use Rattle.acc_core.specs.Work.{Told, Write, Print, Seen, Test, WorkEntry, Op, Item, performed}
 use Rattle.acc_host.specs.Hosts.{state_of}
 
@@ -81,11 +82,11 @@ totals_text at batches performed operations =
     ++ (codes " batches " ++ (decimal batches ++ (codes " operations " ++ (decimal performed
     ++ (codes " of " ++ (decimal operations ++ codes "\n")))))))))
 
--- the batches placed on a queue, if there is one, and how many of their operations are performed
+-- the batches of directives placed on a queue, if there is one, and how many of their operations are performed
 unfoldable pub queue_text : State → QueueAt → List ℕ
 queue_text w at =
     let labels = on_queue at (standing_of w).labels in
-    totals_text at (length labels) (length (performed at w.work)) (length (ops_of labels))
+    totals_text at (length (plain_batches labels)) (length (plain_ops (performed at w.work))) (length (plain_ops (ops_of labels)))
 
 unfoldable pub queues_text : State → ℕ → List ℕ
 queues_text w device = each_below QUEUES (λ q. queue_text w (record { device = device; queue = q }))

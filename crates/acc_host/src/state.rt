@@ -49,6 +49,8 @@ pub enum Reply {
     Idle,
     /// The host's statement was refused.
     Refused(Fault),
+    /// The answer to a close: how many queues are left without their last batch.
+    Remaining(u32),
 }
 
 /// Where a host stands in its program; `ended` counts the statements that it has ended.

@@ -17,7 +17,7 @@ ghost use Rattle.acc_place.specs.Noting.{noted_ranges, noted_with};
 ghost use Rattle.acc_place.specs.Targets.{queue_by, queues_named};
 ghost use Rattle.acc_place.specs.Trials.{counts_in};
 ghost use Rattle.acc_place.specs.Closing.{begun, close_of, closed, handed_back, handed_out, is_at_hand, IsOut};
-ghost use Rattle.acc_place.specs.Histories.{AllAccepted, IsQueue};
+ghost use Rattle.acc_place.specs.Histories.{is_closed, AllAccepted, IsQueue};
 ghost use Rattle.acc_place.specs.Places.{nth_batch, queues_after, ClosesQueue};
 ghost use Rattle.acc_place.specs.Plans.{standing_in, IsRefusal, IsPlanOf, IsRoomy, Fits, place_after, queue_for};
 ghost use Rattle.acc_place.specs.Standings.{walk_of};
@@ -287,6 +287,19 @@ impl Place {
                 });
             }
         }
+    }
+
+    /// Whether a queue is closed: its last batch, which is its close, is placed.
+    pub fn is_closed(&self, at: QueueAt) -> bool
+        ensures { result ≡ is_closed (standing_in self.now) at }
+    {
+        let QueueAt { device, queue } = at;
+        if !self.config.has_queue(QueueAt { device, queue }) {
+            return false;
+        }
+        self.closes[QueueAt { device, queue }.seat()]
+            .label
+            .is_none()
     }
 
     /// Whether a range with a cell is present on a device, one that `Config::has_device` knows.

@@ -98,6 +98,7 @@ fn check_entry(
             assert!(rt; *host == HostId::new(step.host));
             assert!(rt; is_same_directive(directive, &wanted));
         }
+        PlaceEntry::Closing | PlaceEntry::Closed { .. } => panic!(rt; "no directive"),
     }
     Ok(())
 }

@@ -6,6 +6,8 @@ mod accepted;
 #[cfg(test)]
 mod batch;
 #[cfg(test)]
+mod closing;
+#[cfg(test)]
 mod copies;
 #[cfg(test)]
 mod devices;

@@ -10,6 +10,7 @@ use Rattle.acc_core.specs.contracts.accelerator.Accelerator.{the_view}
 use Rattle.acc_core.specs.Queues.{QueueView, no_queue, queue_in, pushed}
 use Rattle.acc_core.specs.Ties.{IsAccelerator, state_of_parts}
 use Rattle.acc_core.proofs.Placing.{planned, batch_empty, batch_goes, keeps_empty, keeps_batch, places_full, places_batch, places_memory}
+use Rattle.acc_core.proofs.ClosingQueue.{has_accepted, has_planned}
 use Rattle.acc_core.proofs.Seats.{room_there, waiting_low}
 use Rattle.acc_core.proofs.Showing.{roomier}
 use Rattle.acc_core.proofs.accelerator.Accelerator.accept.Goals as goal
@@ -23,9 +24,11 @@ invariant_of-self-in-None c =
     let k = c.keeps_order.ensures.order in
     let items = c.items_of-items_done.result in
     let facts = planned i.place c.plan.new.self c.in_ok-plan.plan c.args.host items d e.config e.history e.counts e.fits.0 e.plan.0 e.plan.1 e.plan.2 in
-    let none = batch_empty w c.args.host items d (c.in-None.ensures.batch ∙ (e.batch ∙ facts.labelled)) in
-    keeps_empty w _ i.work i.queues.items i.waiting c.args.host d c.self.invariant facts.accepted none
-    (rw (c.accept.ensures.place, c.in-None.ensures.plan, e.config, e.history, e.counts, e.plan.0, e.plan.1, e.plan.2, c.items_of-items_done.ensures) refl)
+    let none = batch_empty w c.args.host items d (c.in-None.ensures.batch ∙ (e.batch ∙ facts.labelled)) in (
+      keeps_empty w _ i.work i.queues.items i.waiting c.args.host d c.self.invariant.0 facts.accepted none
+          (rw (c.accept.ensures.place, c.in-None.ensures.plan, e.config, e.history, e.counts, e.plan.0, e.plan.1, e.plan.2, c.items_of-items_done.ensures) refl),
+      rw (c.accept.ensures.place) (has_accepted c.plan.new.self i.unclosed _ _ _ (has_planned i.place c.plan.new.self i.unclosed e.config e.history e.counts e.closes c.self.invariant.1)),
+    )
 
 pub index-requires : goal.index-requires
 index-requires c =
@@ -37,9 +40,9 @@ index-requires c =
     let items = c.items_of-items_done.result in
     let facts = planned i.place c.plan.new.self c.in_ok-plan.plan c.args.host items d e.config e.history e.counts e.fits.0 e.plan.0 e.plan.1 e.plan.2 in
     let b = c.in-Some.batch in
-    let g = batch_goes w i.work i.queues.items i.waiting c.args.host items d b c.self.invariant k facts.accepted c.items_of-items_done.ensures (c.in-Some.ensures.batch ∙ (e.batch ∙ facts.labelled)) in
+    let g = batch_goes w i.work i.queues.items i.waiting c.args.host items d b c.self.invariant.0 k facts.accepted c.items_of-items_done.ensures (c.in-Some.ensures.batch ∙ (e.batch ∙ facts.labelled)) in
     let s = g.seat in
-    let q = c.self.invariant.parts in
+    let q = c.self.invariant.0.parts in
     let seat_is : c.seat-seat.result ≡ seat b.at = c.seat-seat.ensures ∙ ap (λ (l : Label). seat l.at) c.label.ensures in
     omega (arith, seat_is, s.held, i.queues.ok.0)
 
@@ -53,9 +56,9 @@ returns-then-len-room c =
     let items = c.items_of-items_done.result in
     let facts = planned i.place c.plan.new.self c.in_ok-plan.plan c.args.host items d e.config e.history e.counts e.fits.0 e.plan.0 e.plan.1 e.plan.2 in
     let b = c.in-Some.batch in
-    let g = batch_goes w i.work i.queues.items i.waiting c.args.host items d b c.self.invariant k facts.accepted c.items_of-items_done.ensures (c.in-Some.ensures.batch ∙ (e.batch ∙ facts.labelled)) in
+    let g = batch_goes w i.work i.queues.items i.waiting c.args.host items d b c.self.invariant.0 k facts.accepted c.items_of-items_done.ensures (c.in-Some.ensures.batch ∙ (e.batch ∙ facts.labelled)) in
     let s = g.seat in
-    let q = c.self.invariant.parts in
+    let q = c.self.invariant.0.parts in
     let seat_is : c.seat-seat.result ≡ seat b.at = c.seat-seat.ensures ∙ ap (λ (l : Label). seat l.at) c.label.ensures in
     let queue = seat_found no_queue i.queues.items b.at c.index.result.now s.queue s.held (rw seat_is at c.index.ensures) in
     let held : c.len.result ≡ length (queue_in i.queues.items b.at).held = c.len.ensures ∙ ap (λ (x : QueueView). length x.held) queue in
@@ -84,9 +87,9 @@ spare-requires c =
     let items = c.items_of-items_done.result in
     let facts = planned i.place c.plan.new.self c.in_ok-plan.plan c.args.host items d e.config e.history e.counts e.fits.0 e.plan.0 e.plan.1 e.plan.2 in
     let b = c.in-Some.batch in
-    let g = batch_goes w i.work i.queues.items i.waiting c.args.host items d b c.self.invariant k facts.accepted c.items_of-items_done.ensures (c.in-Some.ensures.batch ∙ (e.batch ∙ facts.labelled)) in
+    let g = batch_goes w i.work i.queues.items i.waiting c.args.host items d b c.self.invariant.0 k facts.accepted c.items_of-items_done.ensures (c.in-Some.ensures.batch ∙ (e.batch ∙ facts.labelled)) in
     let s = g.seat in
-    let q = c.self.invariant.parts in
+    let q = c.self.invariant.0.parts in
     let seat_is : c.seat-seat.result ≡ seat b.at = c.seat-seat.ensures ∙ ap (λ (l : Label). seat l.at) c.label.ensures in
     record { queue = rw c.label.ensures s.has }
 
@@ -95,8 +98,10 @@ invariant_of-self-in_err-spare-in-Some c =
     let e = c.in_ok-plan.ensures in
     let kept = c.in_err-spare-in-Some.ensures.kept in
     let i = c.self.inside in
-    let same : state_of_parts c.plan.new.self c.spare.new.self ≡ the_view i = rw (e.config, e.history, e.counts, kept.work, kept.counts) refl in
-    subst (λ w. IsAccelerator w c.spare.new.self i.queues.items i.waiting) (sym same) (roomier c.self.invariant kept)
+    let same : state_of_parts c.plan.new.self c.spare.new.self ≡ the_view i = rw (e.config, e.history, e.counts, kept.work, kept.counts) refl in (
+      subst (λ w. IsAccelerator w c.spare.new.self i.queues.items i.waiting) (sym same) (roomier c.self.invariant.0 kept),
+      has_planned i.place c.plan.new.self i.unclosed e.config e.history e.counts e.closes c.self.invariant.1,
+    )
 
 pub returns-in_err-spare-in-Some : goal.returns-in_err-spare-in-Some
 returns-in_err-spare-in-Some c =
@@ -121,9 +126,9 @@ index_mut-requires c =
     let items = c.items_of-items_done.result in
     let facts = planned i.place c.plan.new.self c.in_ok-plan.plan c.args.host items d e.config e.history e.counts e.fits.0 e.plan.0 e.plan.1 e.plan.2 in
     let b = c.in-Some.batch in
-    let g = batch_goes w i.work i.queues.items i.waiting c.args.host items d b c.self.invariant k facts.accepted c.items_of-items_done.ensures (c.in-Some.ensures.batch ∙ (e.batch ∙ facts.labelled)) in
+    let g = batch_goes w i.work i.queues.items i.waiting c.args.host items d b c.self.invariant.0 k facts.accepted c.items_of-items_done.ensures (c.in-Some.ensures.batch ∙ (e.batch ∙ facts.labelled)) in
     let s = g.seat in
-    let q = c.self.invariant.parts in
+    let q = c.self.invariant.0.parts in
     let seat_is : c.seat-seat.result ≡ seat b.at = c.seat-seat.ensures ∙ ap (λ (l : Label). seat l.at) c.label.ensures in
     omega (arith, seat_is, s.held, i.queues.ok.0)
 
@@ -137,9 +142,9 @@ push-requires-clause-room c =
     let items = c.items_of-items_done.result in
     let facts = planned i.place c.plan.new.self c.in_ok-plan.plan c.args.host items d e.config e.history e.counts e.fits.0 e.plan.0 e.plan.1 e.plan.2 in
     let b = c.in-Some.batch in
-    let g = batch_goes w i.work i.queues.items i.waiting c.args.host items d b c.self.invariant k facts.accepted c.items_of-items_done.ensures (c.in-Some.ensures.batch ∙ (e.batch ∙ facts.labelled)) in
+    let g = batch_goes w i.work i.queues.items i.waiting c.args.host items d b c.self.invariant.0 k facts.accepted c.items_of-items_done.ensures (c.in-Some.ensures.batch ∙ (e.batch ∙ facts.labelled)) in
     let s = g.seat in
-    let q = c.self.invariant.parts in
+    let q = c.self.invariant.0.parts in
     let seat_is : c.seat-seat.result ≡ seat b.at = c.seat-seat.ensures ∙ ap (λ (l : Label). seat l.at) c.label.ensures in
     let queue = seat_found no_queue i.queues.items b.at c.index.result.now s.queue s.held (rw seat_is at c.index.ensures) in
     let held : c.len.result ≡ length (queue_in i.queues.items b.at).held = c.len.ensures ∙ ap (λ (x : QueueView). length x.held) queue in
@@ -159,9 +164,9 @@ push-requires-clause-few c =
     let items = c.items_of-items_done.result in
     let facts = planned i.place c.plan.new.self c.in_ok-plan.plan c.args.host items d e.config e.history e.counts e.fits.0 e.plan.0 e.plan.1 e.plan.2 in
     let b = c.in-Some.batch in
-    let g = batch_goes w i.work i.queues.items i.waiting c.args.host items d b c.self.invariant k facts.accepted c.items_of-items_done.ensures (c.in-Some.ensures.batch ∙ (e.batch ∙ facts.labelled)) in
+    let g = batch_goes w i.work i.queues.items i.waiting c.args.host items d b c.self.invariant.0 k facts.accepted c.items_of-items_done.ensures (c.in-Some.ensures.batch ∙ (e.batch ∙ facts.labelled)) in
     let s = g.seat in
-    let q = c.self.invariant.parts in
+    let q = c.self.invariant.0.parts in
     let seat_is : c.seat-seat.result ≡ seat b.at = c.seat-seat.ensures ∙ ap (λ (l : Label). seat l.at) c.label.ensures in
     let entry = seat_found no_queue i.queues.items b.at c.index_mut.result.now s.queue s.held (rw seat_is at c.index_mut.ensures.value) in
     let count : c.len-count.result ≡ length b.ops = omega (arith, c.len-count.ensures, ap length c.ops.ensures.ops, length-map c.ops.result.now op_of) in
@@ -177,9 +182,9 @@ invariant_of-self-in-Some c =
     let items = c.items_of-items_done.result in
     let facts = planned i.place c.plan.new.self c.in_ok-plan.plan c.args.host items d e.config e.history e.counts e.fits.0 e.plan.0 e.plan.1 e.plan.2 in
     let b = c.in-Some.batch in
-    let g = batch_goes w i.work i.queues.items i.waiting c.args.host items d b c.self.invariant k facts.accepted c.items_of-items_done.ensures (c.in-Some.ensures.batch ∙ (e.batch ∙ facts.labelled)) in
+    let g = batch_goes w i.work i.queues.items i.waiting c.args.host items d b c.self.invariant.0 k facts.accepted c.items_of-items_done.ensures (c.in-Some.ensures.batch ∙ (e.batch ∙ facts.labelled)) in
     let s = g.seat in
-    let q = c.self.invariant.parts in
+    let q = c.self.invariant.0.parts in
     let seat_is : c.seat-seat.result ≡ seat b.at = c.seat-seat.ensures ∙ ap (λ (l : Label). seat l.at) c.label.ensures in
     let queue = seat_found no_queue i.queues.items b.at c.index.result.now s.queue s.held (rw seat_is at c.index.ensures) in
     let held : c.len.result ≡ length (queue_in i.queues.items b.at).held = c.len.ensures ∙ ap (λ (x : QueueView). length x.held) queue in
@@ -191,10 +196,12 @@ invariant_of-self-in-Some c =
     let low : length (queue_in i.queues.items b.at).held < w.config.room = omega (arith, held, room, c.if-len-room.false) in
     let log : length i.work.work + c.in-Some-checked_add.waiting ≤ c.spare.new.self.room = rw (← p.kept.work) p.log in
     let new = c.push.ensures ∙ (ap (λ (x : QueueView). pushed x b c.len-count.result) entry ∙ ap (pushed (queue_in i.queues.items b.at) b) count) in
-    rw (seat_is, new)
-    (keeps_batch w _ i.work c.spare.new.self i.queues.items b i.waiting c.in-Some-checked_add.waiting c.args.host d c.self.invariant s facts.accepted
-    (rw (c.accept-placed.ensures.place, c.in-Some.ensures.plan, e.config, e.history, e.counts, e.plan.0, e.plan.1, e.plan.2, c.items_of-items_done.ensures, p.kept.work, p.kept.counts) refl)
-    p.kept g.placed c.requires low more log (rw c.label.ensures at p.lane) p.blocks k)
+    rw (seat_is, new) (
+      keeps_batch w _ i.work c.spare.new.self i.queues.items b i.waiting c.in-Some-checked_add.waiting c.args.host d c.self.invariant.0 s facts.accepted
+          (rw (c.accept-placed.ensures.place, c.in-Some.ensures.plan, e.config, e.history, e.counts, e.plan.0, e.plan.1, e.plan.2, c.items_of-items_done.ensures, p.kept.work, p.kept.counts) refl)
+          p.kept g.placed c.requires low more log (rw c.label.ensures at p.lane) p.blocks k,
+      rw (c.accept-placed.ensures.place) (has_accepted c.plan.new.self i.unclosed _ _ _ (has_planned i.place c.plan.new.self i.unclosed e.config e.history e.counts e.closes c.self.invariant.1)),
+    )
 
 pub returns-in_ok-spare-in-Some : goal.returns-in_ok-spare-in-Some
 returns-in_ok-spare-in-Some c =
@@ -206,9 +213,9 @@ returns-in_ok-spare-in-Some c =
     let items = c.items_of-items_done.result in
     let facts = planned i.place c.plan.new.self c.in_ok-plan.plan c.args.host items d e.config e.history e.counts e.fits.0 e.plan.0 e.plan.1 e.plan.2 in
     let b = c.in-Some.batch in
-    let g = batch_goes w i.work i.queues.items i.waiting c.args.host items d b c.self.invariant k facts.accepted c.items_of-items_done.ensures (c.in-Some.ensures.batch ∙ (e.batch ∙ facts.labelled)) in
+    let g = batch_goes w i.work i.queues.items i.waiting c.args.host items d b c.self.invariant.0 k facts.accepted c.items_of-items_done.ensures (c.in-Some.ensures.batch ∙ (e.batch ∙ facts.labelled)) in
     let s = g.seat in
-    let q = c.self.invariant.parts in
+    let q = c.self.invariant.0.parts in
     let seat_is : c.seat-seat.result ≡ seat b.at = c.seat-seat.ensures ∙ ap (λ (l : Label). seat l.at) c.label.ensures in
     let queue = seat_found no_queue i.queues.items b.at c.index.result.now s.queue s.held (rw seat_is at c.index.ensures) in
     let held : c.len.result ≡ length (queue_in i.queues.items b.at).held = c.len.ensures ∙ ap (λ (x : QueueView). length x.held) queue in

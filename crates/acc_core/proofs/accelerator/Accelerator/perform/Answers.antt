@@ -13,7 +13,7 @@ perform-requires c =
     let w = state_of_parts i.place i.work in
     let there : is_there w c.args.at ≡ true = rw c.config.ensures at (sym c.has_queue.ensures ∙ c.if-not-has_queue.false) in
     let k = c.keeps_order.ensures.order in
-    next_may_follow w i.work i.queues.items i.waiting c.args.at (seated_there w i.work i.queues.items i.waiting c.args.at c.self.invariant.parts k there) c.self.invariant k refl
+    next_may_follow w i.work i.queues.items i.waiting c.args.at (seated_there w i.work i.queues.items i.waiting c.args.at c.self.invariant.0.parts k there) c.self.invariant.0 k refl
 
 pub invariant_of-self : goal.invariant_of-self
 invariant_of-self c =
@@ -22,11 +22,11 @@ invariant_of-self c =
     let at = c.args.at in
     let there : is_there w at ≡ true = rw c.config.ensures at (sym c.has_queue.ensures ∙ c.if-not-has_queue.false) in
     let k = c.keeps_order.ensures.order in
-    let s = seated_there w i.work i.queues.items i.waiting at c.self.invariant.parts k there in
+    let s = seated_there w i.work i.queues.items i.waiting at c.self.invariant.0.parts k there in
     let queue = seat_found no_queue i.queues.items at c.index_mut.result.now s.queue s.held (rw c.seat-seat.ensures at c.index_mut.ensures.value) in
     let did = has_advanced i.work c.perform.new.self at (rw c.in-Op.is at c.perform.ensures) in
     let new = c.performed.ensures ∙ ap (λ (q : QueueView). record q { waiting = q.waiting - 1 }) queue in
-    rw (c.seat-seat.ensures, new) (performed_more w i.work c.perform.new.self i.queues.items i.waiting at s c.self.invariant k refl did)
+    rw (c.seat-seat.ensures, new) (performed_more w i.work c.perform.new.self i.queues.items i.waiting at s c.self.invariant.0 k refl did, c.self.invariant.1)
 
 pub invariant_of-self-in-Idle : goal.invariant_of-self-in-Idle
 invariant_of-self-in-Idle c =
@@ -40,9 +40,9 @@ returns-in-Op c =
     let at = c.args.at in
     let there : is_there w at ≡ true = rw c.config.ensures at (sym c.has_queue.ensures ∙ c.if-not-has_queue.false) in
     let k = c.keeps_order.ensures.order in
-    let s = seated_there w i.work i.queues.items i.waiting at c.self.invariant.parts k there in
+    let s = seated_there w i.work i.queues.items i.waiting at c.self.invariant.0.parts k there in
     let did = has_advanced i.work c.perform.new.self at (rw c.in-Op.is at c.perform.ensures) in
-    rw (← c.self.view_is) (performs_did w i.work c.perform.new.self i.queues.items i.waiting at s c.self.invariant k refl there did)
+    rw (← c.self.view_is) (performs_did w i.work c.perform.new.self i.queues.items i.waiting at s c.self.invariant.0 k refl there did)
 
 pub returns-in-Idle : goal.returns-in-Idle
 returns-in-Idle c =
@@ -51,6 +51,6 @@ returns-in-Idle c =
     let at = c.args.at in
     let there : is_there w at ≡ true = rw c.config.ensures at (sym c.has_queue.ensures ∙ c.if-not-has_queue.false) in
     let k = c.keeps_order.ensures.order in
-    let s = seated_there w i.work i.queues.items i.waiting at c.self.invariant.parts k there in
+    let s = seated_there w i.work i.queues.items i.waiting at c.self.invariant.0.parts k there in
     let none = has_waited i.work c.perform.new.self at (rw c.in-Idle.is at c.perform.ensures) in
-    rw (← c.self.view_is, none.same) (performs_idle w i.work c.perform.new.self i.queues.items i.waiting at s c.self.invariant k refl there none)
+    rw (← c.self.view_is, none.same) (performs_idle w i.work c.perform.new.self i.queues.items i.waiting at s c.self.invariant.0 k refl there none)

@@ -13,9 +13,9 @@ is_told c =
     let i = c.self.inside in
     let w = state_of_parts i.place i.work in
     let kept = c.in_default.ensures.kept in
-    told_is w c.spare_item.new.self c.args.item c.host_item.ensures.0 (roomier c.self.invariant kept).memory
+    told_is w c.spare_item.new.self c.args.item c.host_item.ensures.0 (roomier c.self.invariant.0 kept).memory
     (λ device counts.
-    rw (kept.taken, kept.work) (all_done_taken w i.work i.queues.items i.waiting device 0 counts c.self.invariant.parts c.keeps_order.ensures.order refl))
+    rw (kept.taken, kept.work) (all_done_taken w i.work i.queues.items i.waiting device 0 counts c.self.invariant.0.parts c.keeps_order.ensures.order refl))
     c.host_item.ensures.1
 
 -- and its cells are there
@@ -31,9 +31,11 @@ invariant_of-self-2 c =
     let w = state_of_parts i.place i.work in
     let spared = c.in_default.ensures in
     let e = c.host_item.ensures in
-    rw (taken_kept i.work c.spare_item.new.self c.host_item.new.self c.args.host e.0 spared.kept e.3)
-    (told_item w c.spare_item.new.self c.host_item.new.self i.queues.items i.waiting c.args.host e.0
-    (roomier c.self.invariant spared.kept) spared.kept.work e.3 spared.room spared.few (rw (is_told c) (tells_truth w c.args.item (can_be_told c))))
+    rw (taken_kept i.work c.spare_item.new.self c.host_item.new.self c.args.host e.0 spared.kept e.3) (
+      told_item w c.spare_item.new.self c.host_item.new.self i.queues.items i.waiting c.args.host e.0
+          (roomier c.self.invariant.0 spared.kept) spared.kept.work e.3 spared.room spared.few (rw (is_told c) (tells_truth w c.args.item (can_be_told c))),
+      c.self.invariant.1,
+    )
 
 pub returns-clause-makes : goal.returns-clause-makes
 returns-clause-makes c =

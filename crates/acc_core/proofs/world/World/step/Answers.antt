@@ -7,7 +7,7 @@ use Rattle.acc_core.specs.Machine.{Step}
 use Rattle.acc_core.proofs.HostLaws.{HostLaws}
 use Rattle.acc_core.proofs.HostSteps.{host_steps, no_host}
 use Rattle.acc_core.proofs.Stepping.{stands_at}
-use Rattle.acc_core.proofs.WorldSteps.{still_world, takes, performs}
+use Rattle.acc_core.proofs.WorldSteps.{closes_world, still_world, takes, performs}
 use Rattle.acc_core.proofs.world.World.step.Goals as goal
 
 pub next-requires : goal.next-requires
@@ -51,6 +51,18 @@ invariant_of-self-in-Perform c =
     let laws : HostLaws = record { first = c.hosts_follow.ensures.first; steps = c.hosts_follow.ensures.steps; follow = c.hosts_follow.ensures.follow } in
     still_world laws (record c.self.inside.accelerator { hosts = hosts }) (record c.perform.new.self { hosts = hosts }) (event.Perform c.in-Perform.at) c.perform.result _ _ c.self.invariant refl
     (performs c.self.inside.accelerator c.perform.new.self hosts c.in-Perform.at c.perform.result c.perform.ensures)
+
+pub invariant_of-self-in-Close : goal.invariant_of-self-in-Close
+invariant_of-self-in-Close c =
+    let hosts = c.self.inside.hosts.items in
+    let laws : HostLaws = record { first = c.hosts_follow.ensures.first; steps = c.hosts_follow.ensures.steps; follow = c.hosts_follow.ensures.follow } in
+    still_world laws (record c.self.inside.accelerator { hosts = hosts }) (record c.close.new.self { hosts = hosts }) event.Close c.close.result _ _ c.self.invariant refl
+    (closes_world c.self.inside.accelerator c.close.new.self hosts c.close.result c.close.ensures)
+
+pub returns-in-Close : goal.returns-in-Close
+returns-in-Close c =
+    let hosts = c.self.inside.hosts.items in
+    rw (← c.self.view_is, c.in-Close.is) (closes_world c.self.inside.accelerator c.close.new.self hosts c.close.result c.close.ensures)
 
 pub returns-then-index-len : goal.returns-then-index-len
 returns-then-index-len c = rw (← c.self.view_is, c.in-Host.is) (goes_on c)

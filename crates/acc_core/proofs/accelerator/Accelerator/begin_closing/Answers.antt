@@ -1,0 +1,9 @@
+use Rattle.acc_core.specs.Ties.{state_of_parts}
+use Rattle.acc_core.proofs.ClosingQueue.{has_begun, keeps_begun}
+use Rattle.acc_core.proofs.accelerator.Accelerator.begin_closing.Goals as goal
+
+pub invariant_of-self : goal.invariant_of-self
+invariant_of-self c =
+    let i = c.self.inside in
+    let w = state_of_parts i.place i.work in
+    rw c.close_begin.ensures.place (keeps_begun w i.work i.queues.items i.waiting c.self.invariant.0, has_begun i.place i.unclosed c.self.invariant.1)

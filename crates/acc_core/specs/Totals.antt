@@ -1,0 +1,17 @@
+-- What is told of a queue: its close is apart.
+use Rattle.std.specs.Prelude.{Bool, not, nat_lt, List, length}
+use Rattle.std.specs.List.{filter}
+use Rattle.acc_batch.specs.declared.operation.Label.{Label}
+use Rattle.acc_batch.specs.declared.operation.Op.{Op}
+use Rattle.acc_place.specs.Sound.{is_close}
+
+-- operations, but for closes
+abbrev pub plain_ops : List Op → List Op
+plain_ops ops = filter (λ op. not (is_close op)) ops
+
+-- a batch has another operation than a close
+abbrev pub is_plain : Label → Bool
+is_plain l = nat_lt 0 (length (plain_ops l.ops))
+
+abbrev pub plain_batches : List Label → List Label
+plain_batches labels = filter is_plain labels
