@@ -1,6 +1,6 @@
-mod Limits
+pub mod ContainsAndOverlaps
 pub mod Lists
 pub mod Members
 mod Rows
 pub mod SameQueue
-pub mod Sets
+mod WithinLimits

@@ -34,8 +34,8 @@ ends_within None end = false
 ends_within (Some cells) end = nat_le end (length cells)
 
 -- a range has a cell, and lies in its array
-abbrev pub is_in_array : List (List ℤ) → Range → Bool
-is_in_array arrays r = nat_lt 0 r.len && ends_within (slice_get arrays r.array) (r.lo + r.len)
+abbrev pub has_range : List (List ℤ) → Range → Bool
+has_range arrays r = nat_lt 0 r.len && ends_within (slice_get arrays r.array) (r.lo + r.len)
 
 -- a number is not one of 1 to the limit
 abbrev pub is_outside : ℕ → ℕ → Bool
@@ -46,6 +46,10 @@ has_long_array arrays = list_any (λ cells. nat_lt MAX_CELLS (length cells)) arr
 
 abbrev pub has_empty_array : List (List ℤ) → Bool
 has_empty_array arrays = list_any (λ cells. length cells == 0) arrays
+
+-- how many cells each array has
+abbrev pub lengths_of : List (List ℤ) → List ℕ
+lengths_of arrays = map (λ cells. length cells) arrays
 
 -- a count other than that of the devices passes its limit
 abbrev pub passes_a_limit : ℕ → List (List ℤ) → ℕ → ℕ → Bool

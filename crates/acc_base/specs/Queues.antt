@@ -1,5 +1,5 @@
 -- The activity queues of the devices, and their order (OpenACC API 3.0, 2.16, Asynchronous Behavior).
-use Rattle.std.specs.Prelude.{ℕ, ◌+◌, ◌*◌, Bool, ◌&&◌, ◌==◌, List, [], ◌∷◌}
+use Rattle.std.specs.Prelude.{ℕ, ◌+◌, ◌*◌, ◌/◌, ◌%◌, Bool, ◌&&◌, ◌==◌, List, [], ◌∷◌}
 use Rattle.acc_base.specs.declared.ids.QueueAt.{QueueAt}
 use Rattle.acc_base.specs.declared.ids.TheConstants.{QUEUES}
 use Rattle.acc_base.specs.Configurations.{Configuration}
@@ -11,9 +11,13 @@ every_queue = 0 ∷ 1 ∷ 2 ∷ 3 ∷ 4 ∷ 5 ∷ 6 ∷ 7 ∷ []
 abbrev pub same_queue : QueueAt → QueueAt → Bool
 same_queue a b = (a.device == b.device) && (a.queue == b.queue)
 
--- the place of a queue among those of all devices, by device, then in queue order
+-- the index of a queue among those of all devices, by device, then in queue order
 abbrev pub seat : QueueAt → ℕ
 seat at = at.device * QUEUES + at.queue
+
+-- the queue with this index among them
+abbrev pub at_seat : ℕ → QueueAt
+at_seat index = record { device = index / QUEUES; queue = index % QUEUES }
 
 -- how many queues all devices of a configuration have
 abbrev pub queue_count : Configuration → ℕ

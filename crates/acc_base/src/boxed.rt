@@ -1,3 +1,5 @@
+//! A value in a place of its own: contracts see the value.
+
 ghost use Rattle.std.specs.Prelude.{◌≡◌, IfOk, IfErr};
 
 use crate::fault::Fault;

@@ -1,6 +1,8 @@
+//! What stays the same in a run, and its limits.
+
 ghost use Rattle.std.specs.Prelude.{◌≡◌, ◌<◌, ◌&&◌, ◌==◌, nat_lt, IfOk, OnOk, IfErr, length, None, Some, slice_get};
 ghost use Rattle.std.specs.List.{list_any};
-ghost use Rattle.acc_base.specs.Configurations.{configuration, rows, fault_of, passes_a_limit, is_outside, has_long_array, has_empty_array, is_in_array, IsWithinLimits};
+ghost use Rattle.acc_base.specs.Configurations.{configuration, rows, fault_of, passes_a_limit, is_outside, has_long_array, has_empty_array, has_range, IsWithinLimits};
 
 use crate::fault::Fault;
 use crate::ids::{DeviceId, HostId, QUEUES, QueueAt};
@@ -27,7 +29,7 @@ pub const MAX_ROOM: u32 = 1_024;
 
 /// What stays the same while directives are placed and performed.
 ///
-/// It has a number of devices and of hosts, the host arrays with their opening values, the capacity
+/// It has a number of devices and of hosts, the host arrays with their initial values, the capacity
 /// of each device in cells, and the room of each queue in batches.
 #[derive(Drop)]
 pub struct Config {
@@ -80,7 +82,7 @@ impl Config {
     }
 
     /// Every configuration keeps the limits.
-    pub fn keeps_limits(&self)
+    pub fn keeps(&self)
         ensures valid { fault_of self.now ≡ None }
         ensures limits { IsWithinLimits self.now }
     {
@@ -108,7 +110,7 @@ impl Config {
         self.arrays.len()
     }
 
-    /// The opening values of an array, one that `has_array` knows.
+    /// The initial values of an array, one that `has_array` knows.
     pub fn array(&self, array: u8) -> &[i64]
         requires { array < length self.now.arrays }
         ensures { slice_get self.now.arrays array ≡ Some result.now }
@@ -159,8 +161,8 @@ impl Config {
     }
 
     /// Whether a range has a cell, and lies in its array.
-    pub fn is_in_array(&self, range: Range) -> bool
-        ensures { result ≡ is_in_array self.now.arrays range }
+    pub fn has_range(&self, range: Range) -> bool
+        ensures { result ≡ has_range self.now.arrays range }
     {
         if range.len == 0 || !self.has_array(range.array) {
             return false;

@@ -1,3 +1,5 @@
+//! The fourteen faults.
+
 ghost use Rattle.std.specs.Prelude.{◌≡◌};
 ghost use Rattle.acc_base.specs.Faults.{number_of, name_of};
 

@@ -1,3 +1,5 @@
+//! A list that is mostly short, with up to two items in the value itself.
+
 ghost use Rattle.std.specs.Prelude.{◌≡◌, [], ◌∷◌, ◌++◌, ◌<◌, length, IfOk, IfErr, IfSome, IfNone, OnOk, OnErr};
 ghost use Rattle.acc_base.specs.Lists.{items_of};
 

@@ -1,10 +1,15 @@
-ghost use Rattle.std.specs.Prelude.{◌≡◌};
+//! Devices, queues, hosts and blocks, each a type of its own that contracts see as its number.
+
+ghost use Rattle.std.specs.Prelude.{◌≡◌, ◌<◌};
 
 use std::marker::Model;
 
 /// How many activity queues each device has: `sync`, `noval`, and the queues of the async values
 /// `0` to `5`, in this order.
 pub const QUEUES: u8 = 8;
+
+/// A number for each queue of a device, in queue order.
+pub type QueueCounts = [u64; 8];
 
 /// A device, by its number from 0.
 #[derive(Clone, Copy, Debug, PartialEq, Eq)]
@@ -37,7 +42,7 @@ impl DeviceId {
     }
 }
 
-/// An activity queue of a device, by its place: 0 is `sync`, 1 is `noval`, 2 to 7 are those of the
+/// An activity queue of a device, by its number: 0 is `sync`, 1 is `noval`, 2 to 7 are those of the
 /// async values `0` to `5` (OpenACC API 3.0, 2.16, Asynchronous Behavior).
 #[derive(Clone, Copy, Debug, PartialEq, Eq)]
 pub struct QueueId(u8);
@@ -59,14 +64,14 @@ impl QueueId {
     /// The queue of `acc_async_noval`.
     pub const NOVAL: QueueId = QueueId(1);
 
-    /// The queue at this place.
+    /// The queue with this number.
     pub fn new(number: u8) -> Self
         ensures { result ≡ number }
     {
         QueueId(number)
     }
 
-    /// Its place, from 0.
+    /// Its number, from 0.
     pub fn number(self) -> u8
         ensures { result ≡ self }
     {
@@ -145,12 +150,26 @@ pub struct QueueAt {
 }
 
 impl QueueAt {
-    ghost use Rattle.acc_base.specs.Queues.{seat};
+    ghost use Rattle.acc_base.specs.Queues.{at_seat, seat};
+    ghost use Rattle.acc_base.specs.declared.ids.TheConstants.{QUEUES};
 
-    /// Its place among the queues of all devices, by device, then in queue order, from 0.
+    /// Its index among the queues of all devices, by device, then in queue order, from 0.
     pub fn seat(self) -> usize
         ensures { result ≡ seat self }
     {
         usize::from(self.device.number()) * usize::from(QUEUES) + usize::from(self.queue.number())
+    }
+
+    /// The queue with this index among those of all devices.
+    pub fn at_seat(index: u16) -> Self
+        requires { index < 2048 }
+        ensures at { result ≡ at_seat index }
+        ensures seat { seat result ≡ index }
+        ensures queue { result.queue < QUEUES }
+    {
+        QueueAt {
+            device: DeviceId::new((index / 8) as u8),
+            queue: QueueId::new((index % 8) as u8),
+        }
     }
 }

@@ -14,7 +14,7 @@ pub use boxed::Boxed;
 pub use config::{Config, MAX_ARRAYS, MAX_CAPACITY, MAX_CELLS, MAX_DEVICES, MAX_HOSTS, MAX_ROOM};
 pub use fault::Fault;
 pub use few::Few;
-pub use ids::{BlockId, DeviceId, HostId, QUEUES, QueueAt, QueueId};
+pub use ids::{BlockId, DeviceId, HostId, QUEUES, QueueAt, QueueCounts, QueueId};
 pub use listed::Listed;
 pub use range::Range;
 pub use shared::Shared;

@@ -1,3 +1,5 @@
+//! A vector that contracts see as the list of its items.
+
 ghost use Rattle.std.specs.Prelude.{◌≡◌, IfOk, IfErr};
 
 use crate::fault::Fault;

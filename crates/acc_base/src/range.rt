@@ -1,3 +1,5 @@
+//! Ranges of an array's cells, as sets and as bounds.
+
 ghost use Rattle.std.specs.Prelude.{◌≡◌, ◌+◌, ◌↔◌, IsTrue};
 ghost use Rattle.acc_base.specs.Ranges.{Includes, Meets, range_contains, range_overlaps};
 

@@ -1,3 +1,5 @@
+//! A value with several owners: contracts see the value.
+
 ghost use Rattle.std.specs.Prelude.{◌≡◌, IfOk, IfErr};
 
 use crate::fault::Fault;

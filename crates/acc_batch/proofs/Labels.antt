@@ -4,7 +4,7 @@ use Rattle.std.proofs.lemmas.List.{append_assoc, length-append, take-append-drop
 use Rattle.std.proofs.lemmas.List.Elements.{filter-append}
 use Rattle.acc_base.specs.declared.ids.QueueAt.{QueueAt}
 use Rattle.acc_base.specs.Queues.{same_queue}
-use Rattle.acc_batch.specs.declared.operation.Label.{Label}
+use Rattle.acc_batch.specs.declared.label.Label.{Label}
 use Rattle.acc_batch.specs.Labels.{on_queue, ops_of, batch_at}
 
 -- the operations of two lists of labels

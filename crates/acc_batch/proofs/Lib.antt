@@ -1,6 +1,6 @@
-mod Backs
+mod AwaitedNumber
 pub mod Labels
 pub mod NextOperation
-pub mod Ordered
+pub mod OrderedBatches
 pub mod Seats
-pub mod Wholes
+pub mod WholeBatches

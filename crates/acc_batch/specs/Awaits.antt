@@ -5,9 +5,9 @@ use Rattle.std.specs.List.{flat_map}
 use Rattle.acc_base.specs.declared.ids.QueueAt.{QueueAt}
 use Rattle.acc_base.specs.declared.ids.TheConstants.{QUEUES}
 use Rattle.acc_base.specs.Queues.{every_queue}
-use Rattle.acc_batch.specs.declared.operation.Op.{Op}
-use Rattle.acc_batch.specs.declared.operation.Op.TheVariants.{Await, Close}
-use Rattle.acc_batch.specs.declared.operation.Label.{Label}
+use Rattle.acc_batch.specs.declared.label.OpLabel.{OpLabel}
+use Rattle.acc_batch.specs.declared.label.OpLabel.TheVariants.{Await, Close}
+use Rattle.acc_batch.specs.declared.label.Label.{Label}
 use Rattle.acc_batch.specs.Labels.{on_queue, made_blocks, used_blocks, released_blocks, has_number, makes_block, touches_block, greatest, last_number}
 
 -- The last of a queue's batches that is awaited, by its number: all of them where the queue is named; those that made what
@@ -18,34 +18,34 @@ awaited_number named labels used released =
     (max (greatest (map (λ b. last_number (makes_block b) labels) used)) (greatest (map (λ b. last_number (touches_block b) labels) released)))
 
 -- none of the batch's own queue
-abbrev pub await_of : ℕ → ℕ → ℕ → List Op
+abbrev pub await_of : ℕ → ℕ → ℕ → List OpLabel
 await_of own q n = if (q == own) || (n == 0) then [] else Await q n ∷ []
 
 abbrev pub number_awaited : List ℕ → QueueAt → List Label → List ℕ → List ℕ → ℕ → ℕ
 number_awaited named own labels used released q =
     awaited_number (has_number named q) (on_queue (record { device = own.device; queue = q }) labels) used released
 
-abbrev pub awaits : List ℕ → QueueAt → List Label → List ℕ → List ℕ → List Op
+abbrev pub awaits : List ℕ → QueueAt → List Label → List ℕ → List ℕ → List OpLabel
 awaits named own labels used released = flat_map (λ q. await_of own.queue q (number_awaited named own labels used released q)) every_queue
 
 -- awaits with nothing behind them are a batch of a `wait` directive alone
-abbrev pub with_awaits : Bool → List Op → List Op → List Op
+abbrev pub with_awaits : Bool → List OpLabel → List OpLabel → List OpLabel
 with_awaits alone before [] = if alone then before else []
 with_awaits alone before (op ∷ ops) = before ++ op ∷ ops
 
 -- These operations, behind what a batch of them on a queue awaits.
-abbrev pub behind_awaits : Bool → List ℕ → QueueAt → List Label → List Op → List Op
+abbrev pub behind_awaits : Bool → List ℕ → QueueAt → List Label → List OpLabel → List OpLabel
 behind_awaits alone named own labels ops =
     with_awaits alone (awaits named own labels (flat_map used_blocks ops) (flat_map released_blocks ops)) ops
 
 -- The awaits of a batch stand before its other operations.
-abbrev pub is_await : Op → Bool
+abbrev pub is_await : OpLabel → Bool
 is_await (Await q n) = true
 is_await op = false
 
-pub record AwaitsFirst (ops : List Op) : Type 0 where
-  pub first : List Op
-  pub second : List Op
+pub record AwaitsFirst (ops : List OpLabel) : Type 0 where
+  pub first : List OpLabel
+  pub second : List OpLabel
   pub split : ops ≡ first ++ second
   pub all_await : All (λ op. is_await op ≡ true) first
   pub none_awaits : All (λ op. is_await op ≡ false) second
@@ -74,7 +74,7 @@ AllOrdered before [] = Unit {0}
 AllOrdered before (l ∷ ls) = IsOrdered before l × AllOrdered (before ++ l ∷ []) ls
 
 -- The label of a batch of these operations, on a queue behind these labels.
-abbrev pub label_behind : Bool → List ℕ → QueueAt → List Label → ℕ → ℕ → List Op → Label
+abbrev pub label_behind : Bool → List ℕ → QueueAt → List Label → ℕ → ℕ → List OpLabel → Label
 label_behind alone named own labels host items_done ops =
     record { at = own; number = length (on_queue own labels) + 1; host = host; items_done = items_done; ops = behind_awaits alone named own labels ops }
 
@@ -89,7 +89,7 @@ IsNumbered labels = (m : Label) → Contains labels m → (0 < m.number) × (m.a
 -- A batch behind its awaits stands behind every batch that it needs, whichever queues are named beside them.
 abbrev pub BatchesAreOrdered : Type 0
 BatchesAreOrdered =
-    (alone : Bool) (named : List ℕ) (own : QueueAt) (labels : List Label) (host items_done : ℕ) (ops : List Op)
+    (alone : Bool) (named : List ℕ) (own : QueueAt) (labels : List Label) (host items_done : ℕ) (ops : List OpLabel)
     → IsNumbered labels → AllOrdered [] labels → All (λ op. is_await op ≡ false) ops
     → IsOrdered labels (label_behind alone named own labels host items_done ops)
 

@@ -1,5 +1,5 @@
-pub mod AwaitExamples
 pub mod Awaits
 pub mod Labels
 pub mod Lives
-pub mod Tasks
+pub mod Ops
+pub mod worked

@@ -1,12 +1,12 @@
 -- Blocks that are live where operations use them.
 use Rattle.std.specs.Prelude.{ℕ, ℤ, ◌==◌, IsTrue, List, [], ◌∷◌, ◌++◌, map, filter, All, Contains}
 use Rattle.acc_base.specs.declared.range.Range.{Range}
-use Rattle.acc_base.specs.Configurations.{is_in_array}
+use Rattle.acc_base.specs.Configurations.{has_range}
 use Rattle.acc_base.specs.Ranges.{Includes}
 use Rattle.acc_kernel.specs.Jobs.{Use}
-use Rattle.acc_batch.specs.declared.operation.Label.{Label}
-use Rattle.acc_batch.specs.declared.operation.Op.{Op}
-use Rattle.acc_batch.specs.declared.operation.Op.TheVariants.{Make, CopyIn, CopyOut, Release, Run, Await, Close}
+use Rattle.acc_batch.specs.declared.label.Label.{Label}
+use Rattle.acc_batch.specs.declared.label.OpLabel.{OpLabel}
+use Rattle.acc_batch.specs.declared.label.OpLabel.TheVariants.{Make, CopyIn, CopyOut, Release, Run, Await, Close}
 use Rattle.acc_batch.specs.Labels.{ops_of}
 use Rattle.acc_batch.specs.Awaits.{AllOrdered}
 
@@ -16,36 +16,36 @@ pub record Made : Type 0 where
   pub range : Range
 
 -- the blocks that were made, with their ranges, and those that were released
-abbrev pub made : List Op → List Made
-made [] = []
-made (Make b r ∷ ops) = record { block = b; range = r } ∷ made ops
-made (CopyIn b r ∷ ops) = made ops
-made (CopyOut b r ∷ ops) = made ops
-made (Release b ∷ ops) = made ops
-made (Run k uses ∷ ops) = made ops
-made (Await q n ∷ ops) = made ops
-made (Close ∷ ops) = made ops
+abbrev pub blocks_made : List OpLabel → List Made
+blocks_made [] = []
+blocks_made (Make b r ∷ ops) = record { block = b; range = r } ∷ blocks_made ops
+blocks_made (CopyIn b r ∷ ops) = blocks_made ops
+blocks_made (CopyOut b r ∷ ops) = blocks_made ops
+blocks_made (Release b ∷ ops) = blocks_made ops
+blocks_made (Run k uses ∷ ops) = blocks_made ops
+blocks_made (Await q n ∷ ops) = blocks_made ops
+blocks_made (Close ∷ ops) = blocks_made ops
 
-abbrev pub released : List Op → List ℕ
-released [] = []
-released (Make b r ∷ ops) = released ops
-released (CopyIn b r ∷ ops) = released ops
-released (CopyOut b r ∷ ops) = released ops
-released (Release b ∷ ops) = b ∷ released ops
-released (Run k uses ∷ ops) = released ops
-released (Await q n ∷ ops) = released ops
-released (Close ∷ ops) = released ops
+abbrev pub blocks_released : List OpLabel → List ℕ
+blocks_released [] = []
+blocks_released (Make b r ∷ ops) = blocks_released ops
+blocks_released (CopyIn b r ∷ ops) = blocks_released ops
+blocks_released (CopyOut b r ∷ ops) = blocks_released ops
+blocks_released (Release b ∷ ops) = b ∷ blocks_released ops
+blocks_released (Run k uses ∷ ops) = blocks_released ops
+blocks_released (Await q n ∷ ops) = blocks_released ops
+blocks_released (Close ∷ ops) = blocks_released ops
 
 -- A block was made and not released, and the range lies in its range.
-pub record HoldsBlock (before : List Op) (block : ℕ) (range : Range) : Type 0 where
+pub record HoldsBlock (before : List OpLabel) (block : ℕ) (range : Range) : Type 0 where
   pub whole_range : Range
-  pub is_made : Contains (made before) (record { block = block; range = whole_range })
-  pub not_released : ¬ Contains (released before) block
+  pub is_made : Contains (blocks_made before) (record { block = block; range = whole_range })
+  pub not_released : ¬ Contains (blocks_released before) block
   pub inside : Includes whole_range range
 
 -- An operation of a device uses live blocks, where these operations came before it.
-abbrev pub UsesLive : List (List ℤ) → Op → List Op → Type 0
-UsesLive arrays (Make b r) before = ¬ Contains (map (λ m. m.block) (made before)) b × IsTrue (is_in_array arrays r)
+abbrev pub UsesLive : List (List ℤ) → OpLabel → List OpLabel → Type 0
+UsesLive arrays (Make b r) before = ¬ Contains (map (λ m. m.block) (blocks_made before)) b × IsTrue (has_range arrays r)
 UsesLive arrays (CopyIn b r) before = HoldsBlock before b r
 UsesLive arrays (CopyOut b r) before = HoldsBlock before b r
 UsesLive arrays (Release b) before = (r : Range) × HoldsBlock before b r
@@ -54,7 +54,7 @@ UsesLive arrays (Await q n) before = Unit {0}
 UsesLive arrays Close before = Unit {0}
 
 -- These operations, in order behind those before, each use live blocks.
-abbrev pub AllUse : List (List ℤ) → List Op → List Op → Type 0
+abbrev pub AllUse : List (List ℤ) → List OpLabel → List OpLabel → Type 0
 AllUse arrays before [] = Unit {0}
 AllUse arrays before (op ∷ ops) = UsesLive arrays op before × AllUse arrays (before ++ op ∷ []) ops
 

@@ -1,26 +1,28 @@
+//! A batch: contracts see its label.
+
 ghost use Rattle.std.specs.Prelude.{◌≡◌, ◌<◌, length, IfOk, IfErr};
 ghost use Rattle.std.specs.List.{All};
-ghost use Rattle.acc_batch.specs.Tasks.{ops_in, HasItsCells, AllReady};
+ghost use Rattle.acc_batch.specs.Ops.{op_labels, HasItsCells, AllReady};
 
-use crate::operation::Label;
-use crate::tasks::Tasks;
+use crate::label::Label;
+use crate::ops::Ops;
 use acc_base::Fault;
 use std::alloc::Global;
 use std::marker::Model;
 
-/// A batch in a queue: its label, with a task for each of the label's operations. Contracts see the label.
+/// A batch in a queue: its label, and the operations that the label describes, with their memory. Contracts see the label.
 #[derive(Drop)]
 pub struct Batch {
     label: Label,
-    tasks: Tasks,
+    ops: Ops,
 }
 
 impl Model for Batch {
     ghost use Rattle.std.specs.Prelude.{◌≡◌};
     ghost use Rattle.std.specs.Coded.{codes};
     ghost use Rattle.acc_kernel.specs.contracts.expr.Expr as expr;
-    ghost use Rattle.acc_batch.specs.declared.operation.Label.{Label};
-    ghost use Rattle.acc_batch.specs.Tasks.{ops_in, AllReady};
+    ghost use Rattle.acc_batch.specs.declared.label.Label.{Label};
+    ghost use Rattle.acc_batch.specs.Ops.{op_labels, AllReady};
 
     ghost Value = { Label };
 
@@ -28,7 +30,7 @@ impl Model for Batch {
 
     ghost view = { λ b. b.label };
 
-    ghost invariant = { λ b. (ops_in b.tasks ≡ b.label.ops) × AllReady b.tasks };
+    ghost invariant = { λ b. (op_labels b.ops ≡ b.label.ops) × AllReady b.ops };
 }
 
 impl Batch {
@@ -46,8 +48,8 @@ impl Batch {
         ensures label { IfOk result (λ b. b ≡ label) }
         ensures fault { IfErr result (λ f. f ≡ fault.Memory) }
     {
-        let tasks = Tasks::new(alloc, label.ops.get().as_slice())?;
-        Ok(Batch { label, tasks })
+        let ops = Ops::new(alloc, label.ops.get().as_slice())?;
+        Ok(Batch { label, ops })
     }
 
     /// Its plain description.
@@ -64,21 +66,21 @@ impl Batch {
         self.label.number = number;
     }
 
-    /// Its tasks, in their order.
-    pub fn ops(&self) -> &Tasks
-        ensures ops { ops_in result.now ≡ self.now.ops }
+    /// Its operations, in their order.
+    pub fn ops(&self) -> &Ops
+        ensures ops { op_labels result.now ≡ self.now.ops }
         ensures ready { AllReady result.now }
     {
-        &self.tasks
+        &self.ops
     }
 
-    /// Its label, and its tasks, in their order.
-    pub fn into_parts(self) -> (Label, Tasks)
+    /// Its label, and its operations, in their order.
+    pub fn into_parts(self) -> (Label, Ops)
         ensures label { result.0 ≡ self }
-        ensures ops { ops_in result.1 ≡ self.ops }
+        ensures ops { op_labels result.1 ≡ self.ops }
         ensures ready { AllReady result.1 }
     {
-        let Batch { label, tasks } = self;
-        (label, tasks)
+        let Batch { label, ops } = self;
+        (label, ops)
     }
 }

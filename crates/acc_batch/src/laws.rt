@@ -1,4 +1,6 @@
-ghost use Rattle.acc_batch.specs.AwaitExamples.{AwaitsAsNeeded, AreInOrder, AreRefused};
+//! Laws over the definitions.
+
+ghost use Rattle.acc_batch.specs.worked.Awaits.{AwaitsAsNeeded, AreInOrder, AreRefused};
 ghost use Rattle.acc_batch.specs.Awaits.{BatchesAreOrdered, ClosesAreOrdered};
 
 /// A batch that is placed behind its awaits stands behind every earlier batch that it needs for a block: it is on the same

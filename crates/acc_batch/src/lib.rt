@@ -2,13 +2,13 @@
 #![tactic(auto)]
 
 mod batch;
+mod label;
 mod laws;
-mod operation;
-mod task;
-mod tasks;
+mod op;
+mod ops;
 
 pub use batch::Batch;
+pub use label::{Label, OpLabel};
 pub use laws::{batches_are_ordered, worked_awaits};
-pub use operation::{Label, Op};
-pub use task::{Block, Task};
-pub use tasks::Tasks;
+pub use op::{Block, Op};
+pub use ops::Ops;

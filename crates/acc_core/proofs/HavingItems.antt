@@ -6,9 +6,9 @@ use Rattle.std.proofs.lemmas.List.Elements.{All-nil, All-cons, All-append}
 use Rattle.acc_base.specs.declared.ids.QueueAt.{QueueAt}
 use Rattle.acc_base.specs.Configurations.{Configuration}
 use Rattle.acc_batch.specs.Awaits.{close_label}
-use Rattle.acc_batch.specs.declared.operation.Label.{Label}
-use Rattle.acc_batch.specs.declared.operation.Op.{Op}
-use Rattle.acc_place.specs.Batches.{batch_of, labelled, walk_at}
+use Rattle.acc_batch.specs.declared.label.Label.{Label}
+use Rattle.acc_batch.specs.declared.label.OpLabel.{OpLabel}
+use Rattle.acc_place.specs.Batches.{batch_of, labels_with, walk_at}
 use Rattle.acc_place.specs.Histories.{standing}
 use Rattle.acc_place.specs.Standings.{walk_of}
 use Rattle.acc_place.specs.declared.directive.PlaceEntry.{PlaceEntry}
@@ -18,7 +18,7 @@ use Rattle.acc_work.specs.Enabled.{HaveItems}
 use Rattle.acc_work.specs.Logs.{one_more, items_of}
 use Rattle.acc_core.specs.Legality.{Own, own_of, own_after, AllRise, Rise}
 use Rattle.acc_core.specs.Machine.{State, labels_of}
-use Rattle.acc_core.proofs.Following.{items_length}
+use Rattle.acc_core.proofs.Merged.{items_length}
 
 -- what rises up to the last one
 rise_parts : (low : ℕ) (os : List Own) (o : Own) (high : ℕ) → Rise low (os ++ o ∷ []) high → Rise low os high × (o.items_before ≤ high)
@@ -30,7 +30,7 @@ rise_before true os o high h = (rise_parts 0 os o high h).0
 rise_before false os o high h = h
 
 -- a batch, if there is one, stands behind no more items than its host has
-one_has : (work : List WorkEntry) (at : QueueAt) (host items_done : ℕ) (labels : List Label) (ops : List Op) → HaveItems labels work → items_done ≤ items_of host work → HaveItems (labelled at host items_done labels ops) work
+one_has : (work : List WorkEntry) (at : QueueAt) (host items_done : ℕ) (labels : List Label) (ops : List OpLabel) → HaveItems labels work → items_done ≤ items_of host work → HaveItems (labels_with at host items_done labels ops) work
 one_has work at host items_done labels [] all low = all
 one_has work at host items_done labels (op ∷ ops) all low =
     All-append (λ (l : Label). l.items_done ≤ items_of l.host work) labels _ all

@@ -7,16 +7,16 @@ use Rattle.acc_host.specs.declared.state.After.{After}
 use Rattle.acc_host.specs.declared.state.After.TheVariants as go
 use Rattle.acc_host.specs.declared.state.Reply.{Reply}
 use Rattle.acc_host.specs.declared.state.Reply.TheVariants as reply
-use Rattle.acc_host.specs.Hosts.{HostView, Asks, Steps, wants, after_place, after_wait, after_item, replied}
+use Rattle.acc_host.specs.Hosts.{HostView, Asks, Steps, wants, after_place, after_wait, after_item, reply_to}
 use Rattle.acc_host.specs.Steps.{Want, stays, sets, refuses, places, awaits, records}
 use Rattle.acc_place.specs.declared.directive.Placed.{Placed}
 use Rattle.acc_place.specs.Directives.{Directive}
-use Rattle.acc_work.specs.declared.item.Plain.{Plain}
+use Rattle.acc_work.specs.declared.item.ItemLabel.{ItemLabel}
 use Rattle.acc_work.specs.declared.item.Shown.{Shown}
-use Rattle.acc_core.specs.declared.event.Event.TheVariants as event
-use Rattle.acc_core.specs.Answers.{Makes}
+use Rattle.acc_host.specs.declared.event.Event.TheVariants as event
+use Rattle.acc_core.specs.inner.Answers.{Makes}
 use Rattle.acc_core.specs.Legality.{entries_of}
-use Rattle.acc_core.specs.Machine.{State, Outcome, Step, placed_state, waited_state, item_state, goes_on, host_step, named_step}
+use Rattle.acc_core.specs.Machine.{State, Outcome, Step, placed_state, waited_state, item_state, host_outcome, host_step, named_step}
 
 abbrev with_hosts : List HostView → State → State
 with_hosts hosts w = record w { hosts = hosts }
@@ -31,13 +31,13 @@ waited_hosts w hosts h device counts (Ok true) = refl
 waited_hosts w hosts h device counts (Ok false) = refl
 waited_hosts w hosts h device counts (Err fault) = refl
 
-item_hosts : (w : State) (hosts : List HostView) (h : ℕ) (item : Plain) (a : Result Shown Fault) → item_state (with_hosts hosts w) h item a ≡ with_hosts hosts (item_state w h item a)
+item_hosts : (w : State) (hosts : List HostView) (h : ℕ) (item : ItemLabel) (a : Result Shown Fault) → item_state (with_hosts hosts w) h item a ≡ with_hosts hosts (item_state w h item a)
 item_hosts w hosts h item (Ok answer) = refl
 item_hosts w hosts h item (Err fault) = refl
 
 -- the outcome where the accelerator has become this
 abbrev went : List HostView → ℕ → HostView → Result After Fault → State → Outcome
-went hosts h host goes w = goes_on (with_hosts hosts w) h host goes
+went hosts h host goes w = host_outcome (with_hosts hosts w) h host goes
 
 went_same : (hosts : List HostView) (h : ℕ) (host : HostView) (g goes : Result After Fault) (w new : State) → goes ≡ g → new ≡ w → went hosts h host g w ≡ went hosts h host goes new
 went_same hosts h host g goes w new e f = ap (λ x. went hosts h host x w) (sym e) ∙ ap (went hosts h host goes) (sym f)
@@ -52,16 +52,16 @@ asks_steps (places d) old new h host goes hosts a =
     let answer = a.0 in
     let w = with_hosts hosts old in (
       a.1.0,
-      ap (λ x. goes_on (placed_state w h d x) h host (after_place d x)) (sym a.1.1)
-          ∙ (ap (λ x. goes_on x h host (after_place d answer)) (placed_hosts old hosts h d answer)
+      ap (λ x. host_outcome (placed_state w h d x) h host (after_place d x)) (sym a.1.1)
+          ∙ (ap (λ x. host_outcome x h host (after_place d answer)) (placed_hosts old hosts h d answer)
           ∙ went_same hosts h host (after_place d answer) goes (placed_state old h d answer) new a.2 a.1.2),
     )
 asks_steps (awaits device counts) old new h host goes hosts a =
     let answer = a.0 in
     let w = with_hosts hosts old in (
       a.1.0,
-      ap (λ x. goes_on (waited_state w h device counts x) h host (after_wait x)) (sym a.1.1)
-          ∙ (ap (λ x. goes_on x h host (after_wait answer)) (waited_hosts old hosts h device counts answer)
+      ap (λ x. host_outcome (waited_state w h device counts x) h host (after_wait x)) (sym a.1.1)
+          ∙ (ap (λ x. host_outcome x h host (after_wait answer)) (waited_hosts old hosts h device counts answer)
           ∙ went_same hosts h host (after_wait answer) goes (waited_state old h device counts answer) new a.2 a.1.2),
     )
 asks_steps (records item) old new h host goes hosts (inl a) = (true, went_same hosts h host (Err Memory) goes old new a.1 a.2)
@@ -69,8 +69,8 @@ asks_steps (records item) old new h host goes hosts (inr a) =
     let answer = a.0 in
     let w = with_hosts hosts old in (
       a.1.0,
-      ap (λ x. goes_on (item_state w h item x) h host (after_item x)) (sym a.1.1)
-          ∙ (ap (λ x. goes_on x h host (after_item answer)) (item_hosts old hosts h item answer)
+      ap (λ x. host_outcome (item_state w h item x) h host (after_item x)) (sym a.1.1)
+          ∙ (ap (λ x. host_outcome x h host (after_item answer)) (item_hosts old hosts h item answer)
           ∙ went_same hosts h host (after_item answer) goes (item_state old h item answer) new a.2 a.1.2),
     )
 
@@ -83,7 +83,7 @@ host_steps old new hosts h host after answer here is s =
     let m = asks_steps (wants old.config.devices host) old new h host s.goes hosts asks in
     let done : Outcome = record { reply = answer; state = with_hosts (slice_set hosts h after) new } in
     let same : went hosts h host s.goes new ≡ done =
-    ap (λ (a : HostView). let o : Outcome = record { reply = replied s.goes; state = with_hosts (slice_set hosts h a) new } in o) (sym s.host_is)
+    ap (λ (a : HostView). let o : Outcome = record { reply = reply_to s.goes; state = with_hosts (slice_set hosts h a) new } in o) (sym s.host_is)
     ∙ ap (λ (r : Reply). let o : Outcome = record { reply = r; state = with_hosts (slice_set hosts h after) new } in o) (sym s.reply_is) in
     (m.0, ap (named_step m.0 (with_hosts hosts old) h) here ∙ (m.1 ∙ same))
 

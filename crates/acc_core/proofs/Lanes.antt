@@ -3,21 +3,21 @@ use Rattle.std.proofs.Common.{◌≡◌, ◌+◌, ◌-◌, ◌<◌, ◌≤◌, L
 use Rattle.std.specs.Prelude.{All}
 use Rattle.std.proofs.lemmas.List.{append_assoc, length-append, append-nil, take_at, drop_at}
 use Rattle.std.proofs.lemmas.List.Elements.{All-head, All-tail}
-use Rattle.acc_batch.specs.declared.operation.Label.{Label}
-use Rattle.acc_batch.specs.declared.operation.Op.{Op}
+use Rattle.acc_batch.specs.declared.label.Label.{Label}
+use Rattle.acc_batch.specs.declared.label.OpLabel.{OpLabel}
 use Rattle.acc_batch.specs.Labels.{ops_of, batch_at}
 use Rattle.acc_batch.proofs.Labels.{ops_of-append, batch_at-append}
 use Rattle.acc_work.specs.Lanes.{IsLane, LaneView, last_of}
-use Rattle.acc_work.proofs.Taken.{Last, last_is}
+use Rattle.acc_work.proofs.TakenLabels.{Last, last_is}
 
 -- of what was taken and isn't performed, the lane has what is left
-pub left_is : (taken queue : List Label) (done left : List Op) → done ++ left ≡ ops_of taken → drop (length done) (ops_of (take (length taken) (taken ++ queue))) ≡ left
+pub left_is : (taken queue : List Label) (done left : List OpLabel) → done ++ left ≡ ops_of taken → drop (length done) (ops_of (take (length taken) (taken ++ queue))) ≡ left
 left_is taken queue done left e =
     let first : take (length taken) (taken ++ queue) ≡ taken = take_at taken queue (length taken) refl in
     rw (first, ← e) (drop_at done left (length done) refl)
 
 -- the next operation is one of the last batch that was taken
-pub next_batch : (lane : LaneView) (queue : List Label) (done : List Op) → IsLane lane → done ++ lane.left ≡ ops_of lane.taken → 0 < length lane.left → batch_at (lane.taken ++ queue) (length done) ≡ last_of lane.taken
+pub next_batch : (lane : LaneView) (queue : List Label) (done : List OpLabel) → IsLane lane → done ++ lane.left ≡ ops_of lane.taken → 0 < length lane.left → batch_at (lane.taken ++ queue) (length done) ≡ last_of lane.taken
 next_batch lane queue done h e some = by_taken lane.taken refl
   where
     count : length done + length lane.left ≡ length (ops_of lane.taken)

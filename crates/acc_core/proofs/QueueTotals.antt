@@ -11,10 +11,10 @@ use Rattle.acc_base.specs.Queues.{seat}
 use Rattle.acc_batch.specs.Labels.{on_queue, ops_of}
 use Rattle.acc_batch.proofs.Labels.{ops_of-append}
 use Rattle.acc_core.specs.Machine.{State, labels_of, standing_of}
-use Rattle.acc_core.specs.Queues.{QueueView, no_queue, queue_in}
-use Rattle.acc_core.specs.Ties.{Queued}
+use Rattle.acc_core.specs.inner.Queues.{QueueView, no_queue, queue_in}
+use Rattle.acc_core.specs.inner.Ties.{Queued}
 use Rattle.acc_core.specs.Totals.{plain_batches, plain_ops}
-use Rattle.acc_core.proofs.Apart.{batches_apart, close_count, ops_apart, performed_apart}
+use Rattle.acc_core.proofs.PlainOps.{batches_apart, close_count, ops_apart, performed_apart}
 use Rattle.acc_place.specs.Histories.{is_closed, AllAccepted}
 use Rattle.acc_place.proofs.LastClose.{ends_by, ops_end_by}
 use Rattle.acc_work.specs.Logs.{performed}

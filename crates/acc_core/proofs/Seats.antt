@@ -11,8 +11,8 @@ use Rattle.acc_base.specs.Queues.{same_queue, seat}
 use Rattle.acc_base.proofs.SameQueue.{same_queue_is}
 use Rattle.acc_batch.proofs.Seats.{seat_kept, seat_set, seat_there}
 use Rattle.acc_core.specs.Machine.{State, is_there}
-use Rattle.acc_core.specs.Queues.{QueueView, no_queue, queue_in, queues_with}
-use Rattle.acc_core.specs.Ties.{Queued}
+use Rattle.acc_core.specs.inner.Queues.{QueueView, no_queue, queue_in, queues_with}
+use Rattle.acc_core.specs.inner.Ties.{Queued}
 use Rattle.acc_work.specs.Lanes.{LaneView, no_lane, lane_in, lanes_with}
 use Rattle.acc_work.specs.Works.{WorkView, HasQueue, KeepsOrder}
 

@@ -5,34 +5,35 @@ use Rattle.std.proofs.lemmas.List.{length-map}
 use Rattle.acc_base.specs.declared.config.TheConstants.{MAX_HOSTS}
 use Rattle.acc_base.specs.Configurations.{Configuration}
 use Rattle.acc_base.specs.declared.ids.QueueAt.{QueueAt}
-use Rattle.acc_batch.specs.declared.operation.Label.{Label}
-use Rattle.acc_batch.specs.declared.operation.Op.{Op}
+use Rattle.acc_batch.specs.declared.label.Label.{Label}
+use Rattle.acc_batch.specs.declared.label.OpLabel.{OpLabel}
 use Rattle.acc_host.specs.declared.program.HostProgram.{HostProgram}
 use Rattle.acc_host.specs.declared.state.HostState.{HostState}
 use Rattle.acc_host.specs.declared.state.Reply.{Reply}
 use Rattle.acc_host.specs.Hosts.{HostView}
-use Rattle.acc_core.specs.declared.event.Event.{Event}
-use Rattle.acc_core.specs.declared.event.Event.TheVariants as event
+use Rattle.acc_host.specs.declared.event.Event.{Event}
+use Rattle.acc_host.specs.declared.event.Event.TheVariants as event
 use Rattle.acc_core.specs.Following.{AllStand}
 use Rattle.acc_core.specs.Legality.{Legal}
 use Rattle.acc_base.specs.Queues.{queue_count}
 use Rattle.acc_host.specs.declared.state.Reply.TheVariants as reply
-use Rattle.acc_core.specs.Closing.{left_open}
-use Rattle.acc_core.specs.Machine.{State, Outcome, Step, Runs, standing_of, labels_of, is_there, held, rest, can_perform, take_step, perform_step, queue_step, step}
-use Rattle.acc_core.specs.Worlds.{AreNumbered, opening, IsWorld, Ran}
-use Rattle.acc_core.proofs.ClosingAtOnce.{close_is}
-use Rattle.acc_core.proofs.Closing.{closed_beside}
+use Rattle.acc_core.specs.inner.Closing.{left_open}
+use Rattle.acc_core.specs.Machine.{State, Outcome, Step, Runs, standing_of, labels_of, is_there, batches_held, ops_left, can_perform, take_step, perform_step, queue_step, step}
+use Rattle.acc_host.specs.Hosts.{AreNumbered}
+use Rattle.acc_core.specs.Worlds.{first_state, IsWorld, Ran}
+use Rattle.acc_core.proofs.CloseStep.{close_is}
+use Rattle.acc_core.proofs.ClosedState.{closed_beside}
 use Rattle.acc_core.proofs.HostLaws.{HostLaws}
-use Rattle.acc_core.proofs.Keeping.{legal_start, Step-legal, runs_legal}
-use Rattle.acc_core.proofs.Runs.{Runs-cut}
-use Rattle.acc_core.proofs.Stepping.{stands_start, Step-stands, runs_stand, AllStand-follow}
+use Rattle.acc_core.proofs.LegalSteps.{legal_start, Step-legal, runs_legal}
+use Rattle.acc_core.proofs.RunParts.{Runs-cut}
+use Rattle.acc_core.proofs.StandingHosts.{stands_start, Step-stands, runs_stand, AllStand-follow}
 
 -- a world opens
-pub opens : (laws : HostLaws) (config : Configuration) (programs : List HostProgram) (states : List HostState) (room : ℕ) → length programs ≤ MAX_HOSTS → AreNumbered 0 programs → states ≡ [] → length programs ≤ room → IsWorld (opening config programs) states room
+pub opens : (laws : HostLaws) (config : Configuration) (programs : List HostProgram) (states : List HostState) (room : ℕ) → length programs ≤ MAX_HOSTS → AreNumbered 0 programs → states ≡ [] → length programs ≤ room → IsWorld (first_state config programs) states room
 opens laws config programs states room few numbered none enough =
     record {
       few_hosts = simp length-map few;
-      legal = legal_start (opening config programs) refl refl;
+      legal = legal_start (first_state config programs) refl refl;
       stand = stands_start laws config programs numbered;
       no_states = none;
       has_room = simp length-map enough;
@@ -60,11 +61,11 @@ queue_hosts : (there : Bool) (w : State) (hosts : List HostView) (o other : Outc
 queue_hosts true w hosts o other e = e
 queue_hosts false w hosts o other e = refl
 
-take_hosts : (ops : List Op) (w : State) (hosts : List HostView) (labels : List Label) (at : QueueAt) → take_step (record w { hosts = hosts }) labels at ops ≡ with_hosts hosts (take_step w labels at ops)
-take_hosts [] w hosts labels at = choice_hosts (nat_lt 0 (held w labels at)) hosts _ _ _ _ refl refl
+take_hosts : (ops : List OpLabel) (w : State) (hosts : List HostView) (labels : List Label) (at : QueueAt) → take_step (record w { hosts = hosts }) labels at ops ≡ with_hosts hosts (take_step w labels at ops)
+take_hosts [] w hosts labels at = choice_hosts (nat_lt 0 (batches_held w labels at)) hosts _ _ _ _ refl refl
 take_hosts (op ∷ ops) w hosts labels at = refl
 
-perform_hosts : (ops : List Op) (w : State) (hosts : List HostView) (labels : List Label) (at : QueueAt) → perform_step (record w { hosts = hosts }) labels at ops ≡ with_hosts hosts (perform_step w labels at ops)
+perform_hosts : (ops : List OpLabel) (w : State) (hosts : List HostView) (labels : List Label) (at : QueueAt) → perform_step (record w { hosts = hosts }) labels at ops ≡ with_hosts hosts (perform_step w labels at ops)
 perform_hosts [] w hosts labels at = refl
 perform_hosts (op ∷ ops) w hosts labels at =
     choice_hosts (can_perform labels w.work at op) hosts _ _ _ _ refl refl
@@ -73,13 +74,13 @@ perform_hosts (op ∷ ops) w hosts labels at =
 pub takes : (w new : State) (hosts : List HostView) (at : QueueAt) (answer : Reply) → step false w (event.Take at) ≡ record { reply = answer; state = new } → Step (record w { hosts = hosts }) (event.Take at) answer (record new { hosts = hosts })
 takes w new hosts at answer e =
     let labels = labels_of w in
-    (false, queue_hosts (is_there w at) w hosts _ _ (take_hosts (rest w labels at) w hosts labels at) ∙ ap (λ o. with_hosts hosts o) e)
+    (false, queue_hosts (is_there w at) w hosts _ _ (take_hosts (ops_left w labels at) w hosts labels at) ∙ ap (λ o. with_hosts hosts o) e)
 
 -- a queue performs an operation, whichever hosts there are
 pub performs : (w new : State) (hosts : List HostView) (at : QueueAt) (answer : Reply) → step false w (event.Perform at) ≡ record { reply = answer; state = new } → Step (record w { hosts = hosts }) (event.Perform at) answer (record new { hosts = hosts })
 performs w new hosts at answer e =
     let labels = labels_of w in
-    (false, queue_hosts (is_there w at) w hosts _ _ (perform_hosts (rest w labels at) w hosts labels at) ∙ ap (λ o. with_hosts hosts o) e)
+    (false, queue_hosts (is_there w at) w hosts _ _ (perform_hosts (ops_left w labels at) w hosts labels at) ∙ ap (λ o. with_hosts hosts o) e)
 
 -- the owner closes, whichever hosts there are
 pub closes_world : (w new : State) (hosts : List HostView) (answer : Reply) → step false w event.Close ≡ record { reply = answer; state = new } → Step (record w { hosts = hosts }) event.Close answer (record new { hosts = hosts })

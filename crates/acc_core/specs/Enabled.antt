@@ -1,7 +1,7 @@
 -- When a queue of a world can go on, and whether an operation is left.
 use Rattle.std.specs.Prelude.{◌≡◌, Bool, true, false, ◌||◌}
 use Rattle.acc_base.specs.declared.ids.QueueAt.{QueueAt}
-use Rattle.acc_core.specs.declared.event.Event.TheVariants as event
+use Rattle.acc_host.specs.declared.event.Event.TheVariants as event
 use Rattle.acc_core.specs.Machine.{State, labels_of, step}
 use Rattle.acc_host.specs.declared.state.Reply.{Reply}
 use Rattle.acc_host.specs.declared.state.Reply.TheVariants as reply

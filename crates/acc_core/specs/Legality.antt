@@ -5,7 +5,7 @@ use Rattle.acc_place.specs.Directives.{Directive}
 use Rattle.acc_place.specs.declared.directive.Placed.{Placed}
 use Rattle.acc_place.specs.declared.directive.PlaceEntry.{PlaceEntry}
 use Rattle.acc_place.specs.declared.directive.PlaceEntry.TheVariants as noted
-use Rattle.acc_core.specs.declared.event.Event.{Event}
+use Rattle.acc_host.specs.declared.event.Event.{Event}
 use Rattle.acc_host.specs.declared.state.Reply.{Reply}
 use Rattle.acc_host.specs.Engines.{HostEntry, Gave, Had}
 use Rattle.acc_host.specs.Following.{Follows}
@@ -13,7 +13,7 @@ use Rattle.acc_host.specs.Hosts.{HostView, state_of}
 use Rattle.acc_work.specs.declared.log.WorkEntry.{WorkEntry}
 use Rattle.acc_work.specs.declared.log.WorkEntry.TheVariants as entry
 use Rattle.acc_place.specs.Batches.{answer_of}
-use Rattle.acc_batch.specs.declared.operation.Op.{Op}
+use Rattle.acc_batch.specs.declared.label.OpLabel.{OpLabel}
 use Rattle.acc_place.specs.Histories.{AllAccepted, standing}
 use Rattle.acc_place.specs.Sound.{is_close}
 use Rattle.acc_work.specs.Lives.{AllLive}
@@ -58,7 +58,7 @@ AllRise w = (h : ℕ) → Rise 0 (own_of w.config h w.history w.counts) (length 
 -- Nothing of a queue is performed behind its close.
 abbrev pub NothingBehind : List WorkEntry → Type 0
 NothingBehind [] = Unit {0}
-NothingBehind (entry.Op at op ∷ before) = All (λ (o : Op). is_close o ≡ false) (performed at before) × NothingBehind before
+NothingBehind (entry.Op at op ∷ before) = All (λ (o : OpLabel). is_close o ≡ false) (performed at before) × NothingBehind before
 NothingBehind (entry.Item host shown ∷ before) = NothingBehind before
 
 pub record Legal (w : State) : Type 0 where
@@ -71,14 +71,14 @@ pub record Legal (w : State) : Type 0 where
   pub behind : NothingBehind w.work
 
 -- the directives in their order, each behind as many items as its count says; `gone` items stand already
-abbrev pub merged : ℕ → List Own → List HostEntry → List HostEntry
-merged gone [] items = items
-merged gone (o ∷ os) items =
+abbrev pub entries_merged : ℕ → List Own → List HostEntry → List HostEntry
+entries_merged gone [] items = items
+entries_merged gone (o ∷ os) items =
     take (o.items_before - gone) items
-    ++ Gave o.directive o.placed ∷ merged o.items_before os (drop (o.items_before - gone) items)
+    ++ Gave o.directive o.placed ∷ entries_merged o.items_before os (drop (o.items_before - gone) items)
 
 abbrev pub entries_of : State → ℕ → List HostEntry
-entries_of w host = merged 0 (own_of w.config host w.history w.counts) (items_shown host w.work)
+entries_of w host = entries_merged 0 (own_of w.config host w.history w.counts) (items_shown host w.work)
 
 -- Each host's entries follow its program, as far as the host has come.
 abbrev pub AllFollow : State → ℕ → List HostView → Type 0

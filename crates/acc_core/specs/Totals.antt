@@ -1,12 +1,12 @@
 -- What is told of a queue: its close is apart.
 use Rattle.std.specs.Prelude.{Bool, not, nat_lt, List, length}
 use Rattle.std.specs.List.{filter}
-use Rattle.acc_batch.specs.declared.operation.Label.{Label}
-use Rattle.acc_batch.specs.declared.operation.Op.{Op}
+use Rattle.acc_batch.specs.declared.label.Label.{Label}
+use Rattle.acc_batch.specs.declared.label.OpLabel.{OpLabel}
 use Rattle.acc_place.specs.Sound.{is_close}
 
 -- operations, but for closes
-abbrev pub plain_ops : List Op → List Op
+abbrev pub plain_ops : List OpLabel → List OpLabel
 plain_ops ops = filter (λ op. not (is_close op)) ops
 
 -- a batch has another operation than a close

@@ -2,19 +2,14 @@
 use Rattle.std.specs.Prelude.{◌≡◌, ℕ, ◌+◌, ◌≤◌, List, [], ◌∷◌, ◌++◌, length, map}
 use Rattle.acc_base.specs.declared.config.TheConstants.{MAX_HOSTS}
 use Rattle.acc_base.specs.Configurations.{Configuration}
-use Rattle.acc_core.specs.declared.event.Event.{Event}
+use Rattle.acc_host.specs.declared.event.Event.{Event}
 use Rattle.acc_host.specs.declared.state.Reply.{Reply}
 use Rattle.acc_host.specs.declared.program.HostProgram.{HostProgram}
 use Rattle.acc_host.specs.declared.state.HostState.{HostState}
-use Rattle.acc_host.specs.Hosts.{ready}
+use Rattle.acc_host.specs.Hosts.{AreNumbered, ready}
 use Rattle.acc_core.specs.Following.{AllStand}
 use Rattle.acc_core.specs.Legality.{Legal, LegalCut}
 use Rattle.acc_core.specs.Machine.{State, state_at_first, Runs}
-
--- The programs are those of hosts n, n + 1 and so on.
-abbrev pub AreNumbered : ℕ → List HostProgram → Type 0
-AreNumbered n [] = Unit {0}
-AreNumbered n (program ∷ programs) = (program.host ≡ n) × AreNumbered (n + 1) programs
 
 -- Each host has one program, and they come in the order of the hosts.
 pub record OnePerHost (config : Configuration) (programs : List HostProgram) : Type 0 where
@@ -22,8 +17,8 @@ pub record OnePerHost (config : Configuration) (programs : List HostProgram) : T
   pub numbered : AreNumbered 0 programs
 
 -- Nothing is accepted, performed, taken or shown, and each host is ready for its first statement.
-abbrev pub opening : Configuration → List HostProgram → State
-opening config programs = state_at_first config (map ready programs)
+abbrev pub first_state : Configuration → List HostProgram → State
+first_state config programs = state_at_first config (map ready programs)
 
 -- What holds of a world between two steps; `states` has room for a state of each host.
 pub record IsWorld (w : State) (states : List HostState) (room : ℕ) : Type 0 where

@@ -1,29 +1,31 @@
+//! The place, the queues and the work side as one: the machine without its hosts, and their engine.
+
 ghost use Rattle.std.specs.Prelude.{reverse, ◌≡◌, ◌+◌, ◌<◌, ◌≤◌, [], length, IfOk, IfErr, OnOk, OnErr, OnSome, true, false, slice_get, IsTrue, ◌^◌, Ok};
 ghost use Rattle.acc_base.specs.declared.config.TheConstants.{MAX_HOSTS};
 ghost use Rattle.acc_host.specs.Engines.{Wait, Record, MayRecord, without_item};
-ghost use Rattle.acc_core.specs.Answers.{Makes, Places};
+ghost use Rattle.acc_core.specs.inner.Answers.{Makes, Places};
 ghost use Rattle.acc_core.specs.Enabled.{is_enabled, is_left, SomeEnabled};
 ghost use Rattle.acc_core.specs.Legality.{AllRise};
-ghost use Rattle.acc_core.specs.Ties.{has_cells, HasRoom};
+ghost use Rattle.acc_core.specs.inner.Ties.{has_cells, HasRoom};
 ghost use Rattle.acc_core.specs.Totals.{plain_batches, plain_ops};
 ghost use Rattle.acc_place.specs.Histories.{is_closed, IsQueue};
 ghost use Rattle.acc_base.specs.Queues.{queue_count};
 ghost use Rattle.acc_work.specs.Works.{HasMadeRoom};
 ghost use Rattle.acc_batch.specs.Labels.{on_queue, ops_of};
 ghost use Rattle.acc_work.specs.Logs.{all_done, performed};
-ghost use Rattle.acc_core.specs.Closing.{begins, closes_one};
+ghost use Rattle.acc_core.specs.inner.Closing.{closing_begun, closes_one};
 ghost use Rattle.acc_core.specs.Machine.{state_at_first, step, standing_of, labels_of};
 ghost use Rattle.std.specs.Option.{option_map};
 ghost use Rattle.acc_present.specs.Presences.{presences, holder};
 ghost use Rattle.acc_present.specs.Tables.{entry_presence};
 
-use crate::queue::{Queue, queue_at, queues_of, waiting_in};
+use crate::queue::{Queue, queues_of, waiting_in};
 use crate::totals::Totals;
-use acc_base::{Config, DeviceId, Fault, HostId, QUEUES, QueueAt, Range};
+use acc_base::{Config, DeviceId, Fault, HostId, QUEUES, QueueAt, QueueCounts, Range};
 use acc_host::{Engine, Reply};
 use acc_place::{Directive, Place, PlaceEntry, Placed};
 use acc_present::Entry;
-use acc_work::{Done, Item, Plain, Shown, Work, WorkEntry};
+use acc_work::{Done, Item, ItemLabel, Shown, Work, WorkEntry};
 use std::alloc::Global;
 use std::marker::Model;
 
@@ -44,7 +46,7 @@ pub struct Accelerator {
 impl Model for Accelerator {
     ghost use Rattle.std.specs.Coded.{codes};
     ghost use Rattle.acc_core.specs.Machine.{State};
-    ghost use Rattle.acc_core.specs.Ties.{state_of_parts, HasCloses, IsAccelerator};
+    ghost use Rattle.acc_core.specs.inner.Ties.{state_of_parts, HasCloses, IsAccelerator};
     ghost use Rattle.acc_kernel.specs.contracts.expr.Expr as expr;
 
     ghost Value = { State };
@@ -58,20 +60,20 @@ impl Model for Accelerator {
 
 impl Accelerator {
     ghost use Rattle.acc_base.specs.declared.fault.Fault.TheVariants.{Memory as no_memory};
-    ghost use Rattle.acc_core.specs.declared.event.Event.TheVariants as event;
+    ghost use Rattle.acc_host.specs.declared.event.Event.TheVariants as event;
 
     /// Nothing is accepted, performed or shown yet. There is the memory that closing needs.
     ///
     /// # Errors
     ///
     /// `Memory` where memory is refused.
-    pub fn new(alloc: Global, config: Config) -> Result<Accelerator, Fault>
+    pub(crate) fn new(alloc: Global, config: Config) -> Result<Accelerator, Fault>
         ensures opened { IfOk result (λ a. a ≡ state_at_first config []) }
         ensures fault { IfErr result (λ f. f ≡ no_memory) }
     {
         let mut work = Work::new(alloc, &config)?;
         let queues = queues_of(alloc, &config)?;
-        work.keeps_order();
+        work.keeps();
         spare_closes(&mut work, &config)?;
         let waiting = queues.len();
         Ok(Accelerator {
@@ -89,7 +91,7 @@ impl Accelerator {
         requires { host < MAX_HOSTS }
         ensures { Places self.old host directive.now result self.new }
     {
-        self.work.keeps_order();
+        self.work.keeps();
         let items_done = self.work.items_of(host);
         let mut plan = self.place.plan(host, items_done, directive)?;
         match plan.take_batch() {
@@ -115,7 +117,7 @@ impl Accelerator {
     }
 
     // The counts of items that go with the directives rise.
-    fn keeps_counts(&self)
+    fn keeps(&self)
         ensures { AllRise self.now }
     {
         let _ = &self.work;
@@ -129,20 +131,20 @@ impl Accelerator {
         ensures refused { OnErr result (self.new ≡ self.old) }
         ensures back { IfErr result (λ r. r.0 ≡ item) }
     {
-        self.work.keeps_order();
+        self.work.keeps();
         if let Err(fault) = self.work.spare_item(self.waiting) {
             return Err((item, fault));
         }
         let config = self.place.config();
-        if !has_cells(config, item.plain()) {
+        if !has_cells(config, item.label()) {
             return Err((item, Fault::BadRange));
         }
-        config.keeps_limits();
+        config.keeps();
         Ok(self.work.host_item(host, item))
     }
 
     // Records that each queue of a device has performed so many batches, if it has.
-    fn see(&mut self, host: HostId, device: DeviceId, counts: [u64; 8]) -> Result<bool, Fault>
+    fn see(&mut self, host: HostId, device: DeviceId, counts: QueueCounts) -> Result<bool, Fault>
         requires host { host < MAX_HOSTS }
         ensures makes { Makes self.old host (Wait device counts result) self.new }
         ensures refused { OnErr result (self.new ≡ self.old) }
@@ -151,7 +153,7 @@ impl Accelerator {
         if !self.reached(device, &counts) {
             return Ok(false);
         }
-        self.work.keeps_order();
+        self.work.keeps();
         let item = Item::seen(self.alloc, device, counts)?;
         self.work.spare_item(self.waiting)?;
         let _ = self.work.host_item(host, item);
@@ -159,7 +161,7 @@ impl Accelerator {
     }
 
     /// The structured and the dynamic counter on a device of the range, or of the present range that contains it.
-    pub fn counters(&self, device: DeviceId, range: Range) -> Option<(u64, u64)>
+    pub(crate) fn counters(&self, device: DeviceId, range: Range) -> Option<(u64, u64)>
         requires device { device < self.now.config.devices }
         requires cells { 0 < range.len }
         ensures { result ≡ option_map (λ p. (p.s, p.d)) (holder (presences ((standing_of self.now).marks device)) range) }
@@ -167,23 +169,23 @@ impl Accelerator {
         self.place.counters(device, range)
     }
 
-    /// The present range at this place on a device, by array, then by lower bound.
-    pub fn nth(&self, device: DeviceId, place: usize) -> Option<&Entry>
+    /// The present range with this index on a device, by array, then by lower bound.
+    pub(crate) fn nth(&self, device: DeviceId, index: usize) -> Option<&Entry>
         requires { device < self.now.config.devices }
-        ensures entry { option_map (λ e. entry_presence e.now) result ≡ slice_get (presences ((standing_of self.now).marks device)) place }
-        ensures next { OnSome result (place + 1 < 2 ^ 64) }
+        ensures entry { option_map (λ e. entry_presence e.now) result ≡ slice_get (presences ((standing_of self.now).marks device)) index }
+        ensures next { OnSome result (index + 1 < 2 ^ 64) }
     {
-        self.place.nth(device, place)
+        self.place.nth(device, index)
     }
 
-    pub fn config(&self) -> &Config
+    pub(crate) fn config(&self) -> &Config
         ensures { result.now ≡ self.now.config }
     {
         self.place.config()
     }
 
     /// What was performed and shown so far, the first entry first.
-    pub fn log(&self) -> &[WorkEntry]
+    pub(crate) fn log(&self) -> &[WorkEntry]
         ensures { result.now ≡ reverse self.now.work }
     {
         self.work.log()
@@ -191,14 +193,14 @@ impl Accelerator {
 
     /// How many batches of directives were placed on a queue, how many operations they have, and how many of these are
     /// performed.
-    pub fn totals(&self, at: QueueAt) -> Totals
+    pub(crate) fn totals(&self, at: QueueAt) -> Totals
         ensures batches { result.batches ≡ length (plain_batches (on_queue at (labels_of self.now))) }
         ensures operations { result.operations ≡ length (plain_ops (ops_of (on_queue at (labels_of self.now)))) }
         ensures performed { result.performed ≡ length (plain_ops (performed at self.now.work)) }
     {
-        self.work.keeps_order();
+        self.work.keeps();
         let QueueAt { device, queue } = at;
-        let performed = self.work.performed(QueueAt { device, queue });
+        let performed = self.work.ops_performed(QueueAt { device, queue });
         let waiting = self.waiting_on(QueueAt { device, queue });
         let close = u64::from(self.place.is_closed(QueueAt { device, queue }));
         // the close is the last that its queue performs
@@ -215,27 +217,27 @@ impl Accelerator {
         ensures count { length (performed at self.now.work) + result ≡ length (ops_of (on_queue at (labels_of self.now))) }
         ensures room { length (performed at self.now.work) + result < 2 ^ 64 }
     {
-        self.work.keeps_order();
+        self.work.keeps();
         waiting_in(self.queues.as_slice(), at)
     }
 
     /// Whether each queue of a device has performed its count of batches.
-    pub fn reached(&self, device: DeviceId, counts: &[u64; 8]) -> bool
+    pub(crate) fn reached(&self, device: DeviceId, counts: &QueueCounts) -> bool
         ensures { result ≡ all_done (labels_of self.now) self.now.work device 0 counts.now }
     {
-        self.work.keeps_order();
+        self.work.keeps();
         self.work.all_reached(device, counts)
     }
 
     /// A queue takes a batch.
-    pub fn take(&mut self, at: QueueAt) -> Reply
+    pub(crate) fn take(&mut self, at: QueueAt) -> Reply
         ensures { step false self.old (event.Take at) ≡ record { reply = result; state = self.new } }
     {
         let QueueAt { device, queue } = at;
         if !self.place.config().has_queue(QueueAt { device, queue }) {
             return Reply::Idle;
         }
-        self.work.keeps_order();
+        self.work.keeps();
         if !self.work.lane_empty(QueueAt { device, queue }) {
             return Reply::Idle;
         }
@@ -250,18 +252,18 @@ impl Accelerator {
     }
 
     /// A queue performs an operation.
-    pub fn perform(&mut self, at: QueueAt) -> Reply
+    pub(crate) fn perform(&mut self, at: QueueAt) -> Reply
         ensures { step false self.old (event.Perform at) ≡ record { reply = result; state = self.new } }
     {
         let QueueAt { device, queue } = at;
         if !self.place.config().has_queue(QueueAt { device, queue }) {
             return Reply::Idle;
         }
-        self.work.keeps_order();
+        self.work.keeps();
         let seat = QueueAt { device, queue }.seat();
         match self.work.perform(QueueAt { device, queue }) {
             Done::Op => {
-                self.queues[seat].performed();
+                self.queues[seat].count_performed();
                 self.waiting -= 1;
                 Reply::Did
             }
@@ -270,13 +272,13 @@ impl Accelerator {
     }
 
     /// The owner closes.
-    pub fn close(&mut self) -> Reply
+    pub(crate) fn close(&mut self) -> Reply
         ensures { step false self.old event.Close ≡ record { reply = result; state = self.new } }
     {
         self.begin_closing();
         let mut remaining = 0u32;
-        for place in 0..u16::from(self.config().devices()) * u16::from(QUEUES) {
-            if !self.close_queue(queue_at(place)) {
+        for index in 0..u16::from(self.config().devices()) * u16::from(QUEUES) {
+            if !self.close_queue(QueueAt::at_seat(index)) {
                 remaining += 1;
             }
         }
@@ -285,7 +287,7 @@ impl Accelerator {
 
     // Closing begins, if it hasn't.
     fn begin_closing(&mut self)
-        ensures state { self.new ≡ begins self.old }
+        ensures state { self.new ≡ closing_begun self.old }
         ensures closing { (standing_of self.new).closing ≡ true }
     {
         self.place.close_begin();
@@ -298,7 +300,7 @@ impl Accelerator {
         ensures state { self.new ≡ closes_one self.old at }
         ensures closed { result ≡ is_closed (standing_of self.new) at }
     {
-        self.work.keeps_order();
+        self.work.keeps();
         let QueueAt { device, queue } = at;
         match self.place.close_batch(QueueAt { device, queue }) {
             None => true,
@@ -317,14 +319,14 @@ impl Accelerator {
     }
 
     /// Whether a queue can take a batch or perform an operation.
-    pub fn enabled(&self, at: QueueAt) -> bool
+    pub(crate) fn enabled(&self, at: QueueAt) -> bool
         ensures { result ≡ is_enabled self.now at }
     {
         let QueueAt { device, queue } = at;
         if !self.place.config().has_queue(QueueAt { device, queue }) {
             return false;
         }
-        self.work.keeps_order();
+        self.work.keeps();
         if self.work.lane_empty(QueueAt { device, queue }) {
             return self.queues[QueueAt { device, queue }.seat()].len() > 0;
         }
@@ -332,16 +334,16 @@ impl Accelerator {
     }
 
     /// Whether an operation was placed and isn't performed.
-    pub fn any_left(&self) -> bool
+    pub(crate) fn any_left(&self) -> bool
         ensures left { result ≡ is_left self.now }
         ensures enabled { IsTrue result → SomeEnabled self.now }
     {
-        self.work.keeps_order();
+        self.work.keeps();
         self.waiting > self.unclosed
     }
 
     /// The configuration, the place history with its counts, and the work log, the latest last.
-    pub fn into_histories(self) -> (Config, Vec<PlaceEntry>, Vec<u64>, Vec<WorkEntry>)
+    pub(crate) fn into_histories(self) -> (Config, Vec<PlaceEntry>, Vec<u64>, Vec<WorkEntry>)
         ensures config { result.0 ≡ self.config }
         ensures history { result.1.items ≡ reverse self.history }
         ensures counts { result.2.items ≡ reverse self.counts }
@@ -356,7 +358,7 @@ impl Accelerator {
 impl Engine for Accelerator {
     ghost use Rattle.std.specs.Prelude.{◌≡◌, ◌<◌};
     ghost use Rattle.acc_base.specs.declared.config.TheConstants.{MAX_HOSTS};
-    ghost use Rattle.acc_core.specs.Answers.{Makes};
+    ghost use Rattle.acc_core.specs.inner.Answers.{Makes};
     ghost use Rattle.acc_core.specs.Legality.{entries_of};
 
     ghost devices = { λ w. w.config.devices };
@@ -368,7 +370,7 @@ impl Engine for Accelerator {
     ghost makes = { Makes };
 
     fn place(&mut self, host: HostId, directive: &Directive) -> Result<Placed, Fault> {
-        self.keeps_counts();
+        self.keeps();
         self.accept(host, directive)
     }
 
@@ -376,14 +378,14 @@ impl Engine for Accelerator {
         &mut self,
         host: HostId,
         device: DeviceId,
-        counts: [u64; 8],
+        counts: QueueCounts,
     ) -> Result<bool, Fault> {
-        self.keeps_counts();
+        self.keeps();
         self.see(host, device, counts)
     }
 
     fn item(&mut self, host: HostId, item: Item) -> Result<Shown, (Item, Fault)> {
-        self.keeps_counts();
+        self.keeps();
         self.record(host, item)
     }
 
@@ -393,17 +395,17 @@ impl Engine for Accelerator {
 }
 
 // Whether the cells of an item are there.
-fn has_cells(config: &Config, item: Plain) -> bool
+fn has_cells(config: &Config, item: ItemLabel) -> bool
     ensures { result ≡ has_cells config.now.arrays item }
 {
     match item {
-        Plain::Write { array, cell, .. } => config.is_in_array(Range {
+        ItemLabel::Write { array, cell, .. } => config.has_range(Range {
             array,
             lo: cell,
             len: 1,
         }),
-        Plain::Print { range } => config.is_in_array(range),
-        Plain::Seen { .. } | Plain::Test { .. } => true,
+        ItemLabel::Print { range } => config.has_range(range),
+        ItemLabel::Seen { .. } | ItemLabel::Test { .. } => true,
     }
 }
 
@@ -416,8 +418,8 @@ fn spare_closes(work: &mut Work, config: &Config) -> Result<(), Fault>
     ensures fault { IfErr result (λ f. f ≡ Fault.Memory) }
 {
     let count = u16::from(config.devices()) * u16::from(QUEUES);
-    for place in 0..count {
-        work.spare(queue_at(place), usize::from(count))?;
+    for index in 0..count {
+        work.spare(QueueAt::at_seat(index), usize::from(count))?;
     }
     Ok(())
 }

@@ -1,8 +1,10 @@
-ghost use Rattle.acc_core.specs.CloseExamples.{LateIsRefused, FullIsClosedLater, HostsGoOn};
-ghost use Rattle.acc_core.specs.Examples.{EnteredTwice, OverlapRefused, StaleHostCopy, LoopRuns, LoopOnPresent};
+//! Laws over the definitions.
+
+ghost use Rattle.acc_core.specs.worked.Closes.{LateIsRefused, FullIsClosedLater, HostsGoOn};
+ghost use Rattle.acc_core.specs.worked.Programs.{EnteredTwice, OverlapRefused, StaleHostCopy, LoopRuns, LoopOnPresent};
 ghost use Rattle.acc_core.specs.Machine.{EachQueueIsCounted};
-ghost use Rattle.acc_core.specs.HostExamples.{OneHostIsRefused, LoopIsDoneAtTheWait, QuestionsTellTheirMoment};
-ghost use Rattle.acc_core.specs.QueueExamples.{UseAwaitsItsMaker, ReleaseAwaitsEachUse, AsyncValuesNameQueues, DefaultQueueRunsInOrder, WaitsAreBatches, CapacityIsOfWhatIsPresent};
+ghost use Rattle.acc_core.specs.worked.Hosts.{OneHostIsRefused, LoopIsDoneAtTheWait, QuestionsTellTheirMoment};
+ghost use Rattle.acc_core.specs.worked.Queues.{UseAwaitsItsMaker, ReleaseAwaitsEachUse, AsyncValuesNameQueues, DefaultQueueRunsInOrder, WaitsAreBatches, CapacityIsOfWhatIsPresent};
 
 /// The machine computed on five programs: a range that enters twice and leaves once, a range that
 /// overlaps a present one, a host write under a present range, a loop with clauses that runs where another one is

@@ -2,21 +2,19 @@
 #![tactic(auto)]
 
 mod accelerator;
-mod event;
 mod laws;
 mod queue;
 mod totals;
 mod world;
 
-pub use acc_batch::{Label, Op};
-pub use acc_host::{Act, HostProgram, HostState, Outcome, Reply, Statement};
+pub use acc_batch::{Label, OpLabel};
+pub use acc_host::{Act, Event, HostProgram, HostState, Outcome, Reply, Statement};
 pub use acc_place::{
-    ASYNC_NOVAL, Clause, Directive, Item, Kind, MAX_DIRECTIVES, MAX_ITEMS, MAX_REGIONS, PlaceEntry,
-    Placed, Region, Target, Waits, Written,
+    ASYNC_NOVAL, Clause, DataItem, Directive, Kind, MAX_DIRECTIVES, MAX_ITEMS, MAX_REGIONS,
+    PlaceEntry, Placed, Region, Target, Waits, Written,
 };
 pub use acc_present::Entry;
 pub use acc_work::{Counts, MAX_HOST_ITEMS, Told, WorkEntry};
-pub use event::Event;
 pub use laws::{
     each_queue_is_counted, worked_closes, worked_hosts, worked_programs, worked_queues,
 };

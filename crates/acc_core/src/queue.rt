@@ -1,8 +1,9 @@
+//! The batches that a queue holds, and how many of its operations wait.
+
 ghost use Rattle.std.specs.Prelude.{◌≡◌, ◌+◌, ◌*◌, ◌-◌, ◌<◌, ◌≤◌, [], ◌∷◌, List, All, length, IfOk, IfErr, IfSome, IfNone, ◌^◌};
 ghost use Rattle.acc_base.specs.declared.ids.TheConstants.{QUEUES};
-ghost use Rattle.acc_batch.specs.declared.operation.Label.{Label};
-ghost use Rattle.acc_core.specs.Machine.{queue_at};
-ghost use Rattle.acc_core.specs.Queues.{IsEmptyQueue, pushed, queue_in};
+ghost use Rattle.acc_batch.specs.declared.label.Label.{Label};
+ghost use Rattle.acc_core.specs.inner.Queues.{IsEmptyQueue, queue_pushed, queue_in};
 
 use acc_base::{Config, DeviceId, Fault, QUEUES, QueueAt, QueueId};
 use acc_batch::Batch;
@@ -12,7 +13,7 @@ use std::marker::Model;
 
 /// The batches of a queue that were placed and not taken, and how many of its operations were placed and aren't performed.
 #[derive(Drop)]
-pub(crate) struct Queue {
+pub struct Queue {
     batches: VecDeque<Batch>,
     waiting: usize,
 }
@@ -20,7 +21,7 @@ pub(crate) struct Queue {
 impl Model for Queue {
     ghost use Rattle.std.specs.Coded.{codes};
     ghost use Rattle.std.specs.VecDeque.{deque_capacity};
-    ghost use Rattle.acc_core.specs.Queues.{QueueView};
+    ghost use Rattle.acc_core.specs.inner.Queues.{QueueView};
     ghost use Rattle.acc_kernel.specs.contracts.expr.Expr as expr;
 
     ghost Value = { QueueView };
@@ -38,7 +39,7 @@ impl Queue {
     /// # Errors
     ///
     /// `Memory` where memory is refused.
-    pub fn new(alloc: Global, room: usize) -> Result<Self, Fault>
+    pub(crate) fn new(alloc: Global, room: usize) -> Result<Self, Fault>
         ensures empty { IfOk result (IsEmptyQueue room) }
         ensures fault { IfErr result (λ fault. fault ≡ Memory) }
     {
@@ -51,31 +52,31 @@ impl Queue {
     }
 
     /// How many batches it holds.
-    pub fn len(&self) -> usize
+    pub(crate) fn len(&self) -> usize
         ensures { result ≡ length self.now.held }
     {
         self.batches.len()
     }
 
     /// How many operations wait.
-    pub fn waiting(&self) -> usize
+    pub(crate) fn ops_waiting(&self) -> usize
         ensures { result ≡ self.now.waiting }
     {
         self.waiting
     }
 
     /// Puts a batch of so many operations behind the others.
-    pub fn push(&mut self, batch: Batch, count: usize)
+    pub(crate) fn push(&mut self, batch: Batch, count: usize)
         requires room { length self.old.held < self.old.room }
         requires few { self.old.waiting + count < 2 ^ 64 }
-        ensures { self.new ≡ pushed self.old batch count }
+        ensures { self.new ≡ queue_pushed self.old batch count }
     {
         self.batches.push_back_reserved(batch);
         self.waiting += count;
     }
 
     /// Takes the first batch out.
-    pub fn pop(&mut self) -> Option<Batch>
+    pub(crate) fn pop(&mut self) -> Option<Batch>
         ensures next { IfSome result (λ batch. (held : List Label) × (self.old.held ≡ batch ∷ held) × (self.new ≡ record self.old { held = held })) }
         ensures none { IfNone result ((self.old.held ≡ []) × (self.new ≡ self.old)) }
     {
@@ -83,7 +84,7 @@ impl Queue {
     }
 
     /// Counts one operation fewer.
-    pub fn performed(&mut self)
+    pub(crate) fn count_performed(&mut self)
         requires { 0 < self.old.waiting }
         ensures { self.new ≡ record self.old { waiting = self.old.waiting - 1 } }
     {
@@ -108,17 +109,6 @@ pub(crate) fn queues_of(alloc: Global, config: &Config) -> Result<Vec<Queue>, Fa
     Ok(queues)
 }
 
-/// The queue at this place among those of all devices.
-pub(crate) fn queue_at(place: u16) -> QueueAt
-    requires { place < 2048 }
-    ensures { result ≡ queue_at place }
-{
-    QueueAt {
-        device: DeviceId::new((place / 8) as u8),
-        queue: QueueId::new((place % 8) as u8),
-    }
-}
-
 /// How many operations of a queue wait; none of one that isn't there.
 pub(crate) fn waiting_in(queues: &[Queue], at: QueueAt) -> usize
     ensures { result ≡ (queue_in queues.now at).waiting }
@@ -127,7 +117,7 @@ pub(crate) fn waiting_in(queues: &[Queue], at: QueueAt) -> usize
         return 0;
     }
     match queues.get(at.seat()) {
-        Some(queue) => queue.waiting(),
+        Some(queue) => queue.ops_waiting(),
         None => 0,
     }
 }

@@ -1,3 +1,5 @@
+//! The hosts, and the accelerator that they share.
+
 ghost use Rattle.std.specs.Prelude.{List, ◌≡◌, ◌+◌, ◌<◌, ◌≤◌, length, map, All, reverse, slice_get, IfOk, IfErr, IsTrue, OnErr, OnSome, true, false, ◌^◌};
 ghost use Rattle.std.specs.Option.{option_map};
 ghost use Rattle.acc_present.specs.Presences.{presences, holder};
@@ -11,13 +13,12 @@ ghost use Rattle.acc_host.specs.Hosts.{ready, state_of};
 ghost use Rattle.acc_batch.specs.Labels.{on_queue, ops_of};
 ghost use Rattle.acc_work.specs.Logs.{performed};
 ghost use Rattle.acc_core.specs.Totals.{plain_batches, plain_ops};
-ghost use Rattle.acc_core.specs.Worlds.{OnePerHost, opening, Ran};
+ghost use Rattle.acc_core.specs.Worlds.{OnePerHost, first_state, Ran};
 
 use crate::accelerator::Accelerator;
-use crate::event::Event;
 use crate::totals::Totals;
 use acc_base::{Config, DeviceId, Fault, HostId, QueueAt, Range};
-use acc_host::{Host, HostProgram, HostState, Outcome, Reply, hosts_follow};
+use acc_host::{Event, Host, HostProgram, HostState, Outcome, Reply, hosts_follow};
 use acc_present::Entry;
 use acc_work::WorkEntry;
 use std::alloc::Global;
@@ -60,11 +61,11 @@ impl World {
     /// `Memory` for want of memory.
     pub fn new(alloc: Global, config: Config, programs: Vec<HostProgram>) -> Result<World, Fault>
         requires { OnePerHost config programs.items }
-        ensures opened { IfOk result (λ w. w ≡ opening config programs.items) }
+        ensures opened { IfOk result (λ w. w ≡ first_state config programs.items) }
         ensures refused { IfErr result (λ fault. fault ≡ Memory) }
     {
         hosts_follow();
-        config.keeps_limits();
+        config.keeps();
         let states = Vec::with_capacity(alloc, programs.len())?;
         let hosts = ready_hosts(alloc, programs)?;
         let accelerator = Accelerator::new(alloc, config)?;
@@ -137,13 +138,13 @@ impl World {
         self.accelerator.counters(device, range)
     }
 
-    /// The present range at this place, from 0, by array, then by lower bound, on a device that is there.
-    pub fn nth(&self, device: DeviceId, place: usize) -> Option<&Entry>
+    /// The present range with this index, from 0, by array, then by lower bound, on a device that is there.
+    pub fn nth(&self, device: DeviceId, index: usize) -> Option<&Entry>
         requires { device < self.now.config.devices }
-        ensures entry { option_map (λ e. entry_presence e.now) result ≡ slice_get (presences ((standing_of self.now).marks device)) place }
-        ensures next { OnSome result (place + 1 < 2 ^ 64) }
+        ensures entry { option_map (λ e. entry_presence e.now) result ≡ slice_get (presences ((standing_of self.now).marks device)) index }
+        ensures next { OnSome result (index + 1 < 2 ^ 64) }
     {
-        self.accelerator.nth(device, place)
+        self.accelerator.nth(device, index)
     }
 
     /// How many devices there are.

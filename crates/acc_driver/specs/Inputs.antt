@@ -1,17 +1,6 @@
 -- How much of a text is read, and one text that holds a script and a schedule.
 use Rattle.std.specs.Prelude.{◌≡◌, ℕ, ◌+◌, ◌≤◌, Bool, true, false, ◌&&◌, ◌==◌, nat_lt, List, [], ◌∷◌, ◌++◌, length, take, count_by, Option, Result, codes, bytes_eq, if◌then◌else◌}
 use Rattle.std.specs.Io.KnownBytes.{Consumes, IsAtEnd}
-use Rattle.acc_driver.specs.declared.fault.ReadFault.{ReadFault}
-use Rattle.acc_driver.specs.declared.fault.ReadKind.TheVariants.{Limit}
-use Rattle.acc_driver.specs.Faults.{fails}
-
-abbrev pub line_feeds : List ℕ → ℕ
-line_feeds text = count_by (λ b. b == 10) text
-
--- A text that is too long is told by the line that its first bytes, up to the limit, end in.
-abbrev pub within : {A : Type 0} → ℕ → (List ℕ → Result A ReadFault) → List ℕ → Result A ReadFault
-within limit read text =
-    if nat_lt limit (length text) then fails (1 + line_feeds (take limit text)) Limit else read text
 
 -- One turn of reading: the bytes that the reader gave, as many as there was room for at most, stand behind the text,
 -- and no more follow only at the reader's end.

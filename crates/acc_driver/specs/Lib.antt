@@ -1,16 +1,4 @@
-pub mod Arrays
-pub mod Faults
 pub mod Inputs
-pub mod Puts
-pub mod RangeSpellings
-pub mod ReplayExamples
 pub mod Replays
 pub mod Reports
-pub mod ScheduleExamples
-pub mod Schedules
-pub mod ScriptExamples
-pub mod Scripts
-pub mod SplitExamples
-pub mod Statements
-pub mod Tokens
-pub mod Turns
+pub mod worked

@@ -4,23 +4,37 @@ use Rattle.std.specs.Io.KnownBytes.{Appends}
 use Rattle.std.specs.Option.{option_map}
 use Rattle.acc_base.specs.declared.config.TheConstants.{MAX_CAPACITY, MAX_ROOM}
 use Rattle.acc_base.specs.Configurations.{Configuration, configuration, fault_of}
-use Rattle.acc_core.specs.declared.event.Event.{Event}
+use Rattle.acc_host.specs.declared.event.Event.{Event}
 use Rattle.acc_host.specs.declared.state.Reply.{Reply}
 use Rattle.acc_host.specs.declared.state.HostState.{HostState}
 use Rattle.acc_host.specs.declared.state.HostState.TheVariants as state
 use Rattle.acc_core.specs.Machine.{State, Runs}
-use Rattle.acc_core.specs.Worlds.{opening}
+use Rattle.acc_core.specs.Worlds.{first_state}
 use Rattle.acc_host.specs.Hosts.{state_of}
 use Rattle.acc_driver.specs.declared.fault.DriverFault.{DriverFault}
 use Rattle.acc_driver.specs.declared.fault.DriverFault.TheVariants as fault
-use Rattle.acc_driver.specs.declared.fault.ReadFault.{ReadFault}
+use Rattle.acc_driver.specs.declared.fault.ReplayFault.{ReplayFault}
+use Rattle.acc_driver.specs.declared.fault.ReplayFault.TheVariants as replay
+use Rattle.acc_script.specs.declared.fault.ReadFault.{ReadFault}
 use Rattle.acc_driver.specs.declared.options.Ended.{Ended}
 use Rattle.acc_driver.specs.declared.options.Options.{Options}
 use Rattle.acc_driver.specs.Inputs.{Parts}
-use Rattle.acc_driver.specs.Puts.{AppendsFront}
+use Rattle.acc_report.specs.Puts.{AppendsFront}
 use Rattle.acc_driver.specs.Reports.{report}
-use Rattle.acc_driver.specs.Schedules.{schedule_of}
-use Rattle.acc_driver.specs.Scripts.{Program, script_of}
+use Rattle.acc_script.specs.Schedules.{schedule_of}
+use Rattle.acc_script.specs.Scripts.{Program, script_of}
+
+-- a fault of two texts as one of the input that they were read from
+abbrev pub driver_fault : ReplayFault → DriverFault
+driver_fault (replay.Script f) = fault.Script f
+driver_fault (replay.Schedule f) = fault.Schedule f
+driver_fault replay.Output = fault.Output
+driver_fault replay.Memory = fault.Memory
+driver_fault (replay.Runtime f) = fault.Runtime f
+
+abbrev pub of_input : Result Ended ReplayFault → Result Ended DriverFault
+of_input (Ok ended) = Ok ended
+of_input (Err f) = Err (driver_fault f)
 
 -- what the schedule says to a program
 abbrev pub events_in : Options → Program → List ℕ → Result (List Event) ReadFault
@@ -52,7 +66,7 @@ pub record SaysNoEvents (options : Options) (texts : Parts) (program : Program) 
 -- A run of the machine on the program and the events ends in this state.
 pub record EndsIn (options : Options) (program : Program) (events : List Event) (final : State) : Type 0 where
   pub replies : List Reply
-  pub runs : Runs (opening (configured options program) program.programs) events replies final
+  pub runs : Runs (first_state (configured options program) program.programs) events replies final
 
 abbrev pub is_refused : Option HostState → Bool
 is_refused None = false

@@ -1,71 +1,13 @@
+//! What a run can be refused for.
+
+ghost use Rattle.std.specs.Prelude.{◌≡◌};
+ghost use Rattle.acc_driver.specs.Replays.{driver_fault};
+
 use acc_base::Fault;
-use std::alloc::{AllocError, AllocFailed};
+use acc_script::ReadFault;
 use thiserror::Error;
 
-/// What is wrong with a token of a script, or with a line of a schedule.
-#[derive(Clone, Copy, Debug, PartialEq, Eq)]
-pub enum ReadKind {
-    /// A byte at which nothing begins that can stand there.
-    Text,
-    /// The text ends where more is needed.
-    End,
-    /// A name that is not declared, is declared twice, or is too long.
-    Name,
-    /// A limit is passed.
-    Limit,
-    /// Any other token, word or number.
-    Form,
-}
-
-/// The first fault of a text, with its line, from 1.
-#[derive(Clone, Copy, Debug, PartialEq, Eq, Error)]
-#[error("line {line}: {kind:?}")]
-pub struct ReadFault {
-    pub line: u32,
-    pub kind: ReadKind,
-}
-
-/// Why a text was not read, where reading takes memory.
-#[derive(Clone, Copy, Debug, PartialEq, Eq)]
-pub enum ReadError {
-    Memory,
-    Fault(ReadFault),
-}
-
-impl From<ReadFault> for ReadError {
-    ghost use Rattle.std.specs.Prelude.{◌≡◌};
-    ghost use Rattle.acc_driver.specs.declared.fault.ReadError.TheVariants.{Fault};
-
-    ghost from_gives = { λ fault error. error ≡ Fault fault };
-
-    fn from(fault: ReadFault) -> Self {
-        ReadError::Fault(fault)
-    }
-}
-
-impl From<AllocError> for ReadError {
-    ghost use Rattle.std.specs.Prelude.{◌≡◌};
-    ghost use Rattle.acc_driver.specs.declared.fault.ReadError.TheVariants.{Memory};
-
-    ghost from_gives = { λ _ error. error ≡ Memory };
-
-    fn from(_refused: AllocError) -> Self {
-        ReadError::Memory
-    }
-}
-
-impl<T: Drop> From<AllocFailed<T>> for ReadError {
-    ghost use Rattle.std.specs.Prelude.{◌≡◌};
-    ghost use Rattle.acc_driver.specs.declared.fault.ReadError.TheVariants.{Memory};
-
-    ghost from_gives = { λ _ error. error ≡ Memory };
-
-    fn from(_refused: AllocFailed<T>) -> Self {
-        ReadError::Memory
-    }
-}
-
-/// Why there is no report, or not the whole of it.
+/// Why an input has no report, or not the whole of it.
 #[derive(Clone, Copy, Debug, PartialEq, Eq, Error)]
 pub enum DriverFault {
     #[error("script {0}")]
@@ -83,4 +25,36 @@ pub enum DriverFault {
     /// The configuration, or the run as a whole, was refused.
     #[error("{0}")]
     Runtime(Fault),
+}
+
+/// Why two texts have no report, or not the whole of it. There is no reader that could fail.
+#[derive(Clone, Copy, Debug, PartialEq, Eq, Error)]
+pub enum ReplayFault {
+    #[error("script {0}")]
+    Script(ReadFault),
+    #[error("schedule {0}")]
+    Schedule(ReadFault),
+    /// The writer failed, or took nothing.
+    #[error("cannot write")]
+    Output,
+    #[error("out of memory")]
+    Memory,
+    /// The configuration, or the run as a whole, was refused.
+    #[error("{0}")]
+    Runtime(Fault),
+}
+
+impl ReplayFault {
+    /// The same fault, of an input that the texts were read from.
+    pub fn of_input(self) -> DriverFault
+        ensures { result ≡ driver_fault self }
+    {
+        match self {
+            ReplayFault::Script(fault) => DriverFault::Script(fault),
+            ReplayFault::Schedule(fault) => DriverFault::Schedule(fault),
+            ReplayFault::Output => DriverFault::Output,
+            ReplayFault::Memory => DriverFault::Memory,
+            ReplayFault::Runtime(fault) => DriverFault::Runtime(fault),
+        }
+    }
 }

@@ -1,8 +1,10 @@
+//! Reading to the limit, and the split.
+
 ghost use Rattle.std.specs.Prelude.{◌≡◌, ◌+◌, ◌≤◌, ◌<◌, ◌==◌, not, length, take, OnOk, IfOk, IfErr, IfSome, IsTrue, vec_len};
 ghost use Rattle.std.specs.List.{prefix_len};
-ghost use Rattle.acc_driver.specs.Inputs.{ReadsTurn, line_feeds, is_split_line, behind_line, parts};
+ghost use Rattle.acc_driver.specs.Inputs.{ReadsTurn, is_split_line, behind_line, parts};
 
-use crate::fault::{ReadFault, ReadKind};
+use acc_script::line_len;
 use std::alloc::Global;
 use std::io::{ErrorKind, Read};
 
@@ -13,9 +15,6 @@ pub enum InputFault {
     Read,
     Memory,
 }
-
-/// How many bytes a script or a schedule can have.
-pub const MAX_TEXT: usize = 1_048_576;
 
 // How many bytes one turn asks for.
 const TURN: usize = 4096;
@@ -56,7 +55,7 @@ fn read_turn<R: Read>(
 ///
 /// `Read` where the reader fails, or where no turn is left before its end or the limit is seen; `Memory` for want of
 /// memory.
-pub fn read_text<R: Read>(
+pub(crate) fn read_text<R: Read>(
     alloc: Global,
     reader: &mut R,
     limit: usize,
@@ -84,34 +83,6 @@ pub fn read_text<R: Read>(
     }
 }
 
-/// Tests the length of a text.
-///
-/// # Errors
-///
-/// `Limit` where it has more than `MAX_TEXT` bytes, in the line that the first `MAX_TEXT` of them end in.
-pub fn check_length(text: &[u8]) -> Result<(), ReadFault>
-    ensures fits { OnOk result (length text.now ≤ MAX_TEXT) }
-    ensures long { IfErr result (λ fault. (MAX_TEXT < length text.now) × (fault ≡ record { line = 1 + line_feeds (take MAX_TEXT text.now); kind = ReadKind.Limit })) }
-{
-    if text.len() <= MAX_TEXT {
-        return Ok(());
-    }
-    let (front, _) = text.split_at(MAX_TEXT);
-    let line_feeds = front.iter().filter(|byte| **byte == b'\n').count();
-    Err(ReadFault {
-        line: 1 + line_feeds as u32,
-        kind: ReadKind::Limit,
-    })
-}
-
-/// How many bytes stand before the first line feed.
-pub fn line_len(text: &[u8]) -> usize
-    ensures value { result ≡ prefix_len (λ b. not (b == 10)) text.now }
-    ensures within { result ≤ length text.now }
-{
-    text.iter().take_while(|byte| **byte != b'\n').count()
-}
-
 // Whether the line that begins here is the one at which a text is split.
 fn is_split_line(bytes: &[u8]) -> bool
     ensures { result ≡ is_split_line bytes.now }
@@ -137,7 +108,7 @@ fn behind_split_line(bytes: &[u8]) -> &[u8]
 /// The script and the schedule of one text: it is split at its first line that is exactly `%%`, and without such a
 /// line it is all script.
 #[tactic(auto, unfolding(crate::specs::Inputs::parts))]
-pub fn split(text: &[u8]) -> (&[u8], &[u8])
+pub(crate) fn split(text: &[u8]) -> (&[u8], &[u8])
     ensures script { result.0.now ≡ (parts text.now).script }
     ensures schedule { result.1.now ≡ (parts text.now).schedule }
 {

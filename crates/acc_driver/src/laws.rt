@@ -1,30 +1,11 @@
-ghost use Rattle.acc_driver.specs.RangeSpellings.{RangeIsReadAgain};
-ghost use Rattle.acc_driver.specs.ReplayExamples.{NothingIsReplayed, StaleCopyReport, CountedTwiceReport, OverlapReport, UnfinishedReport};
-ghost use Rattle.acc_driver.specs.ScheduleExamples.{TwentyRounds, OneRound, WiderRound, FaultyLines, ScheduleLimits};
-ghost use Rattle.acc_driver.specs.ScriptExamples.{StaleCopyText, RangeForms, ReadFaults, ScriptLimits};
-ghost use Rattle.acc_driver.specs.SplitExamples.{SplitTexts};
+//! Laws over the definitions.
 
-/// What scripts say, computed on worked texts, and each kind of fault with its line; the limits as numbers.
-pub fn worked_scripts()
-    ensures stale_copy { StaleCopyText }
-    ensures ranges { RangeForms }
-    ensures faults { ReadFaults }
-    ensures limits { ScriptLimits }
-{}
+ghost use Rattle.acc_driver.specs.worked.Replays.{NothingIsReplayed, StaleCopyReport, CountedTwiceReport, OverlapReport, UnfinishedReport};
+ghost use Rattle.acc_driver.specs.worked.Splits.{SplitTexts};
 
-/// A range that is spelled as `NAME[LO:LEN]` is read as that range, whatever follows.
-pub fn range_is_read_again()
-    ensures { RangeIsReadAgain }
-{}
-
-/// What schedules say, and their limits, likewise; and where an input is split.
-pub fn worked_schedules()
-    ensures splits { SplitTexts }
-    ensures twenty_rounds { TwentyRounds }
-    ensures one_round { OneRound }
-    ensures wider_round { WiderRound }
-    ensures faults { FaultyLines }
-    ensures limits { ScheduleLimits }
+/// Where an input is split, computed on worked texts.
+pub fn worked_splits()
+    ensures { SplitTexts }
 {}
 
 /// Inputs with their reports, computed from one to the other.

@@ -1,3 +1,5 @@
+//! What a run is given, and how it ends.
+
 /// What a run is given beside its texts: the number of devices, the cells that each device has for present
 /// ranges, and the room of each queue in batches.
 #[derive(Clone, Copy, Debug, PartialEq, Eq)]

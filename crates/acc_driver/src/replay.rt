@@ -1,19 +1,24 @@
-ghost use Rattle.std.specs.Prelude.{◌≡◌, ◌≤◌, All, IfOk, IfErr, IfSome, length};
-ghost use Rattle.acc_base.specs.Configurations.{rows, configuration};
-ghost use Rattle.acc_core.specs.Worlds.{AreNumbered, opening};
-ghost use Rattle.acc_driver.specs.Arrays.{IsDeclared, texts};
-ghost use Rattle.acc_driver.specs.Inputs.{parts};
-ghost use Rattle.acc_driver.specs.Replays.{Answers, RunAnswers, AreUsable, IsRun, IsOpeningFault, some_refused, is_refused};
-ghost use Rattle.acc_driver.specs.Scripts.{seen};
+//! The path from bytes to bytes, with the faults in their order.
 
-use crate::fault::{DriverFault, ReadError};
+ghost use Rattle.std.specs.Prelude.{◌≡◌, ◌≤◌, All, IfOk, IfErr, IfSome, List, length};
+ghost use Rattle.acc_base.specs.Configurations.{rows, configuration};
+ghost use Rattle.acc_host.specs.Hosts.{AreNumbered};
+ghost use Rattle.acc_core.specs.Worlds.{first_state};
+ghost use Rattle.acc_script.specs.Arrays.{IsDeclared, texts};
+ghost use Rattle.acc_driver.specs.Inputs.{parts};
+ghost use Rattle.acc_core.specs.Machine.{Runs};
+ghost use Rattle.acc_host.specs.declared.state.Reply.{Reply};
+ghost use Rattle.acc_driver.specs.Replays.{Answers, RunAnswers, AreUsable, IsRun, IsOpeningFault, driver_fault, of_input, some_refused, is_refused};
+ghost use Rattle.acc_script.specs.Scripts.{seen};
+
+use crate::fault::{DriverFault, ReplayFault};
 use crate::input::{InputFault, read_text, split};
 use crate::options::{Ended, Options};
 use crate::report::report;
-use crate::schedule::{Schedule, read_schedule};
-use crate::script::{Script, read};
 use acc_base::{Config, Fault, HostId};
-use acc_core::{HostProgram, HostState, World};
+use acc_core::World;
+use acc_host::{HostProgram, HostState};
+use acc_script::{ReadError, Schedule, Script, read, read_schedule};
 use std::alloc::Global;
 use std::io::{Read, Write};
 
@@ -44,34 +49,50 @@ pub fn replay_one<R: Read, W: Write>(
     match read_text(alloc, reader, INPUT_LIMIT, INPUT_TURNS) {
         Ok(text) => {
             let (script, schedule) = split(text.as_slice());
-            replay_texts(alloc, script, schedule, options, writer)
+            of_input(replay_texts(alloc, script, schedule, options, writer))
         }
         Err(InputFault::Read) => Err(DriverFault::Input),
         Err(InputFault::Memory) => Err(DriverFault::Memory),
     }
 }
 
-// The same for the two texts.
-fn replay_texts<W: Write>(
+// The same answer, to the input that the texts were read from.
+fn of_input(answer: Result<Ended, ReplayFault>) -> Result<Ended, DriverFault>
+    ensures { result ≡ of_input answer }
+{
+    match answer {
+        Ok(ended) => Ok(ended),
+        Err(fault) => Err(fault.of_input()),
+    }
+}
+
+/// Runs a schedule on a script, and writes the report: the same for the two texts, already read.
+///
+/// # Errors
+///
+/// The first of: `Script`, `Schedule`, `Runtime` where the options are refused, `Output` where the writer failed or took
+/// nothing, which may have taken a beginning of the report; and `Memory` for want of memory. Nothing is written but for
+/// `Output`.
+pub fn replay_texts<W: Write>(
     alloc: Global,
     script: &[u8],
     schedule: &[u8],
     options: Options,
     writer: &mut W,
-) -> Result<Ended, DriverFault>
-    ensures answers { Answers options (record { script = script.now; schedule = schedule.now }) (W.contents writer.old) (W.contents writer.new) result }
-    ensures run { AreUsable options → IsRun result }
+) -> Result<Ended, ReplayFault>
+    ensures answers { Answers options (record { script = script.now; schedule = schedule.now }) (W.contents writer.old) (W.contents writer.new) (of_input result) }
+    ensures run { AreUsable options → IsRun (of_input result) }
 {
     let script = match read(alloc, script) {
         Ok(script) => script,
-        Err(ReadError::Memory) => return Err(DriverFault::Memory),
-        Err(ReadError::Fault(fault)) => return Err(DriverFault::Script(fault)),
+        Err(ReadError::Memory) => return Err(ReplayFault::Memory),
+        Err(ReadError::Fault(fault)) => return Err(ReplayFault::Script(fault)),
     };
     let hosts = hosts_of(&script.programs);
     let schedule = match read_schedule(alloc, schedule, hosts, options.devices) {
         Ok(schedule) => schedule,
-        Err(ReadError::Memory) => return Err(DriverFault::Memory),
-        Err(ReadError::Fault(fault)) => return Err(DriverFault::Schedule(fault)),
+        Err(ReadError::Memory) => return Err(ReplayFault::Memory),
+        Err(ReadError::Fault(fault)) => return Err(ReplayFault::Schedule(fault)),
     };
     run(alloc, script, &schedule, options, writer)
 }
@@ -83,12 +104,12 @@ fn run<W: Write>(
     schedule: &Schedule,
     options: Options,
     writer: &mut W,
-) -> Result<Ended, DriverFault>
+) -> Result<Ended, ReplayFault>
     requires declared { IsDeclared (record { names = texts script.names.keys; cells = rows script.arrays.items }) }
     requires numbered { AreNumbered 0 script.programs.items }
     requires few { length script.programs.items ≤ 1 }
-    ensures answers { RunAnswers options (seen script.entry) schedule.now (W.contents writer.old) (W.contents writer.new) result }
-    ensures run { AreUsable options → IsRun result }
+    ensures answers { RunAnswers options (seen script.entry) schedule.now (W.contents writer.old) (W.contents writer.new) (of_input result) }
+    ensures run { AreUsable options → IsRun (of_input result) }
 {
     let Script {
         names,
@@ -99,13 +120,23 @@ fn run<W: Write>(
         Ok(world) => world,
         Err(fault) => return Err(fault),
     };
-    schedule.run(&mut world);
+    run_schedule(schedule, &mut world);
     match report(names.as_slice(), &world, writer) {
         Ok(()) => {
             let refused = has_refused(&world);
             Ok(Ended { refused })
         }
-        Err(_) => Err(DriverFault::Output),
+        Err(_) => Err(ReplayFault::Output),
+    }
+}
+
+// A world takes a step for each event of a schedule, in order.
+fn run_schedule(schedule: &Schedule, world: &mut World)
+    ensures { (replies : List Reply) × Runs world.old schedule.now replies world.new }
+{
+    let (turn, times) = schedule.turns();
+    for _ in 0..times {
+        world.advance(turn);
     }
 }
 
@@ -123,20 +154,20 @@ fn open(
     arrays: Vec<Vec<i64>>,
     programs: Vec<HostProgram>,
     options: Options,
-) -> Result<World, DriverFault>
+) -> Result<World, ReplayFault>
     requires few { length programs.items ≤ 1 }
     requires numbered { AreNumbered 0 programs.items }
-    ensures opened { IfOk result (λ w. w ≡ opening (configuration options.devices (length programs.items) (rows arrays.items) options.cells options.room) programs.items) }
-    ensures refused { IfErr result (IsOpeningFault (configuration options.devices (length programs.items) (rows arrays.items) options.cells options.room)) }
+    ensures opened { IfOk result (λ w. w ≡ first_state (configuration options.devices (length programs.items) (rows arrays.items) options.cells options.room) programs.items) }
+    ensures refused { IfErr result (λ f. IsOpeningFault (configuration options.devices (length programs.items) (rows arrays.items) options.cells options.room) (driver_fault f)) }
 {
     let hosts = programs.len() as u8;
     let config = match Config::new(options.devices, hosts, arrays, options.cells, options.room) {
         Ok(config) => config,
-        Err(fault) => return Err(DriverFault::Runtime(fault)),
+        Err(fault) => return Err(ReplayFault::Runtime(fault)),
     };
     match World::new(alloc, config, programs) {
         Ok(world) => Ok(world),
-        Err(_) => Err(DriverFault::Memory),
+        Err(_) => Err(ReplayFault::Memory),
     }
 }
 

@@ -1,4 +1,4 @@
-mod Bareness
-mod Examples
-mod Standing
-mod Staying
+mod BareStatements
+mod WorkedHosts
+mod GoOn
+mod HostStands

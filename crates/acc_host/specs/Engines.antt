@@ -3,8 +3,8 @@ use Rattle.std.specs.Prelude.{◌≡◌, ◌≢◌, ℕ, ℤ, Bool, true, false,
 use Rattle.acc_base.specs.declared.fault.Fault.{Fault}
 use Rattle.acc_place.specs.declared.directive.Placed.{Placed}
 use Rattle.acc_place.specs.Directives.{Directive}
-use Rattle.acc_work.specs.declared.item.Plain.{Plain}
-use Rattle.acc_work.specs.declared.item.Plain.TheVariants as plain
+use Rattle.acc_work.specs.declared.item.ItemLabel.{ItemLabel}
+use Rattle.acc_work.specs.declared.item.ItemLabel.TheVariants as to_record
 use Rattle.acc_work.specs.declared.item.Shown.{Shown}
 use Rattle.acc_work.specs.declared.log.Told.{Told}
 use Rattle.acc_work.specs.declared.log.Told.TheVariants as told
@@ -19,14 +19,14 @@ pub data HostEntry : Type 0 where
 pub data Call : Type 0 where
   Place : Directive → Result Placed Fault → Call
   Wait : ℕ → List ℕ → Result Bool Fault → Call
-  Record : Plain → Result Shown Fault → Call
+  Record : ItemLabel → Result Shown Fault → Call
 
 -- What an item tells: a print some values, a test some answer.
-abbrev pub Tells : Plain → Told → Type 0
-Tells (plain.Write array cell value) what = what ≡ told.Write array cell value
-Tells (plain.Print range) what = (values : List ℤ) × (what ≡ told.Print range values)
-Tells (plain.Seen device counts) what = what ≡ told.Seen device counts
-Tells (plain.Test device counts) what = (answer : Bool) × (what ≡ told.Test device counts answer)
+abbrev pub Tells : ItemLabel → Told → Type 0
+Tells (to_record.Write array cell value) what = what ≡ told.Write array cell value
+Tells (to_record.Print range) what = (values : List ℤ) × (what ≡ told.Print range values)
+Tells (to_record.Seen device counts) what = what ≡ told.Seen device counts
+Tells (to_record.Test device counts) what = (answer : Bool) × (what ≡ told.Test device counts answer)
 
 -- The list has one more entry.
 abbrev pub Gains : HostEntry → List HostEntry → List HostEntry → Type 0
@@ -42,7 +42,7 @@ Lists (Wait device counts (Err fault)) old new = new ≡ old
 Lists (Record item (Ok answer)) old new = (what : Told) × Tells item what × (answer ≡ shown_by what) × Gains (Had what) old new
 Lists (Record item (Err fault)) old new = new ≡ old
 
-abbrev pub without_item : Result Shown (Plain × Fault) → Result Shown Fault
+abbrev pub without_item : Result Shown (ItemLabel × Fault) → Result Shown Fault
 without_item (Ok answer) = Ok answer
 without_item (Err refused) = Err refused.1
 
@@ -54,8 +54,8 @@ pub record Keeps {S : Type 0} (devices : S → ℕ) (serves : S → ℕ → Type
   pub others : (k : ℕ) → k ≢ host → entries new k ≡ entries old k
 
 -- Every item but a Seen, which only a wait records.
-abbrev pub MayRecord : Plain → Type 0
-MayRecord (plain.Write array cell value) = Unit {0}
-MayRecord (plain.Print range) = Unit {0}
-MayRecord (plain.Seen device counts) = ⊥
-MayRecord (plain.Test device counts) = Unit {0}
+abbrev pub MayRecord : ItemLabel → Type 0
+MayRecord (to_record.Write array cell value) = Unit {0}
+MayRecord (to_record.Print range) = Unit {0}
+MayRecord (to_record.Seen device counts) = ⊥
+MayRecord (to_record.Test device counts) = Unit {0}

@@ -1,11 +1,11 @@
 -- A host between two steps, and one step of it over an engine.
-use Rattle.std.specs.Prelude.{◌≡◌, ◌⊎◌, ℕ, ◌+◌, Bool, true, false, nat_le, List, map, length, slice_get, Option, Some, None, Result, Ok, Err, if◌then◌else◌}
+use Rattle.std.specs.Prelude.{◌≡◌, ◌⊎◌, ℕ, ◌+◌, Bool, true, false, nat_le, List, [], ◌∷◌, map, length, slice_get, Option, Some, None, Result, Ok, Err, if◌then◌else◌}
 use Rattle.acc_base.specs.declared.fault.Fault.{Fault}
 use Rattle.acc_base.specs.declared.fault.Fault.TheVariants.{Memory}
 use Rattle.acc_place.specs.Directives.{Directive}
 use Rattle.acc_place.specs.declared.directive.Placed.{Placed}
-use Rattle.acc_work.specs.declared.item.Plain.{Plain}
-use Rattle.acc_work.specs.declared.item.Plain.TheVariants as plain
+use Rattle.acc_work.specs.declared.item.ItemLabel.{ItemLabel}
+use Rattle.acc_work.specs.declared.item.ItemLabel.TheVariants as to_record
 use Rattle.acc_work.specs.declared.item.Shown.{Shown}
 use Rattle.acc_work.specs.declared.log.Told.{Told}
 use Rattle.acc_work.specs.declared.log.Told.TheVariants as told
@@ -57,7 +57,7 @@ abbrev pub wants_at : ℕ → Ids → Phase → Option Statement → Want
 wants_at devices ids p None = stays
 wants_at devices ids phase.Ready (Some s) = wanted devices ids s.act
 wants_at devices ids (phase.Waits device counts) (Some s) = awaits device counts
-wants_at devices ids (phase.Asks device counts) (Some s) = records (plain.Test device counts)
+wants_at devices ids (phase.Asks device counts) (Some s) = records (to_record.Test device counts)
 wants_at devices ids (phase.Refused fault) (Some s) = stays
 
 abbrev pub wants : ℕ → HostView → Want
@@ -83,11 +83,11 @@ after_item (Ok answer) = Ok go.Ended
 after_item (Err fault) = Err fault
 
 -- An item that takes memory may be refused it before it is recorded.
-abbrev pub TakesMemory : Plain → Type 0
-TakesMemory (plain.Write array cell value) = ⊥
-TakesMemory (plain.Print range) = Unit {0}
-TakesMemory (plain.Seen device counts) = Unit {0}
-TakesMemory (plain.Test device counts) = Unit {0}
+abbrev pub TakesMemory : ItemLabel → Type 0
+TakesMemory (to_record.Write array cell value) = ⊥
+TakesMemory (to_record.Print range) = Unit {0}
+TakesMemory (to_record.Seen device counts) = Unit {0}
+TakesMemory (to_record.Test device counts) = Unit {0}
 
 -- The host's one call of its engine, by what it wants: none where it stays or the statement is its own.
 abbrev pub Asks : {S : Type 0} → (S → ℕ → Call → S → Type 0) → S → ℕ → Want → Result After Fault → S → Type 0
@@ -147,25 +147,25 @@ phase_after (Ok (go.Waits what)) was = phase.Waits what.device what.counts
 phase_after (Ok (go.Asks what)) was = phase.Asks what.device what.counts
 phase_after (Err fault) was = phase.Refused fault
 
-abbrev pub gone : Result After Fault → HostView → HostView
-gone goes host =
+abbrev pub host_after : Result After Fault → HostView → HostView
+host_after goes host =
     record host { ended = ended_after goes host.ended; ids = ids_gone goes host.ids; phase = phase_after goes host.phase }
 
-abbrev pub replied : Result After Fault → Reply
-replied (Ok go.Idle) = reply.Idle
-replied (Ok go.Ended) = reply.Did
-replied (Ok (go.Set ids)) = reply.Did
-replied (Ok (go.Waits what)) = reply.Did
-replied (Ok (go.Asks what)) = reply.Did
-replied (Err fault) = reply.Refused fault
+abbrev pub reply_to : Result After Fault → Reply
+reply_to (Ok go.Idle) = reply.Idle
+reply_to (Ok go.Ended) = reply.Did
+reply_to (Ok (go.Set ids)) = reply.Did
+reply_to (Ok (go.Waits what)) = reply.Did
+reply_to (Ok (go.Asks what)) = reply.Did
+reply_to (Err fault) = reply.Refused fault
 
 -- One step of a host over an engine.
 pub record Steps {S : Type 0} (makes : S → ℕ → Call → S → Type 0) (entries : S → ℕ → List HostEntry) (devices : ℕ) (old : S) (host : HostView) (answer : Reply) (new : S) (after : HostView) : Type 0 where
   pub goes : Result After Fault
   pub asks : Asks makes old host.host (wants devices host) goes new
   pub adds : Adds (wants devices host) goes (entries old host.host) (entries new host.host)
-  pub host_is : after ≡ gone goes host
-  pub reply_is : answer ≡ replied goes
+  pub host_is : after ≡ host_after goes host
+  pub reply_is : answer ≡ reply_to goes
 
 -- A host that waits, asks or was refused stands at a statement.
 abbrev pub StandsAt : Option Statement → Phase → Type 0
@@ -206,3 +206,8 @@ abbrev pub refused_at : HostState → Fault → HostView → HostView
 refused_at (state.Running ended) fault host = in_phase host (phase.Refused fault)
 refused_at state.Finished fault host = host
 refused_at (state.Refused ended line was) fault host = host
+
+-- The programs are those of hosts n, n + 1 and so on.
+abbrev pub AreNumbered : ℕ → List HostProgram → Type 0
+AreNumbered n [] = Unit {0}
+AreNumbered n (program ∷ programs) = (program.host ≡ n) × AreNumbered (n + 1) programs

@@ -1,5 +1,5 @@
 pub mod Engines
-pub mod Examples
 pub mod Following
 pub mod Hosts
 pub mod Steps
+pub mod worked

@@ -9,8 +9,8 @@ use Rattle.acc_place.specs.Directives.{Directive}
 use Rattle.acc_place.specs.declared.directive.Kind.{Kind}
 use Rattle.acc_place.specs.declared.directive.Kind.TheVariants as kind
 use Rattle.acc_place.specs.declared.directive.Placed.{Placed}
-use Rattle.acc_work.specs.declared.item.Plain.{Plain}
-use Rattle.acc_work.specs.declared.item.Plain.TheVariants as plain
+use Rattle.acc_work.specs.declared.item.ItemLabel.{ItemLabel}
+use Rattle.acc_work.specs.declared.item.ItemLabel.TheVariants as to_record
 use Rattle.acc_host.specs.declared.program.Act.{Act}
 use Rattle.acc_host.specs.declared.program.Act.TheVariants as act
 use Rattle.acc_host.specs.declared.program.Statement.{Statement}
@@ -90,7 +90,7 @@ pub data Want : Type 0 where
   -- the engine is to place a directive, to see what was placed, or to record an item
   places : Directive → Want
   awaits : ℕ → List ℕ → Want
-  records : Plain → Want
+  records : ItemLabel → Want
 
 abbrev pub set_or_refuse : Bool → Fault → Ids → Want
 set_or_refuse true fault ids = sets ids
@@ -103,8 +103,8 @@ set_by (Err fault) = refuses fault
 
 abbrev pub wanted : ℕ → Ids → Act → Want
 wanted devices ids (act.Place d) = places (with_ids ids d)
-wanted devices ids (act.Write array cell value) = records (plain.Write array cell value)
-wanted devices ids (act.Print range) = records (plain.Print range)
+wanted devices ids (act.Write array cell value) = records (to_record.Write array cell value)
+wanted devices ids (act.Print range) = records (to_record.Print range)
 wanted devices ids (act.SetDevice n) = set_or_refuse (nat_lt n devices) BadDevice (ids_after (act.SetDevice n) ids)
 wanted devices ids (act.SetAsync v) = set_or_refuse (is_async v) BadAsync (ids_after (act.SetAsync v) ids)
 wanted devices ids act.ShowDevice = sets ids

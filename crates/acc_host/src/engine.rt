@@ -1,7 +1,9 @@
+//! What hosts run on: its calls, and what each adds to a host's list.
+
 ghost use Rattle.std.specs.Prelude.{◌≡◌, ℕ, List, Result, Ok, Err, IfErr, OnErr, false, true};
 ghost use Rattle.acc_host.specs.Engines.{HostEntry, Call, Place, Wait, Record, Lists, Keeps, MayRecord, without_item};
 
-use acc_base::{DeviceId, Fault, HostId};
+use acc_base::{DeviceId, Fault, HostId, QueueCounts};
 use acc_place::{Directive, Placed};
 use acc_work::{Item, Shown};
 
@@ -36,7 +38,12 @@ pub trait Engine {
     /// # Errors
     ///
     /// `Memory` for want of memory, `TooMany` behind the last item of a run.
-    fn wait_for(&mut self, host: HostId, device: DeviceId, counts: [u64; 8]) -> Result<bool, Fault>
+    fn wait_for(
+        &mut self,
+        host: HostId,
+        device: DeviceId,
+        counts: QueueCounts,
+    ) -> Result<bool, Fault>
         requires host { serves self.old host }
         ensures makes { makes self.old host (Wait device counts result) self.new }
         ensures lists { Lists (Wait device counts result) (entries self.old host) (entries self.new host) }

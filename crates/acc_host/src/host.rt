@@ -1,7 +1,9 @@
+//! A host.
+
 ghost use Rattle.std.specs.Prelude.{◌≡◌, ◌+◌, ◌<◌, ◌^◌, map, slice_get, Some};
 ghost use Rattle.acc_host.specs.Following.{Stands};
 ghost use Rattle.acc_host.specs.Engines.{Keeps};
-ghost use Rattle.acc_host.specs.Hosts.{ready, bare, Steps, gone, replied, state_of, line_of, refused_at, ended_after, ids_gone, phase_after};
+ghost use Rattle.acc_host.specs.Hosts.{ready, bare, Steps, host_after, reply_to, state_of, line_of, refused_at, ended_after, ids_gone, phase_after};
 
 use crate::engine::Engine;
 use crate::program::{HostProgram, Statement};
@@ -83,7 +85,7 @@ impl Host {
             &self.ids,
             &self.phase,
         );
-        settle(&mut self.ended, &mut self.ids, &mut self.phase, goes)
+        move_on(&mut self.ended, &mut self.ids, &mut self.phase, goes)
     }
 
     /// A running host is refused at its next statement; any other host stays as it is.
@@ -125,12 +127,12 @@ fn line_at(statements: &[Statement], at: usize) -> u32
 }
 
 // A host goes on.
-fn settle(ended: &mut usize, ids: &mut Ids, phase: &mut Phase, goes: Result<After, Fault>) -> Reply
+fn move_on(ended: &mut usize, ids: &mut Ids, phase: &mut Phase, goes: Result<After, Fault>) -> Reply
     requires { ended.old + 1 < 2 ^ 64 }
     ensures ended { ended.new ≡ ended_after goes ended.old }
     ensures ids { ids.new ≡ ids_gone goes ids.old }
     ensures phase { phase.new ≡ phase_after goes phase.old }
-    ensures reply { result ≡ replied goes }
+    ensures reply { result ≡ reply_to goes }
 {
     match goes {
         Ok(After::Idle) => Reply::Idle,

@@ -2,6 +2,7 @@
 #![tactic(auto)]
 
 mod engine;
+mod event;
 mod host;
 mod laws;
 mod outcome;
@@ -10,6 +11,7 @@ mod state;
 mod turn;
 
 pub use engine::Engine;
+pub use event::Event;
 pub use host::Host;
 pub use laws::{hosts_follow, worked_hosts};
 pub use outcome::Outcome;

@@ -1,3 +1,5 @@
+//! Programs of hosts: statements, and what each does.
+
 ghost use Rattle.std.specs.Prelude.{◌≡◌, IfOk, IfErr};
 
 use acc_base::{Fault, HostId, Listed, Range};

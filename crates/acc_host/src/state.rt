@@ -1,4 +1,6 @@
-use acc_base::{DeviceId, Fault};
+//! Where a host stands, and how it goes on.
+
+use acc_base::{DeviceId, Fault, QueueCounts};
 
 /// A host's current device and default async value.
 #[derive(Clone, Copy, Debug, PartialEq, Eq)]
@@ -11,7 +13,7 @@ pub struct Ids {
 #[derive(Clone, Copy, Debug, PartialEq, Eq)]
 pub struct Awaited {
     pub device: DeviceId,
-    pub counts: [u64; 8],
+    pub counts: QueueCounts,
 }
 
 /// What a host does next.
@@ -19,10 +21,18 @@ pub struct Awaited {
 pub enum Phase {
     Ready,
     /// It waits until each queue of the device has performed so many batches.
-    Waits { device: DeviceId, counts: [u64; 8] },
+    Waits {
+        device: DeviceId,
+        counts: QueueCounts,
+    },
     /// It asks whether each queue of the device has performed so many batches.
-    Asks { device: DeviceId, counts: [u64; 8] },
-    Refused { fault: Fault },
+    Asks {
+        device: DeviceId,
+        counts: QueueCounts,
+    },
+    Refused {
+        fault: Fault,
+    },
 }
 
 /// How a host goes on after a step.

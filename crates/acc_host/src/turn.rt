@@ -1,3 +1,5 @@
+//! One step of a statement.
+
 ghost use Rattle.std.specs.Prelude.{◌≡◌, ◌<◌, length, map, slice_get, Some, Result, true};
 ghost use Rattle.acc_base.specs.declared.fault.Fault.{Fault};
 ghost use Rattle.acc_base.specs.declared.fault.Fault.TheVariants.{BadAsync};
@@ -10,7 +12,7 @@ ghost use Rattle.acc_work.specs.declared.item.Shown.{Shown};
 use crate::engine::Engine;
 use crate::program::{Act, Statement};
 use crate::state::{After, Awaited, Ids, Phase};
-use acc_base::{DeviceId, Fault, HostId, QueueId};
+use acc_base::{DeviceId, Fault, HostId, QueueCounts, QueueId};
 use acc_place::{ASYNC_NOVAL, Directive, Kind, Placed};
 use acc_work::Item;
 use std::alloc::Global;
@@ -35,7 +37,7 @@ fn owed_batch(placed: Placed) -> After
 }
 
 // Whether no batch is counted.
-fn is_nothing(counts: &[u64; 8]) -> bool
+fn is_nothing(counts: &QueueCounts) -> bool
     ensures { result ≡ is_nothing counts.now }
 {
     counts.iter().all(|count| *count == 0)
@@ -138,7 +140,7 @@ fn wait<E: Engine>(
     engine: &mut E,
     host: HostId,
     device: DeviceId,
-    counts: [u64; 8],
+    counts: QueueCounts,
 ) -> Result<After, Fault>
     requires { E.serves engine.old host }
     ensures asks { Asks E.makes engine.old host (awaits device counts) result engine.new }
@@ -220,7 +222,7 @@ fn turn<E: Engine>(
 }
 
 /// One step of a host that stands at one of these statements.
-pub fn turn_at<E: Engine>(
+pub(crate) fn turn_at<E: Engine>(
     engine: &mut E,
     alloc: Global,
     host: HostId,

@@ -1,17 +1,17 @@
 pub mod Abreast
-pub mod Exchange
-pub mod Filling
-mod Flagging
-mod Holding
-mod Keeping
-mod Listing
-pub mod Looping
-pub mod Reached
-mod Reaching
-pub mod Rowing
-pub mod Running
-mod Scanning
-pub mod Splicing
-pub mod Stacking
-pub mod Turning
-mod Valid
+mod ArrayFlags
+mod ArraysOf
+pub mod CellIn
+pub mod ExprValue
+pub mod FilledColumn
+mod HeldBy
+mod KernelReach
+pub mod LoopTurns
+pub mod ReachOf
+pub mod RunColumns
+mod Scans
+pub mod SplicedRow
+pub mod StackAt
+mod TreeOf
+pub mod ValueAfter
+mod WithinLimits

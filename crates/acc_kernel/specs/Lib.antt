@@ -1,14 +1,10 @@
 pub mod Cells
-pub mod Columns
-pub mod Examples
 pub mod Faults
 pub mod Jobs
 pub mod Kernels
-pub mod LoopExamples
-pub mod RowTables
-pub mod Running
-pub mod Scans
 pub mod Steps
 pub mod TreeCode
 pub mod Trees
 pub mod Values
+pub mod inner
+pub mod worked

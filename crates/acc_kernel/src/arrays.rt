@@ -1,5 +1,7 @@
+//! The arrays that a loop refers to.
+
 ghost use Rattle.std.specs.Prelude.{◌≡◌, IfOk};
-ghost use Rattle.acc_kernel.specs.Scans.{with_array};
+ghost use Rattle.acc_kernel.specs.inner.Scans.{with_array};
 
 use std::alloc::AllocError;
 

@@ -1,3 +1,5 @@
+//! The faults of a loop.
+
 ghost use Rattle.std.specs.Prelude.{◌≡◌};
 ghost use Rattle.acc_kernel.specs.Faults.{code_of, name_of};
 

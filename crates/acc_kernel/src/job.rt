@@ -1,3 +1,5 @@
+//! A loop with room for the cells that it uses: inputs and outputs.
+
 ghost use Rattle.std.specs.Prelude.{◌≡◌, ◌<◌, [], length, slice_index_or, slice_set, IfOk, IfErr};
 ghost use Rattle.acc_base.specs.declared.fault.Fault.TheVariants as fault;
 ghost use Rattle.acc_kernel.specs.Jobs.{AreDistinct, AreRows, HoldReached, IsJob, no_use, zero_rows, computed};
@@ -69,8 +71,8 @@ impl Job {
     pub fn keeps(&self)
         ensures { IsJob self.now }
     {
-        self.inputs.keeps_shape();
-        self.outputs.keeps_shape();
+        self.inputs.keeps();
+        self.outputs.keeps();
     }
 
     /// The loop.
@@ -116,11 +118,11 @@ impl Job {
     pub fn compute(&mut self)
         ensures { self.new ≡ record self.old { outputs = computed self.old } }
     {
-        self.inputs.keeps_shape();
-        self.outputs.keeps_shape();
+        self.inputs.keeps();
+        self.outputs.keeps();
         copy_rows(&self.inputs, &mut self.outputs);
         self.kernel.get().run(&mut self.outputs);
-        self.outputs.keeps_shape();
+        self.outputs.keeps();
     }
 
     /// The loop and its uses, without the room for their cells. It takes no memory.

@@ -1,5 +1,7 @@
-ghost use Rattle.acc_kernel.specs.Examples.{WrapsRound, Calculates, Compares, Chooses, Reads, TakesTurns};
-ghost use Rattle.acc_kernel.specs.LoopExamples.{CountsRound, FiveAndSix, ReachesBothParts, ReachesNothing, OrdersArrays, KeepsLimits, KeepsTurnsApart, OrdersFaults};
+//! Laws over the definitions.
+
+ghost use Rattle.acc_kernel.specs.worked.Values.{WrapsRound, Calculates, Compares, Chooses, Reads, TakesTurns};
+ghost use Rattle.acc_kernel.specs.worked.Loops.{CountsRound, FiveAndSix, ReachesBothParts, ReachesNothing, OrdersArrays, KeepsLimits, KeepsTurnsApart, OrdersFaults};
 
 /// The values of some expressions, and what some turns write.
 pub fn worked_values()

@@ -1,3 +1,5 @@
+//! The limits of a loop, tested in their order.
+
 /// The greatest depth of an expression.
 pub const MAX_DEPTH: usize = 32;
 

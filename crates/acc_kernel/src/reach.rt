@@ -1,3 +1,5 @@
+//! The cells that a loop reaches.
+
 ghost use Rattle.std.specs.Prelude.{◌≡◌};
 ghost use Rattle.acc_kernel.specs.Kernels.{widened};
 

@@ -1,7 +1,9 @@
+//! The cells of a job: a row for each use, found by its array's number in a table.
+
 ghost use Rattle.std.specs.Prelude.{◌≡◌, ℕ, ◌+◌, ◌<◌, [], length, slice_index_or, slice_set, IfOk, IfErr, ◌^◌};
 ghost use Rattle.acc_base.specs.declared.fault.Fault.TheVariants as fault;
 ghost use Rattle.acc_kernel.specs.Jobs.{AreRows, zero_rows, has_cell, cell_in, place_of, no_use};
-ghost use Rattle.acc_kernel.specs.RowTables.{Stored, IsTable};
+ghost use Rattle.acc_kernel.specs.inner.RowTables.{RowsView, IsTable};
 
 use crate::window::{Window, distance};
 use acc_base::{BlockId, Fault, Range};
@@ -18,9 +20,9 @@ pub struct Rows {
 }
 
 impl Model for Rows {
-    ghost use Rattle.acc_kernel.specs.RowTables.{Stored, IsStored};
+    ghost use Rattle.acc_kernel.specs.inner.RowTables.{RowsView, IsStored};
 
-    ghost Value = { Stored };
+    ghost Value = { RowsView };
 
     ghost view = { λ r. record { uses = r.uses.items; rows = r.rows.items } };
 
@@ -33,7 +35,7 @@ impl Rows {
     /// # Errors
     ///
     /// `Memory` where memory is refused.
-    pub fn zeroed(alloc: Global, uses: &[(BlockId, Range)]) -> Result<Self, Fault>
+    pub(crate) fn zeroed(alloc: Global, uses: &[(BlockId, Range)]) -> Result<Self, Fault>
         ensures uses { IfOk result (λ r. r.uses ≡ uses.now) }
         ensures rows { IfOk result (λ r. r.rows ≡ zero_rows uses.now) }
         ensures fault { IfErr result (λ f. f ≡ fault.Memory) }
@@ -44,20 +46,20 @@ impl Rows {
         Ok(Rows { uses, places, rows })
     }
 
-    pub fn uses(&self) -> &[(BlockId, Range)]
+    pub(crate) fn uses(&self) -> &[(BlockId, Range)]
         ensures { result.now ≡ self.now.uses }
     {
         self.uses.as_slice()
     }
 
     /// There is a row for each use, with a value for each of its cells.
-    pub fn keeps_shape(&self)
+    pub(crate) fn keeps(&self)
         ensures { AreRows self.now.uses self.now.rows }
     {
         let _ = &self.rows;
     }
 
-    pub fn row(&self, place: usize) -> &[i64]
+    pub(crate) fn row(&self, place: usize) -> &[i64]
         requires { place < length self.now.uses }
         ensures { result.now ≡ slice_index_or self.now.rows place [] }
     {
@@ -65,7 +67,7 @@ impl Rows {
     }
 
     /// Takes as many values for a use's cells.
-    pub fn fill(&mut self, place: usize, source: &[i64])
+    pub(crate) fn fill(&mut self, place: usize, source: &[i64])
         requires place { place < length self.old.uses }
         requires len { length source.now ≡ (slice_index_or self.old.uses place no_use).1.len }
         ensures uses { self.new.uses ≡ self.old.uses }

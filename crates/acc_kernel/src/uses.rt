@@ -1,3 +1,5 @@
+//! What a job needs of its uses, as tests.
+
 ghost use Rattle.std.specs.List.{position};
 ghost use Rattle.std.specs.Prelude.{◌≡◌, ◌==◌, ◌↔◌, IsTrue};
 ghost use Rattle.acc_kernel.specs.Jobs.{AreDistinct, has_cell, is_lacking, place_of};

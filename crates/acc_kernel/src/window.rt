@@ -1,3 +1,5 @@
+//! Cells that a loop reads and writes, whoever has them.
+
 ghost use Rattle.std.specs.Prelude.{◌≡◌, ℕ, ℤ, ◌+ℤ◌, ◌-ℤ◌, ◌<◌, ◌≤ℤ◌, pos, Bool, IsTrue, length, slice_index_or};
 ghost use Rattle.acc_kernel.specs.Cells.{with_cell, with_cells};
 

@@ -6,7 +6,7 @@ use Rattle.std.proofs.lemmas.List.Elements.{Contains-append_left, Contains-push,
 use Rattle.acc_base.proofs.Members.{no_member, member_image}
 use Rattle.acc_memory.specs.Memories.{block_placed_in, find_block}
 use Rattle.acc_batch.specs.Lives.{Made}
-use Rattle.acc_memory.proofs.Finding.{find_placed, find_beside, find_kept, find_none}
+use Rattle.acc_memory.proofs.FindBlock.{find_placed, find_beside, find_kept, find_none}
 
 -- A block that was made and not released is there, with its range; one that was never made is not.
 pub record Held (makings : List Made) (gone : List ℕ) (bs : List Made) : Type 0 where

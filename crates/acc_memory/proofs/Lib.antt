@@ -1,14 +1,14 @@
-mod Arrays
-mod Calls
-mod Copying
-mod Devices
-mod Effects
-pub mod Finding
-mod Fitting
+mod AfterOp
+mod BlockCalls
+mod BlocksFit
+mod BlocksRun
+mod CopyCells
+pub mod FindBlock
 pub mod HeldBlocks
-mod Places
+mod HostArrays
+mod IndexOf
+mod MemoryCalls
 mod Rows
-mod Runs
-mod Seeing
-pub mod SeeingRuns
-pub mod Showing
+mod WindowCell
+pub mod WindowColumn
+pub mod ShownValues

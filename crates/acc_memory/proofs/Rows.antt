@@ -3,7 +3,7 @@ use Rattle.std.proofs.Common.{◌≡◌, ℕ, zero, suc, ◌+◌, ◌<◌, ◌�
 use Rattle.std.specs.Prelude.{◌==◌, not, nat_lt, nat_le, filter, insert, remove, slice_get}
 use Rattle.std.specs.List.{list_all}
 use Rattle.std.proofs.lemmas.Bool.{cases_Bool, cases_eq, and_parts, and_from, eq-eqb, ne_eqb, lt-ltb, le-ltb, ltb-true, ltb-false, le-leb, lt-leb}
-use Rattle.acc_memory.specs.Memories.{Row, find_row, find_block, made_of, block_placed_in, place_of, is_before_all, is_ascending, is_whole, IsMemory}
+use Rattle.acc_memory.specs.Memories.{Row, find_row, find_block, made_of, block_placed_in, index_of, is_before_all, is_ascending, is_whole, IsMemory}
 use Rattle.acc_batch.specs.Lives.{Made}
 
 -- ## The order
@@ -88,25 +88,25 @@ no_row rows n held = none (find_row rows n) refl (sym (find_block-row rows n) �
     none None e h = e
     none (Some row) e h = (let same : Some (made_of row) ≡ None = h in cc)
 
--- ## The place of a block
+-- ## The index of a block
 
-pub place_of-here : (row : Row) (rows : List Row) (n : ℕ) → n ≤ row.block → place_of (row ∷ rows) n ≡ 0
-place_of-here row rows n low = rw (le-leb n row.block low) refl
+pub index_of-here : (row : Row) (rows : List Row) (n : ℕ) → n ≤ row.block → index_of (row ∷ rows) n ≡ 0
+index_of-here row rows n low = rw (le-leb n row.block low) refl
 
-pub place_of-past : (row : Row) (rows : List Row) (n : ℕ) → row.block < n → place_of (row ∷ rows) n ≡ suc (place_of rows n)
-place_of-past row rows n high =
-    let one : place_of (row ∷ rows) n ≡ 1 + place_of rows n = rw (lt-leb n row.block high) refl in
+pub index_of-past : (row : Row) (rows : List Row) (n : ℕ) → row.block < n → index_of (row ∷ rows) n ≡ suc (index_of rows n)
+index_of-past row rows n high =
+    let one : index_of (row ∷ rows) n ≡ 1 + index_of rows n = rw (lt-leb n row.block high) refl in
     omega (arith, one)
 
-pub place_of-found : (rows : List Row) (n : ℕ) (x : Row) → is_ascending rows ≡ true → find_row rows n ≡ Some x → slice_get rows (place_of rows n) ≡ Some x
-place_of-found [] n x h found = cc
-place_of-found (row ∷ rows) n x h found =
+pub index_of-found : (rows : List Row) (n : ℕ) (x : Row) → is_ascending rows ≡ true → find_row rows n ≡ Some x → slice_get rows (index_of rows n) ≡ Some x
+index_of-found [] n x h found = cc
+index_of-found (row ∷ rows) n x h found =
     let parts = ascending_parts row rows h in
     elim (cases_eq row.block n) [
-      | inl same ↦ rw (place_of-here row rows n (omega arith)) (sym (find_row-here row rows n same) ∙ found)
+      | inl same ↦ rw (index_of-here row rows n (omega arith)) (sym (find_row-here row rows n same) ∙ found)
       | inr other ↦
           let later = sym (find_row-past row rows n other) ∙ found in
-          rw (place_of-past row rows n (find_row-above row.block rows n x parts.first later)) (place_of-found rows n x parts.others later)
+          rw (index_of-past row rows n (find_row-above row.block rows n x parts.first later)) (index_of-found rows n x parts.others later)
     ]
 
 -- this row, if it has this number
@@ -114,39 +114,39 @@ abbrev pub named : ℕ → Option Row → Option Row
 named n None = None
 named n (Some row) = cond (row.block == n) (Some row) None
 
--- a block stands at its place, or is not there
-pub find_row-place : (rows : List Row) (n : ℕ) → is_ascending rows ≡ true → named n (slice_get rows (place_of rows n)) ≡ find_row rows n
-find_row-place [] n h = refl
-find_row-place (row ∷ rows) n h =
+-- a block stands at its index, or is not there
+pub find_row-index : (rows : List Row) (n : ℕ) → is_ascending rows ≡ true → named n (slice_get rows (index_of rows n)) ≡ find_row rows n
+find_row-index [] n h = refl
+find_row-index (row ∷ rows) n h =
     let parts = ascending_parts row rows h in
     elim (cases_Bool (nat_lt row.block n)) [
       | inl less ↦
           let high = ltb-true row.block n less in
-          rw (place_of-past row rows n high, find_row-past row rows n (λ e. omega (arith, high, e))) (find_row-place rows n parts.others)
+          rw (index_of-past row rows n high, find_row-past row rows n (λ e. omega (arith, high, e))) (find_row-index rows n parts.others)
       | inr more ↦
           let low : n ≤ row.block = ltb-false row.block n more in
-          rw (place_of-here row rows n low) (elim (cases_eq row.block n) [
+          rw (index_of-here row rows n low) (elim (cases_eq row.block n) [
             | inl same ↦ rw (eq-eqb row.block n same) refl
             | inr other ↦ rw (ne_eqb row.block n other) (sym (find_row-none n rows (before_through n row.block rows low parts.first)))
           ])
     ]
 
--- ## A row in the place of another of the same block
+-- ## A row in place of another of the same block
 
 pub find_row-set : (rows : List Row) (n : ℕ) (x y : Row) (m : ℕ) → is_ascending rows ≡ true → find_row rows n ≡ Some x → y.block ≡ n
-    → find_row (set rows (place_of rows n) y) m ≡ cond (m == n) (Some y) (find_row rows m)
+    → find_row (set rows (index_of rows n) y) m ≡ cond (m == n) (Some y) (find_row rows m)
 find_row-set [] n x y m h found same = cc
 find_row-set (row ∷ rows) n x y m h found same =
     let parts = ascending_parts row rows h in
     elim (cases_eq row.block n) [
-      | inl here ↦ rw (place_of-here row rows n (omega arith)) (elim (cases_eq m n) [
+      | inl here ↦ rw (index_of-here row rows n (omega arith)) (elim (cases_eq m n) [
         | inl eq ↦ rw (eq-eqb m n eq, eq-eqb y.block m (same ∙ sym eq)) refl
         | inr ne ↦ rw (ne_eqb m n ne, ne_eqb y.block m (λ e. ne (sym e ∙ same)), ne_eqb row.block m (λ e. ne (sym e ∙ here))) refl
       ])
       | inr other ↦
           let later = sym (find_row-past row rows n other) ∙ found in
           let ih = find_row-set rows n x y m parts.others later same in
-          rw (place_of-past row rows n (find_row-above row.block rows n x parts.first later))
+          rw (index_of-past row rows n (find_row-above row.block rows n x parts.first later))
           (elim (cases_eq row.block m) [
             | inl eq ↦ rw (eq-eqb row.block m eq, ne_eqb m n (λ e. other (eq ∙ e))) refl
             | inr ne ↦ rw (ne_eqb row.block m ne) ih
@@ -233,7 +233,7 @@ all_behind n (row ∷ rows) h =
     (rw behind ih.0, rw behind (ap (λ ks. made_of row ∷ ks) ih.1))
 
 pub made-insert : (rows : List Row) (y : Row) → is_ascending rows ≡ true → find_row rows y.block ≡ None
-    → map made_of (insert rows (place_of rows y.block) y) ≡ block_placed_in (made_of y) (map made_of rows)
+    → map made_of (insert rows (index_of rows y.block) y) ≡ block_placed_in (made_of y) (map made_of rows)
 made-insert [] y h none = refl
 made-insert (row ∷ rows) y h none =
     let parts = ascending_parts row rows h in
@@ -241,11 +241,11 @@ made-insert (row ∷ rows) y h none =
       | inl less ↦
           let high = ltb-true row.block y.block less in
           let later = sym (find_row-past row rows y.block (λ e. omega arith)) ∙ none in
-          rw (place_of-past row rows y.block high, less) (ap (λ ks. made_of row ∷ ks) (made-insert rows y parts.others later))
+          rw (index_of-past row rows y.block high, less) (ap (λ ks. made_of row ∷ ks) (made-insert rows y parts.others later))
       | inr more ↦
           let low : y.block ≤ row.block = ltb-false row.block y.block more in
           let others = all_behind y.block rows (before_through y.block row.block rows low parts.first) in
-          rw (place_of-here row rows y.block low, more, others.0, others.1) refl
+          rw (index_of-here row rows y.block low, more, others.0, others.1) refl
     ]
 
 before_all-insert : (a : ℕ) (rows : List Row) (i : ℕ) (y : Row) → i ≤ length rows → a < y.block → is_before_all a rows ≡ true → is_before_all a (insert rows i y) ≡ true
@@ -256,14 +256,14 @@ before_all-insert a (row ∷ rows) (suc i) y low new h =
     let parts = and_parts (nat_lt a row.block) (is_before_all a rows) h in
     and_from (nat_lt a row.block) (is_before_all a (insert rows i y)) parts.0 (before_all-insert a rows i y (omega arith) new parts.1)
 
-pub place_of-within : (rows : List Row) (n : ℕ) → place_of rows n ≤ length rows
-place_of-within [] n = omega arith
-place_of-within (row ∷ rows) n = elim (cases_Bool (nat_le n row.block)) [
+pub index_of-within : (rows : List Row) (n : ℕ) → index_of rows n ≤ length rows
+index_of-within [] n = omega arith
+index_of-within (row ∷ rows) n = elim (cases_Bool (nat_le n row.block)) [
   | inl low ↦ rw low (omega arith)
-  | inr high ↦ (let ih = place_of-within rows n in rw high (omega arith))
+  | inr high ↦ (let ih = index_of-within rows n in rw high (omega arith))
 ]
 
-ascending-insert : (rows : List Row) (y : Row) → is_ascending rows ≡ true → find_row rows y.block ≡ None → is_ascending (insert rows (place_of rows y.block) y) ≡ true
+ascending-insert : (rows : List Row) (y : Row) → is_ascending rows ≡ true → find_row rows y.block ≡ None → is_ascending (insert rows (index_of rows y.block) y) ≡ true
 ascending-insert [] y h none = refl
 ascending-insert (row ∷ rows) y h none =
     let parts = ascending_parts row rows h in
@@ -271,16 +271,16 @@ ascending-insert (row ∷ rows) y h none =
       | inl less ↦
           let high = ltb-true row.block y.block less in
           let later = sym (find_row-past row rows y.block (λ e. omega arith)) ∙ none in
-          rw (place_of-past row rows y.block high)
-          (ascending_from row (insert rows (place_of rows y.block) y)
-          (before_all-insert row.block rows (place_of rows y.block) y (place_of-within rows y.block) high parts.first) (ascending-insert rows y parts.others later))
+          rw (index_of-past row rows y.block high)
+          (ascending_from row (insert rows (index_of rows y.block) y)
+          (before_all-insert row.block rows (index_of rows y.block) y (index_of-within rows y.block) high parts.first) (ascending-insert rows y parts.others later))
       | inr more ↦
           let low : y.block ≤ row.block = ltb-false row.block y.block more in
           elim (cases_eq row.block y.block) [
             | inl same ↦ (let e : Some row ≡ None = sym (find_row-here row rows y.block same) ∙ none in cc)
             | inr other ↦
                 let above = lt-ltb y.block row.block (omega arith) in
-                rw (place_of-here row rows y.block low)
+                rw (index_of-here row rows y.block low)
                 (ascending_from y (row ∷ rows)
                 (and_from (nat_lt y.block row.block) (is_before_all y.block rows) above (before_through y.block row.block rows low parts.first)) h)
           ]
@@ -294,10 +294,10 @@ list_all-insert p (x ∷ xs) (suc i) y low new h =
     let parts = and_parts (p x) (list_all p xs) h in
     and_from (p x) (list_all p (insert xs i y)) parts.0 (list_all-insert p xs i y (omega arith) new parts.1)
 
-pub IsMemory-insert : (rows : List Row) (y : Row) → find_row rows y.block ≡ None → is_whole y ≡ true → IsMemory rows → IsMemory (insert rows (place_of rows y.block) y)
+pub IsMemory-insert : (rows : List Row) (y : Row) → find_row rows y.block ≡ None → is_whole y ≡ true → IsMemory rows → IsMemory (insert rows (index_of rows y.block) y)
 IsMemory-insert rows y none new h = record {
   ascending = ascending-insert rows y h.ascending none;
-  whole = list_all-insert is_whole rows (place_of rows y.block) y (place_of-within rows y.block) new h.whole;
+  whole = list_all-insert is_whole rows (index_of rows y.block) y (index_of-within rows y.block) new h.whole;
 }
 
 -- ## A row that is taken out
@@ -310,32 +310,32 @@ all_kept n (row ∷ rows) h =
     rw (ne_eqb row.block n (λ e. omega arith)) (ap (λ ks. made_of row ∷ ks) (all_kept n rows parts.1))
 
 pub made-remove : (rows : List Row) (n : ℕ) (x : Row) → is_ascending rows ≡ true → find_row rows n ≡ Some x
-    → map made_of (remove rows (place_of rows n)) ≡ filter (λ k. not (k.block == n)) (map made_of rows)
+    → map made_of (remove rows (index_of rows n)) ≡ filter (λ k. not (k.block == n)) (map made_of rows)
 made-remove [] n x h found = cc
 made-remove (row ∷ rows) n x h found =
     let parts = ascending_parts row rows h in
     elim (cases_eq row.block n) [
-      | inl same ↦ rw (place_of-here row rows n (omega arith), eq-eqb row.block n same) (sym (all_kept n rows (rw same at parts.first)))
+      | inl same ↦ rw (index_of-here row rows n (omega arith), eq-eqb row.block n same) (sym (all_kept n rows (rw same at parts.first)))
       | inr other ↦
           let later = sym (find_row-past row rows n other) ∙ found in
-          rw (place_of-past row rows n (find_row-above row.block rows n x parts.first later), ne_eqb row.block n other)
+          rw (index_of-past row rows n (find_row-above row.block rows n x parts.first later), ne_eqb row.block n other)
           (ap (λ ks. made_of row ∷ ks) (made-remove rows n x parts.others later))
     ]
 
 pub find_row-remove : (rows : List Row) (n : ℕ) (x : Row) (m : ℕ) → is_ascending rows ≡ true → find_row rows n ≡ Some x
-    → find_row (remove rows (place_of rows n)) m ≡ cond (m == n) None (find_row rows m)
+    → find_row (remove rows (index_of rows n)) m ≡ cond (m == n) None (find_row rows m)
 find_row-remove [] n x m h found = cc
 find_row-remove (row ∷ rows) n x m h found =
     let parts = ascending_parts row rows h in
     elim (cases_eq row.block n) [
-      | inl same ↦ rw (place_of-here row rows n (omega arith)) (elim (cases_eq m n) [
+      | inl same ↦ rw (index_of-here row rows n (omega arith)) (elim (cases_eq m n) [
         | inl eq ↦ rw (eq-eqb m n eq, eq) (find_row-none n rows (rw same at parts.first))
         | inr ne ↦ rw (ne_eqb m n ne, ne_eqb row.block m (λ e. ne (sym e ∙ same))) refl
       ])
       | inr other ↦
           let later = sym (find_row-past row rows n other) ∙ found in
           let ih = find_row-remove rows n x m parts.others later in
-          rw (place_of-past row rows n (find_row-above row.block rows n x parts.first later))
+          rw (index_of-past row rows n (find_row-above row.block rows n x parts.first later))
           (elim (cases_eq row.block m) [
             | inl eq ↦ rw (eq-eqb row.block m eq, ne_eqb m n (λ e. other (eq ∙ e))) refl
             | inr ne ↦ rw (ne_eqb row.block m ne) ih

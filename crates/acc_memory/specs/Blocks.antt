@@ -1,7 +1,7 @@
 -- A block as a row of cells.
 use Rattle.std.specs.Prelude.{ℕ, List, ℤ}
 use Rattle.acc_base.specs.declared.range.Range.{Range}
-use Rattle.acc_batch.specs.declared.task.Block.{Block}
+use Rattle.acc_batch.specs.declared.op.Block.{Block}
 use Rattle.acc_memory.specs.Memories.{Row}
 
 abbrev pub row_of : Block → Row

@@ -1,5 +1,5 @@
 pub mod Blocks
-pub mod Examples
 pub mod Memories
-pub mod Seen
 pub mod Values
+pub mod inner
+pub mod worked

@@ -2,12 +2,13 @@
 use Rattle.std.specs.Prelude.{◌≡◌, ℕ, ◌+◌, ◌-◌, ◌<◌, Bool, true, false, ◌&&◌, ◌==◌, not, nat_lt, nat_le, IsTrue, List, [], ◌∷◌, ◌++◌, length, map, filter, find, slice_get, Option, Some, None, is_some, All, ℤ, pos, if◌then◌else◌}
 use Rattle.std.specs.List.{list_all, position_or_len}
 use Rattle.acc_base.specs.declared.range.Range.{Range}
+use Rattle.acc_base.specs.Configurations.{lengths_of}
 use Rattle.acc_base.specs.Ranges.{Includes}
 use Rattle.acc_batch.specs.Lives.{Made}
-use Rattle.acc_batch.specs.declared.operation.Op.{Op}
-use Rattle.acc_batch.specs.declared.operation.Op.TheVariants.{Make, CopyIn, CopyOut, Release, Run, Await, Close}
-use Rattle.acc_batch.specs.declared.task.Task.{Task}
-use Rattle.acc_batch.specs.Tasks.{op_of, IsReady}
+use Rattle.acc_batch.specs.declared.label.OpLabel.{OpLabel}
+use Rattle.acc_batch.specs.declared.label.OpLabel.TheVariants.{Make, CopyIn, CopyOut, Release, Run, Await, Close}
+use Rattle.acc_batch.specs.declared.op.Op.{Op}
+use Rattle.acc_batch.specs.Ops.{op_label, IsReady}
 use Rattle.acc_kernel.specs.Jobs.{Use}
 use Rattle.acc_memory.specs.Values.{Cell, Host_cell, Block_cell, is_in, after_op, or_empty, or_zero}
 
@@ -18,20 +19,20 @@ pub record Row : Type 0 where
   pub cells : List ℤ
 
 -- The blocks of a device, a row for each, by number; and how many rows there is memory for.
-pub record DeviceRows : Type 0 where
+pub record BlocksView : Type 0 where
   pub rows : List Row
   pub room : ℕ
 
 -- The host arrays, and the blocks of each device.
 pub record MemoryView : Type 0 where
   pub arrays : List (List ℤ)
-  pub devices : List DeviceRows
+  pub devices : List BlocksView
 
-abbrev pub rows_in : Option DeviceRows → List Row
+abbrev pub rows_in : Option BlocksView → List Row
 rows_in None = []
 rows_in (Some device) = device.rows
 
-abbrev pub room_in : Option DeviceRows → ℕ
+abbrev pub room_in : Option BlocksView → ℕ
 room_in None = 0
 room_in (Some device) = device.room
 
@@ -88,7 +89,7 @@ block_placed_in b bs =
     filter (λ k. nat_lt k.block b.block) bs ++ b ∷ filter (λ k. not (nat_lt k.block b.block)) bs
 
 -- what one operation makes of the blocks that are there
-abbrev pub blocks_after : Op → List Made → List Made
+abbrev pub blocks_after : OpLabel → List Made → List Made
 blocks_after (Make b r) bs = block_placed_in (record { block = b; range = r }) bs
 blocks_after (CopyIn b r) bs = bs
 blocks_after (CopyOut b r) bs = bs
@@ -101,12 +102,10 @@ abbrev pub find_block : List Made → ℕ → Option Made
 find_block bs block = find (λ k. k.block == block) bs
 
 -- how long each host array is
-abbrev pub lengths_of : List (List ℤ) → List ℕ
-lengths_of arrays = map (λ cells. length cells) arrays
 
--- the place of the first row whose number is not smaller
-abbrev pub place_of : List Row → ℕ → ℕ
-place_of rows block = position_or_len (λ row. nat_le block row.block) rows
+-- the index of the first row whose number is not smaller
+abbrev pub index_of : List Row → ℕ → ℕ
+index_of rows block = position_or_len (λ row. nat_le block row.block) rows
 
 abbrev pub is_before_all : ℕ → List Row → Bool
 is_before_all block rows = list_all (λ row. nat_lt block row.block) rows
@@ -152,7 +151,7 @@ HasRanges bs uses = All (λ (u : Use). HasRange bs u.0 u.1) uses
 
 -- When an operation may be performed on a device: a block that is made isn't there, its range ends in its array, and there
 -- is room for it; a block that is copied, released or used by a loop is there.
-abbrev pub MayPerform : MemoryView → ℕ → Op → Type 0
+abbrev pub MayPerform : MemoryView → ℕ → OpLabel → Type 0
 MayPerform m device (Make b r) =
     (find_block (held_blocks m device) b ≡ None) × (has_array m r ≡ true) × (length (rows_on m device) < room_on m device)
 MayPerform m device (CopyIn b r) = HasRange (held_blocks m device) b r
@@ -162,12 +161,12 @@ MayPerform m device (Run k uses) = HasRanges (held_blocks m device) uses
 MayPerform m device (Await q n) = Unit {0}
 MayPerform m device Close = Unit {0}
 
--- So a task may be: a block that is made has its cells, all zero, and a loop has its cells.
-abbrev pub IsAllowed : MemoryView → ℕ → Task → Type 0
-IsAllowed m device t = MayPerform m device (op_of t) × IsReady t
+-- So an operation may be: a block that is made has its cells, all zero, and a loop has its cells.
+abbrev pub IsAllowed : MemoryView → ℕ → Op → Type 0
+IsAllowed m device t = MayPerform m device (op_label t) × IsReady t
 
 -- An operation was performed on a device: the memory shows its effect, and nothing else changed.
-pub record PerformsOn (device : ℕ) (op : Op) (old new : MemoryView) : Type 0 where
+pub record PerformsOn (device : ℕ) (op : OpLabel) (old new : MemoryView) : Type 0 where
   pub shows : (was : Cell → ℤ) → Shows old was → Shows new (after_op device op was)
   pub blocks : held_blocks new device ≡ blocks_after op (held_blocks old device)
   pub others : (d : ℕ) → (d ≡ device → ⊥) → held_blocks new d ≡ held_blocks old d
@@ -175,7 +174,7 @@ pub record PerformsOn (device : ℕ) (op : Op) (old new : MemoryView) : Type 0 w
   pub devices : length new.devices ≡ length old.devices
   pub room : (d : ℕ) → room_on new d ≡ room_on old d
 
--- So many of the source's cells, from one place on, stand in the target from another place on.
+-- So many of the source's cells, from one index on, stand in the target from another on.
 pub record IsCopy (source old new : List ℤ) (from at count : ℕ) : Type 0 where
   pub cells : (k : ℕ)
       → slice_get new k ≡ (if nat_le at k && nat_lt k (at + count) then slice_get source (k - at + from) else slice_get old k)

@@ -2,8 +2,8 @@
 -- (OpenACC API 3.0, 2.7, Data Clauses, and 2.9, Loop Construct).
 use Rattle.std.specs.Prelude.{ℕ, zero, suc, ◌+◌, Bool, ◌&&◌, nat_lt, nat_le, ◌==◌, List, [], ◌∷◌, find, slice_index_or, Option, Some, None, ℤ, pos, negsuc, if◌then◌else◌}
 use Rattle.acc_base.specs.declared.range.Range.{Range}
-use Rattle.acc_batch.specs.declared.operation.Op.{Op}
-use Rattle.acc_batch.specs.declared.operation.Op.TheVariants.{Make, CopyIn, CopyOut, Release, Run, Await, Close}
+use Rattle.acc_batch.specs.declared.label.OpLabel.{OpLabel}
+use Rattle.acc_batch.specs.declared.label.OpLabel.TheVariants.{Make, CopyIn, CopyOut, Release, Run, Await, Close}
 use Rattle.acc_kernel.specs.Jobs.{Use, no_use}
 use Rattle.acc_kernel.specs.Jobs as jobs
 use Rattle.acc_kernel.specs.Kernels.{Loop, value_after}
@@ -35,7 +35,7 @@ after_loop k seen None cell was = was
 after_loop k seen (Some u) cell was = value_after k seen u.1.array (pos cell)
 
 -- the cells of a block after one more operation on its device
-abbrev pub block_after : Op → ℕ → (Cell → ℤ) → ℕ → ℕ → ℤ
+abbrev pub block_after : OpLabel → ℕ → (Cell → ℤ) → ℕ → ℕ → ℤ
 block_after (Make b r) device was block cell =
     if (block == b) && is_in r cell then pos 0 else was (Block_cell device block cell)
 block_after (CopyIn b r) device was block cell =
@@ -48,7 +48,7 @@ block_after (Run k uses) device was block cell =
     after_loop k (seen_by uses device was) (use_with uses block cell) cell (was (Block_cell device block cell))
 
 -- the cells of the host arrays after it
-abbrev pub host_after : Op → ℕ → (Cell → ℤ) → ℕ → ℕ → ℤ
+abbrev pub host_after : OpLabel → ℕ → (Cell → ℤ) → ℕ → ℕ → ℤ
 host_after (CopyOut b r) device was array cell =
     if (array == r.array) && is_in r cell then was (Block_cell device b cell) else was (Host_cell array cell)
 host_after (Make b r) device was array cell = was (Host_cell array cell)
@@ -59,7 +59,7 @@ host_after (Await q n) device was array cell = was (Host_cell array cell)
 host_after Close device was array cell = was (Host_cell array cell)
 
 -- The value of each cell after one more operation on a device.
-abbrev pub after_op : ℕ → Op → (Cell → ℤ) → Cell → ℤ
+abbrev pub after_op : ℕ → OpLabel → (Cell → ℤ) → Cell → ℤ
 after_op device op was (Host_cell array cell) = host_after op device was array cell
 after_op device op was (Block_cell d block cell) =
     if d == device then block_after op device was block cell else was (Block_cell d block cell)

@@ -1,12 +1,14 @@
+//! The blocks of one device by number, found by a binary search.
+
 ghost use Rattle.std.specs.Prelude.{◌≡◌, ◌+◌, ◌-◌, ◌<◌, ◌≤◌, ℕ, ℤ, pos, [], length, map, replicate, slice_get, is_some, true, None, IfErr, OnOk, OnErr};
 ghost use Rattle.std.specs.Option.{option_map};
 ghost use Rattle.acc_kernel.specs.Jobs.{AreDistinct, HoldReached};
 ghost use Rattle.acc_memory.specs.Blocks.{row_of};
-ghost use Rattle.acc_memory.specs.Memories.{ShowsRows, ShowsArray, HasRange, HasRanges, IsCopy, made_of, blocks_after, find_row, find_block, place_of, is_ascending, is_whole};
-ghost use Rattle.acc_memory.specs.Seen.{ArePlaces};
+ghost use Rattle.acc_memory.specs.Memories.{ShowsRows, ShowsArray, HasRange, HasRanges, IsCopy, made_of, blocks_after, find_row, find_block, index_of, is_ascending, is_whole};
+ghost use Rattle.acc_memory.specs.inner.Windows.{AreIndices};
 ghost use Rattle.acc_memory.specs.Values.{Cell, after_op};
 
-use crate::seen::run_over;
+use crate::window::run_over;
 use acc_base::{BlockId, Fault, Range};
 use acc_batch::Block;
 use acc_kernel::Kernel;
@@ -23,9 +25,9 @@ pub struct Blocks {
 impl Model for Blocks {
     ghost use Rattle.std.specs.Prelude.{map, vec_capacity};
     ghost use Rattle.acc_memory.specs.Blocks.{row_of};
-    ghost use Rattle.acc_memory.specs.Memories.{DeviceRows, IsMemory};
+    ghost use Rattle.acc_memory.specs.Memories.{BlocksView, IsMemory};
 
-    ghost Value = { DeviceRows };
+    ghost Value = { BlocksView };
 
     ghost view = { λ b. record { rows = map row_of b.blocks.items; room = vec_capacity b.blocks } };
 
@@ -34,10 +36,10 @@ impl Model for Blocks {
 
 impl Blocks {
     ghost use Rattle.acc_base.specs.declared.fault.Fault.TheVariants as fault;
-    ghost use Rattle.acc_batch.specs.declared.operation.Op.TheVariants as op;
+    ghost use Rattle.acc_batch.specs.declared.label.OpLabel.TheVariants as op;
 
     /// No block.
-    pub fn new(alloc: Global) -> Self
+    pub(crate) fn new(alloc: Global) -> Self
         ensures { result.rows ≡ [] }
     {
         Blocks {
@@ -50,7 +52,7 @@ impl Blocks {
     /// # Errors
     ///
     /// `Memory` where the room was missing and memory is refused; then nothing changes.
-    pub fn spare(&mut self, count: usize) -> Result<(), Fault>
+    pub(crate) fn spare(&mut self, count: usize) -> Result<(), Fault>
         ensures rows { self.new.rows ≡ self.old.rows }
         ensures room { self.old.room ≤ self.new.room }
         ensures ok { OnOk result (length self.new.rows + count ≤ self.new.room) }
@@ -63,11 +65,11 @@ impl Blocks {
     }
 
     /// The block of this number, if it is there.
-    pub fn get(&self, block: BlockId) -> Option<&Block>
+    pub(crate) fn get(&self, block: BlockId) -> Option<&Block>
         ensures { option_map (λ b. row_of b.now) result ≡ find_row self.now.rows block }
     {
-        let place = place_of(self.blocks.as_slice(), block);
-        match self.nth(place) {
+        let index = index_of(self.blocks.as_slice(), block);
+        match self.nth(index) {
             None => None,
             Some(held) => {
                 if held.block == block {
@@ -79,15 +81,15 @@ impl Blocks {
         }
     }
 
-    // The block at this place.
-    fn nth(&self, place: usize) -> Option<&Block>
-        ensures { option_map (λ b. row_of b.now) result ≡ slice_get self.now.rows place }
+    // The block at this index.
+    fn nth(&self, index: usize) -> Option<&Block>
+        ensures { option_map (λ b. row_of b.now) result ≡ slice_get self.now.rows index }
     {
-        self.blocks.get(place)
+        self.blocks.get(index)
     }
 
     /// Takes a block whose cells are all zero. Takes no memory.
-    pub fn make(&mut self, block: Block)
+    pub(crate) fn make(&mut self, block: Block)
         requires fresh { find_block (map made_of self.old.rows) block.block ≡ None }
         requires zeros { block.cells ≡ replicate block.range.len (pos 0) }
         requires room { length self.old.rows < self.old.room }
@@ -95,13 +97,13 @@ impl Blocks {
         ensures blocks { map made_of self.new.rows ≡ blocks_after (op.Make block.block block.range) (map made_of self.old.rows) }
         ensures room { self.new.room ≡ self.old.room }
     {
-        let place = place_of(self.blocks.as_slice(), block.block);
+        let index = index_of(self.blocks.as_slice(), block.block);
         // There is room for it.
-        let _ = self.blocks.insert(place, block);
+        let _ = self.blocks.insert(index, block);
     }
 
     /// Copies the range's cells, of which there is one, from the host array into the block.
-    pub fn copy_in(&mut self, block: BlockId, range: Range, cells: &[i64])
+    pub(crate) fn copy_in(&mut self, block: BlockId, range: Range, cells: &[i64])
         requires held { HasRange (map made_of self.old.rows) block range }
         requires some { 0 < range.len }
         requires array { range.lo + range.len ≤ length cells.now }
@@ -109,20 +111,20 @@ impl Blocks {
         ensures blocks { map made_of self.new.rows ≡ map made_of self.old.rows }
         ensures room { self.new.room ≡ self.old.room }
     {
-        let place = place_of(self.blocks.as_slice(), block);
-        fill(&mut self.blocks[place], range, cells);
+        let index = index_of(self.blocks.as_slice(), block);
+        fill(&mut self.blocks[index], range, cells);
     }
 
     /// Copies the range's cells, of which there is one, from the block into the host array.
-    pub fn copy_out(&self, block: BlockId, range: Range, cells: &mut [i64])
+    pub(crate) fn copy_out(&self, block: BlockId, range: Range, cells: &mut [i64])
         requires held { HasRange (map made_of self.now.rows) block range }
         requires some { 0 < range.len }
         requires array { range.lo + range.len ≤ length cells.old }
         ensures shows { (device : ℕ) (was : Cell → ℤ) → ShowsArray range.array cells.old was → ShowsRows device self.now.rows was → ShowsArray range.array cells.new (after_op device (op.CopyOut block range) was) }
         ensures len { length cells.new ≡ length cells.old }
     {
-        let place = place_of(self.blocks.as_slice(), block);
-        let held = &self.blocks[place];
+        let index = index_of(self.blocks.as_slice(), block);
+        let held = &self.blocks[index];
         copy_cells(
             &held.cells,
             (range.lo - held.range.lo) as usize,
@@ -133,18 +135,18 @@ impl Blocks {
     }
 
     /// Lets the block go.
-    pub fn release(&mut self, block: BlockId)
+    pub(crate) fn release(&mut self, block: BlockId)
         requires held { is_some (find_block (map made_of self.old.rows) block) ≡ true }
         ensures shows { (device : ℕ) (was : Cell → ℤ) → ShowsRows device self.old.rows was → ShowsRows device self.new.rows (after_op device (op.Release block) was) }
         ensures blocks { map made_of self.new.rows ≡ blocks_after (op.Release block) (map made_of self.old.rows) }
         ensures room { self.new.room ≡ self.old.room }
     {
-        let place = place_of(self.blocks.as_slice(), block);
-        self.blocks.remove(place);
+        let index = index_of(self.blocks.as_slice(), block);
+        self.blocks.remove(index);
     }
 
     /// Runs the loop over the blocks that it uses. Takes no memory.
-    pub fn run(&mut self, kernel: &Kernel, uses: &[(BlockId, Range)])
+    pub(crate) fn run(&mut self, kernel: &Kernel, uses: &[(BlockId, Range)])
         requires held { HasRanges (map made_of self.old.rows) uses.now }
         requires distinct { AreDistinct uses.now }
         requires reached { HoldReached kernel.now uses.now }
@@ -152,28 +154,28 @@ impl Blocks {
         ensures blocks { map made_of self.new.rows ≡ map made_of self.old.rows }
         ensures room { self.new.room ≡ self.old.room }
     {
-        let places = places_of(self.blocks.as_slice(), uses);
-        run_over(self.blocks.as_mut_slice(), places, kernel);
+        let indices = indices_of(self.blocks.as_slice(), uses);
+        run_over(self.blocks.as_mut_slice(), indices, kernel);
     }
 }
 
-// Of each array that a loop uses, the place of its block.
-fn places_of(blocks: &[Block], uses: &[(BlockId, Range)]) -> [usize; 256]
+// Of each array that a loop uses, the index of its block.
+fn indices_of(blocks: &[Block], uses: &[(BlockId, Range)]) -> [usize; 256]
     requires ascending { is_ascending (map row_of blocks.now) ≡ true }
     requires distinct { AreDistinct uses.now }
-    ensures { ArePlaces (map row_of blocks.now) uses.now result }
+    ensures { AreIndices (map row_of blocks.now) uses.now result }
 {
-    let mut places = [blocks.len(); 256];
+    let mut indices = [blocks.len(); 256];
     for (block, range) in uses {
-        places[usize::from(range.array)] = place_of(blocks, *block);
+        indices[usize::from(range.array)] = index_of(blocks, *block);
     }
-    places
+    indices
 }
 
-// The place of a block, or where it would stand.
-fn place_of(blocks: &[Block], block: BlockId) -> usize
+// The index of a block, or where it would stand.
+fn index_of(blocks: &[Block], block: BlockId) -> usize
     requires { is_ascending (map row_of blocks.now) ≡ true }
-    ensures place { result ≡ place_of (map row_of blocks.now) block }
+    ensures index { result ≡ index_of (map row_of blocks.now) block }
     ensures within { result ≤ length blocks.now }
 {
     blocks.partition_point(|b| b.block.number() < block.number())
@@ -194,7 +196,7 @@ fn fill(block: &mut Block, range: Range, cells: &[i64])
     block.cells.copy_from(at, source);
 }
 
-// Copies so many cells of a block, from one place on, to a place of a host array.
+// Copies so many cells of a block, from one index on, to another of a host array.
 fn copy_cells(source: &Cells, from: usize, target: &mut [i64], at: usize, count: usize)
     requires source { from + count ≤ length source.now }
     requires target { at + count ≤ length target.old }

@@ -1,4 +1,6 @@
-ghost use Rattle.acc_memory.specs.Examples.{Doubles, LeavesOthers, ThereAndBack};
+//! Laws over the definitions.
+
+ghost use Rattle.acc_memory.specs.worked.Runs.{Doubles, LeavesOthers, ThereAndBack};
 
 /// What a loop makes of the cells of its blocks, and a round from the host and back.
 pub fn worked_runs()

@@ -4,7 +4,7 @@
 mod blocks;
 mod laws;
 mod memory;
-mod seen;
+mod window;
 
 pub use laws::worked_runs;
 pub use memory::Memory;

@@ -1,13 +1,16 @@
+//! The memory: performs an operation on a device, reads and writes host arrays, shows a block.
+
 ghost use Rattle.std.specs.Prelude.{◌≡◌, ◌+◌, ◌<◌, ◌≤◌, ℕ, ℤ, pos, [], length, map, replicate, slice_get, true, Some, IfOk, IfErr, OnOk, OnErr};
 ghost use Rattle.std.specs.Option.{option_map};
-ghost use Rattle.acc_batch.specs.Tasks.{op_of, HasItsCells};
+ghost use Rattle.acc_batch.specs.Ops.{op_label, HasItsCells};
 ghost use Rattle.acc_memory.specs.Blocks.{row_with};
-ghost use Rattle.acc_memory.specs.Memories.{Shows, MayPerform, IsAllowed, PerformsOn, rows_in, room_in, rows_on, room_on, cell_of, find_row, lengths_of, has_array};
+ghost use Rattle.acc_memory.specs.Memories.{Shows, MayPerform, IsAllowed, PerformsOn, rows_in, room_in, rows_on, room_on, cell_of, find_row, has_array};
+ghost use Rattle.acc_base.specs.Configurations.{lengths_of};
 ghost use Rattle.acc_memory.specs.Values.{Cell, Host_cell, after_write, values_of};
 
 use crate::blocks::Blocks;
 use acc_base::{BlockId, Config, DeviceId, Fault, Range};
-use acc_batch::{Block, Op, Task};
+use acc_batch::{Block, Op, OpLabel};
 use acc_kernel::Kernel;
 use acc_raw::Cells;
 use std::alloc::Global;
@@ -33,9 +36,9 @@ impl Model for Memory {
 
 impl Memory {
     ghost use Rattle.acc_base.specs.declared.fault.Fault.TheVariants as fault;
-    ghost use Rattle.acc_batch.specs.declared.operation.Op.TheVariants as op;
+    ghost use Rattle.acc_batch.specs.declared.label.OpLabel.TheVariants as op;
 
-    /// The host arrays with their opening values, and no block.
+    /// The host arrays with their initial values, and no block.
     ///
     /// # Errors
     ///
@@ -68,42 +71,42 @@ impl Memory {
         spare_all(&mut self.devices, count)
     }
 
-    /// Performs a task on a device, one that `Config::has_device` knows, and gives its operation back. Takes no memory.
+    /// Performs an operation on a device, one that `Config::has_device` knows, and gives its label back. Takes no memory.
     ///
-    /// A block that is made has its cells, all zero, and a loop has all cells that it reaches, as `Task::new` gives them. A
+    /// A block that is made has its cells, all zero, and a loop has all cells that it reaches, as `Op::new` gives them. A
     /// block that is made isn't there, its range ends in its array, and there is room for it, as `spare` makes. A block that
     /// is copied, released or used by a loop is there, as `block` tells, and its range contains the one that is copied or
     /// used.
-    pub fn do_op(&mut self, device: DeviceId, task: Task) -> Op
+    pub fn do_op(&mut self, device: DeviceId, op: Op) -> OpLabel
         requires device { device < length self.old.devices }
-        requires allowed { IsAllowed self.old device task }
-        ensures op { result ≡ op_of task }
-        ensures performed { PerformsOn device (op_of task) self.old self.new }
+        requires allowed { IsAllowed self.old device op }
+        ensures op { result ≡ op_label op }
+        ensures performed { PerformsOn device (op_label op) self.old self.new }
     {
-        match task {
-            Task::Make { block } => {
+        match op {
+            Op::Make { block } => {
                 let (id, range) = (block.block, block.range);
                 self.make(device, block);
-                Op::Make { block: id, range }
+                OpLabel::Make { block: id, range }
             }
-            Task::CopyIn { block, range } => {
+            Op::CopyIn { block, range } => {
                 self.copy_in(device, block, range);
-                Op::CopyIn { block, range }
+                OpLabel::CopyIn { block, range }
             }
-            Task::CopyOut { block, range } => {
+            Op::CopyOut { block, range } => {
                 self.copy_out(device, block, range);
-                Op::CopyOut { block, range }
+                OpLabel::CopyOut { block, range }
             }
-            Task::Release { block } => {
+            Op::Release { block } => {
                 self.release(device, block);
-                Op::Release { block }
+                OpLabel::Release { block }
             }
-            Task::Run { kernel, uses } => {
+            Op::Run { kernel, uses } => {
                 self.run(device, kernel.get(), uses.get().as_slice());
-                Op::Run { kernel, uses }
+                OpLabel::Run { kernel, uses }
             }
-            Task::Await { queue, number } => Op::Await { queue, number },
-            Task::Close => Op::Close,
+            Op::Await { queue, number } => OpLabel::Await { queue, number },
+            Op::Close => OpLabel::Close,
         }
     }
 
@@ -211,12 +214,12 @@ fn cell_at(cells: &[i64], cell: u32) -> i64
     cells[cell as usize]
 }
 
-// The host arrays with their opening values.
+// The host arrays with their initial values.
 fn arrays_of(alloc: Global, config: &Config) -> Result<Vec<Vec<i64>>, Fault>
     ensures arrays { IfOk result (λ arrays. map (λ v. v.items) arrays.items ≡ config.now.arrays) }
     ensures fault { IfErr result (λ f. f ≡ Fault.Memory) }
 {
-    config.keeps_limits();
+    config.keeps();
     let mut arrays = Vec::new(alloc);
     for n in 0..config.arrays() {
         arrays.push(Vec::from_slice(alloc, config.array(n as u8))?)?;

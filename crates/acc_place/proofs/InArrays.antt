@@ -3,28 +3,28 @@ use Rattle.std.proofs.Common.{◌≡◌, ℕ, ◌<◌, List, [], ◌∷◌, ◌+
 use Rattle.std.specs.Prelude.{not, ℤ}
 use Rattle.std.proofs.lemmas.Bool.{leb-false}
 use Rattle.acc_base.specs.declared.fault.Fault.TheVariants.{BadRange}
-use Rattle.acc_base.specs.Configurations.{Configuration, is_in_array}
+use Rattle.acc_base.specs.Configurations.{Configuration, has_range}
 use Rattle.acc_present.specs.declared.change.Change.{Change}
 use Rattle.acc_present.specs.declared.change.Change.TheVariants.{StructuredDown}
 use Rattle.acc_present.specs.Marks.{Mark}
 use Rattle.acc_place.specs.Directives.{Directive}
-use Rattle.acc_place.specs.declared.directive.Item.{Item}
+use Rattle.acc_place.specs.declared.directive.DataItem.{DataItem}
 use Rattle.acc_place.specs.declared.directive.Kind.{Kind}
 use Rattle.acc_place.specs.declared.directive.Kind.TheVariants as kind
 use Rattle.acc_place.specs.Standings.{Standing, Asked, all_asked, change_by, ends_by, subject_by, walk_of, visits}
 use Rattle.acc_place.specs.Accepting.{first_fault, fault_where, fault_at, refusal}
-use Rattle.acc_place.proofs.Faultless.{first_fault_none, no_fault_at, no_fault_of}
-use Rattle.acc_place.proofs.Ends.{asks_of}
-use Rattle.acc_place.proofs.Uses.{marked_by, visit}
-use Rattle.acc_place.proofs.Groups.{AllInArrays}
+use Rattle.acc_place.proofs.FirstFault.{first_fault_none, no_fault_at, no_fault_of}
+use Rattle.acc_place.proofs.AllVisits.{asks_of}
+use Rattle.acc_place.proofs.VisitLives.{marked_by, visit}
+use Rattle.acc_place.proofs.GroupLives.{AllInArrays}
 
 -- the ranges of a directive without a fault lie in their arrays
 all_in_arrays : (config : Configuration) (k : Kind) (asks : List Asked) (ms : List Mark) → first_fault (map (fault_at config k) (visits ms asks)) ≡ None → AllInArrays config.arrays asks
 all_in_arrays config k [] ms h = tt
 all_in_arrays config k (a ∷ asks) ms h =
     let parts = first_fault_none (fault_at config k (visit ms a)) (map (fault_at config k) (visits (marked_by ms a) asks)) h in
-    let here = first_fault_none (fault_where (not (is_in_array config.arrays a.item.range)) BadRange) _ parts.0 in
-    (no_fault_at (is_in_array config.arrays a.item.range) BadRange here.0, all_in_arrays config k asks (marked_by ms a) parts.1)
+    let here = first_fault_none (fault_where (not (has_range config.arrays a.item.range)) BadRange) _ parts.0 in
+    (no_fault_at (has_range config.arrays a.item.range) BadRange here.0, all_in_arrays config k asks (marked_by ms a) parts.1)
 
 -- two lists of items, one behind the other
 in_arrays-append : (arrays : List (List ℤ)) (xs ys : List Asked) → AllInArrays arrays xs → AllInArrays arrays ys → AllInArrays arrays (xs ++ ys)
@@ -32,12 +32,12 @@ in_arrays-append arrays [] ys h k = k
 in_arrays-append arrays (x ∷ xs) ys h k = (h.0, in_arrays-append arrays xs ys h.1 k)
 
 -- whatever is asked of the items
-in_arrays_asked : (arrays : List (List ℤ)) (one other : Option Change) (items : List Item) → AllInArrays arrays (all_asked one items) → AllInArrays arrays (all_asked other items)
+in_arrays_asked : (arrays : List (List ℤ)) (one other : Option Change) (items : List DataItem) → AllInArrays arrays (all_asked one items) → AllInArrays arrays (all_asked other items)
 in_arrays_asked arrays one other [] h = tt
 in_arrays_asked arrays one other (i ∷ items) h = (h.0, in_arrays_asked arrays one other items h.1)
 
 -- so the ranges of items that leave again lie in their arrays too
-ends_in_arrays : (arrays : List (List ℤ)) (k : Kind) (change : Option Change) (items : List Item) → AllInArrays arrays (all_asked change items) → AllInArrays arrays (ends_by k items)
+ends_in_arrays : (arrays : List (List ℤ)) (k : Kind) (change : Option Change) (items : List DataItem) → AllInArrays arrays (all_asked change items) → AllInArrays arrays (ends_by k items)
 ends_in_arrays arrays kind.Data change items h = tt
 ends_in_arrays arrays kind.EndData change items h = tt
 ends_in_arrays arrays kind.EnterData change items h = tt

@@ -8,8 +8,8 @@ use Rattle.acc_base.specs.declared.ids.TheConstants.{QUEUES}
 use Rattle.acc_base.specs.Configurations.{Configuration}
 use Rattle.acc_base.specs.Queues.{queue_count, same_queue, seat}
 use Rattle.acc_base.proofs.SameQueue.{same_queue_itself, same_queue_is}
-use Rattle.acc_batch.specs.declared.operation.Label.{Label}
-use Rattle.acc_batch.specs.declared.operation.Op.{Op}
+use Rattle.acc_batch.specs.declared.label.Label.{Label}
+use Rattle.acc_batch.specs.declared.label.OpLabel.{OpLabel}
 use Rattle.acc_batch.specs.Awaits.{close_label}
 use Rattle.acc_batch.specs.Labels.{on_queue}
 use Rattle.acc_batch.proofs.Labels.{on_queue-append}
@@ -20,15 +20,15 @@ use Rattle.acc_place.specs.declared.directive.PlaceEntry.{PlaceEntry}
 use Rattle.acc_place.specs.declared.directive.PlaceEntry.TheVariants.{Accepted, Closing, Closed}
 use Rattle.acc_place.specs.declared.directive.Region.{Region}
 use Rattle.acc_place.specs.Closing.{IsOut}
-use Rattle.acc_place.specs.Batches.{batch_of, labelled, walk_at}
+use Rattle.acc_place.specs.Batches.{batch_of, labels_with, walk_at}
 use Rattle.acc_place.specs.Histories.{after_close, after_directive, at_first, is_closed, standing, CanClose, IsQueue}
-use Rattle.acc_place.specs.Places.{close_in, closing_entries, entries_left, left_open, new_close, no_close, queues_after, ClosesQueue, IsCloseOf, IsPlace, KeepsCloses}
+use Rattle.acc_place.specs.inner.Places.{close_in, closing_entries, entries_left, closes_kept, new_close, no_close, queues_after, ClosesQueue, IsCloseOf, IsPlace, KeepsCloses}
 use Rattle.acc_place.specs.Plans.{standing_in, Fits, PlaceView, PlanView, Room}
 use Rattle.acc_place.specs.Standings.{Standing, walk_of}
-use Rattle.acc_place.proofs.Accepted.{accepted_open}
-use Rattle.acc_place.proofs.Closing.{tied_begun, tied_closed}
-use Rattle.acc_place.proofs.Planning.{reverse-push, viewed}
-use Rattle.acc_place.proofs.Queues.{one_more, seat_low}
+use Rattle.acc_place.proofs.AcceptedDirective.{accepted_open}
+use Rattle.acc_place.proofs.AfterClose.{tied_begun, tied_closed}
+use Rattle.acc_place.proofs.StandingIn.{reverse-push, viewed}
+use Rattle.acc_place.proofs.QueuesAfter.{one_more, seat_low}
 
 -- ## How many queues are open
 
@@ -36,32 +36,32 @@ abbrev one_left : Bool → ℕ → ℕ
 one_left true n = n + 1
 one_left false n = n
 
-left_first : (c : Close) (cs : List Close) → left_open (c ∷ cs) ≡ one_left (is_some c.label) (left_open cs)
+left_first : (c : Close) (cs : List Close) → closes_kept (c ∷ cs) ≡ one_left (is_some c.label) (closes_kept cs)
 left_first c cs = elim (cases_Bool (is_some c.label)) [ inl some ↦ rw some (omega arith) | inr none ↦ rw none refl ]
 
-left_most : (cs : List Close) → left_open cs ≤ length cs
+left_most : (cs : List Close) → closes_kept cs ≤ length cs
 left_most [] = omega arith
 left_most (c ∷ cs) = by_label (is_some c.label) (left_first c cs) (left_most cs)
   where
-    by_label : (b : Bool) → left_open (c ∷ cs) ≡ one_left b (left_open cs) → left_open cs ≤ length cs → left_open (c ∷ cs) ≤ length (c ∷ cs)
+    by_label : (b : Bool) → closes_kept (c ∷ cs) ≡ one_left b (closes_kept cs) → closes_kept cs ≤ length cs → closes_kept (c ∷ cs) ≤ length (c ∷ cs)
     by_label true e most = omega (arith, e, most)
     by_label false e most = omega (arith, e, most)
 
-left_same : (cs : List Close) (i : ℕ) (new : Close) → is_some new.label ≡ is_some (slice_index_or cs i no_close).label → left_open (slice_set cs i new) ≡ left_open cs
+left_same : (cs : List Close) (i : ℕ) (new : Close) → is_some new.label ≡ is_some (slice_index_or cs i no_close).label → closes_kept (slice_set cs i new) ≡ closes_kept cs
 left_same [] i new same = refl
-left_same (c ∷ cs) zero new same = left_first new cs ∙ (ap (λ b. one_left b (left_open cs)) same ∙ sym (left_first c cs))
+left_same (c ∷ cs) zero new same = left_first new cs ∙ (ap (λ b. one_left b (closes_kept cs)) same ∙ sym (left_first c cs))
 left_same (c ∷ cs) (suc i) new same = left_first c (slice_set cs i new) ∙ (ap (one_left (is_some c.label)) (left_same cs i new same) ∙ sym (left_first c cs))
 
-left_fewer : (cs : List Close) (i : ℕ) (new : Close) → is_some (slice_index_or cs i no_close).label ≡ true → is_some new.label ≡ false → left_open (slice_set cs i new) + 1 ≡ left_open cs
+left_fewer : (cs : List Close) (i : ℕ) (new : Close) → is_some (slice_index_or cs i no_close).label ≡ true → is_some new.label ≡ false → closes_kept (slice_set cs i new) + 1 ≡ closes_kept cs
 left_fewer [] i new some none = absurd cc
 left_fewer (c ∷ cs) zero new some none =
-    let before = left_first c cs ∙ ap (λ b. one_left b (left_open cs)) some in
-    let after = left_first new cs ∙ ap (λ b. one_left b (left_open cs)) none in
+    let before = left_first c cs ∙ ap (λ b. one_left b (closes_kept cs)) some in
+    let after = left_first new cs ∙ ap (λ b. one_left b (closes_kept cs)) none in
     omega (arith, before, after)
 left_fewer (c ∷ cs) (suc i) new some none = by_label (is_some c.label) (left_first c cs) (left_first c (slice_set cs i new)) (left_fewer cs i new some none)
   where
-    by_label : (b : Bool) → left_open (c ∷ cs) ≡ one_left b (left_open cs) → left_open (c ∷ slice_set cs i new) ≡ one_left b (left_open (slice_set cs i new)) → left_open (slice_set cs i new) + 1 ≡ left_open cs
-        → left_open (c ∷ slice_set cs i new) + 1 ≡ left_open (c ∷ cs)
+    by_label : (b : Bool) → closes_kept (c ∷ cs) ≡ one_left b (closes_kept cs) → closes_kept (c ∷ slice_set cs i new) ≡ one_left b (closes_kept (slice_set cs i new)) → closes_kept (slice_set cs i new) + 1 ≡ closes_kept cs
+        → closes_kept (c ∷ slice_set cs i new) + 1 ≡ closes_kept (c ∷ cs)
     by_label true before after fewer = omega (arith, before, after, fewer)
     by_label false before after fewer = omega (arith, before, after, fewer)
 
@@ -101,7 +101,7 @@ close_set config st closing cs entries room batches at new h there own =
       label_room = h.label_room;
     }
   where
-    by_closing : (b : Bool) → left_open (slice_set cs (seat at) new) ≡ left_open cs → entries + entries_left b cs ≤ room → entries + entries_left b (slice_set cs (seat at) new) ≤ room
+    by_closing : (b : Bool) → closes_kept (slice_set cs (seat at) new) ≡ closes_kept cs → entries + entries_left b cs ≤ room → entries + entries_left b (slice_set cs (seat at) new) ≤ room
     by_closing true same fits = omega (arith, same, fits)
     by_closing false same fits = omega (arith, same, fits)
 
@@ -182,8 +182,8 @@ closes_spared config st closing cs entries room more batches others h enough eac
     }
 
 -- a batch of a directive is placed
-label_more : (config : Configuration) (labels : List Label) (own at : QueueAt) (host items_done : ℕ) (ops : List Op) (room : QueueAt → ℕ) → length (on_queue own labels) < room own → length (on_queue at labels) ≤ room at
-    → length (on_queue at (labelled own host items_done labels ops)) ≤ room at
+label_more : (config : Configuration) (labels : List Label) (own at : QueueAt) (host items_done : ℕ) (ops : List OpLabel) (room : QueueAt → ℕ) → length (on_queue own labels) < room own → length (on_queue at labels) ≤ room at
+    → length (on_queue at (labels_with own host items_done labels ops)) ≤ room at
 label_more config labels own at host items_done [] room roomy fits = fits
 label_more config labels own at host items_done (op ∷ ops) room roomy fits =
     let l : Label = record { at = own; number = length (on_queue own labels) + 1; host = host; items_done = items_done; ops = op ∷ ops } in
@@ -330,7 +330,7 @@ entry_room config st closing cs entries room batches at h there unplaced =
     let some : is_some (close_in cs at).label ≡ true = (h.each at there).left ∙ ap not unplaced in
     by_closing closing (left_fewer cs (seat at) no_close some refl) h.history_room
   where
-    by_closing : (b : Bool) → left_open (slice_set cs (seat at) no_close) + 1 ≡ left_open cs → entries + entries_left b cs ≤ room → entries < room
+    by_closing : (b : Bool) → closes_kept (slice_set cs (seat at) no_close) + 1 ≡ closes_kept cs → entries + entries_left b cs ≤ room → entries < room
     by_closing true fewer fits = omega (arith, fewer, fits)
     by_closing false fewer fits = omega (arith, fewer, fits)
 

@@ -10,36 +10,36 @@ use Rattle.acc_base.specs.declared.range.Range.{Range}
 use Rattle.acc_base.specs.Configurations.{Configuration}
 use Rattle.acc_base.specs.Queues.{same_queue}
 use Rattle.acc_base.proofs.SameQueue.{same_queue_is}
-use Rattle.acc_batch.specs.declared.operation.Label.{Label}
-use Rattle.acc_batch.specs.declared.operation.Op.{Op}
-use Rattle.acc_batch.specs.declared.operation.Op.TheVariants.{Make, CopyIn, CopyOut, Release, Run, Await, Close}
+use Rattle.acc_batch.specs.declared.label.Label.{Label}
+use Rattle.acc_batch.specs.declared.label.OpLabel.{OpLabel}
+use Rattle.acc_batch.specs.declared.label.OpLabel.TheVariants.{Make, CopyIn, CopyOut, Release, Run, Await, Close}
 use Rattle.acc_batch.specs.Awaits.{close_label, is_await}
 use Rattle.acc_batch.specs.Labels.{on_queue, ops_of}
 use Rattle.acc_batch.proofs.Labels.{on_queue-append, ops_of-append}
-use Rattle.acc_batch.proofs.Ordered.{behind_is}
+use Rattle.acc_batch.proofs.OrderedBatches.{behind_is}
 use Rattle.acc_kernel.specs.Kernels.{Loop}
 use Rattle.acc_present.specs.Marks.{Mark}
 use Rattle.acc_place.specs.declared.directive.Clause.{Clause}
 use Rattle.acc_place.specs.declared.directive.Clause.TheVariants.{Copy, Copyin, Copyout, Create, Present, Delete, UpdateSelf, UpdateDevice}
-use Rattle.acc_place.specs.declared.directive.Item.{Item}
+use Rattle.acc_place.specs.declared.directive.DataItem.{DataItem}
 use Rattle.acc_place.specs.declared.directive.PlaceEntry.{PlaceEntry}
 use Rattle.acc_place.specs.declared.directive.PlaceEntry.TheVariants.{Accepted, Closing, Closed}
-use Rattle.acc_place.specs.Batches.{walk_at, makes, copy_ins, runs, runs_by, updates, updates_by, copy_outs, releases, copies_in, copies_out, opened_blocks, ended_blocks, holding_blocks, grouped, operations_of, batch_of, next_number, labelled}
+use Rattle.acc_place.specs.Batches.{walk_at, makes, copy_ins, runs, runs_by, updates, updates_by, copy_outs, releases, copies_in, copies_out, opened_blocks, ended_blocks, holding_blocks, grouped, operations_of, batch_of, next_number, labels_with}
 use Rattle.acc_place.specs.Histories.{AllAccepted, IsQueue, is_closed, standing}
 use Rattle.acc_place.specs.Sound.{is_close, AcceptedCloseLast, CloseLast}
 use Rattle.acc_place.specs.Standings.{Standing, Visit, Walk, all_visits, walk_of}
-use Rattle.acc_place.proofs.Accepted.{accepted_open}
+use Rattle.acc_place.proofs.AcceptedDirective.{accepted_open}
 
 -- ## No batch of a directive closes
 
-abbrev pub Goes : Op → Type 0
+abbrev pub Goes : OpLabel → Type 0
 Goes op = is_close op ≡ false
 
-each_of : (f : ℕ → Op) (bs : List ℕ) → ((b : ℕ) → Goes (f b)) → All Goes (map f bs)
+each_of : (f : ℕ → OpLabel) (bs : List ℕ) → ((b : ℕ) → Goes (f b)) → All Goes (map f bs)
 each_of f [] h = All-nil Goes
 each_of f (b ∷ bs) h = All-cons Goes (f b) (map f bs) (h b) (each_of f bs h)
 
-if_each : (t : Bool) (f : ℕ → Op) (bs : List ℕ) → ((b : ℕ) → Goes (f b)) → All Goes (cond t (map f bs) [])
+if_each : (t : Bool) (f : ℕ → OpLabel) (bs : List ℕ) → ((b : ℕ) → Goes (f b)) → All Goes (cond t (map f bs) [])
 if_each true f bs h = each_of f bs h
 if_each false f bs h = All-nil Goes
 
@@ -53,15 +53,15 @@ update_each Create r bs = All-nil Goes
 update_each Present r bs = All-nil Goes
 update_each Delete r bs = All-nil Goes
 
-each_visit : (f : Visit → List Op) (vs : List Visit) → ((v : Visit) → All Goes (f v)) → All Goes (flat_map f vs)
+each_visit : (f : Visit → List OpLabel) (vs : List Visit) → ((v : Visit) → All Goes (f v)) → All Goes (flat_map f vs)
 each_visit f [] h = All-nil Goes
 each_visit f (v ∷ vs) h = All-append Goes (f v) (flat_map f vs) (h v) (each_visit f vs h)
 
-run_each : (k : Option Loop) (items : List Item) (ms : List Mark) → All Goes (runs_by k items ms)
+run_each : (k : Option Loop) (items : List DataItem) (ms : List Mark) → All Goes (runs_by k items ms)
 run_each None items ms = All-nil Goes
 run_each (Some k) items ms = All-cons Goes (Run k _) [] refl (All-nil Goes)
 
-groups_go : (run : List Op) (vs : List Visit) → All Goes run → All Goes (grouped run vs)
+groups_go : (run : List OpLabel) (vs : List Visit) → All Goes run → All Goes (grouped run vs)
 groups_go run vs h =
     All-append Goes (flat_map makes vs) _ (each_visit makes vs (λ v. each_of (λ b. Make b v.item.range) (opened_blocks v) (λ b. refl)))
     (All-append Goes (flat_map copy_ins vs) _ (each_visit copy_ins vs (λ v. if_each (copies_in v.item.clause) (λ b. CopyIn b v.item.range) (opened_blocks v) (λ b. refl)))
@@ -70,7 +70,7 @@ groups_go run vs h =
     (All-append Goes (flat_map copy_outs vs) _ (each_visit copy_outs vs (λ v. if_each (copies_out v.item.clause) (λ b. CopyOut b v.item.range) (ended_blocks v) (λ b. refl)))
     (each_visit releases vs (λ v. each_of Release (ended_blocks v) (λ b. refl)))))))
 
-await_goes : (op : Op) → is_await op ≡ true → Goes op
+await_goes : (op : OpLabel) → is_await op ≡ true → Goes op
 await_goes (Await q n) h = refl
 await_goes (Make b r) h = refl
 await_goes (CopyIn b r) h = refl
@@ -79,7 +79,7 @@ await_goes (Release b) h = refl
 await_goes (Run k uses) h = refl
 await_goes Close h = (let w : false ≡ true = h in absurd cc)
 
-awaits_go : (ops : List Op) → All (λ op. is_await op ≡ true) ops → All Goes ops
+awaits_go : (ops : List OpLabel) → All (λ op. is_await op ≡ true) ops → All Goes ops
 awaits_go [] h = All-nil Goes
 awaits_go (op ∷ ops) h =
     All-cons Goes op ops (await_goes op (All-head (λ op. is_await op ≡ true) op ops h)) (awaits_go ops (All-tail (λ op. is_await op ≡ true) op ops h))
@@ -118,7 +118,7 @@ one_plain : (b : Bool) (l : Label) → IsPlain l → All IsPlain (last_of b l)
 one_plain true l h = All-cons IsPlain l [] h (All-nil IsPlain)
 one_plain false l h = All-nil IsPlain
 
-more_on : (at own : QueueAt) (host items_done : ℕ) (labels : List Label) (ops : List Op) → EndsBy false (on_queue at labels) → All Goes ops → EndsBy false (on_queue at (labelled own host items_done labels ops))
+more_on : (at own : QueueAt) (host items_done : ℕ) (labels : List Label) (ops : List OpLabel) → EndsBy false (on_queue at labels) → All Goes ops → EndsBy false (on_queue at (labels_with own host items_done labels ops))
 more_on at own host items_done labels [] h go = h
 more_on at own host items_done labels (op ∷ ops) h go =
     let l : Label = record { at = own; number = next_number own labels; host = host; items_done = items_done; ops = op ∷ ops } in
@@ -171,13 +171,13 @@ plain_go : (ls : List Label) → All IsPlain ls → All Goes (ops_of ls)
 plain_go [] h = All-nil Goes
 plain_go (l ∷ ls) h = All-append Goes l.ops (ops_of ls) (All-head IsPlain l ls h).1 (plain_go ls (All-tail IsPlain l ls h))
 
-abbrev pub last_ops : Bool → List Op
+abbrev pub last_ops : Bool → List OpLabel
 last_ops true = Close ∷ []
 last_ops false = []
 
 -- Behind operations that don't close comes the close, where the queue is closed.
-pub record OpsEndBy (closed : Bool) (ops : List Op) : Type 0 where
-  pub first : List Op
+pub record OpsEndBy (closed : Bool) (ops : List OpLabel) : Type 0 where
+  pub first : List OpLabel
   pub go : All Goes first
   pub split : ops ≡ first ++ last_ops closed
 
@@ -195,7 +195,7 @@ ops_end_by closed ls h =
 
 -- ## The law
 
-close_last : (first : List Op) (closed : Bool) → All Goes first → CloseLast (first ++ last_ops closed)
+close_last : (first : List OpLabel) (closed : Bool) → All Goes first → CloseLast (first ++ last_ops closed)
 close_last [] true h = (λ e. refl, tt)
 close_last [] false h = tt
 close_last (op ∷ first) closed h = (

@@ -1,41 +1,41 @@
-mod Accepted
-mod Accepting
-mod Ahead
-mod Awaiting
-mod Celled
-mod Closing
-mod Counted
-pub mod Ends
-mod Entered
-mod Entries
-mod Exits
-pub mod Faultless
-mod Filling
-mod Finding
-mod Following
-pub mod Groups
+mod AcceptedDirective
+mod AfterClose
+pub mod AllVisits
+mod AwaitedNumbers
+mod BatchNotes
+mod DeviceNotes
+mod DirectivesCounted
+mod EnteredRanges
+mod EntryWalks
+mod ExitWalks
+mod FaultIn
+pub mod FirstFault
+pub mod GroupLives
+mod HeldAndMade
+mod HeldInWalk
 pub mod InArrays
-mod Inside
-mod Judging
 mod KeptCloses
+pub mod LabelsSound
+pub mod LabelsThere
 pub mod LastClose
-mod Looping
-mod Marking
-mod Noted
-mod NotedOps
-mod PastReach
-mod Planning
-mod Queues
-mod Raising
+mod LoopItems
+mod LoopReach
+mod NoteFound
+mod NoteOf
+mod NotedBy
+mod NotesOn
+mod OpenRegion
+mod PlaceAccept
+mod PlaceParts
+mod PlanOf
+mod QueuesAfter
+mod ReachJudged
 mod RegionsOn
-mod Seen
-mod Setting
-mod Simple
-pub mod Sound
-pub mod There
-mod Trying
-pub mod Uses
+mod SliceSet
+mod StandingIn
+mod TrialPlan
+mod TriedDirective
+pub mod VisitLives
 mod Visits
+mod WalkItem
 pub mod WalkLives
-mod Walking
-mod Within

@@ -8,8 +8,8 @@ use Rattle.acc_place.specs.declared.directive.Kind.TheVariants as kind
 use Rattle.acc_place.specs.declared.directive.Region.{Region}
 use Rattle.acc_place.specs.Regions.{open_region, regions_after, regions_on, without_open}
 use Rattle.acc_place.specs.Standings.{left_by, subject_by}
-use Rattle.acc_place.specs.Walks.{device_by}
-use Rattle.acc_place.proofs.Inside.{none_without}
+use Rattle.acc_place.specs.inner.Walks.{device_by}
+use Rattle.acc_place.proofs.OpenRegion.{none_without}
 
 some_is : (a b : Region) → Some a ≡ Some b → a ≡ b
 some_is a b h = cc

@@ -8,44 +8,44 @@ use Rattle.std.proofs.lemmas.Grind.{flat_map-append}
 use Rattle.acc_base.specs.declared.range.Range.{Range}
 use Rattle.acc_base.specs.declared.fault.Fault.{Fault}
 use Rattle.acc_base.specs.declared.fault.Fault.TheVariants.{BadRange, PartlyPresent, NotPresent, DeviceFull}
-use Rattle.acc_base.specs.Configurations.{Configuration, is_in_array}
-use Rattle.acc_batch.specs.declared.operation.Op.{Op}
-use Rattle.acc_batch.specs.declared.operation.Op.TheVariants as op
+use Rattle.acc_base.specs.Configurations.{Configuration, has_range}
+use Rattle.acc_batch.specs.declared.label.OpLabel.{OpLabel}
+use Rattle.acc_batch.specs.declared.label.OpLabel.TheVariants as op
 use Rattle.acc_present.specs.declared.table.Counter.TheVariants.{Structured, Dynamic}
 use Rattle.acc_present.specs.Legality.{AllLegal}
-use Rattle.acc_present.specs.Lifetimes.{opened, can_open}
+use Rattle.acc_present.specs.Lifetimes.{opened_lifetimes, can_open}
 use Rattle.acc_present.specs.declared.change.Change.{Change}
 use Rattle.acc_present.specs.declared.change.Change.TheVariants.{StructuredUp, StructuredDown, DynamicUp, DynamicDown, DynamicZero}
 use Rattle.acc_present.specs.Marks.{Mark}
 use Rattle.acc_present.specs.Presences.{Presence, presences, holder, is_present, is_partly_present, used_cells}
 use Rattle.acc_present.specs.Tables.{changed_counter, counter_of, stepped, has_count}
-use Rattle.acc_present.proofs.Balancing.{can_count-balanced, legal}
-use Rattle.acc_present.proofs.Counting.{kept_none, counted_at}
-use Rattle.acc_present.proofs.Ending.{opened-more, ended_of, ended_in, ended-same, ended-more, ended_in-none, ended_in-some}
-use Rattle.acc_present.proofs.Entering.{has_count-entered, exit_at_zero}
-use Rattle.acc_present.proofs.Marking.{found_in, used_cells-opened}
-use Rattle.acc_present.proofs.OneMore.{CanCount, presences-more}
-use Rattle.acc_present.proofs.Parts.{none_from_absent}
+use Rattle.acc_present.proofs.LegalMarks.{can_count-balanced, legal}
+use Rattle.acc_present.proofs.KeptAfter.{kept_none, counted_at}
+use Rattle.acc_present.proofs.OpenedAndEnded.{opened-more, ended_of, ended_in, ended-same, ended-more, ended_in-none, ended_in-some}
+use Rattle.acc_present.proofs.EnterAndExit.{has_count-entered, exit_at_zero}
+use Rattle.acc_present.proofs.PresencesAfter.{found_in, used_cells-opened}
+use Rattle.acc_present.proofs.Presences.{CanCount, presences-more}
+use Rattle.acc_present.proofs.TableFilter.{none_from_absent}
 use Rattle.acc_place.specs.declared.directive.Clause.{Clause}
 use Rattle.acc_place.specs.declared.directive.Clause.TheVariants.{Copy, Copyin, Copyout, Create, Present, Delete, UpdateSelf, UpdateDevice}
-use Rattle.acc_place.specs.declared.directive.Item.{Item}
+use Rattle.acc_place.specs.declared.directive.DataItem.{DataItem}
 use Rattle.acc_place.specs.declared.directive.Kind.{Kind}
 use Rattle.acc_place.specs.declared.plan.Group.TheVariants.{Makes, CopyIns, Updates, CopyOuts, Releases}
 use Rattle.acc_place.specs.declared.judge.Marked.{Marked}
 use Rattle.acc_place.specs.Accepting.{fault_at, first_fault, fault_where, has_opened, wants_whole, wants_presence}
 use Rattle.acc_place.specs.Batches.{opened_block, opened_blocks, ended_blocks, found_block, holding_blocks, makes, copy_ins, updates_by, updates, copy_outs, releases, grouped, copies_in, copies_out}
-use Rattle.acc_place.specs.Noting.{ended_range}
-use Rattle.acc_place.specs.Standings.{Visit, visits, change_by, marked, one_mark, marks_after, all_asked}
-use Rattle.acc_place.specs.Walks.{Holding, holding, mark_by, opens_one, opened_after, holding_after, holding_after_all, fault_in, fault_or, first_fault_in, block_held, block_opened, ended_by, marked_in, all_marked, update_for, group_ops, marked_ops, HasEntered, AllEntered, IsFine, AllFine}
-use Rattle.acc_place.proofs.Judging.{fine_item}
-use Rattle.acc_place.proofs.Uses.{ended_uses}
+use Rattle.acc_place.specs.inner.Noting.{ended_range}
+use Rattle.acc_place.specs.Standings.{Visit, visits, change_by, marks_with, one_mark, marks_after, all_asked}
+use Rattle.acc_place.specs.inner.Walks.{Holding, holding, mark_by, opens_one, opened_after, holding_after, holding_after_all, fault_in, fault_or, first_fault_in, block_held, block_opened, ended_by, marked_in, all_marked, update_for, group_ops, marked_ops, HasEntered, AllEntered, IsFine, AllFine}
+use Rattle.acc_place.proofs.FaultIn.{fine_item}
+use Rattle.acc_place.proofs.VisitLives.{ended_uses}
 
 -- what a device has after these marks
 abbrev pub holding_of : List Mark → Holding
-holding_of ms = holding (presences ms) (length (opened ms))
+holding_of ms = holding (presences ms) (length (opened_lifetimes ms))
 
-abbrev pub visit_of : Option Change → List Mark → Item → Visit
-visit_of change ms i = record { item = i; before = ms; after = marked ms i.range change }
+abbrev pub visit_of : Option Change → List Mark → DataItem → Visit
+visit_of change ms i = record { item = i; before = ms; after = marks_with ms i.range change }
 
 -- ## The marks after an item
 
@@ -65,13 +65,13 @@ after_made : (change : Change) (ms : List Mark) (r : Range) → AllLegal ms → 
 unfolding holding_after
 after_made change ms r h =
     let m = mark_by change r in
-    ap (λ ps. holding ps (length (opened (m ∷ ms)))) (presences-more m ms (counts_by (Some change) ms h))
-    ∙ ap (holding _) (opened-more m ms ∙ cond-opened (opens_one (Some change) (presences ms) r) (length (opened ms)))
+    ap (λ ps. holding ps (length (opened_lifetimes (m ∷ ms)))) (presences-more m ms (counts_by (Some change) ms h))
+    ∙ ap (holding _) (opened-more m ms ∙ cond-opened (opens_one (Some change) (presences ms) r) (length (opened_lifetimes ms)))
 
 after_unmade : (change : Change) (ms : List Mark) (r : Range) → can_open change ≡ false → AllLegal ms → is_present (presences ms) r ≡ false
     → holding_of ms ≡ holding_after (Some change) r (holding_of ms)
 unfolding holding_after
-after_unmade change ms r cannot h absent = rw cannot (ap (λ ps. holding ps (length (opened ms))) (sym (kept_none (mark_by change r) (presences ms) (legal ms h).table absent)))
+after_unmade change ms r cannot h absent = rw cannot (ap (λ ps. holding ps (length (opened_lifetimes ms))) (sym (kept_none (mark_by change r) (presences ms) (legal ms h).table absent)))
 
 -- an exit that takes no action where the range is absent
 after_exit : (change : Change) (ms : List Mark) (r : Range) → can_open change ≡ false → AllLegal ms
@@ -81,7 +81,7 @@ after_exit change ms r cannot h = elim (cases_Bool (is_present (presences ms) r)
   | inr absent ↦ ap (λ b. holding_of (one_mark b change r ms)) absent ∙ after_unmade change ms r cannot h absent
 ]
 
-pub after_is : (change : Option Change) (ms : List Mark) (r : Range) → AllLegal ms → holding_of (marked ms r change) ≡ holding_after change r (holding_of ms)
+pub after_is : (change : Option Change) (ms : List Mark) (r : Range) → AllLegal ms → holding_of (marks_with ms r change) ≡ holding_after change r (holding_of ms)
 unfolding holding_after
 after_is None ms r h = refl
 after_is (Some StructuredUp) ms r h = after_made StructuredUp ms r h
@@ -91,7 +91,7 @@ after_is (Some DynamicDown) ms r h = after_exit DynamicDown ms r refl h
 after_is (Some DynamicZero) ms r h = after_exit DynamicZero ms r refl h
 
 pub legal_after : (change : Option Change) (ms : List Mark) (r : Range) (capacity : ℕ) → AllLegal ms → IsFine capacity change (presences ms) r
-    → HasEntered change r (presences ms) → AllLegal (marked ms r change)
+    → HasEntered change r (presences ms) → AllLegal (marks_with ms r change)
 legal_after None ms r capacity h fine entered = h
 legal_after (Some StructuredUp) ms r capacity h fine entered = ((fine.cells, fine.whole), h)
 legal_after (Some StructuredDown) ms r capacity h fine entered = ((fine.cells, entered), h)
@@ -102,7 +102,7 @@ legal_after (Some DynamicZero) ms r capacity h fine entered =
     elim (is_present (presences ms) r) as (λ b. AllLegal (one_mark b DynamicZero r ms)) [ true ↦ ((fine.cells, tt), h) | false ↦ h ]
 
 opened_is : (change : Option Change) (ms : List Mark) (r : Range) → AllLegal ms
-    → length (opened (marked ms r change)) ≡ opened_after (opens_one change (presences ms) r) (length (opened ms))
+    → length (opened_lifetimes (marks_with ms r change)) ≡ opened_after (opens_one change (presences ms) r) (length (opened_lifetimes ms))
 unfolding holding_after
 opened_is change ms r h = ap (λ (g : Holding). g.opened) (after_is change ms r h)
 
@@ -116,10 +116,10 @@ opens_is : (b : Bool) (n : ℕ) → nat_lt n (opened_after b n) ≡ b
 opens_is true n = lt-ltb n (n + 1) (omega arith)
 opens_is false n = le-ltb n n (omega arith)
 
-opened_blocks_are : (change : Option Change) (ms : List Mark) (i : Item) → AllLegal ms
-    → opened_blocks (visit_of change ms i) ≡ option_to_list (block_opened (opens_one change (presences ms) i.range) (length (opened ms)))
+opened_blocks_are : (change : Option Change) (ms : List Mark) (i : DataItem) → AllLegal ms
+    → opened_blocks (visit_of change ms i) ≡ option_to_list (block_opened (opens_one change (presences ms) i.range) (length (opened_lifetimes ms)))
 opened_blocks_are change ms i h =
-    ap (opened_block (length (opened ms))) (opened_is change ms i.range h) ∙ one_block (opens_one change (presences ms) i.range) (length (opened ms))
+    ap (opened_block (length (opened_lifetimes ms))) (opened_is change ms i.range h) ∙ one_block (opens_one change (presences ms) i.range) (length (opened_lifetimes ms))
 
 -- an entry ends nothing
 entered_counts : (change : Change) (x : Presence) → can_open change ≡ true → has_count (stepped change x) ≡ true
@@ -154,7 +154,7 @@ made_ends change ms r h cells = ended-more (mark_by change r) ms (counts_by (Som
     by_holder (Some x) some =
         let t = (legal ms h).table in
         let f = found_in (presences ms) r x some in
-        let counted = counted_at (presences ms) f.place x t f.low f.is in
+        let counted = counted_at (presences ms) f.index x t f.low f.is in
         ended_in-some (mark_by change r) (presences ms) x t cells some
         ∙ (elim (cases_Bool (can_open change)) [ inl can ↦ entry_ends change x (presences ms) r can | inr cannot ↦ exit_ends change x (presences ms) r cannot counted some ])
 
@@ -165,7 +165,7 @@ exit_made_ends change ms r h cells = elim (cases_Bool (is_present (presences ms)
   | inr absent ↦ ap (λ b. ended_of (one_mark b change r ms) ms) absent ∙ (ended-same ms ∙ none_ends change (presences ms) r (none_from_absent (presences ms) r absent))
 ]
 
-ended_blocks_are : (change : Option Change) (ms : List Mark) (i : Item) → AllLegal ms → 0 < i.range.len
+ended_blocks_are : (change : Option Change) (ms : List Mark) (i : DataItem) → AllLegal ms → 0 < i.range.len
     → ended_blocks (visit_of change ms i) ≡ option_to_list (ended_by change (presences ms) i.range)
 ended_blocks_are None ms i h cells = ended-same ms
 ended_blocks_are (Some StructuredUp) ms i h cells = made_ends StructuredUp ms i.range h cells
@@ -191,23 +191,23 @@ not_so true h = cc
 not_so false h = refl
 
 used_is : (change : Option Change) (ms : List Mark) (r : Range) → AllLegal ms → opens_one change (presences ms) r ≡ true
-    → used_cells (presences (marked ms r change)) ≡ used_cells (presences ms) + r.len
+    → used_cells (presences (marks_with ms r change)) ≡ used_cells (presences ms) + r.len
 unfolding holding_after
 used_is None ms r h opens = absurd cc
 used_is (Some change) ms r h opens =
     let parts = and_parts (can_open change) (not (is_present (presences ms) r)) opens in
     ap (λ (g : Holding). used_cells g.presences) (after_is (Some change) ms r h)
-    ∙ used_cells-opened (mark_by change r) (length (opened ms) + 1) (presences ms) (legal ms h).table parts.0 (not_so (is_present (presences ms) r) parts.1)
+    ∙ used_cells-opened (mark_by change r) (length (opened_lifetimes ms) + 1) (presences ms) (legal ms h).table parts.0 (not_so (is_present (presences ms) r) parts.1)
 
-pub fault_is : (config : Configuration) (k : Kind) (ms : List Mark) (i : Item) → AllLegal ms
+pub fault_is : (config : Configuration) (k : Kind) (ms : List Mark) (i : DataItem) → AllLegal ms
     → fault_at config k (visit_of (change_by k) ms i) ≡ fault_in config k (presences ms) i
 unfolding fault_in
 fault_is config k ms i h =
     let v = visit_of (change_by k) ms i in
     let b = opens_one (change_by k) (presences ms) i.range in
-    let opens : has_opened v ≡ b = ap (nat_lt (length (opened ms))) (opened_is (change_by k) ms i.range h) ∙ opens_is b (length (opened ms)) in
+    let opens : has_opened v ≡ b = ap (nat_lt (length (opened_lifetimes ms))) (opened_is (change_by k) ms i.range h) ∙ opens_is b (length (opened_lifetimes ms)) in
     ap (λ full. first_fault (
-    fault_where (not (is_in_array config.arrays i.range)) BadRange
+    fault_where (not (has_range config.arrays i.range)) BadRange
     ∷ fault_where (wants_whole k && is_partly_present (presences ms) i.range) PartlyPresent
     ∷ fault_where (wants_presence k i.clause && not (is_present (presences ms) i.range)) NotPresent
     ∷ fault_where full DeviceFull
@@ -219,7 +219,7 @@ first_fault-cons : (f : Option Fault) (fs : List (Option Fault)) → first_fault
 first_fault-cons (Some f) fs = refl
 first_fault-cons None fs = refl
 
-abbrev faults_of : Configuration → Kind → List Mark → List Item → Option Fault
+abbrev faults_of : Configuration → Kind → List Mark → List DataItem → Option Fault
 faults_of config k ms items = first_fault (map (fault_at config k) (visits ms (all_asked (change_by k) items)))
 
 -- the others count only where the first has no fault
@@ -229,12 +229,12 @@ or_others None None others later same ih = ih refl
 or_others (Some f) None others later same ih = absurd (cc)
 or_others None (Some g) others later same ih = absurd (cc)
 
-pub faults_are : (config : Configuration) (k : Kind) (ms : List Mark) (items : List Item) → AllLegal ms → AllEntered (change_by k) (holding_of ms) items
+pub faults_are : (config : Configuration) (k : Kind) (ms : List Mark) (items : List DataItem) → AllLegal ms → AllEntered (change_by k) (holding_of ms) items
     → first_fault (map (fault_at config k) (visits ms (all_asked (change_by k) items))) ≡ first_fault_in config k (holding_of ms) items
 faults_are config k ms [] h entered = refl
 faults_are config k ms (i ∷ is) h entered =
     let change = change_by k in
-    let after = marked ms i.range change in
+    let after = marks_with ms i.range change in
     let e = after_is change ms i.range h in
     let ih = λ (none : fault_in config k (presences ms) i ≡ None).
     (let fine = fine_item config k (presences ms) i none in
@@ -250,40 +250,40 @@ none_of_both : (f g : Option Fault) → fault_or f g ≡ None → (f ≡ None) �
 none_of_both None g h = (refl, h)
 none_of_both (Some f) g h = absurd (cc)
 
-pub all_fine : (config : Configuration) (k : Kind) (h : Holding) (items : List Item) → first_fault_in config k h items ≡ None → AllFine config.capacity (change_by k) h items
+pub all_fine : (config : Configuration) (k : Kind) (h : Holding) (items : List DataItem) → first_fault_in config k h items ≡ None → AllFine config.capacity (change_by k) h items
 all_fine config k h [] none = tt
 all_fine config k h (i ∷ is) none =
     let parts = none_of_both (fault_in config k h.presences i) (first_fault_in config k (holding_after (change_by k) i.range h) is) none in
     (fine_item config k h.presences i parts.0, all_fine config k (holding_after (change_by k) i.range h) is parts.1)
 
 -- what is asked of the items, once the first is marked
-record NextIs (capacity : ℕ) (change : Option Change) (ms : List Mark) (i : Item) (is : List Item) : Type 0 where
-  same : holding_of (marked ms i.range change) ≡ holding_after change i.range (holding_of ms)
-  allowed : AllLegal (marked ms i.range change)
-  entered : AllEntered change (holding_of (marked ms i.range change)) is
-  fine : AllFine capacity change (holding_of (marked ms i.range change)) is
+record NextIs (capacity : ℕ) (change : Option Change) (ms : List Mark) (i : DataItem) (is : List DataItem) : Type 0 where
+  same : holding_of (marks_with ms i.range change) ≡ holding_after change i.range (holding_of ms)
+  allowed : AllLegal (marks_with ms i.range change)
+  entered : AllEntered change (holding_of (marks_with ms i.range change)) is
+  fine : AllFine capacity change (holding_of (marks_with ms i.range change)) is
 
-next_is : (capacity : ℕ) (change : Option Change) (ms : List Mark) (i : Item) (is : List Item) → AllLegal ms → AllEntered change (holding_of ms) (i ∷ is)
+next_is : (capacity : ℕ) (change : Option Change) (ms : List Mark) (i : DataItem) (is : List DataItem) → AllLegal ms → AllEntered change (holding_of ms) (i ∷ is)
     → AllFine capacity change (holding_of ms) (i ∷ is) → NextIs capacity change ms i is
 next_is capacity change ms i is h entered fine =
     let e = after_is change ms i.range h in
     record { same = e; allowed = legal_after change ms i.range capacity h fine.0 entered.0; entered = rw e entered.1; fine = rw e fine.1 }
 
-pub marks_are : (capacity : ℕ) (change : Option Change) (ms : List Mark) (items : List Item) → AllLegal ms → AllEntered change (holding_of ms) items
+pub marks_are : (capacity : ℕ) (change : Option Change) (ms : List Mark) (items : List DataItem) → AllLegal ms → AllEntered change (holding_of ms) items
     → AllFine capacity change (holding_of ms) items
     → holding_of (marks_after ms (all_asked change items)) ≡ holding_after_all change (holding_of ms) items
 marks_are capacity change ms [] h entered fine = refl
 marks_are capacity change ms (i ∷ is) h entered fine =
     let next = next_is capacity change ms i is h entered fine in
-    marks_are capacity change (marked ms i.range change) is next.allowed next.entered next.fine ∙ ap (λ g. holding_after_all change g is) next.same
+    marks_are capacity change (marks_with ms i.range change) is next.allowed next.entered next.fine ∙ ap (λ g. holding_after_all change g is) next.same
 
-pub legal_all : (capacity : ℕ) (change : Option Change) (ms : List Mark) (items : List Item) → AllLegal ms → AllEntered change (holding_of ms) items
+pub legal_all : (capacity : ℕ) (change : Option Change) (ms : List Mark) (items : List DataItem) → AllLegal ms → AllEntered change (holding_of ms) items
     → AllFine capacity change (holding_of ms) items
     → AllLegal (marks_after ms (all_asked change items))
 legal_all capacity change ms [] h entered fine = h
 legal_all capacity change ms (i ∷ is) h entered fine =
     let next = next_is capacity change ms i is h entered fine in
-    legal_all capacity change (marked ms i.range change) is next.allowed next.entered next.fine
+    legal_all capacity change (marks_with ms i.range change) is next.allowed next.entered next.fine
 
 -- ## Operations
 
@@ -295,21 +295,21 @@ record OpsAlike (vs : List Visit) (ts : List Marked) : Type 0 where
   released : flat_map releases vs ≡ flat_map (group_ops Releases) ts
   ended : flat_map ended_uses vs ≡ flat_map ended_range ts
 
-for_each : (f : ℕ → Op) (o : Option ℕ) → map f (option_to_list o) ≡ option_to_list (option_and_then (λ b. Some (f b)) o)
+for_each : (f : ℕ → OpLabel) (o : Option ℕ) → map f (option_to_list o) ≡ option_to_list (option_and_then (λ b. Some (f b)) o)
 for_each f None = refl
 for_each f (Some b) = refl
 
-abbrev no_op : ℕ → Option Op
+abbrev no_op : ℕ → Option OpLabel
 no_op b = None
 
 for_none : (o : Option ℕ) → [] ≡ option_to_list (option_and_then no_op o)
 for_none None = refl
 for_none (Some b) = refl
 
-op_each : (f : ℕ → Op) (bs : List ℕ) (o : Option ℕ) → bs ≡ option_to_list o → map f bs ≡ option_to_list (option_and_then (λ b. Some (f b)) o)
+op_each : (f : ℕ → OpLabel) (bs : List ℕ) (o : Option ℕ) → bs ≡ option_to_list o → map f bs ≡ option_to_list (option_and_then (λ b. Some (f b)) o)
 op_each f bs o is = ap (map f) is ∙ for_each f o
 
-op_where : (b : Bool) (f : ℕ → Op) (bs : List ℕ) (o : Option ℕ) → bs ≡ option_to_list o
+op_where : (b : Bool) (f : ℕ → OpLabel) (bs : List ℕ) (o : Option ℕ) → bs ≡ option_to_list o
     → cond b (map f bs) [] ≡ option_to_list (option_and_then (λ n. cond b (Some (f n)) None) o)
 op_where true f bs o is = op_each f bs o is
 op_where false f bs o is = for_none o
@@ -328,7 +328,7 @@ updates_are UpdateDevice r bs o is = op_each (λ b. op.CopyIn b r) bs o is
 both : {X : Type 0} (xs ys zs ws : List X) → xs ≡ ys → zs ≡ ws → xs ++ zs ≡ ys ++ ws
 both xs ys zs ws e f = ap (λ us. us ++ zs) e ∙ ap (λ us. ys ++ us) f
 
-ops_first : (change : Option Change) (ms : List Mark) (i : Item) (vs : List Visit) (ts : List Marked) → AllLegal ms → 0 < i.range.len → OpsAlike vs ts
+ops_first : (change : Option Change) (ms : List Mark) (i : DataItem) (vs : List Visit) (ts : List Marked) → AllLegal ms → 0 < i.range.len → OpsAlike vs ts
     → OpsAlike (visit_of change ms i ∷ vs) (marked_in change (holding_of ms) i ∷ ts)
 unfolding marked_in
 ops_first change ms i vs ts h cells rest =
@@ -336,7 +336,7 @@ ops_first change ms i vs ts h cells rest =
     let r = i.range in
     let opens = opened_blocks_are change ms i h in
     let ends = ended_blocks_are change ms i h cells in
-    let one = block_opened (opens_one change (presences ms) r) (length (opened ms)) in
+    let one = block_opened (opens_one change (presences ms) r) (length (opened_lifetimes ms)) in
     let over = ended_by change (presences ms) r in
     let had = holder (presences ms) r in
     record {
@@ -348,14 +348,14 @@ ops_first change ms i vs ts h cells rest =
       ended = both (ended_uses v) _ (flat_map ended_uses vs) (flat_map ended_range ts) (ap (map (λ b. (b, r))) ends) rest.ended;
     }
 
-ops_alike : (capacity : ℕ) (change : Option Change) (ms : List Mark) (items : List Item) → AllLegal ms → AllEntered change (holding_of ms) items
+ops_alike : (capacity : ℕ) (change : Option Change) (ms : List Mark) (items : List DataItem) → AllLegal ms → AllEntered change (holding_of ms) items
     → AllFine capacity change (holding_of ms) items
     → OpsAlike (visits ms (all_asked change items)) (all_marked change (holding_of ms) items)
 ops_alike capacity change ms [] h entered fine = record { made = refl; filled = refl; updated = refl; copied = refl; released = refl; ended = refl }
 ops_alike capacity change ms (i ∷ is) h entered fine =
     let next = next_is capacity change ms i is h entered fine in
     let e = next.same in
-    let after = marked ms i.range change in
+    let after = marks_with ms i.range change in
     let rest = ops_alike capacity change after is next.allowed next.entered next.fine in
     ops_first change ms i (visits after (all_asked change is)) (all_marked change (holding_after change i.range (holding_of ms)) is) h fine.0.cells (rw e at rest)
 
@@ -371,7 +371,7 @@ ops_behind vs ws ts us first later =
       ended = flat_map-append ended_uses vs ws ∙ (both _ _ _ _ first.ended later.ended ∙ sym (flat_map-append ended_range ts us));
     }
 
-ops_grouped : (run : List Op) (vs : List Visit) (ts : List Marked) → OpsAlike vs ts → grouped run vs ≡ marked_ops run ts
+ops_grouped : (run : List OpLabel) (vs : List Visit) (ts : List Marked) → OpsAlike vs ts → grouped run vs ≡ marked_ops run ts
 unfolding marked_ops
 ops_grouped run vs ts a =
     both (flat_map makes vs) _ _ _ a.made
@@ -379,13 +379,13 @@ ops_grouped run vs ts a =
     (both run run _ _ refl (both (flat_map updates vs) _ _ _ a.updated (both (flat_map copy_outs vs) _ _ _ a.copied a.released))))
 
 -- What is known of a walk: its marks are legal, it leaves only what was entered, and its items are fine.
-pub record IsWalk (capacity : ℕ) (change : Option Change) (ms : List Mark) (items : List Item) : Type 0 where
+pub record IsWalk (capacity : ℕ) (change : Option Change) (ms : List Mark) (items : List DataItem) : Type 0 where
   pub allowed : AllLegal ms
   pub entered : AllEntered change (holding_of ms) items
   pub fine : AllFine capacity change (holding_of ms) items
 
 -- a walk, and one behind it
-walks_alike : (capacity : ℕ) (change other : Option Change) (ms : List Mark) (items ends : List Item) → IsWalk capacity change ms items
+walks_alike : (capacity : ℕ) (change other : Option Change) (ms : List Mark) (items ends : List DataItem) → IsWalk capacity change ms items
     → IsWalk capacity other (marks_after ms (all_asked change items)) ends
     → OpsAlike (visits ms (all_asked change items) ++ visits (marks_after ms (all_asked change items)) (all_asked other ends))
     (all_marked change (holding_of ms) items ++ all_marked other (holding_after_all change (holding_of ms) items) ends)
@@ -398,14 +398,14 @@ walks_alike capacity change other ms items ends w v =
     (ops_alike capacity other between ends v.allowed v.entered v.fine))
 
 -- the operations of a walk, and of one behind it
-pub ops_are : (capacity : ℕ) (change other : Option Change) (ms : List Mark) (items ends : List Item) (run : List Op) → IsWalk capacity change ms items
+pub ops_are : (capacity : ℕ) (change other : Option Change) (ms : List Mark) (items ends : List DataItem) (run : List OpLabel) → IsWalk capacity change ms items
     → IsWalk capacity other (marks_after ms (all_asked change items)) ends
     → grouped run (visits ms (all_asked change items) ++ visits (marks_after ms (all_asked change items)) (all_asked other ends))
     ≡ marked_ops run (all_marked change (holding_of ms) items ++ all_marked other (holding_after_all change (holding_of ms) items) ends)
 ops_are capacity change other ms items ends run w v = ops_grouped run _ _ (walks_alike capacity change other ms items ends w v)
 
 -- and the ranges whose blocks they end
-pub ended_ranges_are : (capacity : ℕ) (change other : Option Change) (ms : List Mark) (items ends : List Item) → IsWalk capacity change ms items
+pub ended_ranges_are : (capacity : ℕ) (change other : Option Change) (ms : List Mark) (items ends : List DataItem) → IsWalk capacity change ms items
     → IsWalk capacity other (marks_after ms (all_asked change items)) ends
     → flat_map ended_uses (visits ms (all_asked change items) ++ visits (marks_after ms (all_asked change items)) (all_asked other ends))
     ≡ flat_map ended_range (all_marked change (holding_of ms) items ++ all_marked other (holding_after_all change (holding_of ms) items) ends)

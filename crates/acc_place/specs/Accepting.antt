@@ -4,15 +4,15 @@ use Rattle.std.specs.Prelude.{ℕ, ◌+◌, Bool, true, false, ◌&&◌, ◌||�
 use Rattle.std.specs.List.{list_any}
 use Rattle.acc_base.specs.declared.fault.Fault.{Fault}
 use Rattle.acc_base.specs.declared.fault.Fault.TheVariants.{Closed, BadDevice, BadRange, BadAsync, TooMany, PartlyPresent, NotPresent, DeviceFull, OutsideRange, NoRegion}
-use Rattle.acc_base.specs.Configurations.{Configuration, is_in_array}
+use Rattle.acc_base.specs.Configurations.{Configuration, has_range}
 use Rattle.acc_kernel.specs.declared.reach.Reach.{Reach}
 use Rattle.acc_kernel.specs.Kernels.{Loop, arrays_of, reach_of}
-use Rattle.acc_present.specs.Lifetimes.{opened}
-use Rattle.acc_present.specs.Presences.{presences, is_present, is_partly_present, used_cells}
+use Rattle.acc_present.specs.Lifetimes.{opened_lifetimes}
+use Rattle.acc_present.specs.Presences.{Presence, presences, is_present, is_partly_present, used_cells}
 use Rattle.acc_place.specs.declared.directive.Clause.{Clause}
 use Rattle.acc_place.specs.declared.directive.Clause.TheVariants as clause
 use Rattle.acc_place.specs.Directives.{Directive}
-use Rattle.acc_place.specs.declared.directive.Item.{Item}
+use Rattle.acc_place.specs.declared.directive.DataItem.{DataItem}
 use Rattle.acc_place.specs.declared.directive.Kind.{Kind}
 use Rattle.acc_place.specs.declared.directive.Kind.TheVariants as kind
 use Rattle.acc_place.specs.declared.directive.Region.{Region}
@@ -33,7 +33,7 @@ first_fault (None ∷ rest) = first_fault rest
 
 -- the visit opens a lifetime
 abbrev pub has_opened : Visit → Bool
-has_opened v = nat_lt (length (opened v.before)) (length (opened v.after))
+has_opened v = nat_lt (length (opened_lifetimes v.before)) (length (opened_lifetimes v.after))
 
 -- a question about a range that is partly present is answered
 abbrev pub wants_whole : Kind → Bool
@@ -47,14 +47,18 @@ wants_presence (kind.Loop k) clause.Present = true
 wants_presence (kind.Update if_present) c = not if_present
 wants_presence k c = false
 
--- The faults of one item, where those before it have left their marks.
-abbrev pub faults_at : Configuration → Kind → Visit → List (Option Fault)
-faults_at config k v =
-    fault_where (not (is_in_array config.arrays v.item.range)) BadRange
-    ∷ fault_where (wants_whole k && is_partly_present (presences v.before) v.item.range) PartlyPresent
-    ∷ fault_where (wants_presence k v.item.clause && not (is_present (presences v.before) v.item.range)) NotPresent
-    ∷ fault_where (has_opened v && nat_lt config.capacity (used_cells (presences v.after))) DeviceFull
+-- The faults of one item, where these are present; where it opens a lifetime or not, and so many cells are in use then.
+abbrev pub item_faults : Configuration → Kind → DataItem → List Presence → Bool → ℕ → List (Option Fault)
+item_faults config k i ps opens used =
+    fault_where (not (has_range config.arrays i.range)) BadRange
+    ∷ fault_where (wants_whole k && is_partly_present ps i.range) PartlyPresent
+    ∷ fault_where (wants_presence k i.clause && not (is_present ps i.range)) NotPresent
+    ∷ fault_where (opens && nat_lt config.capacity used) DeviceFull
     ∷ []
+
+-- Each finds the marks of those before it.
+abbrev pub faults_at : Configuration → Kind → Visit → List (Option Fault)
+faults_at config k v = item_faults config k v.item (presences v.before) (has_opened v) (used_cells (presences v.after))
 
 abbrev pub fault_at : Configuration → Kind → Visit → Option Fault
 fault_at config k v = first_fault (faults_at config k v)
@@ -75,13 +79,13 @@ is_outside kind.EndData None = true
 is_outside k r = false
 
 -- a loop reaches a cell of an array outside the range that it uses
-abbrev pub reaches_past : Option Reach → Option Item → Bool
+abbrev pub reaches_past : Option Reach → Option DataItem → Bool
 reaches_past None item = false
 reaches_past (Some reach) None = true
 reaches_past (Some reach) (Some i) =
     int_lt reach.first (pos i.range.lo) || int_le (pos (i.range.lo + i.range.len)) reach.last
 
-abbrev pub is_past : Option Loop → List Item → Bool
+abbrev pub is_past : Option Loop → List DataItem → Bool
 is_past None items = false
 is_past (Some k) items = list_any (λ array. reaches_past (reach_of k array) (item_of array items)) (arrays_of k)
 

@@ -8,18 +8,18 @@ use Rattle.acc_base.specs.Queues.{every_queue}
 use Rattle.acc_kernel.specs.Jobs.{Use}
 use Rattle.acc_kernel.specs.Kernels.{Loop, arrays_of}
 use Rattle.acc_present.specs.Marks.{Mark}
-use Rattle.acc_present.specs.Lifetimes.{Lifetime, opened, live, lives}
+use Rattle.acc_present.specs.Lifetimes.{Lifetime, opened_lifetimes, live_lifetimes, lives}
 use Rattle.acc_present.specs.Presences.{Presence, presences, holder, is_present}
 use Rattle.acc_place.specs.declared.directive.Clause.{Clause}
 use Rattle.acc_place.specs.declared.directive.Clause.TheVariants.{Copy, Copyin, Copyout, UpdateSelf, UpdateDevice}
 use Rattle.acc_place.specs.Directives.{Directive}
-use Rattle.acc_place.specs.declared.directive.Item.{Item}
+use Rattle.acc_place.specs.declared.directive.DataItem.{DataItem}
 use Rattle.acc_place.specs.declared.directive.Kind.{Kind}
 use Rattle.acc_place.specs.declared.directive.Kind.TheVariants as kind
 use Rattle.acc_place.specs.declared.directive.Placed.{Placed}
-use Rattle.acc_batch.specs.declared.operation.Op.{Op}
-use Rattle.acc_batch.specs.declared.operation.Op.TheVariants.{Make, CopyIn, CopyOut, Release, Run}
-use Rattle.acc_batch.specs.declared.operation.Label.{Label}
+use Rattle.acc_batch.specs.declared.label.OpLabel.{OpLabel}
+use Rattle.acc_batch.specs.declared.label.OpLabel.TheVariants.{Make, CopyIn, CopyOut, Release, Run}
+use Rattle.acc_batch.specs.declared.label.Label.{Label}
 use Rattle.acc_batch.specs.Awaits.{behind_awaits}
 use Rattle.acc_batch.specs.Labels.{on_queue, has_number}
 use Rattle.acc_place.specs.Implicit.{item_of}
@@ -42,26 +42,26 @@ opened_block before after = if nat_lt before after then after ∷ [] else []
 
 -- the block of the lifetime that a visit opened, and of those that it ended
 abbrev pub opened_blocks : Visit → List ℕ
-opened_blocks v = opened_block (length (opened v.before)) (length (opened v.after))
+opened_blocks v = opened_block (length (opened_lifetimes v.before)) (length (opened_lifetimes v.after))
 
 abbrev pub blocks_of : List Lifetime → List ℕ
 blocks_of ls = map (λ l. l.block) ls
 
 abbrev pub ended_blocks : Visit → List ℕ
-ended_blocks v = blocks_of (filter (λ l. not (lives v.after l)) (live v.before))
+ended_blocks v = blocks_of (filter (λ l. not (lives v.after l)) (live_lifetimes v.before))
 
-abbrev pub makes : Visit → List Op
+abbrev pub makes : Visit → List OpLabel
 makes v = map (λ b. Make b v.item.range) (opened_blocks v)
 
-abbrev pub copy_ins : Visit → List Op
+abbrev pub copy_ins : Visit → List OpLabel
 copy_ins v = if copies_in v.item.clause then map (λ b. CopyIn b v.item.range) (opened_blocks v) else []
 
 -- a copy out moves the range of the item whose exit ended the lifetime
-abbrev pub copy_outs : Visit → List Op
+abbrev pub copy_outs : Visit → List OpLabel
 copy_outs v = if copies_out v.item.clause then map (λ b. CopyOut b v.item.range) (ended_blocks v) else []
 
 -- and the whole block is released
-abbrev pub releases : Visit → List Op
+abbrev pub releases : Visit → List OpLabel
 releases v = map Release (ended_blocks v)
 
 abbrev pub found_block : Option Presence → List ℕ
@@ -73,32 +73,32 @@ abbrev pub holding_blocks : List Mark → Range → List ℕ
 holding_blocks marks r = found_block (holder (presences marks) r)
 
 -- `self` copies from the device to the host, `device` from the host to the device; an absent range is left alone
-abbrev pub updates_by : Clause → Range → List ℕ → List Op
+abbrev pub updates_by : Clause → Range → List ℕ → List OpLabel
 updates_by UpdateSelf r blocks = map (λ b. CopyOut b r) blocks
 updates_by UpdateDevice r blocks = map (λ b. CopyIn b r) blocks
 updates_by c r blocks = []
 
-abbrev pub updates : Visit → List Op
+abbrev pub updates : Visit → List OpLabel
 updates v = updates_by v.item.clause v.item.range (holding_blocks v.before v.item.range)
 
 -- A loop uses of each array the range of the first item that names it, and the block that holds this.
-abbrev pub use_by : List Mark → Option Item → List Use
+abbrev pub use_by : List Mark → Option DataItem → List Use
 use_by marks None = []
 use_by marks (Some i) = map (λ b. (b, i.range)) (holding_blocks marks i.range)
 
-abbrev pub uses_of : Loop → List Item → List Mark → List Use
+abbrev pub uses_of : Loop → List DataItem → List Mark → List Use
 uses_of k items marks = flat_map (λ array. use_by marks (item_of array items)) (arrays_of k)
 
 -- the loop runs once the items are there
-abbrev pub runs_by : Option Loop → List Item → List Mark → List Op
+abbrev pub runs_by : Option Loop → List DataItem → List Mark → List OpLabel
 runs_by None items marks = []
 runs_by (Some k) items marks = Run k (uses_of k items marks) ∷ []
 
-abbrev pub runs : Walk → List Mark → List Op
+abbrev pub runs : Walk → List Mark → List OpLabel
 runs walk before = runs_by walk.runs (map (λ a. a.item) walk.items) (marks_between before walk)
 
 -- The operations of a batch, group by group, each in written order.
-abbrev pub grouped : List Op → List Visit → List Op
+abbrev pub grouped : List OpLabel → List Visit → List OpLabel
 grouped run vs =
     flat_map makes vs
     ++ (flat_map copy_ins vs
@@ -108,14 +108,14 @@ grouped run vs =
     ++ flat_map releases vs))))
 
 -- what a walk does with blocks
-abbrev pub operations_of : Standing → Walk → List Op
+abbrev pub operations_of : Standing → Walk → List OpLabel
 operations_of st walk = grouped (runs walk (st.marks walk.device)) (all_visits (st.marks walk.device) walk)
 
 abbrev pub walk_at : Walk → QueueAt
 walk_at walk = record { device = walk.device; queue = walk.queue }
 
 -- The batch of a walk: its operations, behind what they await.
-unfoldable pub batch_of : Standing → Walk → List Op
+unfoldable pub batch_of : Standing → Walk → List OpLabel
 batch_of st walk = behind_awaits walk.alone walk.waits (walk_at walk) st.labels (operations_of st walk)
 
 -- the n-th batch of a queue has number n, from 1
@@ -123,18 +123,18 @@ abbrev pub next_number : QueueAt → List Label → ℕ
 next_number at labels = length (on_queue at labels) + 1
 
 -- an empty batch isn't placed
-abbrev pub labelled : QueueAt → ℕ → ℕ → List Label → List Op → List Label
-labelled at host items_done labels [] = labels
-labelled at host items_done labels (op ∷ ops) =
+abbrev pub labels_with : QueueAt → ℕ → ℕ → List Label → List OpLabel → List Label
+labels_with at host items_done labels [] = labels
+labels_with at host items_done labels (op ∷ ops) =
     labels ++ record { at = at; number = next_number at labels; host = host; items_done = items_done; ops = op ∷ ops } ∷ []
 
-abbrev pub placed_batch : QueueAt → List Label → List Op → Option (QueueAt × ℕ)
+abbrev pub placed_batch : QueueAt → List Label → List OpLabel → Option (QueueAt × ℕ)
 placed_batch at labels [] = None
 placed_batch at labels (op ∷ ops) = Some (at, next_number at labels)
 
 -- the answer of `acc_is_present`, and of no other directive
-abbrev pub is_answered : Kind → List Presence → List Item → Bool
-is_answered kind.IsPresent ps items = list_all (λ (i : Item). is_present ps i.range) items
+abbrev pub is_answered : Kind → List Presence → List DataItem → Bool
+is_answered kind.IsPresent ps items = list_all (λ (i : DataItem). is_present ps i.range) items
 is_answered k ps items = false
 
 -- A `wait` that holds its host back, and a question about queues, are answered by the numbers of batches on the queues that

@@ -4,7 +4,7 @@ use Rattle.std.specs.Prelude.{ℕ, zero, suc, Bool, true, false, ◌&&◌, ◌||
 use Rattle.std.specs.List.{list_all}
 use Rattle.acc_place.specs.declared.directive.Clause.{Clause}
 use Rattle.acc_place.specs.declared.directive.Clause.TheVariants as clause
-use Rattle.acc_place.specs.declared.directive.Item.{Item}
+use Rattle.acc_place.specs.declared.directive.DataItem.{DataItem}
 use Rattle.acc_place.specs.declared.directive.Kind.{Kind}
 use Rattle.acc_place.specs.declared.directive.Kind.TheVariants as kind
 use Rattle.acc_place.specs.declared.directive.Target.{Target}
@@ -22,7 +22,7 @@ is_of_region clause.Create = true
 is_of_region clause.Present = true
 is_of_region c = false
 
--- The data clauses of a directive; the end of a data construct, a wait and the question of one have none.
+-- The data clauses of a directive; the end of a data construct, a wait and a question about queues have none.
 abbrev pub allows_clause : Kind → Clause → Bool
 allows_clause kind.Data c = is_of_region c
 allows_clause (kind.Loop k) c = is_of_region c
@@ -53,7 +53,7 @@ may_be_async (kind.Update p) = true
 may_be_async (kind.Loop k) = true
 may_be_async k = false
 
--- A wait directive and the questions of one name queues; the others only by a wait clause.
+-- A wait directive and a question about queues name queues; the others only by a wait clause.
 abbrev pub is_about_queues : Kind → Bool
 is_about_queues kind.Wait = true
 is_about_queues kind.AsyncTest = true
@@ -68,8 +68,8 @@ abbrev pub allows_waits : Kind → Waits → Bool
 allows_waits k waits.Nothing = not (is_about_queues k)
 allows_waits k w = may_be_async k || is_about_queues k
 
-abbrev pub allows_items : Kind → List Item → Bool
-allows_items k is = list_all (λ (i : Item). allows_clause k i.clause) is
+abbrev pub allows_items : Kind → List DataItem → Bool
+allows_items k is = list_all (λ (i : DataItem). allows_clause k i.clause) is
 
 abbrev pub is_well_formed : Written → Bool
 is_well_formed w =

@@ -4,7 +4,7 @@ use Rattle.acc_base.specs.declared.ids.QueueAt.{QueueAt}
 use Rattle.acc_base.specs.declared.ids.TheConstants.{QUEUES}
 use Rattle.acc_base.specs.Queues.{seat}
 use Rattle.acc_batch.specs.Awaits.{close_label}
-use Rattle.acc_batch.specs.declared.operation.Label.{Label}
+use Rattle.acc_batch.specs.declared.label.Label.{Label}
 use Rattle.acc_place.specs.declared.directive.PlaceEntry.TheVariants as entry
 use Rattle.acc_place.specs.Histories.{is_closed, IsQueue}
 use Rattle.acc_place.specs.Plans.{standing_in, IsPlanOf, PlaceView, PlanView}
@@ -29,14 +29,14 @@ handed_out p at = record p { closes = if is_at_hand p at then slice_set p.closes
 abbrev pub handed_back : PlaceView → QueueAt → PlaceView
 handed_back p at = record p { closes = slice_set p.closes (seat at) true }
 
-abbrev pub begun : PlaceView → PlaceView
-begun p = record p { history = if (standing_in p).closing then p.history else entry.Closing ∷ p.history }
+abbrev pub place_after_begin : PlaceView → PlaceView
+place_after_begin p = record p { history = if (standing_in p).closing then p.history else entry.Closing ∷ p.history }
 
-abbrev pub closed : PlaceView → QueueAt → PlaceView
-closed p at = record p { history = entry.Closed at ∷ p.history }
+abbrev pub place_after_close : PlaceView → QueueAt → PlaceView
+place_after_close p at = record p { history = entry.Closed at ∷ p.history }
 
 -- A plan stays one of its place where closing begins, and where the close of a queue is handed out, comes back, or is placed.
 abbrev pub KeptByClosing : Type 0
 KeptByClosing =
     (p : PlaceView) (q : PlanView) (at : QueueAt) → IsPlanOf p q
-    → IsPlanOf (begun p) q × IsPlanOf (handed_out p at) q × IsPlanOf (handed_back p at) q × IsPlanOf (closed p at) q
+    → IsPlanOf (place_after_begin p) q × IsPlanOf (handed_out p at) q × IsPlanOf (handed_back p at) q × IsPlanOf (place_after_close p at) q

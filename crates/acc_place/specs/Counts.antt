@@ -8,7 +8,7 @@ use Rattle.acc_base.specs.Configurations.{Configuration}
 use Rattle.acc_present.specs.Legality.{AllLegal}
 use Rattle.acc_present.specs.Presences.{Presence, presences, is_present}
 use Rattle.acc_place.specs.Directives.{Directive}
-use Rattle.acc_place.specs.declared.directive.Item.{Item}
+use Rattle.acc_place.specs.declared.directive.DataItem.{DataItem}
 use Rattle.acc_place.specs.declared.directive.Kind.TheVariants.{EndData}
 use Rattle.acc_place.specs.declared.directive.PlaceEntry.{PlaceEntry}
 use Rattle.acc_place.specs.declared.directive.Region.{Region}
@@ -22,7 +22,7 @@ use Rattle.acc_place.specs.Standings.{Standing}
 
 -- the ranges that the regions of all hosts have entered, as often as they did
 abbrev pub entered_ranges : List Region → List Range
-entered_ranges rs = flat_map (λ (r : Region). map (λ (i : Item). i.range) r.items) rs
+entered_ranges rs = flat_map (λ (r : Region). map (λ (i : DataItem). i.range) r.items) rs
 
 abbrev pub count_inside : Range → List Range → ℕ
 count_inside whole rs = length (filter (λ r. range_contains whole r) rs)

@@ -1,6 +1,6 @@
 -- Directives as hosts give them.
 use Rattle.std.specs.Prelude.{ℕ, ℤ, negsuc, List}
-use Rattle.acc_place.specs.declared.directive.Item.{Item}
+use Rattle.acc_place.specs.declared.directive.DataItem.{DataItem}
 use Rattle.acc_place.specs.declared.directive.Kind.{Kind}
 use Rattle.acc_place.specs.declared.directive.Target.{Target}
 use Rattle.acc_place.specs.declared.directive.Waits.{Waits}
@@ -11,7 +11,7 @@ pub record Directive : Type 0 where
   pub device : ℕ
   pub default : ℤ
   pub kind : Kind
-  pub items : List Item
+  pub items : List DataItem
   pub target : Target
   pub waits : Waits
 

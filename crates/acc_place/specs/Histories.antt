@@ -5,7 +5,7 @@ use Rattle.std.specs.Prelude.{◌≡◌, ℕ, ◌+◌, ◌<◌, Bool, true, fals
 use Rattle.std.specs.List.{list_any}
 use Rattle.acc_base.specs.declared.ids.QueueAt.{QueueAt}
 use Rattle.acc_base.specs.declared.ids.TheConstants.{QUEUES}
-use Rattle.acc_base.specs.Configurations.{Configuration}
+use Rattle.acc_base.specs.Configurations.{Configuration, lengths_of}
 use Rattle.acc_base.specs.Queues.{same_queue}
 use Rattle.acc_batch.specs.Awaits.{close_label}
 use Rattle.acc_place.specs.Directives.{Directive}
@@ -13,12 +13,12 @@ use Rattle.acc_place.specs.declared.directive.PlaceEntry.{PlaceEntry}
 use Rattle.acc_place.specs.declared.directive.PlaceEntry.TheVariants as entry
 use Rattle.acc_place.specs.Standings.{Standing, Walk, walk_of, marks_behind, with_marks}
 use Rattle.acc_place.specs.Accepting.{refusal}
-use Rattle.acc_place.specs.Batches.{batch_of, labelled, walk_at}
+use Rattle.acc_place.specs.Batches.{batch_of, labels_with, walk_at}
 use Rattle.acc_place.specs.Regions.{regions_after}
 
 -- no directive yet, over host arrays of these lengths
 abbrev pub at_first : Configuration → Standing
-at_first config = record { lengths = map (λ cells. length cells) config.arrays; marks = λ device. []; regions = []; labels = []; accepted = 0; closing = false; closed = [] }
+at_first config = record { lengths = lengths_of config.arrays; marks = λ device. []; regions = []; labels = []; accepted = 0; closing = false; closed = [] }
 
 abbrev pub after_walk : Standing → ℕ → ℕ → Directive → Walk → Standing
 after_walk st host items_done d walk =
@@ -26,7 +26,7 @@ after_walk st host items_done d walk =
       lengths = st.lengths;
       marks = with_marks walk.device (marks_behind (st.marks walk.device) walk) st.marks;
       regions = regions_after host d d.kind st.regions;
-      labels = labelled (walk_at walk) host items_done st.labels (batch_of st walk);
+      labels = labels_with (walk_at walk) host items_done st.labels (batch_of st walk);
       accepted = st.accepted + 1;
       closing = st.closing;
       closed = st.closed;

@@ -1,12 +1,12 @@
 -- What a place shows and what it answers to a directive; what a plan is, and when it fits.
-use Rattle.std.specs.Prelude.{◌≡◌, ℕ, ◌+◌, ◌*◌, ◌<◌, ◌≤◌, Bool, List, [], ◌∷◌, ◌++◌, length, slice_index_or, Option, Some, None}
+use Rattle.std.specs.Prelude.{◌≡◌, ℕ, ◌+◌, ◌*◌, ◌<◌, ◌≤◌, zero, suc, Bool, List, [], ◌∷◌, ◌++◌, length, slice_get, slice_index_or, Option, Some, None}
 use Rattle.acc_base.specs.declared.fault.Fault.{Fault}
 use Rattle.acc_base.specs.declared.fault.Fault.TheVariants.{Memory}
 use Rattle.acc_base.specs.declared.ids.QueueAt.{QueueAt}
 use Rattle.acc_base.specs.Configurations.{Configuration}
 use Rattle.acc_base.specs.Queues.{seat}
-use Rattle.acc_batch.specs.declared.operation.Label.{Label}
-use Rattle.acc_batch.specs.declared.operation.Op.{Op}
+use Rattle.acc_batch.specs.declared.label.Label.{Label}
+use Rattle.acc_batch.specs.declared.label.OpLabel.{OpLabel}
 use Rattle.acc_batch.specs.Labels.{on_queue}
 use Rattle.acc_present.specs.Presences.{presences}
 use Rattle.acc_place.specs.Directives.{Directive}
@@ -53,6 +53,11 @@ pub record IsRoomy (p : PlaceView) (at : QueueAt) : Type 0 where
   pub batches : length (on_queue at (standing_in p).labels) < slice_index_or p.room.batches (seat at) 0
   pub ranges : length (presences ((standing_in p).marks at.device)) + 2 * MAX_ITEMS ≤ slice_index_or p.room.ranges at.device 0
 
+-- the n-th batch of a queue, from 1
+abbrev pub nth_batch : List Label → ℕ → Option Label
+nth_batch labels zero = None
+nth_batch labels (suc n) = slice_get labels n
+
 -- the queue of a host's directive
 abbrev pub queue_for : PlaceView → ℕ → Directive → QueueAt
 queue_for p host d = walk_at (walk_of (standing_in p) host d)
@@ -73,7 +78,7 @@ pub record PlanView : Type 0 where
   pub batch : Option Label
   pub stamp : ℕ
 
-abbrev pub label_for : QueueAt → ℕ → ℕ → ℕ → List Op → Option Label
+abbrev pub label_for : QueueAt → ℕ → ℕ → ℕ → List OpLabel → Option Label
 label_for at number host items_done [] = None
 label_for at number host items_done (op ∷ ops) =
     Some (record { at = at; number = number; host = host; items_done = items_done; ops = op ∷ ops })

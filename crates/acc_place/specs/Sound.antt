@@ -2,9 +2,9 @@
 use Rattle.std.specs.Prelude.{◌≡◌, ℕ, ◌<◌, Bool, true, false, List, [], ◌∷◌, length, All}
 use Rattle.acc_base.specs.Configurations.{Configuration}
 use Rattle.acc_base.specs.declared.ids.QueueAt.{QueueAt}
-use Rattle.acc_batch.specs.declared.operation.Label.{Label}
-use Rattle.acc_batch.specs.declared.operation.Op.{Op}
-use Rattle.acc_batch.specs.declared.operation.Op.TheVariants.{Close}
+use Rattle.acc_batch.specs.declared.label.Label.{Label}
+use Rattle.acc_batch.specs.declared.label.OpLabel.{OpLabel}
+use Rattle.acc_batch.specs.declared.label.OpLabel.TheVariants.{Close}
 use Rattle.acc_batch.specs.Labels.{on_queue, ops_of}
 use Rattle.acc_batch.specs.Lives.{IsSound}
 use Rattle.acc_place.specs.declared.directive.PlaceEntry.{PlaceEntry}
@@ -22,12 +22,12 @@ AcceptedAreThere =
     (config : Configuration) (history : List PlaceEntry) (counts : List ℕ) → AllAccepted config history counts
     → All (λ (l : Label). (l.at.device < config.devices) × (l.at.queue < 8) × (0 < length l.ops)) (standing config history counts).labels
 
-abbrev pub is_close : Op → Bool
+abbrev pub is_close : OpLabel → Bool
 is_close Close = true
 is_close op = false
 
 -- No operation stands behind a close.
-abbrev pub CloseLast : List Op → Type 0
+abbrev pub CloseLast : List OpLabel → Type 0
 CloseLast [] = Unit {0}
 CloseLast (op ∷ ops) = (is_close op ≡ true → ops ≡ []) × CloseLast ops
 

@@ -3,9 +3,9 @@
 use Rattle.std.specs.Prelude.{ℕ, Bool, true, false, List, [], ◌∷◌, ◌++◌, map, Option, Some, None, ◌==◌, if◌then◌else◌}
 use Rattle.acc_base.specs.declared.ids.QueueAt.{QueueAt}
 use Rattle.acc_base.specs.declared.range.Range.{Range}
-use Rattle.acc_batch.specs.declared.operation.Label.{Label}
+use Rattle.acc_batch.specs.declared.label.Label.{Label}
 use Rattle.acc_place.specs.Directives.{Directive}
-use Rattle.acc_place.specs.declared.directive.Item.{Item}
+use Rattle.acc_place.specs.declared.directive.DataItem.{DataItem}
 use Rattle.acc_place.specs.declared.directive.Kind.{Kind}
 use Rattle.acc_place.specs.declared.directive.Kind.TheVariants as kind
 use Rattle.acc_place.specs.declared.directive.Region.{Region}
@@ -32,7 +32,7 @@ pub record Standing : Type 0 where
 
 -- An item in its turn, and the change that is asked for, if any.
 pub record Asked : Type 0 where
-  pub item : Item
+  pub item : DataItem
   pub change : Option Change
 
 -- Where a directive acts, and on what: the queue of its batch; the queues that it waits for, and whether it is for these
@@ -62,13 +62,13 @@ change_by kind.Wait = None
 change_by kind.AsyncTest = None
 change_by kind.IsPresent = None
 
-abbrev pub all_asked : Option Change → List Item → List Asked
+abbrev pub all_asked : Option Change → List DataItem → List Asked
 all_asked change items = map (λ i. record { item = i; change = change }) items
 
 -- What a directive acts on.
 pub record Subject : Type 0 where
   pub device : ℕ
-  pub items : List Item
+  pub items : List DataItem
 
 abbrev pub left_by : Directive → Option Region → Subject
 left_by d None = record { device = d.device; items = [] }
@@ -86,7 +86,7 @@ loop_of (kind.Loop k) = Some k
 loop_of k = None
 
 -- all items of a loop leave at its end
-abbrev pub ends_by : Kind → List Item → List Asked
+abbrev pub ends_by : Kind → List DataItem → List Asked
 ends_by (kind.Loop k) items = all_asked (Some StructuredDown) items
 ends_by k items = []
 
@@ -106,24 +106,24 @@ unfoldable pub walk_of : Standing → ℕ → Directive → Walk
 walk_of st host d = walk_on (subject_by st.lengths st.regions host d d.kind) d
 
 -- a dynamic exit of a range that is absent takes no action
-abbrev pub made_by : Change → Range → List Mark → Bool
-made_by StructuredUp r before = true
-made_by StructuredDown r before = true
-made_by DynamicUp r before = true
-made_by DynamicDown r before = is_present (presences before) r
-made_by DynamicZero r before = is_present (presences before) r
+abbrev pub leaves_mark : Change → Range → List Mark → Bool
+leaves_mark StructuredUp r before = true
+leaves_mark StructuredDown r before = true
+leaves_mark DynamicUp r before = true
+leaves_mark DynamicDown r before = is_present (presences before) r
+leaves_mark DynamicZero r before = is_present (presences before) r
 
 abbrev pub one_mark : Bool → Change → Range → List Mark → List Mark
 one_mark true change r before = record { change = change; range = r } ∷ before
 one_mark false change r before = before
 
-abbrev pub marked : List Mark → Range → Option Change → List Mark
-marked before r None = before
-marked before r (Some change) = one_mark (made_by change r before) change r before
+abbrev pub marks_with : List Mark → Range → Option Change → List Mark
+marks_with before r None = before
+marks_with before r (Some change) = one_mark (leaves_mark change r before) change r before
 
 -- A visit of an item: all marks of the device before it and after it.
 pub record Visit : Type 0 where
-  pub item : Item
+  pub item : DataItem
   pub before : List Mark
   pub after : List Mark
 
@@ -131,12 +131,12 @@ pub record Visit : Type 0 where
 abbrev pub visits : List Mark → List Asked → List Visit
 visits before [] = []
 visits before (a ∷ rest) =
-    record { item = a.item; before = before; after = marked before a.item.range a.change }
-    ∷ visits (marked before a.item.range a.change) rest
+    record { item = a.item; before = before; after = marks_with before a.item.range a.change }
+    ∷ visits (marks_with before a.item.range a.change) rest
 
 abbrev pub marks_after : List Mark → List Asked → List Mark
 marks_after before [] = before
-marks_after before (a ∷ rest) = marks_after (marked before a.item.range a.change) rest
+marks_after before (a ∷ rest) = marks_after (marks_with before a.item.range a.change) rest
 
 -- the marks between a walk's items and their ends, and behind both
 abbrev pub marks_between : List Mark → Walk → List Mark

@@ -1,3 +1,5 @@
+//! Which batches of other queues a batch awaits, by what the table has noted.
+
 ghost use Rattle.std.specs.Prelude.{ℕ, All, ◌≡◌, ◌+◌, ◌<◌, ◌≤◌, ◌++◌, ◌==◌, max, map, length, slice_index_or, IfErr, OnOk, if◌then◌else◌};
 ghost use Rattle.std.specs.List.{flat_map};
 ghost use Rattle.std.specs.Option.{option_to_list};
@@ -7,22 +9,22 @@ ghost use Rattle.acc_base.specs.declared.range.Range.{Range};
 ghost use Rattle.acc_base.specs.Queues.{every_queue};
 ghost use Rattle.acc_batch.specs.Awaits.{await_of};
 ghost use Rattle.acc_present.specs.Notes.{Note, HasNotes};
-ghost use Rattle.acc_place.specs.Noting.{awaits_from, ended_range, last_made, last_used, made_at, note_found, used_at, used_ranges, Raises};
+ghost use Rattle.acc_place.specs.inner.Noting.{awaits_from, ended_range, last_made, last_used, made_at, note_found, used_at, used_ranges, Raises};
 ghost use Rattle.acc_place.specs.Targets.{queues_named};
-ghost use Rattle.acc_place.specs.Trials.{named_count, number_in};
-ghost use Rattle.acc_place.specs.Walks.{group_ops, marked_ops};
+ghost use Rattle.acc_place.specs.inner.Trials.{named_count, number_in};
+ghost use Rattle.acc_place.specs.inner.Walks.{group_ops, marked_ops};
 
 use crate::directive::Directive;
 use crate::judge::{Known, Marked};
 use crate::labels::Labels;
 use crate::plan::{Group, op_of};
 use crate::targets::names_queue;
-use acc_base::{BlockId, DeviceId, Fault, Few, QueueAt, QueueId, Range};
-use acc_batch::Op;
+use acc_base::{BlockId, DeviceId, Fault, Few, QueueAt, QueueCounts, QueueId, Range};
+use acc_batch::OpLabel;
 use acc_present::{Look, Table};
 
 /// How many batches were placed on each queue of a device that a directive waits for, and 0 for the others.
-pub fn named_counts(labels: &Labels, device: DeviceId, directive: &Directive) -> [u64; 8]
+pub(crate) fn named_counts(labels: &Labels, device: DeviceId, directive: &Directive) -> QueueCounts
     ensures { result ≡ map (named_count labels.now.queues device (queues_named directive.now)) every_queue }
 {
     [
@@ -51,12 +53,12 @@ fn named_count(labels: &Labels, device: DeviceId, directive: &Directive, queue: 
 
 /// The number of the batch that a directive's batch awaits on each queue of its device, or 0, where these steps became of its
 /// items and it runs this loop, if any.
-pub fn awaited_numbers(
+pub(crate) fn awaited_numbers(
     known: &Known,
     directive: &Directive,
     steps: &[Marked],
-    run: &Option<Op>,
-) -> [u64; 8]
+    run: &Option<OpLabel>,
+) -> QueueCounts
     requires cells { All (λ t. 0 < t.item.range.len) steps.now }
     requires run_cells { All (λ u. 0 < u.1.len) (flat_map used_ranges (option_to_list run.now)) }
     ensures { (notes : Range → ℕ → Note) → HasNotes notes known.now.table.now.notes → result ≡ map (number_in known.now notes (queues_named directive.now) (marked_ops (option_to_list run.now) steps.now) steps.now) every_queue }
@@ -76,7 +78,12 @@ pub fn awaited_numbers(
 /// # Errors
 ///
 /// `Memory` where memory is refused; some may have been added then.
-pub fn add_awaits(own: QueueId, queue: u8, numbers: &[u64], ops: &mut Few<Op>) -> Result<(), Fault>
+pub(crate) fn add_awaits(
+    own: QueueId,
+    queue: u8,
+    numbers: &[u64],
+    ops: &mut Few<OpLabel>,
+) -> Result<(), Fault>
     requires { queue + length numbers.now ≤ QUEUES }
     ensures ops { OnOk result (ops.new ≡ ops.old ++ awaits_from own queue numbers.now) }
     ensures fault { IfErr result (λ fault. fault ≡ Memory) }
@@ -90,18 +97,18 @@ pub fn add_awaits(own: QueueId, queue: u8, numbers: &[u64], ops: &mut Few<Op>) -
     }
 }
 
-fn add_await(own: QueueId, queue: QueueId, number: u64, ops: &mut Few<Op>) -> Result<(), Fault>
+fn add_await(own: QueueId, queue: QueueId, number: u64, ops: &mut Few<OpLabel>) -> Result<(), Fault>
     ensures ops { OnOk result (ops.new ≡ ops.old ++ await_of own queue number) }
     ensures fault { IfErr result (λ fault. fault ≡ Memory) }
 {
     if queue != own && number != 0 {
-        ops.push(Op::Await { queue, number })?;
+        ops.push(OpLabel::Await { queue, number })?;
     }
     Ok(())
 }
 
 // Raises the numbers by the makers of what the steps' operations of this group use.
-fn raise_group(table: &Table, group: Group, steps: &[Marked], numbers: &mut [u64; 8])
+fn raise_group(table: &Table, group: Group, steps: &[Marked], numbers: &mut QueueCounts)
     requires { All (λ t. 0 < t.item.range.len) steps.now }
     ensures { (notes : Range → ℕ → Note) → HasNotes notes table.now.notes → Raises numbers.old (last_made (note_found notes table.now.presences) (flat_map used_ranges (flat_map (group_ops group) steps.now))) numbers.new }
 {
@@ -115,7 +122,7 @@ fn raise_group(table: &Table, group: Group, steps: &[Marked], numbers: &mut [u64
 }
 
 // Raises the numbers by the makers of what an operation uses, if there is one.
-fn raise_if(table: &Table, op: &Option<Op>, numbers: &mut [u64; 8])
+fn raise_if(table: &Table, op: &Option<OpLabel>, numbers: &mut QueueCounts)
     requires { All (λ u. 0 < u.1.len) (flat_map used_ranges (option_to_list op.now)) }
     ensures { (notes : Range → ℕ → Note) → HasNotes notes table.now.notes → Raises numbers.old (last_made (note_found notes table.now.presences) (flat_map used_ranges (option_to_list op.now))) numbers.new }
 {
@@ -125,19 +132,20 @@ fn raise_if(table: &Table, op: &Option<Op>, numbers: &mut [u64; 8])
     }
 }
 
-fn raise_op(table: &Table, op: &Op, numbers: &mut [u64; 8])
+fn raise_op(table: &Table, op: &OpLabel, numbers: &mut QueueCounts)
     requires { All (λ u. 0 < u.1.len) (used_ranges op.now) }
     ensures { (notes : Range → ℕ → Note) → HasNotes notes table.now.notes → Raises numbers.old (last_made (note_found notes table.now.presences) (used_ranges op.now)) numbers.new }
 {
     match op {
-        Op::CopyIn { range, .. } => raise_range(table, *range, numbers),
-        Op::CopyOut { range, .. } => raise_range(table, *range, numbers),
-        Op::Run { uses, .. } => raise_uses(table, uses.get().as_slice(), numbers),
-        Op::Make { .. } | Op::Release { .. } | Op::Await { .. } | Op::Close => {}
+        OpLabel::CopyIn { range, .. } => raise_range(table, *range, numbers),
+        OpLabel::CopyOut { range, .. } => raise_range(table, *range, numbers),
+        OpLabel::Run { uses, .. } => raise_uses(table, uses.get().as_slice(), numbers),
+        OpLabel::Make { .. } | OpLabel::Release { .. } | OpLabel::Await { .. } | OpLabel::Close =>
+            {}
     }
 }
 
-fn raise_uses(table: &Table, uses: &[(BlockId, Range)], numbers: &mut [u64; 8])
+fn raise_uses(table: &Table, uses: &[(BlockId, Range)], numbers: &mut QueueCounts)
     requires { All (λ u. 0 < u.1.len) uses.now }
     ensures { (notes : Range → ℕ → Note) → HasNotes notes table.now.notes → Raises numbers.old (last_made (note_found notes table.now.presences) uses.now) numbers.new }
 {
@@ -151,7 +159,7 @@ fn raise_uses(table: &Table, uses: &[(BlockId, Range)], numbers: &mut [u64; 8])
 }
 
 // Raises the numbers by the maker of the block of a range, if the range is present.
-fn raise_range(table: &Table, range: Range, numbers: &mut [u64; 8])
+fn raise_range(table: &Table, range: Range, numbers: &mut QueueCounts)
     requires { 0 < range.len }
     ensures { (notes : Range → ℕ → Note) → HasNotes notes table.now.notes → Raises numbers.old (λ q. made_at q (note_found notes table.now.presences range)) numbers.new }
 {
@@ -165,7 +173,7 @@ fn raise_range(table: &Table, range: Range, numbers: &mut [u64; 8])
 }
 
 // Raises the numbers by all that made or used the blocks that items ended.
-fn raise_ended(table: &Table, steps: &[Marked], numbers: &mut [u64; 8])
+fn raise_ended(table: &Table, steps: &[Marked], numbers: &mut QueueCounts)
     requires { All (λ t. 0 < t.item.range.len) steps.now }
     ensures { (notes : Range → ℕ → Note) → HasNotes notes table.now.notes → Raises numbers.old (last_used (note_found notes table.now.presences) (flat_map ended_range steps.now)) numbers.new }
 {
@@ -178,7 +186,7 @@ fn raise_ended(table: &Table, steps: &[Marked], numbers: &mut [u64; 8])
     }
 }
 
-fn raise_step(table: &Table, step: Marked, numbers: &mut [u64; 8])
+fn raise_step(table: &Table, step: Marked, numbers: &mut QueueCounts)
     requires { 0 < step.item.range.len }
     ensures { (notes : Range → ℕ → Note) → HasNotes notes table.now.notes → Raises numbers.old (last_used (note_found notes table.now.presences) (ended_range step)) numbers.new }
 {
@@ -189,7 +197,7 @@ fn raise_step(table: &Table, step: Marked, numbers: &mut [u64; 8])
 }
 
 // Raises the numbers by all that made or used the block of a range, if the range is present.
-fn raise_used(table: &Table, range: Range, numbers: &mut [u64; 8])
+fn raise_used(table: &Table, range: Range, numbers: &mut QueueCounts)
     requires { 0 < range.len }
     ensures { (notes : Range → ℕ → Note) → HasNotes notes table.now.notes → Raises numbers.old (λ q. used_at q (note_found notes table.now.presences range)) numbers.new }
 {
@@ -200,7 +208,7 @@ fn raise_used(table: &Table, range: Range, numbers: &mut [u64; 8])
 }
 
 // Raises the number of one queue, if there is such a queue.
-fn raise(numbers: &mut [u64; 8], queue: QueueId, number: u64)
+fn raise(numbers: &mut QueueCounts, queue: QueueId, number: u64)
     ensures { Raises numbers.old (λ q. if queue == q then number else 0) numbers.new }
 {
     let at = usize::from(queue.number());
@@ -210,7 +218,7 @@ fn raise(numbers: &mut [u64; 8], queue: QueueId, number: u64)
 }
 
 // Raises the number of each queue.
-fn raise_all(numbers: &mut [u64; 8], others: &[u64; 8])
+fn raise_all(numbers: &mut QueueCounts, others: &QueueCounts)
     ensures { Raises numbers.old (λ q. slice_index_or others.now q 0) numbers.new }
 {
     *numbers = [

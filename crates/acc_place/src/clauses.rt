@@ -1,7 +1,9 @@
+//! Which clauses a directive may have.
+
 ghost use Rattle.std.specs.Prelude.{◌≡◌};
 ghost use Rattle.acc_place.specs.Clauses.{is_of_region};
 
-use crate::directive::{Clause, Item, Kind, Target, Waits, Written};
+use crate::directive::{Clause, DataItem, Kind, Target, Waits, Written};
 
 impl Kind {
     ghost use Rattle.acc_place.specs.Clauses.{allows_clause, allows_count, allows_items, allows_target, allows_waits, is_about_queues, may_be_async};
@@ -21,7 +23,7 @@ impl Kind {
     }
 
     // Whether it may have the clause of each item.
-    fn allows_items(&self, items: &[Item]) -> bool
+    fn allows_items(&self, items: &[DataItem]) -> bool
         ensures { result ≡ allows_items self.now items.now }
     {
         items.iter().all(|item| self.allows_clause(item.clause))

@@ -1,13 +1,15 @@
+//! The close of each queue, made with the place.
+
 ghost use Rattle.std.specs.Prelude.{◌≡◌, ◌<◌, length, IfOk, IfErr};
 ghost use Rattle.acc_base.specs.declared.fault.Fault.TheVariants.{Memory};
 ghost use Rattle.acc_base.specs.declared.ids.QueueAt.{QueueAt};
 ghost use Rattle.acc_base.specs.declared.ids.TheConstants.{QUEUES};
 ghost use Rattle.acc_base.specs.Queues.{queue_count, seat};
 ghost use Rattle.acc_place.specs.Histories.{IsQueue};
-ghost use Rattle.acc_place.specs.Places.{close_in, new_close};
+ghost use Rattle.acc_place.specs.inner.Places.{close_in, new_close};
 
-use acc_base::{Config, DeviceId, Fault, Few, HostId, QUEUES, QueueAt, QueueId, Shared};
-use acc_batch::{Batch, Label, Op};
+use acc_base::{Config, Fault, Few, HostId, QUEUES, QueueAt, Shared};
+use acc_batch::{Batch, Label, OpLabel};
 use std::alloc::Global;
 
 /// What a place keeps of a queue's close: its batch, unless that is out or placed, and its label, until that is placed.
@@ -23,7 +25,7 @@ impl Close {
         ensures fault { IfErr result (λ f. f ≡ Memory) }
     {
         let mut ops = Few::new(alloc);
-        ops.push(Op::Close)?;
+        ops.push(OpLabel::Close)?;
         let label = Label {
             at,
             number: 1,
@@ -45,26 +47,14 @@ impl Close {
 /// # Errors
 ///
 /// `Memory` where memory is refused.
-pub fn closes_of(alloc: Global, config: &Config) -> Result<Vec<Close>, Fault>
+pub(crate) fn closes_of(alloc: Global, config: &Config) -> Result<Vec<Close>, Fault>
     ensures count { IfOk result (λ closes. length closes.items ≡ queue_count config.now) }
     ensures new { IfOk result (λ closes. (at : QueueAt) → IsQueue config.now at → close_in closes.items at ≡ new_close at) }
     ensures fault { IfErr result (λ f. f ≡ Memory) }
 {
     let mut closes = Vec::new(alloc);
-    for place in 0..u16::from(config.devices()) * u16::from(QUEUES) {
-        closes.push(Close::new(alloc, queue_at(place))?)?;
+    for index in 0..u16::from(config.devices()) * u16::from(QUEUES) {
+        closes.push(Close::new(alloc, QueueAt::at_seat(index))?)?;
     }
     Ok(closes)
-}
-
-// The queue at this place among those of all devices.
-fn queue_at(place: u16) -> QueueAt
-    requires { place < 2048 }
-    ensures seat { seat result ≡ place }
-    ensures queue { result.queue < QUEUES }
-{
-    QueueAt {
-        device: DeviceId::new((place / 8) as u8),
-        queue: QueueId::new((place % 8) as u8),
-    }
 }

@@ -1,3 +1,5 @@
+//! What a place keeps of a device: its table, and how many lifetimes were opened. Marks are left there.
+
 ghost use Rattle.std.specs.Prelude.{ℕ, All, not, ◌≡◌, ◌+◌, ◌*◌, ◌<◌, ◌≤◌, ◌∷◌, [], length, IfOk, IfErr, OnOk, OnErr};
 ghost use Rattle.std.specs.List.{flat_map};
 ghost use Rattle.acc_base.specs.declared.ids.TheConstants.{QUEUES};
@@ -7,13 +9,13 @@ ghost use Rattle.acc_present.specs.Presences.{is_present};
 ghost use Rattle.acc_present.specs.Tables.{entry_mark, presences_after};
 ghost use Rattle.acc_present.specs.declared.table.TheConstants.{COUNTER_LIMIT};
 ghost use Rattle.acc_place.specs.declared.directive.TheConstants.{MAX_ITEMS};
-ghost use Rattle.acc_place.specs.Devices.{held_on, AreFresh, IsEmpty};
-ghost use Rattle.acc_place.specs.Noting.{changed_all, noted_by, noted_ranges};
-ghost use Rattle.acc_place.specs.Walks.{holding_after, holding_after_all, opened_after, CanEnter, CanMark, HasRoomFor, AllEntered, AllFine};
+ghost use Rattle.acc_place.specs.inner.Devices.{held_on, AreFresh, IsEmpty};
+ghost use Rattle.acc_place.specs.inner.Noting.{changed_all, noted_by, noted_ranges};
+ghost use Rattle.acc_place.specs.inner.Walks.{holding_after, holding_after_all, opened_after, CanEnter, CanMark, HasRoomFor, AllEntered, AllFine};
 
-use crate::directive::{Item, MAX_ITEMS};
+use crate::directive::{DataItem, MAX_ITEMS};
 use acc_base::{BlockId, Config, Fault, QueueId, Range};
-use acc_batch::Op;
+use acc_batch::OpLabel;
 use acc_present::{Change, Counter, Entered, Table};
 use std::alloc::Global;
 
@@ -30,7 +32,7 @@ impl Device {
     /// # Errors
     ///
     /// `Memory` where memory is refused.
-    pub fn spare(&mut self) -> Result<(), Fault>
+    pub(crate) fn spare(&mut self) -> Result<(), Fault>
         ensures held { held_on self.new ≡ held_on self.old }
         ensures capacity { self.new.table.capacity ≡ self.old.table.capacity }
         ensures notes { self.new.table.notes ≡ self.old.table.notes }
@@ -43,7 +45,7 @@ impl Device {
     }
 
     /// Notes what the operations of a batch make and use.
-    pub fn note_all(&mut self, queue: QueueId, number: u64, ops: &[Op])
+    pub(crate) fn note_all(&mut self, queue: QueueId, number: u64, ops: &[OpLabel])
         requires queue { queue < QUEUES }
         requires cells { All (λ u. 0 < u.1.len) (flat_map noted_ranges ops.now) }
         ensures held { held_on self.new ≡ held_on self.old }
@@ -60,7 +62,7 @@ impl Device {
         }
     }
 
-    fn note(&mut self, queue: QueueId, number: u64, op: &Op)
+    fn note(&mut self, queue: QueueId, number: u64, op: &OpLabel)
         requires queue { queue < QUEUES }
         requires cells { All (λ u. 0 < u.1.len) (noted_ranges op.now) }
         ensures held { held_on self.new ≡ held_on self.old }
@@ -69,11 +71,11 @@ impl Device {
         ensures room { self.new.table.room ≡ self.old.table.room }
     {
         match op {
-            Op::Make { range, .. } => self.table.note_make(*range, queue, number),
-            Op::CopyIn { range, .. } => self.table.note_use(*range, queue, number),
-            Op::CopyOut { range, .. } => self.table.note_use(*range, queue, number),
-            Op::Run { uses, .. } => self.note_uses(queue, number, uses.get().as_slice()),
-            Op::Release { .. } | Op::Await { .. } | Op::Close => {}
+            OpLabel::Make { range, .. } => self.table.note_make(*range, queue, number),
+            OpLabel::CopyIn { range, .. } => self.table.note_use(*range, queue, number),
+            OpLabel::CopyOut { range, .. } => self.table.note_use(*range, queue, number),
+            OpLabel::Run { uses, .. } => self.note_uses(queue, number, uses.get().as_slice()),
+            OpLabel::Release { .. } | OpLabel::Await { .. } | OpLabel::Close => {}
         }
     }
 
@@ -95,7 +97,7 @@ impl Device {
     }
 
     /// Leaves the items' marks.
-    pub fn mark_all(&mut self, change: Option<Change>, items: &[Item])
+    pub(crate) fn mark_all(&mut self, change: Option<Change>, items: &[DataItem])
         requires fine { AllFine self.old.table.capacity change (held_on self.old) items.now }
         requires entered { AllEntered change (held_on self.old) items.now }
         requires room { HasRoomFor (length items.now) self.old.table self.old.opened }
@@ -114,7 +116,7 @@ impl Device {
     }
 
     // Leaves one mark.
-    #[tactic(auto, unfolding(crate::specs::Walks::holding_after))]
+    #[tactic(auto, unfolding(crate::specs::inner::Walks::holding_after))]
     fn mark(&mut self, change: Option<Change>, range: Range)
         requires can { CanMark change range self.old.table.presences self.old.table.capacity }
         requires room { length self.old.table.presences < self.old.table.room }
@@ -164,7 +166,7 @@ impl Device {
 /// # Errors
 ///
 /// `Memory` where memory is refused.
-pub fn devices_of(alloc: Global, config: &Config) -> Result<Vec<Device>, Fault>
+pub(crate) fn devices_of(alloc: Global, config: &Config) -> Result<Vec<Device>, Fault>
     ensures count { IfOk result (λ devices. length devices.items ≡ config.now.devices) }
     ensures empty { IfOk result (λ devices. All (IsEmpty config.now) devices.items) }
     ensures fault { IfErr result (λ f. f ≡ Fault.Memory) }

@@ -1,6 +1,8 @@
+//! The words: clauses, items, kinds, directives, regions, and what is answered to them.
+
 ghost use Rattle.std.specs.Prelude.{◌≡◌, true, IfOk, IfErr};
 
-use acc_base::{DeviceId, Fault, Few, HostId, Listed, QueueAt, Range, Shared};
+use acc_base::{DeviceId, Fault, Few, HostId, Listed, QueueAt, QueueCounts, Range, Shared};
 use acc_kernel::Kernel;
 use acc_present::Change;
 use std::alloc::Global;
@@ -43,7 +45,7 @@ pub enum Clause {
 
 /// A range of a clause.
 #[derive(Clone, Copy, Debug, PartialEq, Eq)]
-pub struct Item {
+pub struct DataItem {
     pub clause: Clause,
     pub range: Range,
 }
@@ -96,7 +98,7 @@ pub enum Waits {
 #[derive(Drop)]
 pub struct Written {
     pub kind: Kind,
-    pub items: Few<Item>,
+    pub items: Few<DataItem>,
     pub target: Target,
     pub waits: Waits,
 }
@@ -193,7 +195,7 @@ impl Directive {
     }
 
     /// The written items.
-    pub fn items(&self) -> &Few<Item>
+    pub fn items(&self) -> &Few<DataItem>
         ensures { result.now ≡ self.now.items }
     {
         &self.written.get().items
@@ -236,7 +238,7 @@ impl Directive {
 pub struct Region {
     pub host: HostId,
     pub device: DeviceId,
-    pub items: Few<Item>,
+    pub items: Few<DataItem>,
 }
 
 /// The answer to a directive that was accepted.
@@ -245,7 +247,7 @@ pub struct Placed {
     /// The queue of the directive's batch, and the batch's number there, from 1, if it placed one.
     pub batch: Option<(QueueAt, u64)>,
     /// How many batches were placed on each queue that a `wait` directive without `async` or a question names, else 0.
-    pub counts: [u64; 8],
+    pub counts: QueueCounts,
     /// The answer of `acc_is_present`; false for every other directive.
     pub present: bool,
 }

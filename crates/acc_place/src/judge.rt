@@ -1,3 +1,5 @@
+//! What is known where a directive is tried; its items are judged one by one.
+
 ghost use Rattle.std.specs.Prelude.{All, ◌≡◌, ◌+◌, ◌<◌, ◌≤◌, ◌++◌, not, true, length, Some, None, IfNone, IfOk, IfErr, OnOk, vec_len, vec_capacity, is_some};
 ghost use Rattle.acc_present.specs.Drafts.{drafted, IsDraft};
 ghost use Rattle.acc_present.specs.Presences.{holder, is_present};
@@ -5,16 +7,16 @@ ghost use Rattle.acc_present.specs.declared.change.Change.TheVariants.{Structure
 ghost use Rattle.acc_present.specs.declared.table.TheConstants.{COUNTER_LIMIT};
 ghost use Rattle.acc_present.specs.Tables.{IsLook, entry_mark, presences_after};
 ghost use Rattle.acc_place.specs.Accepting.{is_deep, is_outside, wants_presence};
-ghost use Rattle.acc_base.specs.Configurations.{is_in_array};
+ghost use Rattle.acc_base.specs.Configurations.{has_range};
 ghost use Rattle.acc_place.specs.Regions.{open_region};
 ghost use Rattle.acc_place.specs.Standings.{change_by};
-ghost use Rattle.acc_place.specs.Walks.{holding, holding_after_all, presences_by, can_open_by, fault_in, found_fault, limit_fault, first_fault_in, block_found, block_held, block_opened, block_ended, marked_in, all_marked, opened_after, AllLow, HasEntered, AllEntered, CanEnter, CanMark};
+ghost use Rattle.acc_place.specs.inner.Walks.{holding, holding_after_all, presences_by, can_open_by, fault_in, found_fault, limit_fault, first_fault_in, block_found, block_held, block_opened, block_ended, marked_in, all_marked, opened_after, AllLow, HasEntered, AllEntered, CanEnter, CanMark};
 
 use crate::directive::{
-    Clause, Directive, Item, Kind, MAX_DIRECTIVES, MAX_ITEMS, MAX_REGIONS, Region,
+    Clause, DataItem, Directive, Kind, MAX_DIRECTIVES, MAX_ITEMS, MAX_REGIONS, Region,
 };
 use crate::labels::Labels;
-use crate::regions::{depth, open_place};
+use crate::regions::{depth, open_index};
 use crate::targets::{has_bad_queue, waits_on_too_many};
 use acc_base::{BlockId, Config, Fault, HostId, QueueAt, Range};
 use acc_present::{Change, Counter, Draft, Entered, Left, Look, Table};
@@ -37,7 +39,7 @@ pub struct Known<'a> {
 /// opened, and of the one that it ended.
 #[derive(Clone, Copy, Debug, PartialEq, Eq)]
 pub struct Marked {
-    pub item: Item,
+    pub item: DataItem,
     pub held: Option<u64>,
     pub opened: Option<u64>,
     pub ended: Option<u64>,
@@ -45,8 +47,13 @@ pub struct Marked {
 
 /// The first fault of a host's directive on so many items, on a device that is there, that does not depend on their
 /// ranges.
-#[tactic(auto, unfolding(crate::specs::Walks::limit_fault))]
-pub fn limit_of(known: &Known, host: HostId, directive: &Directive, count: usize) -> Option<Fault>
+#[tactic(auto, unfolding(crate::specs::inner::Walks::limit_fault))]
+pub(crate) fn limit_fault(
+    known: &Known,
+    host: HostId,
+    directive: &Directive,
+    count: usize,
+) -> Option<Fault>
     ensures { result ≡ limit_fault known.now.accepted known.now.regions.now host directive.now count }
 {
     if has_bad_queue(directive) {
@@ -78,16 +85,16 @@ fn is_deep(regions: &[Region], host: HostId, kind: &Kind) -> bool
 fn is_outside(regions: &[Region], host: HostId, kind: &Kind) -> bool
     ensures { result ≡ is_outside kind.now (open_region host regions.now) }
 {
-    matches!(kind, Kind::EndData) && open_place(regions, host).is_none()
+    matches!(kind, Kind::EndData) && open_index(regions, host).is_none()
 }
 
 /// The first fault of the items, each judged with the marks of those before it; where there is none, the steps are what
 /// would become of them. The table isn't changed: the marks stand in the draft.
-pub fn walk(
+pub(crate) fn judge_all(
     known: &Known,
     draft: &mut Draft,
     kind: &Kind,
-    items: &[Item],
+    items: &[DataItem],
     opened: u64,
     steps: &mut Vec<Marked>,
 ) -> Option<Fault>
@@ -112,8 +119,8 @@ pub fn walk(
             Err(fault) => Some(fault),
             Ok(marked) => {
                 steps.push_reserved(marked);
-                let next = count_opened(opened, marked);
-                walk(known, draft, kind, rest, next, steps)
+                let next = opened_after(opened, marked);
+                judge_all(known, draft, kind, rest, next, steps)
             }
         },
     }
@@ -124,7 +131,7 @@ fn visit(
     known: &Known,
     draft: &mut Draft,
     kind: &Kind,
-    item: &Item,
+    item: &DataItem,
     opened: u64,
 ) -> Result<Marked, Fault>
     requires capacity { known.now.table.now.capacity ≡ known.now.config.now.capacity }
@@ -141,12 +148,12 @@ fn visit(
     ensures changed { OnOk result (length draft.new.changed ≤ length draft.old.changed + 1) }
     ensures draft_room { draft.new.room ≡ draft.old.room }
 {
-    if !known.config.is_in_array(item.range) {
+    if !known.config.has_range(item.range) {
         return Err(Fault::BadRange);
     }
     let found = draft.look(known.table, item.range);
     let free = known.config.capacity() - draft.used_cells();
-    match fault_of(kind, item, &found, free) {
+    match found_fault(kind, item, &found, free) {
         Some(fault) => Err(fault),
         None => Ok(mark(known.table, draft, kind.change(), item, &found, opened)),
     }
@@ -154,7 +161,12 @@ fn visit(
 
 /// Leaves the marks of items that leave in the draft, and puts their steps behind those that are there. They aren't
 /// judged, and open no lifetime.
-pub fn leave_all(table: &Table, draft: &mut Draft, items: &[Item], steps: &mut Vec<Marked>)
+pub(crate) fn leave_all(
+    table: &Table,
+    draft: &mut Draft,
+    items: &[DataItem],
+    steps: &mut Vec<Marked>,
+)
     requires draft { IsDraft table.now draft.old }
     requires draft_room { length draft.old.changed + length items.now ≤ draft.old.room }
     requires cells { All (λ i. 0 < i.range.len) items.now }
@@ -176,7 +188,7 @@ pub fn leave_all(table: &Table, draft: &mut Draft, items: &[Item], steps: &mut V
 }
 
 // The fault of an item that was found so, where so many cells are free.
-fn fault_of(kind: &Kind, item: &Item, found: &Look, free: u64) -> Option<Fault>
+fn found_fault(kind: &Kind, item: &DataItem, found: &Look, free: u64) -> Option<Fault>
     ensures { result ≡ found_fault kind.now item.now found.now free }
 {
     match found {
@@ -191,7 +203,7 @@ fn fault_of(kind: &Kind, item: &Item, found: &Look, free: u64) -> Option<Fault>
         Look::Absent => {
             if wants_presence(kind, item.clause) {
                 Some(Fault::NotPresent)
-            } else if opens(kind.change()) && free < u64::from(item.range.len) {
+            } else if can_open_by(kind.change()) && free < u64::from(item.range.len) {
                 Some(Fault::DeviceFull)
             } else {
                 None
@@ -213,7 +225,7 @@ fn wants_presence(kind: &Kind, clause: Clause) -> bool
 }
 
 // Whether an item that is absent enters.
-fn opens(change: Option<Change>) -> bool
+fn can_open_by(change: Option<Change>) -> bool
     ensures { result ≡ can_open_by change }
 {
     match change {
@@ -223,7 +235,7 @@ fn opens(change: Option<Change>) -> bool
 }
 
 // The block that holds a range that was found so.
-fn held_by(found: &Look) -> Option<u64>
+fn block_found(found: &Look) -> Option<u64>
     ensures { result ≡ block_found found.now }
 {
     match found {
@@ -233,12 +245,12 @@ fn held_by(found: &Look) -> Option<u64>
 }
 
 // Leaves the mark of an item, whose range was found so, in the draft.
-#[tactic(auto, using(crate::proofs::Judging::block_is), unfolding(crate::specs::Walks::marked_in))]
+#[tactic(auto, using(crate::proofs::FaultIn::block_is), unfolding(crate::specs::inner::Walks::marked_in))]
 fn mark(
     table: &Table,
     draft: &mut Draft,
     change: Option<Change>,
-    item: &Item,
+    item: &DataItem,
     found: &Look,
     opened: u64,
 ) -> Marked
@@ -261,7 +273,7 @@ fn mark(
         ),
         Some(Change::StructuredDown) => (
             None,
-            ended_by(draft.leave(table, range, found, Counter::Structured)),
+            block_ended(draft.leave(table, range, found, Counter::Structured)),
         ),
         Some(Change::DynamicUp) => (
             enter(table, draft, range, found, Counter::Dynamic, opened),
@@ -270,15 +282,15 @@ fn mark(
         Some(Change::DynamicDown) => {
             (
                 None,
-                ended_by(draft.leave(table, range, found, Counter::Dynamic)),
+                block_ended(draft.leave(table, range, found, Counter::Dynamic)),
             )
         }
-        Some(Change::DynamicZero) => (None, ended_by(draft.finalize(table, range, found))),
+        Some(Change::DynamicZero) => (None, block_ended(draft.finalize(table, range, found))),
         None => (None, None),
     };
     Marked {
         item: *item,
-        held: held_by(found),
+        held: block_found(found),
         opened: entered,
         ended,
     }
@@ -312,7 +324,7 @@ fn enter(
 }
 
 // The block of the lifetime that an exit ended.
-fn ended_by(left: Left) -> Option<u64>
+fn block_ended(left: Left) -> Option<u64>
     ensures { result ≡ block_ended left }
 {
     match left {
@@ -322,7 +334,7 @@ fn ended_by(left: Left) -> Option<u64>
 }
 
 // How many lifetimes have been opened once the item is marked.
-fn count_opened(opened: u64, marked: Marked) -> u64
+fn opened_after(opened: u64, marked: Marked) -> u64
     requires { opened < COUNTER_LIMIT }
     ensures { result ≡ opened_after (is_some marked.opened) opened }
 {

@@ -1,8 +1,10 @@
+//! The labels of the batches on each queue of each device.
+
 ghost use Rattle.std.specs.Prelude.{ℕ, All, ◌≡◌, ◌*◌, ◌<◌, ◌≤◌, ◌++◌, [], ◌∷◌, length, slice_index_or, slice_set, IfOk, IfErr, OnOk, OnErr};
 ghost use Rattle.acc_base.specs.declared.fault.Fault.TheVariants.{Memory};
 ghost use Rattle.acc_base.specs.declared.ids.TheConstants.{QUEUES};
 ghost use Rattle.acc_base.specs.Queues.{seat};
-ghost use Rattle.acc_place.specs.Places.{queue_in};
+ghost use Rattle.acc_place.specs.inner.Places.{queue_in};
 
 use acc_base::{Fault, QUEUES, QueueAt};
 use acc_batch::Label;
@@ -20,7 +22,7 @@ impl Model for Labels {
     ghost use Rattle.std.specs.Prelude.{All, map, vec_capacity, ◌-◌, ◌<◌};
     ghost use Rattle.std.specs.Coded.{codes};
     ghost use Rattle.acc_kernel.specs.contracts.expr.Expr as expr;
-    ghost use Rattle.acc_place.specs.Places.{LabelsView};
+    ghost use Rattle.acc_place.specs.inner.Places.{LabelsView};
 
     ghost Value = { LabelsView };
 
@@ -37,7 +39,7 @@ impl Labels {
     /// # Errors
     ///
     /// `Memory` where memory is refused.
-    pub fn new(alloc: Global, devices: u8) -> Result<Self, Fault>
+    pub(crate) fn new(alloc: Global, devices: u8) -> Result<Self, Fault>
         ensures count { IfOk result (λ w. length w.queues ≡ devices * QUEUES) }
         ensures none { IfOk result (λ w. All (λ labels. labels ≡ []) w.queues) }
         ensures fault { IfErr result (λ fault. fault ≡ Memory) }
@@ -50,7 +52,7 @@ impl Labels {
     }
 
     /// The labels of a queue's batches, in their order.
-    pub fn on(&self, at: QueueAt) -> &[Label]
+    pub(crate) fn on(&self, at: QueueAt) -> &[Label]
         ensures { result.now ≡ queue_in self.now.queues at }
     {
         if at.queue.number() >= QUEUES {
@@ -67,7 +69,7 @@ impl Labels {
     /// # Errors
     ///
     /// `Memory` where memory is refused.
-    pub fn spare(&mut self, at: QueueAt) -> Result<(), Fault>
+    pub(crate) fn spare(&mut self, at: QueueAt) -> Result<(), Fault>
         requires { seat at < length self.old.queues }
         ensures queues { self.new.queues ≡ self.old.queues }
         ensures room { (i : ℕ) → slice_index_or self.old.room i 0 ≤ slice_index_or self.new.room i 0 }
@@ -80,7 +82,7 @@ impl Labels {
     }
 
     /// Adds a label to its queue, which may be its close. Takes no memory.
-    pub fn push(&mut self, label: Label)
+    pub(crate) fn push(&mut self, label: Label)
         requires seat { seat label.at < length self.old.queues }
         requires room { length (slice_index_or self.old.queues (seat label.at) []) ≤ slice_index_or self.old.room (seat label.at) 0 }
         ensures queues { self.new.queues ≡ slice_set self.old.queues (seat label.at) (slice_index_or self.old.queues (seat label.at) [] ++ label ∷ []) }

@@ -1,13 +1,15 @@
-ghost use Rattle.acc_place.specs.AwaitExamples.{ReleaseAwaitsTheLoop, UsesAwaitTheMaker, FullWhereItIsPresent, WaitsAlone, NoSuchQueue, DevicesApart, CountsOfWaits, QueuesOfValues};
-ghost use Rattle.acc_place.specs.BatchExamples.{GroupByGroup, PartIsCopiedOut, LeavesOnce, EntersAgain, EmptyBatch};
-ghost use Rattle.acc_place.specs.ClauseExamples.{DataClauses, ItemCounts, AsyncClauses, WaitClauses};
-ghost use Rattle.acc_place.specs.LoopExamples.{RunsOnPresent, CopiesImplicitly, TakesClauses, UsesConstructs, UsesOwnConstructs, StaysInRange, TakesNoTurn, LimitsItems, JudgesItems};
-ghost use Rattle.acc_place.specs.RefusalExamples.{EarlierItemFirst, ItemBeforeCounts, LimitsFirst, LastDirective, RangesOutside, CapacityReached};
-ghost use Rattle.acc_place.specs.RegionExamples.{AbsentAtEntry, PresentAtEntry, LastExit, NotTheLastExit, Nested, OwnRegion, Depth, Entries, ExitsInside, Updates, Questions, ItemsInTurn};
+//! Laws over the definitions.
+
+ghost use Rattle.acc_place.specs.worked.Awaits.{ReleaseAwaitsTheLoop, UsesAwaitTheMaker, FullWhereItIsPresent, WaitsAlone, NoSuchQueue, DevicesApart, CountsOfWaits, QueuesOfValues};
+ghost use Rattle.acc_place.specs.worked.Batches.{GroupByGroup, PartIsCopiedOut, LeavesOnce, EntersAgain, EmptyBatch};
+ghost use Rattle.acc_place.specs.worked.Clauses.{DataClauses, ItemCounts, AsyncClauses, WaitClauses};
+ghost use Rattle.acc_place.specs.worked.Loops.{RunsOnPresent, CopiesImplicitly, TakesClauses, UsesConstructs, UsesOwnConstructs, StaysInRange, TakesNoTurn, LimitsItems, JudgesItems};
+ghost use Rattle.acc_place.specs.worked.Refusals.{EarlierItemFirst, ItemBeforeCounts, LimitsFirst, LastDirective, RangesOutside, CapacityReached};
+ghost use Rattle.acc_place.specs.worked.Regions.{AbsentAtEntry, PresentAtEntry, LastExit, NotTheLastExit, Nested, OwnRegion, Depth, Entries, ExitsInside, Updates, Questions, ItemsInTurn};
 ghost use Rattle.acc_place.specs.Sound.{AcceptedAreSound, AcceptedAreThere, AcceptedCloseLast};
 ghost use Rattle.acc_place.specs.Counts.{AcceptedAreCounted, EnteredCanBeLeft};
 ghost use Rattle.acc_place.specs.Loops.{ReachIsJudged};
-ghost use Rattle.acc_place.specs.CloseExamples.{LastBatches, RefusedForClosing, RegionsStay, ClosedOnce};
+ghost use Rattle.acc_place.specs.worked.Closes.{LastBatches, RefusedForClosing, RegionsStay, ClosedOnce};
 ghost use Rattle.acc_place.specs.Closing.{KeptByClosing};
 ghost use Rattle.acc_place.specs.Plans.{KeptByAccepting, KeptByPlanning, KeptByTaking};
 

@@ -18,8 +18,8 @@ mod targets;
 mod trial;
 
 pub use directive::{
-    ASYNC_NOVAL, ASYNC_SYNC, Clause, Directive, Item, Kind, MAX_DIRECTIVES, MAX_ITEMS, MAX_REGIONS,
-    MAX_WAITS, PlaceEntry, Placed, Region, Target, Waits, Written,
+    ASYNC_NOVAL, ASYNC_SYNC, Clause, DataItem, Directive, Kind, MAX_DIRECTIVES, MAX_ITEMS,
+    MAX_REGIONS, MAX_WAITS, PlaceEntry, Placed, Region, Target, Waits, Written,
 };
 pub use laws::{
     accepted_closes_are_last, accepted_directives_are_counted, accepted_labels_are_sound,

@@ -1,3 +1,5 @@
+//! The items of a loop, written and implicit; the cells that it reaches, and the blocks that it uses.
+
 ghost use Rattle.std.specs.Prelude.{◌≡◌, ◌+◌, ◌<◌, ◌≤◌, false, [], ◌∷◌, ◌++◌, take, Some, IfOk, IfErr, vec_len, vec_capacity};
 ghost use Rattle.std.specs.List.{All};
 ghost use Rattle.std.specs.Option.{option_map, option_to_list};
@@ -6,17 +8,18 @@ ghost use Rattle.acc_kernel.specs.Kernels.{reach_of};
 ghost use Rattle.acc_present.specs.Drafts.{drafted, IsDraft};
 ghost use Rattle.acc_place.specs.Accepting.{is_past, reaches_past};
 ghost use Rattle.acc_place.specs.declared.directive.TheConstants.{MAX_ITEMS};
-ghost use Rattle.acc_place.specs.Implicit.{item_of, items_around, whole_array, implicit_item, implicit_items};
-ghost use Rattle.acc_place.specs.Loops.{implicit_among, item_inside, lengths_of, StaysInside, StaysInsideOf, use_in, uses_in};
+ghost use Rattle.acc_place.specs.Implicit.{item_of, items_around, whole_array, implicit_item, implicit_items, implicit_among};
+ghost use Rattle.acc_place.specs.Loops.{item_inside, StaysInside, StaysInsideOf, use_in, uses_in};
+ghost use Rattle.acc_base.specs.Configurations.{lengths_of};
 
-use crate::directive::{Clause, Directive, Item, MAX_ITEMS, Region};
+use crate::directive::{Clause, DataItem, Directive, MAX_ITEMS, Region};
 use acc_base::{BlockId, Config, DeviceId, Fault, HostId, Range};
 use acc_kernel::{Kernel, Reach};
 use acc_present::{Draft, Look, Table};
 use std::alloc::Global;
 
 /// The first item of an array.
-pub(crate) fn first_of(items: &[Item], array: u8) -> Option<&Item>
+pub(crate) fn item_of(items: &[DataItem], array: u8) -> Option<&DataItem>
     ensures { option_map (λ i. i.now) result ≡ item_of array items.now }
 {
     items.iter().find(|item| item.range.array == array)
@@ -31,10 +34,10 @@ pub(crate) fn fill_items(
     host: HostId,
     directive: &Directive,
     kernel: &Kernel,
-    into: &mut Vec<Item>,
+    into: &mut Vec<DataItem>,
 )
     requires { MAX_ITEMS + 1 ≤ vec_capacity into.old }
-    ensures items { into.new.items ≡ take (MAX_ITEMS + 1) (directive.now.items ++ implicit_items (lengths_of config.now) regions.now host directive.now kernel.now) }
+    ensures items { into.new.items ≡ take (MAX_ITEMS + 1) (directive.now.items ++ implicit_items (lengths_of config.now.arrays) regions.now host directive.now kernel.now) }
     ensures room { vec_capacity into.new ≡ vec_capacity into.old }
 {
     into.clear();
@@ -43,13 +46,13 @@ pub(crate) fn fill_items(
 }
 
 /// Whether a loop reaches a cell of an array outside the range of the array's first item, or of an array without one.
-pub(crate) fn reaches_past(kernel: &Kernel, items: &[Item]) -> bool
+pub(crate) fn is_past(kernel: &Kernel, items: &[DataItem]) -> bool
     ensures past { result ≡ is_past (Some kernel.now) items.now }
     ensures held { result ≡ false → StaysInside kernel.now items.now }
 {
     let arrays = kernel.arrays();
     for array in arrays {
-        if reaches_past_in(kernel, items, *array) {
+        if reaches_past(kernel, items, *array) {
             return true;
         }
     }
@@ -62,12 +65,12 @@ pub(crate) fn reaches_past(kernel: &Kernel, items: &[Item]) -> bool
 /// # Errors
 ///
 /// `Memory` where memory is refused.
-pub(crate) fn uses_of(
+pub(crate) fn uses_in(
     alloc: Global,
     table: &Table,
     draft: &Draft,
     kernel: &Kernel,
-    items: &[Item],
+    items: &[DataItem],
 ) -> Result<Vec<(BlockId, Range)>, Fault>
     requires draft { IsDraft table.now draft.now }
     requires cells { All (λ i. 0 < i.range.len) items.now }
@@ -77,7 +80,7 @@ pub(crate) fn uses_of(
     let arrays = kernel.arrays();
     let mut uses = Vec::with_capacity(alloc, arrays.len())?;
     for array in arrays {
-        if let Some(one) = use_of(table, draft, items, *array) {
+        if let Some(one) = use_in(table, draft, items, *array) {
             uses.push_reserved(one);
         }
     }
@@ -85,7 +88,7 @@ pub(crate) fn uses_of(
 }
 
 // The first item of an array in the data constructs on a device that a host is inside, from the innermost on.
-fn item_around(regions: &[Region], host: HostId, device: DeviceId, array: u8) -> Option<Item>
+fn item_around(regions: &[Region], host: HostId, device: DeviceId, array: u8) -> Option<DataItem>
     ensures { result ≡ item_of array (items_around host device regions.now) }
 {
     for region in regions {
@@ -97,11 +100,11 @@ fn item_around(regions: &[Region], host: HostId, device: DeviceId, array: u8) ->
 }
 
 // The first item of an array in a data construct, if this is on the device and the host is inside it.
-fn item_inside(region: &Region, host: HostId, device: DeviceId, array: u8) -> Option<Item>
+fn item_inside(region: &Region, host: HostId, device: DeviceId, array: u8) -> Option<DataItem>
     ensures { result ≡ item_inside array host device region.now }
 {
     if region.host == host && region.device == device {
-        first_of(region.items.as_slice(), array).copied()
+        item_of(region.items.as_slice(), array).copied()
     } else {
         None
     }
@@ -109,9 +112,9 @@ fn item_inside(region: &Region, host: HostId, device: DeviceId, array: u8) -> Op
 
 // All cells of an array; none where it isn't there.
 fn whole_array(config: &Config, array: u8) -> Range
-    ensures { result ≡ whole_array (lengths_of config.now) array }
+    ensures { result ≡ whole_array (lengths_of config.now.arrays) array }
 {
-    config.keeps_limits();
+    config.keeps();
     let len = if config.has_array(array) {
         config.array(array).len() as u32
     } else {
@@ -127,15 +130,15 @@ fn implicit_item(
     host: HostId,
     device: DeviceId,
     array: u8,
-) -> Item
-    ensures { result ≡ implicit_item (lengths_of config.now) array (item_of array (items_around host device regions.now)) }
+) -> DataItem
+    ensures { result ≡ implicit_item (lengths_of config.now.arrays) array (item_of array (items_around host device regions.now)) }
 {
     match item_around(regions, host, device, array) {
-        Some(item) => Item {
+        Some(item) => DataItem {
             clause: Clause::Present,
             range: item.range,
         },
-        None => Item {
+        None => DataItem {
             clause: Clause::Copy,
             range: whole_array(config, array),
         },
@@ -143,7 +146,7 @@ fn implicit_item(
 }
 
 // Adds an item, where there is room for one more.
-fn add_item(item: Item, into: &mut Vec<Item>)
+fn add_item(item: DataItem, into: &mut Vec<DataItem>)
     requires within { vec_len into.old ≤ MAX_ITEMS + 1 }
     requires room { MAX_ITEMS + 1 ≤ vec_capacity into.old }
     ensures items { into.new.items ≡ take (MAX_ITEMS + 1) (into.old.items ++ item ∷ []) }
@@ -155,7 +158,7 @@ fn add_item(item: Item, into: &mut Vec<Item>)
 }
 
 /// Adds the items, as far as there is room.
-pub(crate) fn add_items(items: &[Item], into: &mut Vec<Item>)
+pub(crate) fn add_items(items: &[DataItem], into: &mut Vec<DataItem>)
     requires within { vec_len into.old ≤ MAX_ITEMS + 1 }
     requires room { MAX_ITEMS + 1 ≤ vec_capacity into.old }
     ensures items { into.new.items ≡ take (MAX_ITEMS + 1) (into.old.items ++ items.now) }
@@ -173,14 +176,14 @@ fn add_implicit(
     host: HostId,
     directive: &Directive,
     array: u8,
-    into: &mut Vec<Item>,
+    into: &mut Vec<DataItem>,
 )
     requires within { vec_len into.old ≤ MAX_ITEMS + 1 }
     requires room { MAX_ITEMS + 1 ≤ vec_capacity into.old }
-    ensures items { into.new.items ≡ take (MAX_ITEMS + 1) (into.old.items ++ implicit_among (lengths_of config.now) regions.now host directive.now (array ∷ [])) }
+    ensures items { into.new.items ≡ take (MAX_ITEMS + 1) (into.old.items ++ implicit_among (lengths_of config.now.arrays) regions.now host directive.now (array ∷ [])) }
     ensures room { vec_capacity into.new ≡ vec_capacity into.old }
 {
-    if first_of(directive.items().as_slice(), array).is_none() {
+    if item_of(directive.items().as_slice(), array).is_none() {
         let item = implicit_item(config, regions, host, directive.device(), array);
         add_item(item, into);
     }
@@ -193,11 +196,11 @@ fn add_all_implicit(
     host: HostId,
     directive: &Directive,
     arrays: &[u8],
-    into: &mut Vec<Item>,
+    into: &mut Vec<DataItem>,
 )
     requires within { vec_len into.old ≤ MAX_ITEMS + 1 }
     requires room { MAX_ITEMS + 1 ≤ vec_capacity into.old }
-    ensures items { into.new.items ≡ take (MAX_ITEMS + 1) (into.old.items ++ implicit_among (lengths_of config.now) regions.now host directive.now arrays.now) }
+    ensures items { into.new.items ≡ take (MAX_ITEMS + 1) (into.old.items ++ implicit_among (lengths_of config.now.arrays) regions.now host directive.now arrays.now) }
     ensures room { vec_capacity into.new ≡ vec_capacity into.old }
 {
     for array in arrays {
@@ -206,13 +209,13 @@ fn add_all_implicit(
 }
 
 // Whether a loop reaches a cell of this array outside the range of its first item.
-fn reaches_past_in(kernel: &Kernel, items: &[Item], array: u8) -> bool
+fn reaches_past(kernel: &Kernel, items: &[DataItem], array: u8) -> bool
     ensures past { result ≡ reaches_past (reach_of kernel.now array) (item_of array items.now) }
     ensures held { result ≡ false → StaysInsideOf kernel.now items.now array }
 {
     match kernel.reach(array) {
         None => false,
-        Some(reach) => match first_of(items, array) {
+        Some(reach) => match item_of(items, array) {
             None => true,
             Some(item) => passes(reach, item),
         },
@@ -220,7 +223,7 @@ fn reaches_past_in(kernel: &Kernel, items: &[Item], array: u8) -> bool
 }
 
 // Whether a reach begins before an item's range, or ends behind it.
-fn passes(reach: Reach, item: &Item) -> bool
+fn passes(reach: Reach, item: &DataItem) -> bool
     ensures { result ≡ reaches_past (Some reach) (Some item.now) }
 {
     let lo = i64::from(item.range.lo);
@@ -229,12 +232,12 @@ fn passes(reach: Reach, item: &Item) -> bool
 }
 
 // The range of an array's first item, where this is present, and the block that holds it.
-fn use_of(table: &Table, draft: &Draft, items: &[Item], array: u8) -> Option<(BlockId, Range)>
+fn use_in(table: &Table, draft: &Draft, items: &[DataItem], array: u8) -> Option<(BlockId, Range)>
     requires draft { IsDraft table.now draft.now }
     requires cells { All (λ i. 0 < i.range.len) items.now }
     ensures { option_to_list result ≡ use_in (drafted table.now draft.now) (item_of array items.now) }
 {
-    let item = first_of(items, array)?;
+    let item = item_of(items, array)?;
     match draft.look(table, item.range) {
         Look::Present(entry) => Some((entry.block, item.range)),
         Look::Absent | Look::Partly => None,

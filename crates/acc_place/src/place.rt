@@ -1,3 +1,5 @@
+//! The place: the devices, the regions, the place history and the labels. It plans a directive, accepts it, and closes.
+
 ghost use Rattle.std.specs.Prelude.{ℕ, All, reverse, false, ◌≡◌, ◌+◌, ◌<◌, ◌==◌, ◌++◌, [], ◌∷◌, length, true, None, IfOk, IfErr, OnOk, OnErr, OnSome, IfSome, slice_get, slice_index_or, ◌^◌};
 ghost use Rattle.std.specs.List.{flat_map};
 ghost use Rattle.std.specs.Option.{option_map, option_to_list};
@@ -12,28 +14,28 @@ ghost use Rattle.acc_base.specs.declared.ids.TheConstants.{QUEUES};
 ghost use Rattle.acc_base.specs.declared.range.Range.{Range};
 ghost use Rattle.acc_present.specs.Notes.{Note, HasNotes};
 ghost use Rattle.acc_place.specs.Batches.{answer_of, counts_queues, is_answered, next_number};
-ghost use Rattle.acc_place.specs.Devices.{held_on};
-ghost use Rattle.acc_place.specs.Noting.{noted_ranges, noted_with};
+ghost use Rattle.acc_place.specs.inner.Devices.{held_on};
+ghost use Rattle.acc_place.specs.inner.Noting.{noted_ranges, noted_with};
 ghost use Rattle.acc_place.specs.Targets.{queue_by, queues_named};
-ghost use Rattle.acc_place.specs.Trials.{counts_in};
-ghost use Rattle.acc_place.specs.Closing.{begun, close_of, closed, handed_back, handed_out, is_at_hand, IsOut};
+ghost use Rattle.acc_place.specs.inner.Trials.{counts_in};
+ghost use Rattle.acc_place.specs.Closing.{place_after_begin, close_of, place_after_close, handed_back, handed_out, is_at_hand, IsOut};
 ghost use Rattle.acc_place.specs.Histories.{is_closed, AllAccepted, IsQueue};
-ghost use Rattle.acc_place.specs.Places.{nth_batch, queues_after, ClosesQueue};
-ghost use Rattle.acc_place.specs.Plans.{standing_in, IsRefusal, IsPlanOf, IsRoomy, Fits, place_after, queue_for};
+ghost use Rattle.acc_place.specs.inner.Places.{queues_after, ClosesQueue};
+ghost use Rattle.acc_place.specs.Plans.{nth_batch, standing_in, IsRefusal, IsPlanOf, IsRoomy, Fits, place_after, queue_for};
 ghost use Rattle.acc_place.specs.Standings.{walk_of};
 
 use crate::awaits::named_counts;
 use crate::closes::{Close, closes_of};
 use crate::device::{Device, devices_of};
-use crate::directive::{Directive, Item, Kind, PlaceEntry, Placed, Region};
+use crate::directive::{DataItem, Directive, Kind, PlaceEntry, Placed, Region};
 use crate::judge::Known;
 use crate::labels::Labels;
 use crate::plan::Plan;
-use crate::regions::{device_of, settle};
+use crate::regions::{device_by, enter_or_leave};
 use crate::subject::ends_of;
 use crate::targets::queue_by;
 use crate::trial::Trial;
-use acc_base::{Config, DeviceId, Fault, HostId, QueueAt, QueueId, Range};
+use acc_base::{Config, DeviceId, Fault, HostId, QueueAt, QueueCounts, QueueId, Range};
 use acc_batch::{Batch, Label};
 use acc_present::{Change, Entry, Table};
 use std::alloc::Global;
@@ -65,7 +67,7 @@ impl Model for Place {
     ghost use Rattle.acc_kernel.specs.contracts.expr.Expr as expr;
     ghost use Rattle.acc_place.specs.Plans.{PlaceView};
     ghost use Rattle.acc_place.specs.Histories.{standing};
-    ghost use Rattle.acc_place.specs.Places.{closing_entries, IsPlace, KeepsCloses};
+    ghost use Rattle.acc_place.specs.inner.Places.{closing_entries, IsPlace, KeepsCloses};
 
     ghost Value = { PlaceView };
 
@@ -166,7 +168,7 @@ impl Place {
         if !self.config.has_device(directive.device()) {
             return Err(Fault::BadDevice);
         }
-        let device = device_of(self.regions.as_slice(), host, directive);
+        let device = device_by(self.regions.as_slice(), host, directive);
         Ok(QueueAt {
             device,
             queue: queue_by(directive),
@@ -212,15 +214,15 @@ impl Place {
             .put_items(&self.config, self.regions.as_slice(), host, &directive);
         let kind = directive.kind();
         let items = self.trial.items();
-        let device = device_of(self.regions.as_slice(), host, &directive);
+        let device = device_by(self.regions.as_slice(), host, &directive);
         let counts = counts_for(&self.labels, device, &directive);
         let there = &mut self.devices[usize::from(device.number())];
         let present = is_answered(&there.table, kind, items);
         there.mark_all(kind.change(), items);
         note_label(there, &label);
-        there.table.keeps_order();
+        there.table.keeps();
         there.mark_all(Some(Change::StructuredDown), ends_of(kind, items));
-        settle(&mut self.regions, host, &directive, region);
+        enter_or_leave(&mut self.regions, host, &directive, region);
         self.history
             .push_reserved(PlaceEntry::Accepted { host, directive });
         self.counts.push_reserved(items_done);
@@ -234,7 +236,7 @@ impl Place {
 
     /// Closing begins, if it hasn't: from then on no directive is accepted. Takes no memory.
     pub fn close_begin(&mut self)
-        ensures place { self.new ≡ begun self.old }
+        ensures place { self.new ≡ place_after_begin self.old }
         ensures closing { (standing_in self.new).closing ≡ true }
     {
         if !self.closing {
@@ -273,7 +275,7 @@ impl Place {
     pub fn close_done(&mut self, at: QueueAt)
         requires out { IsOut self.old at }
         requires begun { (standing_in self.old).closing ≡ true }
-        ensures { self.new ≡ closed self.old at }
+        ensures { self.new ≡ place_after_close self.old at }
     {
         let QueueAt { device, queue } = at;
         let number = self.next_number(QueueAt { device, queue });
@@ -303,7 +305,7 @@ impl Place {
     }
 
     /// Whether a range with a cell is present on a device, one that `Config::has_device` knows.
-    #[tactic(auto, using(crate::proofs::Planning::held_is_present))]
+    #[tactic(auto, using(crate::proofs::StandingIn::held_is_present))]
     pub fn is_present(&self, device: DeviceId, range: Range) -> bool
         requires device { device < self.now.config.devices }
         requires cells { 0 < range.len }
@@ -348,7 +350,7 @@ impl Place {
     }
 
     /// The label of the batch with this number on a queue, from 1.
-    #[tactic(auto, using(crate::proofs::Planning::nth_is))]
+    #[tactic(auto, using(crate::proofs::StandingIn::nth_is))]
     pub fn placed(&self, at: QueueAt, number: u64) -> Option<&Label>
         ensures { option_map (λ l. l.now) result ≡ nth_batch (on_queue at (standing_in self.now).labels) number }
     {
@@ -390,7 +392,7 @@ impl Place {
 }
 
 // The answer of `acc_is_present`, and of no other directive.
-fn is_answered(table: &Table, kind: &Kind, items: &[Item]) -> bool
+fn is_answered(table: &Table, kind: &Kind, items: &[DataItem]) -> bool
     requires cells { All (λ i. 0 < i.range.len) items.now }
     ensures { result ≡ is_answered kind.now table.now.presences items.now }
 {
@@ -401,7 +403,7 @@ fn is_answered(table: &Table, kind: &Kind, items: &[Item]) -> bool
 }
 
 // How many batches were placed on each queue that a wait without async or a question names, else 0.
-fn counts_for(labels: &Labels, device: DeviceId, directive: &Directive) -> [u64; 8]
+fn counts_for(labels: &Labels, device: DeviceId, directive: &Directive) -> QueueCounts
     ensures { result ≡ counts_in (counts_queues directive.now.kind (queue_by directive.now.kind directive.now)) labels.now.queues device (queues_named directive.now) }
 {
     let counts = match directive.kind() {

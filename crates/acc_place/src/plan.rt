@@ -1,25 +1,27 @@
+//! What accepting a directive will add, and its batch, group by group.
+
 ghost use Rattle.std.specs.Prelude.{ℕ, All, ◌≡◌, ◌<◌, ◌++◌, ◌==◌, if◌then◌else◌, length, IfOk, IfErr, IfSome, OnOk, IsTrue, Some, None};
 ghost use Rattle.std.specs.List.{flat_map};
 ghost use Rattle.std.specs.Option.{option_to_list};
-ghost use Rattle.acc_batch.specs.declared.operation.Op.TheVariants as op;
-ghost use Rattle.acc_batch.specs.Tasks.{HasItsCells};
+ghost use Rattle.acc_batch.specs.declared.label.OpLabel.TheVariants as op;
+ghost use Rattle.acc_batch.specs.Ops.{HasItsCells};
 ghost use Rattle.acc_place.specs.Batches.{copies_in, copies_out};
 ghost use Rattle.acc_base.specs.declared.range.Range.{Range};
 ghost use Rattle.acc_batch.specs.Awaits.{with_awaits};
 ghost use Rattle.acc_present.specs.Notes.{Note, HasNotes};
-ghost use Rattle.acc_place.specs.Noting.{awaits_from, used_ranges};
-ghost use Rattle.acc_place.specs.Trials.{behind_noted, next_in};
+ghost use Rattle.acc_place.specs.inner.Noting.{awaits_from, used_ranges};
+ghost use Rattle.acc_place.specs.inner.Trials.{behind_noted, next_in};
 ghost use Rattle.acc_place.specs.Plans.{Fits, IsPlanOf, label_for, opened_region};
-ghost use Rattle.acc_place.specs.Walks.{block_of, op_of, op_for, update_for, group_ops, marked_ops};
+ghost use Rattle.acc_place.specs.inner.Walks.{block_of, op_of, op_for, update_for, group_ops, marked_ops};
 
 use crate::awaits::{add_awaits, awaited_numbers};
 use crate::directive::{Clause, Directive, Region};
 use crate::judge::{Known, Marked};
 use crate::place::Place;
-use crate::regions::opened_by;
+use crate::regions::opened_region;
 use crate::targets::is_alone;
-use acc_base::{BlockId, Fault, Few, HostId, QueueId, Range, Shared};
-use acc_batch::{Batch, Label, Op};
+use acc_base::{BlockId, Fault, Few, HostId, QueueCounts, QueueId, Range, Shared};
+use acc_batch::{Batch, Label, OpLabel};
 use std::alloc::Global;
 use std::marker::Model;
 
@@ -82,14 +84,14 @@ impl Plan {
 }
 
 /// A plan for a host's directive with these steps, that runs this loop, if any.
-pub fn plan_of(
+pub(crate) fn plan_of(
     alloc: Global,
     known: &Known,
     host: HostId,
     items_done: u64,
     directive: &Directive,
     steps: &[Marked],
-    run: Option<Op>,
+    run: Option<OpLabel>,
 ) -> Result<Plan, Fault>
     requires run { IfSome run HasItsCells }
     requires run_cells { All (λ u. 0 < u.1.len) (flat_map used_ranges (option_to_list run)) }
@@ -110,7 +112,7 @@ pub fn plan_of(
         steps,
         run,
     )?;
-    let region = opened_by(host, directive)?;
+    let region = opened_region(host, directive)?;
     let directive = directive.try_clone()?;
     let label = label_of(alloc, known, host, items_done, ops)?;
     let batch = batch_of(alloc, &label)?;
@@ -131,7 +133,7 @@ fn label_of(
     known: &Known,
     host: HostId,
     items_done: u64,
-    ops: Few<Op>,
+    ops: Few<OpLabel>,
 ) -> Result<Option<Label>, Fault>
     ensures label { IfOk result (λ label. label ≡ label_for known.now.at (next_in known.now) host items_done ops) }
     ensures fault { IfErr result (λ fault. fault ≡ Fault.Memory) }
@@ -167,15 +169,15 @@ fn batch_of(alloc: Global, label: &Option<Label>) -> Result<Option<Batch>, Fault
 
 // The operations of a batch, behind the awaits by these numbers; a loop runs behind the copies in. Awaits that nothing stands
 // behind are dropped, but those of a wait.
-#[tactic(auto, unfolding(crate::specs::Walks::marked_ops))]
+#[tactic(auto, unfolding(crate::specs::inner::Walks::marked_ops))]
 fn ops_of(
     alloc: Global,
     own: QueueId,
-    numbers: &[u64; 8],
+    numbers: &QueueCounts,
     alone: bool,
     steps: &[Marked],
-    run: Option<Op>,
-) -> Result<Few<Op>, Fault>
+    run: Option<OpLabel>,
+) -> Result<Few<OpLabel>, Fault>
     ensures ops { IfOk result (λ ops. ops ≡ with_awaits alone (awaits_from own 0 numbers.now) (marked_ops (option_to_list run) steps.now)) }
     ensures fault { IfErr result (λ fault. fault ≡ Fault.Memory) }
 {
@@ -196,7 +198,7 @@ fn ops_of(
 }
 
 // Adds the operation that runs the loop, if there is one.
-fn add_run(run: Option<Op>, ops: &mut Few<Op>) -> Result<(), Fault>
+fn add_run(run: Option<OpLabel>, ops: &mut Few<OpLabel>) -> Result<(), Fault>
     ensures ops { OnOk result (ops.new ≡ ops.old ++ option_to_list run) }
     ensures fault { IfErr result (λ fault. fault ≡ Fault.Memory) }
 {
@@ -210,7 +212,7 @@ fn add_run(run: Option<Op>, ops: &mut Few<Op>) -> Result<(), Fault>
 }
 
 // Adds the operations of one group, step by step.
-fn add_group(group: Group, steps: &[Marked], ops: &mut Few<Op>) -> Result<(), Fault>
+fn add_group(group: Group, steps: &[Marked], ops: &mut Few<OpLabel>) -> Result<(), Fault>
     ensures ops { OnOk result (ops.new ≡ ops.old ++ flat_map (group_ops group) steps.now) }
     ensures fault { IfErr result (λ fault. fault ≡ Fault.Memory) }
 {
@@ -221,7 +223,7 @@ fn add_group(group: Group, steps: &[Marked], ops: &mut Few<Op>) -> Result<(), Fa
 }
 
 // Adds the step's operation of this group, if it has one.
-fn add_op(group: Group, step: Marked, ops: &mut Few<Op>) -> Result<(), Fault>
+fn add_op(group: Group, step: Marked, ops: &mut Few<OpLabel>) -> Result<(), Fault>
     ensures ops { OnOk result (ops.new ≡ ops.old ++ group_ops group step) }
     ensures fault { IfErr result (λ fault. fault ≡ Fault.Memory) }
 {
@@ -235,7 +237,7 @@ fn add_op(group: Group, step: Marked, ops: &mut Few<Op>) -> Result<(), Fault>
 }
 
 /// The step's operation of this group, if it has one.
-pub(crate) fn op_of(group: Group, step: Marked) -> Option<Op>
+pub(crate) fn op_of(group: Group, step: Marked) -> Option<OpLabel>
     ensures { result ≡ op_of group step }
 {
     match block_of(group, step) {
@@ -260,47 +262,47 @@ fn block_of(group: Group, step: Marked) -> Option<u64>
     }
 }
 
-fn op_for(group: Group, clause: Clause, block: BlockId, range: Range) -> Option<Op>
+fn op_for(group: Group, clause: Clause, block: BlockId, range: Range) -> Option<OpLabel>
     ensures { result ≡ op_for group clause block range }
 {
     match group {
-        Group::Makes => Some(Op::Make { block, range }),
+        Group::Makes => Some(OpLabel::Make { block, range }),
         Group::CopyIns => copy_in_for(clause, block, range),
         Group::Updates => update_for(clause, block, range),
         Group::CopyOuts => copy_out_for(clause, block, range),
-        Group::Releases => Some(Op::Release { block }),
+        Group::Releases => Some(OpLabel::Release { block }),
     }
 }
 
 // The copy to a block that an item of this clause opened.
-fn copy_in_for(clause: Clause, block: BlockId, range: Range) -> Option<Op>
+fn copy_in_for(clause: Clause, block: BlockId, range: Range) -> Option<OpLabel>
     ensures { result ≡ (if copies_in clause then Some (op.CopyIn block range) else None) }
 {
     match clause {
-        Clause::Copy | Clause::Copyin => Some(Op::CopyIn { block, range }),
+        Clause::Copy | Clause::Copyin => Some(OpLabel::CopyIn { block, range }),
         Clause::Copyout | Clause::Create | Clause::Present | Clause::Delete => None,
         Clause::UpdateSelf | Clause::UpdateDevice => None,
     }
 }
 
 // The copy from a block that an item of this clause ended.
-fn copy_out_for(clause: Clause, block: BlockId, range: Range) -> Option<Op>
+fn copy_out_for(clause: Clause, block: BlockId, range: Range) -> Option<OpLabel>
     ensures { result ≡ (if copies_out clause then Some (op.CopyOut block range) else None) }
 {
     match clause {
-        Clause::Copy | Clause::Copyout => Some(Op::CopyOut { block, range }),
+        Clause::Copy | Clause::Copyout => Some(OpLabel::CopyOut { block, range }),
         Clause::Copyin | Clause::Create | Clause::Present | Clause::Delete => None,
         Clause::UpdateSelf | Clause::UpdateDevice => None,
     }
 }
 
 // The copy of an update, from or to the block that holds its range.
-fn update_for(clause: Clause, block: BlockId, range: Range) -> Option<Op>
+fn update_for(clause: Clause, block: BlockId, range: Range) -> Option<OpLabel>
     ensures { result ≡ update_for clause block range }
 {
     match clause {
-        Clause::UpdateSelf => Some(Op::CopyOut { block, range }),
-        Clause::UpdateDevice => Some(Op::CopyIn { block, range }),
+        Clause::UpdateSelf => Some(OpLabel::CopyOut { block, range }),
+        Clause::UpdateDevice => Some(OpLabel::CopyIn { block, range }),
         Clause::Copy | Clause::Copyin | Clause::Copyout | Clause::Create => None,
         Clause::Present | Clause::Delete => None,
     }

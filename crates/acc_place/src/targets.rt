@@ -1,3 +1,5 @@
+//! The queues that `async` and `wait` clauses name.
+
 ghost use Rattle.std.specs.Prelude.{◌≡◌, ◌<◌, negsuc, map};
 ghost use Rattle.std.specs.List.{flat_map, list_any};
 ghost use Rattle.std.specs.Option.{option_to_list};
@@ -9,7 +11,7 @@ use crate::directive::{ASYNC_NOVAL, ASYNC_SYNC, Directive, Kind, MAX_WAITS, Targ
 use acc_base::QueueId;
 
 /// The queue of a directive's batch (OpenACC API 3.0, 2.16.1, async clause), or sync where none is named.
-pub fn queue_by(directive: &Directive) -> QueueId
+pub(crate) fn queue_by(directive: &Directive) -> QueueId
     ensures { result ≡ queue_by directive.now.kind directive.now }
 {
     if matches!(directive.kind(), Kind::EndData) {
@@ -22,14 +24,14 @@ pub fn queue_by(directive: &Directive) -> QueueId
 }
 
 /// Whether a directive is a wait that goes to a queue.
-pub fn is_alone(directive: &Directive) -> bool
+pub(crate) fn is_alone(directive: &Directive) -> bool
     ensures { result ≡ is_alone directive.now }
 {
     matches!(directive.kind(), Kind::Wait) && queue_by(directive) != QueueId::SYNC
 }
 
 /// Whether a value of an async or a wait clause names no queue.
-pub fn has_bad_queue(directive: &Directive) -> bool
+pub(crate) fn has_bad_queue(directive: &Directive) -> bool
     ensures { result ≡ has_bad_queue directive.now }
 {
     target_queue(directive.default(), directive.target()).is_none() || has_bad_wait(directive)
@@ -55,7 +57,7 @@ fn one_is_bad(default: i64, values: &[i64]) -> bool
 }
 
 /// Whether a wait names more queues than it may.
-pub fn waits_on_too_many(waits: &Waits) -> bool
+pub(crate) fn waits_on_too_many(waits: &Waits) -> bool
     ensures { result ≡ waits_on_too_many waits.now }
 {
     match waits {
@@ -65,7 +67,7 @@ pub fn waits_on_too_many(waits: &Waits) -> bool
 }
 
 /// Whether a directive waits for this queue, one of the first eight (2.16.2, wait clause).
-pub fn names_queue(directive: &Directive, queue: QueueId) -> bool
+pub(crate) fn names_queue(directive: &Directive, queue: QueueId) -> bool
     requires { queue < QUEUES }
     ensures { result ≡ has_number (queues_named directive.now) queue }
 {

@@ -1,17 +1,20 @@
+//! Where a directive is tried: its items, their marks on a draft of the table, and what becomes of them; its first fault,
+//! or its plan.
+
 ghost use Rattle.std.specs.Prelude.{ℕ, ◌≡◌, ◌+◌, ◌≤◌, take, IfNone, IfOk, IfErr};
 ghost use Rattle.acc_base.specs.declared.fault.Fault.TheVariants.{Memory};
 ghost use Rattle.acc_base.specs.declared.range.Range.{Range};
 ghost use Rattle.acc_present.specs.Notes.{Note, HasNotes};
-ghost use Rattle.acc_place.specs.Loops.{lengths_of};
+ghost use Rattle.acc_base.specs.Configurations.{lengths_of};
 ghost use Rattle.acc_place.specs.Plans.{label_for, opened_region};
 ghost use Rattle.acc_place.specs.Standings.{subject_by};
-ghost use Rattle.acc_place.specs.Trials.{behind_noted, fault_by, next_in, ops_by, steps_by, IsKnown, IsTried};
-ghost use Rattle.acc_place.specs.Walks.{device_by};
+ghost use Rattle.acc_place.specs.inner.Trials.{behind_noted, fault_by, next_in, ops_by, steps_by, IsKnown, IsTried};
+ghost use Rattle.acc_place.specs.inner.Walks.{device_by};
 
-use crate::directive::{Directive, Item, MAX_ITEMS, Region};
-use crate::judge::{Known, Marked, leave_all, limit_of, walk};
+use crate::directive::{DataItem, Directive, MAX_ITEMS, Region};
+use crate::judge::{Known, Marked, judge_all, leave_all, limit_fault};
 use crate::plan::{Plan, plan_of};
-use crate::subject::{ends_of, past_fault, put_items, run_of};
+use crate::subject::{ends_of, past_fault, put_items, run_in};
 use acc_base::{Config, Fault, HostId};
 use acc_present::Draft;
 use std::alloc::Global;
@@ -23,13 +26,13 @@ use std::marker::Model;
 pub struct Trial {
     draft: Draft,
     steps: Vec<Marked>,
-    items: Vec<Item>,
+    items: Vec<DataItem>,
 }
 
 impl Model for Trial {
     ghost use Rattle.std.specs.Prelude.{◌+◌, ◌*◌, ◌≤◌, vec_capacity};
     ghost use Rattle.acc_place.specs.declared.directive.TheConstants.{MAX_ITEMS};
-    ghost use Rattle.acc_place.specs.Trials.{TrialView};
+    ghost use Rattle.acc_place.specs.inner.Trials.{TrialView};
 
     ghost Value = { TrialView };
 
@@ -44,7 +47,7 @@ impl Trial {
     /// # Errors
     ///
     /// `Memory` where memory is refused.
-    pub fn new(alloc: Global) -> Result<Self, Fault>
+    pub(crate) fn new(alloc: Global) -> Result<Self, Fault>
         ensures fault { IfErr result (λ fault. fault ≡ Memory) }
     {
         let draft = Draft::with_room(alloc, 2 * MAX_ITEMS)?;
@@ -58,7 +61,7 @@ impl Trial {
     }
 
     /// The items that were put in.
-    pub fn items(&self) -> &[Item]
+    pub(crate) fn items(&self) -> &[DataItem]
         ensures { result.now ≡ self.now.items }
     {
         self.items.as_slice()
@@ -66,21 +69,26 @@ impl Trial {
 
     /// Puts in the items that a host's directive acts on. It stops behind one more than a directive may have, and takes
     /// no memory.
-    pub fn put_items(
+    pub(crate) fn put_items(
         &mut self,
         config: &Config,
         regions: &[Region],
         host: HostId,
         directive: &Directive,
     )
-        ensures { self.new.items ≡ take (MAX_ITEMS + 1) (subject_by (lengths_of config.now) regions.now host directive.now directive.now.kind).items }
+        ensures { self.new.items ≡ take (MAX_ITEMS + 1) (subject_by (lengths_of config.now.arrays) regions.now host directive.now directive.now.kind).items }
     {
         put_items(config, regions, host, directive, &mut self.items);
     }
 
-    /// The first fault of a host's directive on a device that is there; where it has none, its items, their marks and what became of them are here.
-    /// The table isn't changed: the marks stand in the draft.
-    pub fn judge(&mut self, known: &Known, host: HostId, directive: &Directive) -> Option<Fault>
+    /// The first fault of a host's directive on a device that is there; where it has none, its items, their marks and what
+    /// became of them are here. The table isn't changed: the marks stand in the draft.
+    pub(crate) fn judge(
+        &mut self,
+        known: &Known,
+        host: HostId,
+        directive: &Directive,
+    ) -> Option<Fault>
         requires known { IsKnown known.now }
         requires device { known.now.at.device ≡ device_by known.now.regions.now host directive.now directive.now.kind }
         ensures fault { result ≡ fault_by known.now host directive.now }
@@ -95,13 +103,13 @@ impl Trial {
         );
         let kind = directive.kind();
         let items = self.items.as_slice();
-        let limit = limit_of(known, host, directive, items.len());
+        let limit = limit_fault(known, host, directive, items.len());
         if limit.is_some() {
             return limit;
         }
         self.draft.begin(known.table);
         self.steps.clear();
-        let found = walk(
+        let found = judge_all(
             known,
             &mut self.draft,
             kind,
@@ -120,7 +128,7 @@ impl Trial {
     /// # Errors
     ///
     /// `Memory` where memory is refused.
-    pub fn plan(
+    pub(crate) fn plan(
         &mut self,
         alloc: Global,
         known: &Known,
@@ -139,7 +147,7 @@ impl Trial {
     {
         let kind = directive.kind();
         let items = self.items.as_slice();
-        let run = run_of(alloc, known.table, &self.draft, kind, items)?;
+        let run = run_in(alloc, known.table, &self.draft, kind, items)?;
         let ends = ends_of(kind, items);
         leave_all(known.table, &mut self.draft, ends, &mut self.steps);
         plan_of(

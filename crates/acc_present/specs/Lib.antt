@@ -1,7 +1,4 @@
-pub mod DraftExamples
 pub mod Drafts
-pub mod Examples
-pub mod Invariants
 pub mod Legality
 pub mod Lifetimes
 pub mod Marks
@@ -9,3 +6,5 @@ pub mod Notes
 pub mod Presences
 pub mod Tables
 pub use Rattle.acc_base.specs.Ranges
+pub mod inner
+pub mod worked

@@ -3,6 +3,7 @@
 use Rattle.std.specs.Prelude.{ℕ, ◌+◌, ◌-◌, Bool, true, false, ◌&&◌, ◌||◌, ◌==◌, not, nat_lt, List, [], ◌∷◌, ◌++◌, length, take, filter, if◌then◌else◌}
 use Rattle.std.specs.List.{list_any}
 use Rattle.acc_base.specs.declared.range.Range.{Range}
+use Rattle.acc_base.specs.Lists.{inserted_by}
 use Rattle.acc_base.specs.Ranges.{range_contains}
 use Rattle.acc_present.specs.declared.change.Change.{Change}
 use Rattle.acc_present.specs.declared.change.Change.TheVariants.{StructuredUp, StructuredDown, DynamicUp, DynamicDown, DynamicZero}
@@ -57,9 +58,8 @@ can_open DynamicZero = false
 unfoldable pub is_before : Range → Range → Bool
 is_before a b = nat_lt a.array b.array || ((a.array == b.array) && nat_lt a.lo b.lo)
 
-abbrev pub placed_in : Lifetime → List Lifetime → List Lifetime
-placed_in l others =
-    filter (λ k. not (is_before l.range k.range)) others ++ l ∷ filter (λ k. is_before l.range k.range) others
+abbrev pub lifetime_inserted : Lifetime → List Lifetime → List Lifetime
+lifetime_inserted l others = inserted_by (λ a b. is_before a.range b.range) l others
 
 -- no lifetime that lives contains the range of the mark
 abbrev pub opens : Mark → List Mark → List Lifetime → Bool
@@ -69,14 +69,14 @@ opens m before earlier =
 abbrev pub opened_by : Mark → List Mark → List Lifetime → List Lifetime
 opened_by m before earlier =
     if opens m before earlier
-    then placed_in (record { range = m.range; block = length earlier + 1; since = length before }) earlier
+    then lifetime_inserted (record { range = m.range; block = length earlier + 1; since = length before }) earlier
     else earlier
 
 -- All lifetimes that were ever opened.
-unfoldable pub opened : List Mark → List Lifetime
-opened [] = []
-opened (m ∷ before) = opened_by m before (opened before)
+unfoldable pub opened_lifetimes : List Mark → List Lifetime
+opened_lifetimes [] = []
+opened_lifetimes (m ∷ before) = opened_by m before (opened_lifetimes before)
 
 -- Present means live.
-unfoldable pub live : List Mark → List Lifetime
-live marks = filter (lives marks) (opened marks)
+unfoldable pub live_lifetimes : List Mark → List Lifetime
+live_lifetimes marks = filter (lives marks) (opened_lifetimes marks)

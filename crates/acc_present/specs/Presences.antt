@@ -4,7 +4,7 @@ use Rattle.std.specs.List.{list_any}
 use Rattle.acc_base.specs.declared.range.Range.{Range}
 use Rattle.acc_base.specs.Ranges.{range_contains, range_overlaps}
 use Rattle.acc_present.specs.Marks.{Mark}
-use Rattle.acc_present.specs.Lifetimes.{Lifetime, structured_of, dynamic_of, live}
+use Rattle.acc_present.specs.Lifetimes.{Lifetime, structured_of, dynamic_of, live_lifetimes}
 
 -- A present range, its block, its structured counter and its dynamic counter.
 pub record Presence : Type 0 where
@@ -19,7 +19,7 @@ presence_of marks l =
 
 -- What is present after these marks, by array, then by lower bound.
 unfoldable pub presences : List Mark → List Presence
-presences marks = map (presence_of marks) (live marks)
+presences marks = map (presence_of marks) (live_lifetimes marks)
 
 -- the presence that a range is part of
 abbrev pub holder : List Presence → Range → Option Presence

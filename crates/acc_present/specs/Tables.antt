@@ -2,6 +2,7 @@
 use Rattle.std.specs.Prelude.{◌≡◌, ℕ, ◌+◌, ◌-◌, Bool, true, false, ◌&&◌, ◌||◌, ◌==◌, not, nat_lt, nat_le, List, [], ◌∷◌, ◌++◌, length, filter, map, Option, Some, None, if◌then◌else◌}
 use Rattle.std.specs.List.{list_all}
 use Rattle.acc_base.specs.declared.range.Range.{Range}
+use Rattle.acc_base.specs.Lists.{inserted_by}
 use Rattle.acc_present.specs.declared.table.Counter.{Counter}
 use Rattle.acc_present.specs.declared.table.Counter.TheVariants.{Structured, Dynamic}
 use Rattle.acc_present.specs.declared.table.Entry.{Entry}
@@ -13,7 +14,7 @@ use Rattle.acc_present.specs.declared.change.Change.{Change}
 use Rattle.acc_present.specs.declared.change.Change.TheVariants.{StructuredUp, StructuredDown, DynamicUp, DynamicDown, DynamicZero}
 use Rattle.acc_present.specs.Marks.{Mark, dynamic_after, inside}
 use Rattle.acc_present.specs.Legality.{AllLegal}
-use Rattle.acc_present.specs.Lifetimes.{is_before, can_open, opened}
+use Rattle.acc_present.specs.Lifetimes.{is_before, can_open, opened_lifetimes}
 use Rattle.acc_present.specs.Notes.{Noted}
 use Rattle.acc_present.specs.Presences.{Presence, presences, holder, is_present, is_partly_present}
 
@@ -69,9 +70,8 @@ has_count p = nat_lt 0 (p.s + p.d)
 abbrev pub kept_after : Mark → List Presence → List Presence
 kept_after m ps = filter has_count (map (presence_after m) ps)
 
-abbrev pub presence_placed_in : Presence → List Presence → List Presence
-presence_placed_in p ps =
-    filter (λ k. not (is_before p.range k.range)) ps ++ p ∷ filter (λ k. is_before p.range k.range) ps
+abbrev pub presence_inserted : Presence → List Presence → List Presence
+presence_inserted p ps = inserted_by (λ a b. is_before a.range b.range) p ps
 
 abbrev pub opening : Mark → ℕ → Presence
 opening m block = stepped m.change (record { range = m.range; block = block; s = 0; d = 0 })
@@ -80,12 +80,12 @@ opening m block = stepped m.change (record { range = m.range; block = block; s =
 abbrev pub presences_after : Mark → ℕ → List Presence → List Presence
 presences_after m block ps =
     if can_open m.change && not (is_present ps m.range)
-    then presence_placed_in (opening m block) (kept_after m ps)
+    then presence_inserted (opening m block) (kept_after m ps)
     else kept_after m ps
 
 -- The presences after one more mark, found in the list of all marks, are what that mark makes of those before.
 abbrev pub OneMore : Mark → List Mark → Type 0
-OneMore m before = presences (m ∷ before) ≡ presences_after m (length (opened before) + 1) (presences before)
+OneMore m before = presences (m ∷ before) ≡ presences_after m (length (opened_lifetimes before) + 1) (presences before)
 
 -- This holds of each mark after legal ones,
 abbrev pub OneMoreMark : Type 0
@@ -117,7 +117,7 @@ entry_presence e = record { range = e.range; block = e.block; s = e.s; d = e.d }
 
 -- What a table shows: what is present, with which notes, the device's capacity in cells, and how many entries it has memory
 -- for.
-pub record Present : Type 0 where
+pub record TableView : Type 0 where
   pub presences : List Presence
   pub notes : List Noted
   pub capacity : ℕ

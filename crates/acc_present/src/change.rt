@@ -1,3 +1,5 @@
+//! What a directive does to a counter.
+
 /// What becomes of a reference counter of present data (OpenACC API 3.0, 2.6.7, Reference Counters).
 #[derive(Clone, Copy, Debug, PartialEq, Eq)]
 pub enum Change {

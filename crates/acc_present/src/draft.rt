@@ -1,3 +1,5 @@
+//! A draft of a table: the entries that marks changed, and the table beside them. A mark takes what a look found.
+
 ghost use Rattle.std.specs.Prelude.{◌≡◌, ◌+◌, ◌<◌, ◌≤◌, [], length, map, filter, slice_get, slice_set, true, false, None, if◌then◌else◌, vec_len, vec_capacity, IfSome, IfOk, IfErr};
 ghost use Rattle.std.specs.Option.{option_map, option_and_then};
 ghost use Rattle.acc_base.specs.declared.fault.Fault.TheVariants.{Memory};
@@ -28,10 +30,10 @@ pub struct Draft {
 
 impl Model for Draft {
     ghost use Rattle.std.specs.Prelude.{map, vec_capacity};
-    ghost use Rattle.acc_present.specs.Drafts.{Drafted};
+    ghost use Rattle.acc_present.specs.Drafts.{DraftView};
     ghost use Rattle.acc_present.specs.Tables.{entry_presence};
 
-    ghost Value = { Drafted };
+    ghost Value = { DraftView };
 
     ghost view = { λ d. record { changed = map entry_presence d.changed.items; used = d.used; room = vec_capacity d.changed } };
 }
@@ -58,7 +60,7 @@ impl Draft {
         ensures changed { self.new.changed ≡ [] }
         ensures room { self.new.room ≡ self.old.room }
     {
-        table.keeps_order();
+        table.keeps();
         self.changed.clear();
         self.used = table.used_cells();
     }
@@ -70,7 +72,7 @@ impl Draft {
         ensures { IsLook (drafted table.now self.now) range result }
     {
         let changed = self.changed.as_slice();
-        match counted_place(changed, range) {
+        match counted_index(changed, range) {
             Some(i) => Look::Present(changed[i]),
             None => look_beside(changed, table, range),
         }
@@ -100,8 +102,8 @@ impl Draft {
         ensures room { self.new.room ≡ self.old.room }
         ensures result { result ≡ (if is_present (drafted table.now self.old) range then Entered.Counted else Entered.Opened) }
     {
-        table.keeps_order();
-        match place_for(&mut self.changed, table, range, found) {
+        table.keeps();
+        match index_for(&mut self.changed, table, range, found) {
             Some(i) => {
                 self.changed[i] = counted_up(&self.changed[i], counter);
                 Entered::Counted
@@ -160,28 +162,28 @@ impl Draft {
         ensures room { self.new.room ≡ self.old.room }
         ensures result { result ≡ left_of (holder (drafted table.now self.old) range) change }
     {
-        match place_for(&mut self.changed, table, range, found) {
+        match index_for(&mut self.changed, table, range, found) {
             None => Left::Nothing,
             Some(i) => {
                 let entry = self.changed[i];
                 if count_of(&entry, change) == 0 {
                     return Left::Nothing;
                 }
-                self.settle(i, counted_down(&entry, change))
+                self.put_or_end(i, counted_down(&entry, change))
             }
         }
     }
 
-    // Puts what an exit makes of the changed entry at this place.
-    fn settle(&mut self, place: usize, after: Entry) -> Left
-        requires place { place < length self.old.changed }
+    // Puts what an exit makes of the changed entry at this index.
+    fn put_or_end(&mut self, index: usize, after: Entry) -> Left
+        requires index { index < length self.old.changed }
         requires cells { has_count (entry_presence after) ≡ false → after.range.len ≤ self.old.used }
-        ensures changed { self.new.changed ≡ slice_set self.old.changed place (entry_presence after) }
+        ensures changed { self.new.changed ≡ slice_set self.old.changed index (entry_presence after) }
         ensures used { self.new.used + (if has_count (entry_presence after) then 0 else after.range.len) ≡ self.old.used }
         ensures room { self.new.room ≡ self.old.room }
         ensures result { result ≡ (if has_count (entry_presence after) then Left.Counted else Left.Ended after.block) }
     {
-        self.changed[place] = after;
+        self.changed[index] = after;
         if has_count(&after) {
             return Left::Counted;
         }
@@ -197,8 +199,8 @@ impl Draft {
     }
 }
 
-// The place of the changed entry that has a count and contains the range.
-fn counted_place(changed: &[Entry], range: Range) -> Option<usize>
+// The index of the changed entry that has a count and contains the range.
+fn counted_index(changed: &[Entry], range: Range) -> Option<usize>
     ensures held { option_and_then (slice_get (map entry_presence changed.now)) result ≡ holder (filter has_count (map entry_presence changed.now)) range }
     ensures within { IfSome result (λ i. i < length changed.now) }
 {
@@ -214,7 +216,7 @@ fn look_beside(changed: &[Entry], table: &Table, range: Range) -> Look
     requires none { holder (filter has_count (map entry_presence changed.now)) range ≡ None }
     ensures { IsLook (with_changed (map entry_presence changed.now) table.now.presences) range result }
 {
-    table.keeps_order();
+    table.keeps();
     match table.look(range) {
         Look::Present(entry) => {
             if overlaps_one(changed, entry.range) {
@@ -251,9 +253,9 @@ fn overlaps_drafted(changed: &[Entry], table: &Table, range: Range) -> bool
     overlaps_counted(changed, range) || table.overlaps_beside(range, changed)
 }
 
-// The place among the changed entries of the one that contains the range, which is put there where only the table has
+// The index among the changed entries of the one that contains the range, which is put there where only the table has
 // it, as was found.
-fn place_for(changed: &mut Vec<Entry>, table: &Table, range: Range, found: &Look) -> Option<usize>
+fn index_for(changed: &mut Vec<Entry>, table: &Table, range: Range, found: &Look) -> Option<usize>
     requires cells { 0 < range.len }
     requires found { IsLook (with_changed (map entry_presence changed.old.items) table.now.presences) range found.now }
     requires after { is_table (with_changed (map entry_presence changed.old.items) table.now.presences) ≡ true }
@@ -265,16 +267,16 @@ fn place_for(changed: &mut Vec<Entry>, table: &Table, range: Range, found: &Look
     ensures longer { vec_len changed.new ≤ vec_len changed.old + 1 }
     ensures room { vec_capacity changed.new ≡ vec_capacity changed.old }
 {
-    table.keeps_order();
-    match counted_place(changed.as_slice(), range) {
+    table.keeps();
+    match counted_index(changed.as_slice(), range) {
         Some(i) => Some(i),
         None => match found {
             Look::Absent => None,
             Look::Partly => None,
             Look::Present(entry) => {
-                let place = changed.len();
+                let index = changed.len();
                 changed.push_reserved(*entry);
-                Some(place)
+                Some(index)
             }
         },
     }

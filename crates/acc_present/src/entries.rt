@@ -1,3 +1,5 @@
+//! Entries in places of their own, and places for entries to come.
+
 ghost use Rattle.std.specs.Prelude.{◌≡◌, ◌+◌, ◌^◌, ◌<◌, ◌≤◌, [], length, slice_get, slice_set, insert, remove, IfOk, IfErr, OnOk, OnErr, OnSome, vec_len};
 ghost use Rattle.std.specs.Option.{option_map};
 ghost use Rattle.std.proofs.Common.{get_or};
@@ -11,7 +13,7 @@ use std::marker::Model;
 /// Entries in their order, each in a place of its own, so that one that comes or goes moves no other; with places for entries
 /// to come.
 #[derive(Drop)]
-pub(crate) struct Entries {
+pub struct Entries {
     alloc: Global,
     places: Vec<Boxed<Entry>>,
     spare: Vec<Boxed<Entry>>,
@@ -19,9 +21,9 @@ pub(crate) struct Entries {
 
 impl Model for Entries {
     ghost use Rattle.std.specs.Prelude.{◌+◌, vec_len, vec_capacity};
-    ghost use Rattle.acc_present.specs.Invariants.{Stored, HasPlaces};
+    ghost use Rattle.acc_present.specs.inner.Invariants.{EntriesView, HasPlaces};
 
-    ghost Value = { Stored };
+    ghost Value = { EntriesView };
 
     ghost view = { λ e. record { items = e.places.items; room = vec_len e.places + vec_len e.spare } };
 
@@ -29,7 +31,7 @@ impl Model for Entries {
 }
 
 impl Entries {
-    pub fn new(alloc: Global) -> Self
+    pub(crate) fn new(alloc: Global) -> Self
         ensures { result.items ≡ [] }
     {
         Entries {
@@ -40,7 +42,7 @@ impl Entries {
     }
 
     /// Makes room for this many new entries.
-    pub fn spare(&mut self, count: usize) -> Result<(), Fault>
+    pub(crate) fn spare(&mut self, count: usize) -> Result<(), Fault>
         ensures items { self.new.items ≡ self.old.items }
         ensures room { self.old.room ≤ self.new.room }
         ensures ok { OnOk result (length self.new.items + count ≤ self.new.room) }
@@ -59,60 +61,60 @@ impl Entries {
         Ok(())
     }
 
-    pub fn as_slice(&self) -> &[Boxed<Entry>]
+    pub(crate) fn as_slice(&self) -> &[Boxed<Entry>]
         ensures { result.now ≡ self.now.items }
     {
         self.places.as_slice()
     }
 
-    pub fn get(&self, place: usize) -> Option<&Entry>
-        ensures entry { option_map (λ e. e.now) result ≡ slice_get self.now.items place }
-        ensures next { OnSome result (place + 1 < 2 ^ 64) }
+    pub(crate) fn get(&self, index: usize) -> Option<&Entry>
+        ensures entry { option_map (λ e. e.now) result ≡ slice_get self.now.items index }
+        ensures next { OnSome result (index + 1 < 2 ^ 64) }
     {
-        match self.places.get(place) {
+        match self.places.get(index) {
             Some(entry) => Some(entry.get()),
             None => None,
         }
     }
 
-    pub fn at(&self, place: usize) -> &Entry
-        requires { place < length self.now.items }
-        ensures { result.now ≡ get_or self.now.items place result.now }
+    pub(crate) fn at(&self, index: usize) -> &Entry
+        requires { index < length self.now.items }
+        ensures { result.now ≡ get_or self.now.items index result.now }
     {
-        self.places[place].get()
+        self.places[index].get()
     }
 
-    pub fn set(&mut self, place: usize, entry: Entry)
-        requires { place < length self.old.items }
-        ensures items { self.new.items ≡ slice_set self.old.items place entry }
+    pub(crate) fn set(&mut self, index: usize, entry: Entry)
+        requires { index < length self.old.items }
+        ensures items { self.new.items ≡ slice_set self.old.items index entry }
         ensures room { self.new.room ≡ self.old.room }
     {
-        self.places[place].set(entry);
+        self.places[index].set(entry);
     }
 
-    /// Puts an entry before the one at this place.
-    pub fn insert(&mut self, place: usize, entry: Entry)
-        requires within { place ≤ length self.old.items }
+    /// Puts an entry before the one at this index.
+    pub(crate) fn insert(&mut self, index: usize, entry: Entry)
+        requires within { index ≤ length self.old.items }
         requires room { length self.old.items < self.old.room }
-        ensures items { self.new.items ≡ insert self.old.items place entry }
+        ensures items { self.new.items ≡ insert self.old.items index entry }
         ensures room { self.new.room ≡ self.old.room }
     {
         match self.spare.pop() {
             Some(mut at) => {
                 at.set(entry);
                 // there is room, so this isn't refused
-                let _ = self.places.insert(place, at);
+                let _ = self.places.insert(index, at);
             }
             None => {}
         }
     }
 
-    pub fn remove(&mut self, place: usize)
-        requires { place < length self.old.items }
-        ensures items { self.new.items ≡ remove self.old.items place }
+    pub(crate) fn remove(&mut self, index: usize)
+        requires { index < length self.old.items }
+        ensures items { self.new.items ≡ remove self.old.items index }
         ensures room { self.new.room ≡ self.old.room }
     {
-        let at = self.places.remove(place);
+        let at = self.places.remove(index);
         self.spare.push_reserved(at);
     }
 }

@@ -1,6 +1,8 @@
-ghost use Rattle.acc_present.specs.DraftExamples.{OpenedBetween, HalvesLeft, OneHalfLeft, LeftOnce, LeftTwice, WholeForHalves, FinalizedInARegion, RegionEndedAfterFinalize};
-ghost use Rattle.acc_present.specs.Examples.{EnteredTwiceLeftOnce, EnteredAgainHasANewBlock, SideBySide, PartIsPresent, PartEndsTheWhole, ExitOfAnAbsentRange, FinalizeEndsAtOnce};
-ghost use Rattle.acc_present.specs.Examples.{RegionInsideARegion, RegionEndsWhatItEntered, PartOfARegionCountsOnTheWhole, EnteredInsideARegion, EnteredOutsideARegion, LeftInsideARegion, ExitAtZeroInsideARegion, FinalizeInsideARegion, AllMarksAreLegal, EndAfterFinalizeEndsTheLifetime, RegionEnteredAgainHasANewBlock};
+//! Laws over the definitions.
+
+ghost use Rattle.acc_present.specs.worked.Drafts.{OpenedBetween, HalvesLeft, OneHalfLeft, LeftOnce, LeftTwice, WholeForHalves, FinalizedInARegion, RegionEndedAfterFinalize};
+ghost use Rattle.acc_present.specs.worked.Lifetimes.{EnteredTwiceLeftOnce, EnteredAgainHasANewBlock, SideBySide, PartIsPresent, PartEndsTheWhole, ExitOfAnAbsentRange, FinalizeEndsAtOnce};
+ghost use Rattle.acc_present.specs.worked.Lifetimes.{RegionInsideARegion, RegionEndsWhatItEntered, PartOfARegionCountsOnTheWhole, EnteredInsideARegion, EnteredOutsideARegion, LeftInsideARegion, ExitAtZeroInsideARegion, FinalizeInsideARegion, AllMarksAreLegal, EndAfterFinalizeEndsTheLifetime, RegionEnteredAgainHasANewBlock};
 ghost use Rattle.acc_present.specs.Legality.{StructuredIsTheDifference};
 ghost use Rattle.acc_present.specs.Tables.{OneMoreMark, OneMoreDynamicMark, LegalMarksMakeATable};
 

@@ -1,3 +1,5 @@
+//! The table: entries in their order, searched by halves.
+
 ghost use Rattle.std.specs.Prelude.{◌≡◌, ℕ, ◌+◌, ◌^◌, ◌<◌, ◌≤◌, [], length, map, slice_get, slice_set, remove, true, false, Some, None, if◌then◌else◌, IfSome, IfErr, OnOk, OnErr, OnSome};
 ghost use Rattle.std.specs.Option.{option_map, option_map_or, option_and_then};
 ghost use Rattle.std.specs.List.{position_or_len};
@@ -14,7 +16,7 @@ ghost use Rattle.acc_present.specs.Notes.{Note, entry_note, entry_noted, HasNote
 
 use crate::change::Change;
 use crate::entries::Entries;
-use acc_base::{BlockId, Boxed, Fault, QueueId, Range};
+use acc_base::{BlockId, Boxed, Fault, QueueCounts, QueueId, Range};
 use std::alloc::Global;
 use std::marker::Model;
 
@@ -39,7 +41,7 @@ pub struct Entry {
     pub s: u64,
     pub d: u64,
     pub maker: (QueueId, u64),
-    pub uses: [u64; 8],
+    pub uses: QueueCounts,
 }
 
 /// What a table has of a range.
@@ -80,11 +82,11 @@ pub struct Table {
 
 impl Model for Table {
     ghost use Rattle.std.specs.Prelude.{map};
-    ghost use Rattle.acc_present.specs.Tables.{Present, entry_presence};
+    ghost use Rattle.acc_present.specs.Tables.{TableView, entry_presence};
     ghost use Rattle.acc_present.specs.Notes.{entry_noted};
-    ghost use Rattle.acc_present.specs.Invariants.{IsTable};
+    ghost use Rattle.acc_present.specs.inner.Invariants.{IsTable};
 
-    ghost Value = { Present };
+    ghost Value = { TableView };
 
     ghost view = { λ t. record { presences = map entry_presence t.entries.items; notes = map entry_noted t.entries.items; capacity = t.capacity; room = t.entries.room } };
 
@@ -132,7 +134,7 @@ impl Table {
         ensures noted { (notes : Range → ℕ → Note) → HasNotes notes self.now.notes → IsNoted notes result }
     {
         let entries = self.entries.as_slice();
-        let behind = place_behind(entries, range);
+        let behind = index_behind(entries, range);
         match held_before(entries, behind, range) {
             Some(i) => Look::Present(*self.entries.at(i)),
             None => {
@@ -162,7 +164,7 @@ impl Table {
         ensures result { result ≡ (if is_present self.old.presences range then Entered.Counted else Entered.Opened) }
     {
         let entries = self.entries.as_slice();
-        let behind = place_behind(entries, range);
+        let behind = index_behind(entries, range);
         match held_before(entries, behind, range) {
             Some(i) => {
                 let entry = counted_up(self.entries.at(i), counter);
@@ -215,7 +217,7 @@ impl Table {
         ensures room { self.new.room ≡ self.old.room }
         ensures result { result ≡ left_of (holder self.old.presences range) change }
     {
-        match place_of(self.entries.as_slice(), range) {
+        match index_of(self.entries.as_slice(), range) {
             None => Left::Nothing,
             Some(i) => {
                 let entry = self.entries.at(i);
@@ -223,25 +225,25 @@ impl Table {
                     return Left::Nothing;
                 }
                 let after = counted_down(entry, change);
-                self.settle(i, after)
+                self.put_or_end(i, after)
             }
         }
     }
 
-    // Puts what an exit makes of the entry at this place, or ends it where both counters are zero.
-    fn settle(&mut self, place: usize, after: Entry) -> Left
-        requires { option_map (λ p. p.range) (slice_get self.old.presences place) ≡ Some after.range }
-        ensures presences { self.new.presences ≡ (if has_count (entry_presence after) then slice_set self.old.presences place (entry_presence after) else remove self.old.presences place) }
+    // Puts what an exit makes of the entry at this index, or ends it where both counters are zero.
+    fn put_or_end(&mut self, index: usize, after: Entry) -> Left
+        requires { option_map (λ p. p.range) (slice_get self.old.presences index) ≡ Some after.range }
+        ensures presences { self.new.presences ≡ (if has_count (entry_presence after) then slice_set self.old.presences index (entry_presence after) else remove self.old.presences index) }
         ensures notes { (notes : Range → ℕ → Note) → HasNotes notes self.old.notes → entry_note after ≡ notes after.range after.block → HasNotes notes self.new.notes }
         ensures capacity { self.new.capacity ≡ self.old.capacity }
         ensures room { self.new.room ≡ self.old.room }
         ensures result { result ≡ (if has_count (entry_presence after) then Left.Counted else Left.Ended after.block) }
     {
         if has_count(&after) {
-            self.entries.set(place, after);
+            self.entries.set(index, after);
             return Left::Counted;
         }
-        self.entries.remove(place);
+        self.entries.remove(index);
         self.used -= u64::from(after.range.len);
         Left::Ended(after.block)
     }
@@ -251,7 +253,7 @@ impl Table {
         ensures { result ≡ overlaps_any (beside (map entry_presence changed.now) self.now.presences) range }
     {
         let entries = self.entries.as_slice();
-        let behind = place_behind(entries, range);
+        let behind = index_behind(entries, range);
         overlaps_beside_in(&entries[behind.saturating_sub(1)..], range, changed)
     }
 
@@ -264,7 +266,7 @@ impl Table {
         ensures capacity { self.new.capacity ≡ self.old.capacity }
         ensures room { self.new.room ≡ self.old.room }
     {
-        match place_of(self.entries.as_slice(), range) {
+        match index_of(self.entries.as_slice(), range) {
             None => {}
             Some(i) => {
                 let entry = used_by(self.entries.at(i), queue, batch);
@@ -282,7 +284,7 @@ impl Table {
         ensures capacity { self.new.capacity ≡ self.old.capacity }
         ensures room { self.new.room ≡ self.old.room }
     {
-        match place_of(self.entries.as_slice(), range) {
+        match index_of(self.entries.as_slice(), range) {
             None => {}
             Some(i) => {
                 let entry = made_by(self.entries.at(i), queue, batch);
@@ -296,7 +298,7 @@ impl Table {
         requires { 0 < range.len }
         ensures { result ≡ option_map (λ p. (p.s, p.d)) (holder self.now.presences range) }
     {
-        match place_of(self.entries.as_slice(), range) {
+        match index_of(self.entries.as_slice(), range) {
             Some(i) => {
                 let entry = self.entries.at(i);
                 Some((entry.s, entry.d))
@@ -312,17 +314,17 @@ impl Table {
         self.used
     }
 
-    /// The entry at this place, from 0, by array, then by lower bound.
-    pub fn nth(&self, place: usize) -> Option<&Entry>
-        ensures entry { option_map (λ e. entry_presence e.now) result ≡ slice_get self.now.presences place }
-        ensures noted { option_map (λ e. entry_noted e.now) result ≡ slice_get self.now.notes place }
-        ensures next { OnSome result (place + 1 < 2 ^ 64) }
+    /// The entry at this index, from 0, by array, then by lower bound.
+    pub fn nth(&self, index: usize) -> Option<&Entry>
+        ensures entry { option_map (λ e. entry_presence e.now) result ≡ slice_get self.now.presences index }
+        ensures noted { option_map (λ e. entry_noted e.now) result ≡ slice_get self.now.notes index }
+        ensures next { OnSome result (index + 1 < 2 ^ 64) }
     {
-        self.entries.get(place)
+        self.entries.get(index)
     }
 
     /// Every table's presences are in order and apart, each with a cell and a count, and with its note; and fit the capacity.
-    pub fn keeps_order(&self)
+    pub fn keeps(&self)
         ensures table { is_table self.now.presences ≡ true }
         ensures noted { AreNoted self.now.presences self.now.notes }
         ensures capacity { used_cells self.now.presences ≤ self.now.capacity }
@@ -340,31 +342,31 @@ fn stands_before(first: Range, second: Range) -> bool
     first.array < second.array || (first.array == second.array && first.lo < second.lo)
 }
 
-// The place of the first entry that begins behind the range's first cell, or the end.
-fn place_behind(entries: &[Boxed<Entry>], range: Range) -> usize
+// The index of the first entry that begins behind the range's first cell, or the end.
+fn index_behind(entries: &[Boxed<Entry>], range: Range) -> usize
     requires { is_table (map entry_presence entries.now) ≡ true }
-    ensures place { result ≡ position_or_len (λ p. is_before range p.range) (map entry_presence entries.now) }
+    ensures index { result ≡ position_or_len (λ p. is_before range p.range) (map entry_presence entries.now) }
     ensures within { result ≤ length entries.now }
 {
     entries.partition_point(|e| !stands_before(range, e.get().range))
 }
 
-// The place of the entry that contains the range.
-fn place_of(entries: &[Boxed<Entry>], range: Range) -> Option<usize>
+// The index of the entry that contains the range.
+fn index_of(entries: &[Boxed<Entry>], range: Range) -> Option<usize>
     requires table { is_table (map entry_presence entries.now) ≡ true }
     requires cells { 0 < range.len }
     ensures held { holder (map entry_presence entries.now) range ≡ option_and_then (slice_get (map entry_presence entries.now)) result }
     ensures within { IfSome result (λ i. i < length entries.now) }
 {
-    held_before(entries, place_behind(entries, range), range)
+    held_before(entries, index_behind(entries, range), range)
 }
 
-// The same, where the first entry that begins behind the range's first cell stands at this place: no other entry contains
+// The same, where the first entry that begins behind the range's first cell stands at this index: no other entry contains
 // the range than the one before.
 fn held_before(entries: &[Boxed<Entry>], behind: usize, range: Range) -> Option<usize>
     requires table { is_table (map entry_presence entries.now) ≡ true }
     requires cells { 0 < range.len }
-    requires place { behind ≡ position_or_len (λ p. is_before range p.range) (map entry_presence entries.now) }
+    requires index { behind ≡ position_or_len (λ p. is_before range p.range) (map entry_presence entries.now) }
     requires within { behind ≤ length entries.now }
     ensures held { holder (map entry_presence entries.now) range ≡ option_and_then (slice_get (map entry_presence entries.now)) result }
     ensures within { IfSome result (λ i. i < length entries.now) }
@@ -382,7 +384,7 @@ fn held_before(entries: &[Boxed<Entry>], behind: usize, range: Range) -> Option<
 // If any entry overlaps the range, one of the two on both sides of its first cell does.
 fn overlaps_around(entries: &[Boxed<Entry>], behind: usize, range: Range) -> bool
     requires table { is_table (map entry_presence entries.now) ≡ true }
-    requires place { behind ≡ position_or_len (λ p. is_before range p.range) (map entry_presence entries.now) }
+    requires index { behind ≡ position_or_len (λ p. is_before range p.range) (map entry_presence entries.now) }
     ensures { result ≡ overlaps_any (map entry_presence entries.now) range }
 {
     if behind == 0 {
@@ -391,7 +393,7 @@ fn overlaps_around(entries: &[Boxed<Entry>], behind: usize, range: Range) -> boo
     overlaps_at(entries, behind - 1, range) || overlaps_at(entries, behind, range)
 }
 
-// Whether there is an entry at this place, and it overlaps the range.
+// Whether there is an entry at this index, and it overlaps the range.
 fn overlaps_at(entries: &[Boxed<Entry>], at: usize, range: Range) -> bool
     ensures { result ≡ option_map_or (λ p. range_overlaps p.range range) (slice_get (map entry_presence entries.now) at) false }
 {

@@ -1,3 +1,3 @@
-pub mod Lending
-pub mod Placing
+pub mod LentSlice
 pub mod TwoWindows
+pub mod WithWindows

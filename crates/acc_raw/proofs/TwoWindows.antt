@@ -16,8 +16,8 @@ use denote.Slice.{Room}
 use borrow.Table.Elements.{at, at_mul}
 use Rattle.acc_raw.specs.declared.cells.Window.{Window}
 use Rattle.acc_raw.specs.Windows.{IsWithin, AreApart, cells_in, with_window}
-use Rattle.acc_raw.proofs.Lending.{slice_with, slice_at, around, ties, turned, lends_both}
-use Rattle.acc_raw.proofs.Placing.{middle_of_prefix, both_replaced}
+use Rattle.acc_raw.proofs.LentSlice.{slice_with, slice_at, around, ties, turned, lends_both}
+use Rattle.acc_raw.proofs.WithWindows.{middle_of_prefix, both_replaced}
 
 -- both windows replaced, where a test says that the first comes first
 abbrev pub placed : Bool → Window → Window → List ℤ → List ℤ → List ℤ → List ℤ

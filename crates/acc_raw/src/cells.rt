@@ -1,3 +1,5 @@
+//! A row of cells: a vector that contracts see as the list of its values, so that a row by pointers can take its place.
+
 ghost use Rattle.std.specs.Prelude.{◌≡◌, ◌+◌, ◌<◌, ◌≤◌, pos, ◌++◌, length, take, drop, replicate, slice_get, slice_set, slice_range, Some, IfOk, IfErr};
 ghost use Rattle.std.specs.Borrow.{Lends, LendsBoth, Array, sem, i64 as cell};
 ghost use Rattle.std.specs.List.{refill};

@@ -8,7 +8,7 @@ use Rattle.acc_base.specs.declared.ids.QueueAt.{QueueAt}
 use Rattle.acc_base.specs.declared.ids.TheConstants.{QUEUES}
 use Rattle.acc_base.specs.Queues.{same_queue, seat}
 use Rattle.acc_base.proofs.SameQueue.{same_queue_is}
-use Rattle.acc_batch.specs.declared.operation.Label.{Label}
+use Rattle.acc_batch.specs.declared.label.Label.{Label}
 use Rattle.acc_batch.specs.Labels.{on_queue, AllAt}
 use Rattle.acc_batch.proofs.Labels.{on_queue-append}
 use Rattle.acc_batch.proofs.Seats.{each_seat, one_seat, seat_absent, seat_found, seat_there}

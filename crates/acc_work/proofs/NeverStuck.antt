@@ -10,13 +10,13 @@ use Rattle.acc_base.specs.declared.ids.QueueAt.{QueueAt}
 use Rattle.acc_base.specs.Queues.{same_queue}
 use Rattle.acc_base.proofs.Members.{no_member, member_first, member_rest, member_cases}
 use Rattle.acc_base.proofs.SameQueue.{same_queue_itself}
-use Rattle.acc_batch.specs.declared.operation.Label.{Label}
-use Rattle.acc_batch.specs.declared.operation.Op.{Op}
-use Rattle.acc_batch.specs.declared.operation.Op.TheVariants.{Make, CopyIn, CopyOut, Release, Run, Await, Close}
+use Rattle.acc_batch.specs.declared.label.Label.{Label}
+use Rattle.acc_batch.specs.declared.label.OpLabel.{OpLabel}
+use Rattle.acc_batch.specs.declared.label.OpLabel.TheVariants.{Make, CopyIn, CopyOut, Release, Run, Await, Close}
 use Rattle.acc_batch.specs.Awaits.{IsOrdered}
-use Rattle.acc_batch.specs.Labels.{on_queue, ops_of, batch_at, whole}
+use Rattle.acc_batch.specs.Labels.{on_queue, ops_of, batch_at, whole_batches}
 use Rattle.acc_batch.proofs.Labels.{on_queue-append, ops_of-append, ops_of-take-le, batch_at-append}
-use Rattle.acc_batch.proofs.Wholes.{whole_behind}
+use Rattle.acc_batch.proofs.WholeBatches.{whole_behind}
 use Rattle.acc_work.specs.declared.log.WorkEntry.{WorkEntry}
 use Rattle.acc_work.specs.Enabled.{held_of, rest_of, next_label, enabled, has_left, HaveItems, NeverStuck}
 use Rattle.acc_work.specs.Logs.{performed, items_of, await_allows, host_allows}
@@ -47,13 +47,13 @@ passes p (y ∷ ys) x member h = elim (cases_Bool (p y)) [
 ]
 
 -- so many of some operations are over: the next one is of these
-record Begins (n : ℕ) (all ops : List Op) : Type 0 where
-  op : Op
-  later : List Op
+record Begins (n : ℕ) (all ops : List OpLabel) : Type 0 where
+  op : OpLabel
+  later : List OpLabel
   split : drop n all ≡ op ∷ later
   member : Contains ops op
 
-next_of : (first ops more : List Op) (n : ℕ) → length first ≤ n → n < length first + length ops → Begins n (first ++ (ops ++ more)) ops
+next_of : (first ops more : List OpLabel) (n : ℕ) → length first ≤ n → n < length first + length ops → Begins n (first ++ (ops ++ more)) ops
 next_of [] [] more n low high = absurd (omega (arith, high))
 next_of [] (o ∷ os) more zero low high = record { op = o; later = os ++ more; split = refl; member = member_first o os }
 next_of [] (o ∷ os) more (suc n) low high =
@@ -73,13 +73,13 @@ take_through (suc n) (x ∷ xs) ys h =
     rw less (ap (λ r. x ∷ r) (take_through n xs ys (omega (arith, h))))
 
 -- an operation of a label awaits what is performed, where all labels before it are
-allowed : (before more : List Label) (l : Label) (work : List WorkEntry) (op : Op) → IsOrdered before l → ((at : QueueAt) → IsDone before work at) → Contains l.ops op
+allowed : (before more : List Label) (l : Label) (work : List WorkEntry) (op : OpLabel) → IsOrdered before l → ((at : QueueAt) → IsDone before work at) → Contains l.ops op
     → await_allows (before ++ more) work l.at.device op ≡ true
 allowed before more l work (Await q n) o done c =
     let at : QueueAt = record { device = l.at.device; queue = q } in
     let w = whole_behind (on_queue at before) (on_queue at more) (length (performed at work)) (done at) in
     let low = o.awaits_placed q n c in
-    rw (on_queue-append at before more) (le-leb n (whole (on_queue at before ++ on_queue at more) (length (performed at work))) (omega (arith, w, low)))
+    rw (on_queue-append at before more) (le-leb n (whole_batches (on_queue at before ++ on_queue at more) (length (performed at work))) (omega (arith, w, low)))
 allowed before more l work (Make b r) o done c = refl
 allowed before more l work (CopyIn b r) o done c = refl
 allowed before more l work (CopyOut b r) o done c = refl

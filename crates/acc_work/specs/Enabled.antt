@@ -2,8 +2,8 @@
 use Rattle.std.specs.Prelude.{◌≡◌, ℕ, ◌-◌, ◌≤◌, Bool, true, false, ◌&&◌, ◌||◌, nat_lt, List, [], ◌∷◌, length, take, drop, All, Option}
 use Rattle.std.specs.List.{list_any}
 use Rattle.acc_base.specs.declared.ids.QueueAt.{QueueAt}
-use Rattle.acc_batch.specs.declared.operation.Label.{Label}
-use Rattle.acc_batch.specs.declared.operation.Op.{Op}
+use Rattle.acc_batch.specs.declared.label.Label.{Label}
+use Rattle.acc_batch.specs.declared.label.OpLabel.{OpLabel}
 use Rattle.acc_batch.specs.Awaits.{AllOrdered}
 use Rattle.acc_batch.specs.Labels.{on_queue, ops_of, batch_at}
 use Rattle.acc_work.specs.declared.log.WorkEntry.{WorkEntry}
@@ -14,7 +14,7 @@ abbrev pub held_of : List Label → ℕ → QueueAt → ℕ
 held_of labels taken at = length (on_queue at labels) - taken
 
 -- what it took and didn't perform
-abbrev pub rest_of : List Label → List WorkEntry → ℕ → QueueAt → List Op
+abbrev pub rest_of : List Label → List WorkEntry → ℕ → QueueAt → List OpLabel
 rest_of labels work taken at = drop (length (performed at work)) (ops_of (take taken (on_queue at labels)))
 
 -- the batch of the queue's next operation
@@ -22,16 +22,16 @@ abbrev pub next_label : List Label → List WorkEntry → QueueAt → Option Lab
 next_label labels work at = batch_at (on_queue at labels) (length (performed at work))
 
 -- a batch can be taken where nothing is left of those before it
-abbrev pub can_take : ℕ → List Op → Bool
+abbrev pub can_take : ℕ → List OpLabel → Bool
 can_take held [] = nat_lt 0 held
 can_take held (op ∷ ops) = false
 
 -- an operation can be performed where it comes next, what it awaits is performed, and its host has the items before its batch
-abbrev pub can_perform : List Label → List WorkEntry → QueueAt → List Op → Bool
+abbrev pub can_perform : List Label → List WorkEntry → QueueAt → List OpLabel → Bool
 can_perform labels work at [] = false
 can_perform labels work at (op ∷ ops) = await_allows labels work at.device op && host_allows (next_label labels work at) work
 
-abbrev pub enabled_by : List Label → List WorkEntry → ℕ → QueueAt → List Op → Bool
+abbrev pub enabled_by : List Label → List WorkEntry → ℕ → QueueAt → List OpLabel → Bool
 enabled_by labels work held at rest = can_take held rest || can_perform labels work at rest
 
 -- A queue can take a batch, or perform an operation.

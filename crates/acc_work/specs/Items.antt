@@ -3,19 +3,19 @@ use Rattle.std.specs.Prelude.{◌≡◌, ◌≤◌, min, [], vec_capacity}
 use Rattle.acc_base.specs.declared.config.TheConstants.{MAX_CELLS}
 use Rattle.acc_work.specs.declared.item.Form.{Form}
 use Rattle.acc_work.specs.declared.item.Form.TheVariants as form
-use Rattle.acc_work.specs.declared.item.Plain.{Plain}
-use Rattle.acc_work.specs.declared.item.Plain.TheVariants as plain
+use Rattle.acc_work.specs.declared.item.ItemLabel.{ItemLabel}
+use Rattle.acc_work.specs.declared.item.ItemLabel.TheVariants as to_record
 use Rattle.acc_work.specs.declared.item.Shown.{Shown}
 use Rattle.acc_work.specs.declared.item.Shown.TheVariants as shown
 use Rattle.acc_work.specs.declared.log.Told.{Told}
 use Rattle.acc_work.specs.declared.log.Told.TheVariants as told
 
--- how an item is kept
-abbrev pub plain_of : Form → Plain
-plain_of (form.Write array cell new_value) = plain.Write array cell new_value
-plain_of (form.Print range values) = plain.Print range
-plain_of (form.Seen device counts) = plain.Seen device counts
-plain_of (form.Test device counts) = plain.Test device counts
+-- what an item is made to do
+abbrev pub label_of : Form → ItemLabel
+label_of (form.Write array cell new_value) = to_record.Write array cell new_value
+label_of (form.Print range values) = to_record.Print range
+label_of (form.Seen device counts) = to_record.Seen device counts
+label_of (form.Test device counts) = to_record.Test device counts
 
 -- A print has no values yet, and room for as many as an array can have of its range.
 abbrev pub HasRoom : Form → Type 0

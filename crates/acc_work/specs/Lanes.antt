@@ -5,8 +5,8 @@ use Rattle.acc_base.specs.declared.config.TheConstants.{MAX_HOSTS}
 use Rattle.acc_base.specs.declared.ids.QueueAt.{QueueAt}
 use Rattle.acc_base.specs.declared.ids.TheConstants.{QUEUES}
 use Rattle.acc_base.specs.Queues.{seat}
-use Rattle.acc_batch.specs.declared.operation.Op.{Op}
-use Rattle.acc_batch.specs.declared.operation.Label.{Label}
+use Rattle.acc_batch.specs.declared.label.OpLabel.{OpLabel}
+use Rattle.acc_batch.specs.declared.label.Label.{Label}
 
 -- Of a queue: the labels of the batches that it took, in order, and for how many there is room; how many operations it has
 -- performed; and those that aren't performed, of the last batch.
@@ -14,7 +14,7 @@ pub record LaneView : Type 0 where
   pub taken : List Label
   pub room : ℕ
   pub performed : ℕ
-  pub left : List Op
+  pub left : List OpLabel
 
 abbrev pub no_lane : LaneView
 no_lane = record { taken = []; room = 0; performed = 0; left = [] }
@@ -31,12 +31,12 @@ lanes_with lanes at lane = slice_set lanes (seat at) lane
 abbrev pub all_taken : List LaneView → List Label
 all_taken lanes = flat_map (λ lane. lane.taken) lanes
 
-abbrev pub filled : LaneView → Label → LaneView
-filled lane label = record lane { taken = lane.taken ++ label ∷ []; left = label.ops }
+abbrev pub lane_with_batch : LaneView → Label → LaneView
+lane_with_batch lane label = record lane { taken = lane.taken ++ label ∷ []; left = label.ops }
 
 -- one more operation is performed, and these are left
-abbrev pub advanced : LaneView → List Op → LaneView
-advanced lane ops = record lane { performed = lane.performed + 1; left = ops }
+abbrev pub lane_with_left : LaneView → List OpLabel → LaneView
+lane_with_left lane ops = record lane { performed = lane.performed + 1; left = ops }
 
 abbrev pub last_of : List Label → Option Label
 last_of labels = slice_get labels (length labels - 1)

@@ -3,7 +3,7 @@ pub mod Enabled
 pub mod Items
 pub mod Lanes
 pub mod Lives
-pub mod LogExamples
 pub mod Logs
 pub mod Orders
 pub mod Works
+pub mod worked

@@ -1,8 +1,8 @@
 -- Blocks that are live where a log's operations use them.
 use Rattle.std.specs.Prelude.{◌≡◌, ℤ, List, [], ◌∷◌, ◌++◌}
 use Rattle.acc_base.specs.declared.ids.QueueAt.{QueueAt}
-use Rattle.acc_batch.specs.declared.operation.Label.{Label}
-use Rattle.acc_batch.specs.declared.operation.Op.{Op}
+use Rattle.acc_batch.specs.declared.label.Label.{Label}
+use Rattle.acc_batch.specs.declared.label.OpLabel.{OpLabel}
 use Rattle.acc_batch.specs.Labels.{on_queue, ops_of}
 use Rattle.acc_batch.specs.Lives.{UsesLive, IsSound}
 use Rattle.acc_work.specs.declared.log.WorkEntry.{WorkEntry}
@@ -18,7 +18,7 @@ AllLive arrays (entry.Item host shown ∷ before) = AllLive arrays before
 -- Whatever the queues have performed, each queue's next operation uses live blocks.
 abbrev pub AnyOrderIsLive : Type 0
 AnyOrderIsLive =
-    (arrays : List (List ℤ)) (labels : List Label) (work : List WorkEntry) (at : QueueAt) (op : Op) (later : List Op)
+    (arrays : List (List ℤ)) (labels : List Label) (work : List WorkEntry) (at : QueueAt) (op : OpLabel) (later : List OpLabel)
     → IsSound arrays labels → InOrder labels work → AllAwaited labels work
     → ops_of (on_queue at labels) ≡ performed at work ++ op ∷ later
     → UsesLive arrays op (device_ops at.device work)

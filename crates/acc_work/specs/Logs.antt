@@ -6,10 +6,10 @@ use Rattle.acc_work.specs.declared.log.Told.{Told}
 use Rattle.acc_work.specs.declared.log.Told.TheVariants.{Write, Print, Seen, Test}
 use Rattle.acc_work.specs.declared.log.WorkEntry.{WorkEntry}
 use Rattle.acc_work.specs.declared.log.WorkEntry.TheVariants as entry
-use Rattle.acc_batch.specs.declared.operation.Op.{Op}
-use Rattle.acc_batch.specs.declared.operation.Op.TheVariants.{Await}
-use Rattle.acc_batch.specs.declared.operation.Label.{Label}
-use Rattle.acc_batch.specs.Labels.{on_queue, whole}
+use Rattle.acc_batch.specs.declared.label.OpLabel.{OpLabel}
+use Rattle.acc_batch.specs.declared.label.OpLabel.TheVariants.{Await}
+use Rattle.acc_batch.specs.declared.label.Label.{Label}
+use Rattle.acc_batch.specs.Labels.{on_queue, whole_batches}
 use Rattle.acc_memory.specs.Values.{Cell, Host_cell, Block_cell, or_empty, or_zero, after_op, after_write}
 
 -- one more behind these, or not
@@ -18,13 +18,13 @@ one_more true xs x = xs ++ x ∷ []
 one_more false xs x = xs
 
 -- the operations of a queue, in order
-abbrev pub performed : QueueAt → List WorkEntry → List Op
+abbrev pub performed : QueueAt → List WorkEntry → List OpLabel
 performed q [] = []
 performed q (entry.Op at op ∷ before) = one_more (same_queue at q) (performed q before) op
 performed q (entry.Item host shown ∷ before) = performed q before
 
 -- the operations of a device, in order
-abbrev pub device_ops : ℕ → List WorkEntry → List Op
+abbrev pub device_ops : ℕ → List WorkEntry → List OpLabel
 device_ops device [] = []
 device_ops device (entry.Op at op ∷ before) = one_more (at.device == device) (device_ops device before) op
 device_ops device (entry.Item host shown ∷ before) = device_ops device before
@@ -50,22 +50,22 @@ after_item (Print range values) was = was
 after_item (Seen device counts) was = was
 after_item (Test device counts answer) was = was
 
--- The value of a cell: what the latest entry that writes it wrote, else its opening value.
+-- The value of a cell: what the latest entry that writes it wrote, else its initial value.
 abbrev pub value : List (List ℤ) → List WorkEntry → Cell → ℤ
-value opening [] (Host_cell array cell) = or_zero (slice_get (or_empty (slice_get opening array)) cell)
-value opening [] (Block_cell device block cell) = pos 0
-value opening (entry.Op at op ∷ before) c = after_op at.device op (value opening before) c
-value opening (entry.Item host shown ∷ before) c = after_item shown (value opening before) c
+value initial [] (Host_cell array cell) = or_zero (slice_get (or_empty (slice_get initial array)) cell)
+value initial [] (Block_cell device block cell) = pos 0
+value initial (entry.Op at op ∷ before) c = after_op at.device op (value initial before) c
+value initial (entry.Item host shown ∷ before) c = after_item shown (value initial before) c
 
 -- how many batches of a queue are performed
-abbrev pub done : List Label → List WorkEntry → QueueAt → ℕ
-done labels work at = whole (on_queue at labels) (length (performed at work))
+abbrev pub batches_done : List Label → List WorkEntry → QueueAt → ℕ
+batches_done labels work at = whole_batches (on_queue at labels) (length (performed at work))
 
 -- each queue of the device, from this one on, has performed its count
 abbrev pub all_done : List Label → List WorkEntry → ℕ → ℕ → List ℕ → Bool
 all_done labels work device q [] = true
 all_done labels work device q (n ∷ ns) =
-    nat_le n (done labels work (record { device = device; queue = q })) && all_done labels work device (q + 1) ns
+    nat_le n (batches_done labels work (record { device = device; queue = q })) && all_done labels work device (q + 1) ns
 
 -- a host's items before its directive stand before the operations of its batch
 abbrev pub host_allows : Option Label → List WorkEntry → Bool
@@ -73,6 +73,6 @@ host_allows None work = false
 host_allows (Some l) work = nat_le l.items_done (items_of l.host work)
 
 -- an await waits until so many batches of a queue of the same device are performed
-abbrev pub await_allows : List Label → List WorkEntry → ℕ → Op → Bool
-await_allows labels work device (Await q n) = nat_le n (done labels work (record { device = device; queue = q }))
+abbrev pub await_allows : List Label → List WorkEntry → ℕ → OpLabel → Bool
+await_allows labels work device (Await q n) = nat_le n (batches_done labels work (record { device = device; queue = q }))
 await_allows labels work device op = true

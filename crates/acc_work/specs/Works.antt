@@ -6,11 +6,11 @@ use Rattle.acc_base.specs.declared.fault.Fault.TheVariants.{BadRange, TooMany, M
 use Rattle.acc_base.specs.declared.ids.QueueAt.{QueueAt}
 use Rattle.acc_base.specs.declared.ids.TheConstants.{QUEUES}
 use Rattle.acc_base.specs.declared.range.Range.{Range}
-use Rattle.acc_batch.specs.declared.operation.Label.{Label}
-use Rattle.acc_batch.specs.declared.operation.Op.{Op}
+use Rattle.acc_batch.specs.declared.label.Label.{Label}
+use Rattle.acc_batch.specs.declared.label.OpLabel.{OpLabel}
 use Rattle.acc_batch.specs.Labels.{on_queue, ops_of, AllAt}
-use Rattle.acc_work.specs.declared.item.Plain.{Plain}
-use Rattle.acc_work.specs.declared.item.Plain.TheVariants as plain
+use Rattle.acc_work.specs.declared.item.ItemLabel.{ItemLabel}
+use Rattle.acc_work.specs.declared.item.ItemLabel.TheVariants as to_record
 use Rattle.acc_work.specs.declared.log.TheConstants.{MAX_HOST_ITEMS}
 use Rattle.acc_work.specs.declared.log.Told.{Told}
 use Rattle.acc_work.specs.declared.log.Told.TheVariants as told
@@ -18,9 +18,10 @@ use Rattle.acc_work.specs.declared.log.WorkEntry.{WorkEntry}
 use Rattle.acc_work.specs.declared.log.WorkEntry.TheVariants as entry
 use Rattle.acc_work.specs.declared.work.Done.{Done}
 use Rattle.acc_work.specs.declared.work.Done.TheVariants as done
-use Rattle.acc_work.specs.Lanes.{LaneView, IsLane, lane_in, lanes_with, all_taken, advanced, last_of}
+use Rattle.acc_work.specs.Lanes.{LaneView, IsLane, lane_in, lanes_with, all_taken, lane_with_left, last_of}
 use Rattle.acc_work.specs.Logs.{performed, items_of, all_items, all_done, await_allows, host_allows, after_item}
-use Rattle.acc_memory.specs.Memories.{MemoryView, PerformsOn, Shows, rows_on, room_on, lengths_of, has_array, MayPerform}
+use Rattle.acc_memory.specs.Memories.{MemoryView, PerformsOn, Shows, rows_on, room_on, has_array, MayPerform}
+use Rattle.acc_base.specs.Configurations.{lengths_of}
 use Rattle.acc_memory.specs.Values.{Cell, values_of}
 
 -- The memory; the log, the latest entry first, and how many entries there is room for; and the lanes, by device, then in queue
@@ -48,29 +49,29 @@ HasQueue w at = (at.device < length w.memory.devices) × (at.queue < QUEUES)
 
 -- A queue's next operation is performed where there is one, what it awaits is performed, and the host of its batch has the items
 -- that stand before the batch.
-abbrev pub goes_on : WorkView → QueueAt → List Op → Bool
+abbrev pub goes_on : WorkView → QueueAt → List OpLabel → Bool
 goes_on w at [] = false
 goes_on w at (op ∷ ops) = await_allows (taken_labels w) w.work at.device op && host_allows (last_of (lane_at w at).taken) w.work
 
 -- The queue's next operation may be performed on its device, and there is room for it in the log.
-pub record MayFollow (w : WorkView) (at : QueueAt) (op : Op) : Type 0 where
+pub record MayFollow (w : WorkView) (at : QueueAt) (op : OpLabel) : Type 0 where
   pub allowed : MayPerform w.memory at.device op
   pub room : length w.work < w.room
 
-abbrev pub NextMayFollow : WorkView → QueueAt → List Op → Type 0
+abbrev pub NextMayFollow : WorkView → QueueAt → List OpLabel → Type 0
 NextMayFollow w at [] = Unit {0}
 NextMayFollow w at (op ∷ ops) = MayFollow w at op
 
 -- An operation of a queue was performed on its device, joined the log, and left the queue's lane, in which these are left. Every
 -- other lane is as it was.
-pub record HasPerformed (old new : WorkView) (at : QueueAt) (op : Op) (ops : List Op) : Type 0 where
+pub record HasPerformed (old new : WorkView) (at : QueueAt) (op : OpLabel) (ops : List OpLabel) : Type 0 where
   pub memory : PerformsOn at.device op old.memory new.memory
   pub work : new.work ≡ entry.Op at op ∷ old.work
   pub room : new.room ≡ old.room
-  pub lanes : new.lanes ≡ lanes_with old.lanes at (advanced (lane_at old at) ops)
+  pub lanes : new.lanes ≡ lanes_with old.lanes at (lane_with_left (lane_at old at) ops)
 
 -- what performing does where these are left in the queue's lane
-abbrev pub PerformsNext : WorkView → QueueAt → List Op → Done → WorkView → Type 0
+abbrev pub PerformsNext : WorkView → QueueAt → List OpLabel → Done → WorkView → Type 0
 PerformsNext old at [] answer new = (answer ≡ done.Idle) × (new ≡ old)
 PerformsNext old at (op ∷ ops) answer new =
     MatchBool (goes_on old at (op ∷ ops)) ((answer ≡ done.Op) × HasPerformed old new at op ops) ((answer ≡ done.Idle) × (new ≡ old))
@@ -89,19 +90,19 @@ pub record HasTold (old new : WorkView) (host : ℕ) (what : Told) : Type 0 wher
   pub lanes : new.lanes ≡ old.lanes
 
 -- An item can be recorded: its cells are there, and where it is noted that batches are performed, they are.
-abbrev pub CanTell : WorkView → Plain → Type 0
-CanTell w (plain.Write array cell value) = has_array w.memory (record { array = array; lo = cell; len = 1 }) ≡ true
-CanTell w (plain.Print range) = (has_array w.memory range ≡ true) × (range.len ≤ MAX_CELLS)
-CanTell w (plain.Seen device counts) = IsTrue (all_done (taken_labels w) w.work device 0 counts)
-CanTell w (plain.Test device counts) = Unit {0}
+abbrev pub CanTell : WorkView → ItemLabel → Type 0
+CanTell w (to_record.Write array cell value) = has_array w.memory (record { array = array; lo = cell; len = 1 }) ≡ true
+CanTell w (to_record.Print range) = (has_array w.memory range ≡ true) × (range.len ≤ MAX_CELLS)
+CanTell w (to_record.Seen device counts) = IsTrue (all_done (taken_labels w) w.work device 0 counts)
+CanTell w (to_record.Test device counts) = Unit {0}
 
 -- What an item tells: a print the values that the memory shows, a test whether each queue has performed its count.
-abbrev pub Tells : WorkView → Plain → Told → Type 0
-Tells w (plain.Write array cell value) what = what ≡ told.Write array cell value
-Tells w (plain.Print range) what =
+abbrev pub Tells : WorkView → ItemLabel → Told → Type 0
+Tells w (to_record.Write array cell value) what = what ≡ told.Write array cell value
+Tells w (to_record.Print range) what =
     (values : List ℤ) × (what ≡ told.Print range values) × ((was : Cell → ℤ) → Shows w.memory was → values ≡ values_of was range)
-Tells w (plain.Seen device counts) what = what ≡ told.Seen device counts
-Tells w (plain.Test device counts) what = what ≡ told.Test device counts (all_done (taken_labels w) w.work device 0 counts)
+Tells w (to_record.Seen device counts) what = what ≡ told.Seen device counts
+Tells w (to_record.Test device counts) what = what ≡ told.Test device counts (all_done (taken_labels w) w.work device 0 counts)
 
 -- A range was printed: the item has the values that the memory shows.
 pub record HasPrinted (old new : WorkView) (host : ℕ) (range : Range) : Type 0 where

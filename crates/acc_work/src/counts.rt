@@ -1,6 +1,8 @@
+//! How many batches each queue has performed: one number, or all eight.
+
 ghost use Rattle.std.specs.Prelude.{◌≡◌, IfOk, IfErr};
 
-use acc_base::{Boxed, Fault};
+use acc_base::{Boxed, Fault, QueueCounts};
 use std::alloc::Global;
 use std::marker::Model;
 
@@ -14,7 +16,7 @@ pub struct Counts {
 enum Form {
     // The first queue has so many, and the others have none.
     First { count: u64 },
-    All { counts: Boxed<[u64; 8]> },
+    All { counts: Boxed<QueueCounts> },
 }
 
 impl Model for Counts {
@@ -35,7 +37,7 @@ impl Counts {
     /// # Errors
     ///
     /// `Memory` where memory is refused.
-    pub fn new(alloc: Global, counts: [u64; 8]) -> Result<Self, Fault>
+    pub fn new(alloc: Global, counts: QueueCounts) -> Result<Self, Fault>
         ensures counts { IfOk result (λ c. c ≡ counts) }
         ensures fault { IfErr result (λ f. f ≡ Memory) }
     {
@@ -53,7 +55,7 @@ impl Counts {
     }
 
     /// The eight numbers, by queue.
-    pub fn numbers(&self) -> [u64; 8]
+    pub fn numbers(&self) -> QueueCounts
         ensures { result ≡ self.now }
     {
         match &self.form {

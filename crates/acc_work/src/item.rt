@@ -1,19 +1,33 @@
+//! Items of hosts, each with the memory that recording it takes; what a host gets back.
+
 ghost use Rattle.std.specs.Prelude.{◌≡◌, IfOk, IfErr};
 ghost use Rattle.acc_base.specs.declared.fault.Fault.TheVariants as fault;
-ghost use Rattle.acc_work.specs.declared.item.Plain.TheVariants as plain;
+ghost use Rattle.acc_work.specs.declared.item.ItemLabel.TheVariants as to_record;
 
 use crate::counts::Counts;
-use acc_base::{DeviceId, Fault, MAX_CELLS, Range};
+use acc_base::{DeviceId, Fault, MAX_CELLS, QueueCounts, Range};
 use std::alloc::Global;
 use std::marker::Model;
 
 /// What an item is to do.
 #[derive(Clone, Copy, Debug, PartialEq, Eq)]
-pub enum Plain {
-    Write { array: u8, cell: u32, value: i64 },
-    Print { range: Range },
-    Seen { device: DeviceId, counts: [u64; 8] },
-    Test { device: DeviceId, counts: [u64; 8] },
+pub enum ItemLabel {
+    Write {
+        array: u8,
+        cell: u32,
+        value: i64,
+    },
+    Print {
+        range: Range,
+    },
+    Seen {
+        device: DeviceId,
+        counts: QueueCounts,
+    },
+    Test {
+        device: DeviceId,
+        counts: QueueCounts,
+    },
 }
 
 /// What a host gets back from an item.
@@ -21,7 +35,7 @@ pub enum Plain {
 pub enum Shown {
     Nothing,
     /// Whether what a test asks for is performed.
-    Answer { answer: bool },
+    Answer(bool),
 }
 
 /// An item that a host is to record, with the memory that recording it takes. Contracts see what it is to do.
@@ -40,12 +54,12 @@ pub(crate) enum Form {
 }
 
 impl Model for Item {
-    ghost use Rattle.acc_work.specs.Items.{plain_of, HasRoom};
-    ghost use Rattle.acc_work.specs.declared.item.Plain.{Plain};
+    ghost use Rattle.acc_work.specs.Items.{label_of, HasRoom};
+    ghost use Rattle.acc_work.specs.declared.item.ItemLabel.{ItemLabel};
 
-    ghost Value = { Plain };
+    ghost Value = { ItemLabel };
 
-    ghost view = { λ i. plain_of i.form };
+    ghost view = { λ i. label_of i.form };
 
     ghost invariant = { λ i. HasRoom i.form };
 }
@@ -53,7 +67,7 @@ impl Model for Item {
 impl Item {
     /// A write of a cell of a host array. It takes no memory.
     pub fn write(array: u8, cell: u32, value: i64) -> Self
-        ensures { result ≡ plain.Write array cell value }
+        ensures { result ≡ to_record.Write array cell value }
     {
         Item {
             form: Form::Write { array, cell, value },
@@ -66,7 +80,7 @@ impl Item {
     ///
     /// `Memory` where memory is refused.
     pub fn print(alloc: Global, range: Range) -> Result<Self, Fault>
-        ensures item { IfOk result (λ i. i ≡ plain.Print range) }
+        ensures item { IfOk result (λ i. i ≡ to_record.Print range) }
         ensures fault { IfErr result (λ f. f ≡ fault.Memory) }
     {
         let room = (range.len as usize).min(MAX_CELLS);
@@ -81,8 +95,8 @@ impl Item {
     /// # Errors
     ///
     /// `Memory` where memory is refused.
-    pub fn seen(alloc: Global, device: DeviceId, counts: [u64; 8]) -> Result<Self, Fault>
-        ensures item { IfOk result (λ i. i ≡ plain.Seen device counts) }
+    pub fn seen(alloc: Global, device: DeviceId, counts: QueueCounts) -> Result<Self, Fault>
+        ensures item { IfOk result (λ i. i ≡ to_record.Seen device counts) }
         ensures fault { IfErr result (λ f. f ≡ fault.Memory) }
     {
         let counts = Counts::new(alloc, counts)?;
@@ -96,8 +110,8 @@ impl Item {
     /// # Errors
     ///
     /// `Memory` where memory is refused.
-    pub fn test(alloc: Global, device: DeviceId, counts: [u64; 8]) -> Result<Self, Fault>
-        ensures item { IfOk result (λ i. i ≡ plain.Test device counts) }
+    pub fn test(alloc: Global, device: DeviceId, counts: QueueCounts) -> Result<Self, Fault>
+        ensures item { IfOk result (λ i. i ≡ to_record.Test device counts) }
         ensures fault { IfErr result (λ f. f ≡ fault.Memory) }
     {
         let counts = Counts::new(alloc, counts)?;
@@ -107,21 +121,21 @@ impl Item {
     }
 
     /// What it is to do.
-    pub fn plain(&self) -> Plain
+    pub fn label(&self) -> ItemLabel
         ensures { result ≡ self.now }
     {
         match &self.form {
-            Form::Write { array, cell, value } => Plain::Write {
+            Form::Write { array, cell, value } => ItemLabel::Write {
                 array: *array,
                 cell: *cell,
                 value: *value,
             },
-            Form::Print { range, .. } => Plain::Print { range: *range },
-            Form::Seen { device, counts } => Plain::Seen {
+            Form::Print { range, .. } => ItemLabel::Print { range: *range },
+            Form::Seen { device, counts } => ItemLabel::Seen {
                 device: *device,
                 counts: counts.numbers(),
             },
-            Form::Test { device, counts } => Plain::Test {
+            Form::Test { device, counts } => ItemLabel::Test {
                 device: *device,
                 counts: counts.numbers(),
             },

@@ -1,6 +1,8 @@
+//! Laws over the definitions.
+
 ghost use Rattle.acc_work.specs.Enabled.{NeverStuck};
 ghost use Rattle.acc_work.specs.Lives.{AnyOrderIsLive};
-ghost use Rattle.acc_work.specs.LogExamples.{MiddleOfABatch, CopyOutIsSeen, LoopIsSeen, StuckWithoutOrder};
+ghost use Rattle.acc_work.specs.worked.Logs.{MiddleOfABatch, CopyOutIsSeen, LoopIsSeen, StuckWithoutOrder};
 ghost use Rattle.acc_work.specs.Orders.{WholeIsGreatest};
 
 /// Where labels use live blocks in the order of placing, and each awaits those before it on other queues whose blocks it

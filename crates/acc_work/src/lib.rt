@@ -9,7 +9,7 @@ mod log;
 mod work;
 
 pub use counts::Counts;
-pub use item::{Item, Plain, Shown};
+pub use item::{Item, ItemLabel, Shown};
 pub use laws::{any_order_is_live, never_stuck, whole_is_greatest, worked_logs};
 pub use log::{MAX_HOST_ITEMS, Told, WorkEntry};
 pub use work::{Done, Work};

@@ -1,6 +1,8 @@
+//! Entries of the work log.
+
 use crate::counts::Counts;
 use acc_base::{DeviceId, HostId, Listed, QueueAt, Range};
-use acc_batch::Op;
+use acc_batch::OpLabel;
 use std::mem::size_of;
 
 /// The most items of all hosts in a run.
@@ -31,10 +33,10 @@ pub enum Told {
     },
 }
 
-/// An entry of the work history.
+/// An entry of the work log.
 #[derive(Drop)]
 pub enum WorkEntry {
-    Op { at: QueueAt, what: Op },
+    Op { at: QueueAt, what: OpLabel },
     Item { host: HostId, what: Told },
 }
 

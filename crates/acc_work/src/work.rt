@@ -1,3 +1,5 @@
+//! The memory, the log, a lane for each queue of each device, and the hosts' running counts of items.
+
 ghost use Rattle.std.specs.Prelude.{ℕ, ℤ, ◌≡◌, ◌+◌, ◌*◌, ◌<◌, ◌≤◌, ◌==◌, nat_le, All, List, [], ◌∷◌, length, vec_capacity, slice_get, IfOk, IfErr, IfSome, OnSome, IfNone, OnOk, OnErr, IsTrue, true, Bool, Some, reverse, ◌^◌};
 ghost use Rattle.std.specs.Option.{option_map};
 ghost use Rattle.acc_base.specs.Queues.{seat};
@@ -7,10 +9,10 @@ ghost use Rattle.acc_base.specs.declared.ids.TheConstants.{QUEUES};
 ghost use Rattle.acc_work.specs.declared.log.TheConstants.{MAX_HOST_ITEMS};
 ghost use Rattle.acc_work.specs.declared.log.Told.{Told};
 ghost use Rattle.acc_work.specs.Items.{shown_by};
-ghost use Rattle.acc_work.specs.Lanes.{IsFresh, filled, last_of, nth_taken, lanes_with, no_lane};
-ghost use Rattle.acc_work.specs.Logs.{performed, items_of, all_items, done, all_done, await_allows, host_allows};
+ghost use Rattle.acc_work.specs.Lanes.{IsFresh, lane_with_batch, last_of, nth_taken, lanes_with, no_lane};
+ghost use Rattle.acc_work.specs.Logs.{performed, items_of, all_items, batches_done, all_done, await_allows, host_allows};
 ghost use Rattle.acc_batch.specs.Labels.{on_queue};
-ghost use Rattle.acc_batch.specs.Tasks.{op_of};
+ghost use Rattle.acc_batch.specs.Ops.{op_label};
 ghost use Rattle.acc_memory.specs.Memories.{Shows, IsAllowed, PerformsOn, has_array, rows_on, room_on};
 ghost use Rattle.acc_memory.specs.Values.{Cell, values_of};
 ghost use Rattle.acc_work.specs.Works.{lane_at, taken_labels, HasQueue, goes_on, Performs, NextMayFollow, CanTell, Tells, HasTold, HasPrinted, HasMadeRoom, LacksRoom, KeepsOrder, item_fault};
@@ -18,8 +20,10 @@ ghost use Rattle.acc_work.specs.Works.{lane_at, taken_labels, HasQueue, goes_on,
 use crate::item::{Form, Item, Shown};
 use crate::lane::Lane;
 use crate::log::{MAX_HOST_ITEMS, Told, WorkEntry};
-use acc_base::{Config, DeviceId, Fault, HostId, Listed, QUEUES, QueueAt, QueueId, Range};
-use acc_batch::{Batch, Label, Op, Task};
+use acc_base::{
+    Config, DeviceId, Fault, HostId, Listed, QUEUES, QueueAt, QueueCounts, QueueId, Range,
+};
+use acc_batch::{Batch, Label, Op, OpLabel};
 use acc_memory::Memory;
 use std::alloc::Global;
 use std::marker::Model;
@@ -38,7 +42,7 @@ pub struct Work {
     log: Vec<WorkEntry>,
     // by device, then in queue order
     lanes: Vec<Lane>,
-    items: [u64; 8],
+    items: QueueCounts,
     all_items: u64,
 }
 
@@ -75,7 +79,7 @@ impl Work {
         ensures lanes { IfOk result (λ w. All IsFresh w.lanes) }
         ensures fault { IfErr result (λ f. f ≡ no_memory) }
     {
-        config.keeps_limits();
+        config.keeps();
         let memory = Memory::new(alloc, config)?;
         let lanes = lanes_of(alloc, config.devices())?;
         Ok(Work {
@@ -132,7 +136,7 @@ impl Work {
     }
 
     /// Every work side keeps the order of its queues, and counts the entries that there is room for.
-    pub fn keeps_order(&self)
+    pub fn keeps(&self)
         ensures order { KeepsOrder self.now }
         ensures room { self.now.room < 2 ^ 64 }
     {
@@ -157,12 +161,12 @@ impl Work {
     {
         match self.lane(at) {
             None => true,
-            Some(lane) => lane.left() == 0,
+            Some(lane) => lane.ops_left() == 0,
         }
     }
 
     /// The batch with this number, from 1, among those that a queue took, by its label.
-    #[tactic(auto, using(crate::proofs::Taken::nth_is))]
+    #[tactic(auto, using(crate::proofs::TakenLabels::nth_is))]
     pub fn taken(&self, at: QueueAt, number: u64) -> Option<&Label>
         ensures { option_map (λ l. l.now) result ≡ nth_taken (on_queue at (taken_labels self.now)) number }
     {
@@ -176,7 +180,7 @@ impl Work {
     fn taken_on(&self, at: QueueAt) -> &[Label]
         ensures { result.now ≡ on_queue at (taken_labels self.now) }
     {
-        self.keeps_order();
+        self.keeps();
         match self.lane(at) {
             None => &[],
             Some(lane) => lane.taken(),
@@ -184,25 +188,25 @@ impl Work {
     }
 
     // How many batches a queue has performed.
-    fn done(&self, at: QueueAt) -> u64
-        ensures { result ≡ done (taken_labels self.now) self.now.work at }
+    fn batches_done(&self, at: QueueAt) -> u64
+        ensures { result ≡ batches_done (taken_labels self.now) self.now.work at }
     {
-        self.keeps_order();
+        self.keeps();
         match self.lane(at) {
             None => 0,
-            Some(lane) => lane.done(),
+            Some(lane) => lane.batches_done(),
         }
     }
 
     /// Whether a queue has performed so many batches.
     pub fn reached(&self, at: QueueAt, count: u64) -> bool
-        ensures { result ≡ nat_le count (done (taken_labels self.now) self.now.work at) }
+        ensures { result ≡ nat_le count (batches_done (taken_labels self.now) self.now.work at) }
     {
-        count <= self.done(at)
+        count <= self.batches_done(at)
     }
 
     /// Whether each queue of a device has performed its count of batches.
-    pub fn all_reached(&self, device: DeviceId, counts: &[u64; 8]) -> bool
+    pub fn all_reached(&self, device: DeviceId, counts: &QueueCounts) -> bool
         ensures { result ≡ all_done (taken_labels self.now) self.now.work device 0 counts.now }
     {
         self.reached_from(device, 0, counts.as_slice())
@@ -234,13 +238,13 @@ impl Work {
     }
 
     /// How many operations a queue has performed.
-    pub fn performed(&self, at: QueueAt) -> u64
+    pub fn ops_performed(&self, at: QueueAt) -> u64
         ensures { result ≡ length (performed at self.now.work) }
     {
-        self.keeps_order();
+        self.keeps();
         match self.lane(at) {
             None => 0,
-            Some(lane) => lane.performed(),
+            Some(lane) => lane.ops_performed(),
         }
     }
 
@@ -259,7 +263,7 @@ impl Work {
         requires filled { 0 < length batch.ops }
         requires empty { length (lane_at self.old at).left ≤ 0 }
         requires room { length (lane_at self.old at).taken < (lane_at self.old at).room }
-        ensures { self.new ≡ record self.old { lanes = lanes_with self.old.lanes at (filled (lane_at self.old at) batch) } }
+        ensures { self.new ≡ record self.old { lanes = lanes_with self.old.lanes at (lane_with_batch (lane_at self.old at) batch) } }
     {
         self.lanes[at.seat()].offer(batch);
     }
@@ -276,8 +280,8 @@ impl Work {
         let seat = QueueAt { device, queue }.seat();
         match self.lanes[seat].next() {
             None => Done::Idle,
-            Some(task) => {
-                let what = perform_on(&mut self.memory, device, task);
+            Some(op) => {
+                let what = perform_on(&mut self.memory, device, op);
                 let at = QueueAt { device, queue };
                 self.log.push_reserved(WorkEntry::Op { at, what });
                 Done::Op
@@ -291,23 +295,23 @@ impl Work {
         ensures goes { result ≡ goes_on self.now at (lane_at self.now at).left }
         ensures there { IsTrue result → (seat at < length self.now.lanes) × HasQueue self.now at }
     {
-        self.keeps_order();
+        self.keeps();
         let device = at.device;
         match self.lane(at) {
             None => false,
             Some(lane) => match lane.first() {
                 None => false,
-                Some(task) => self.await_allows(device, task) && self.host_allows(lane),
+                Some(op) => self.await_allows(device, op) && self.host_allows(lane),
             },
         }
     }
 
-    // Whether what a task awaits on its device is performed.
-    fn await_allows(&self, device: DeviceId, task: &Task) -> bool
-        ensures { result ≡ await_allows (taken_labels self.now) self.now.work device (op_of task.now) }
+    // Whether what an operation awaits on its device is performed.
+    fn await_allows(&self, device: DeviceId, op: &Op) -> bool
+        ensures { result ≡ await_allows (taken_labels self.now) self.now.work device (op_label op.now) }
     {
-        match task {
-            Task::Await { queue, number } => {
+        match op {
+            Op::Await { queue, number } => {
                 let awaited = QueueAt {
                     device,
                     queue: *queue,
@@ -362,7 +366,7 @@ impl Work {
                         answer,
                     },
                 );
-                Shown::Answer { answer }
+                Shown::Answer(answer)
             }
         }
     }
@@ -424,17 +428,17 @@ fn lanes_of(alloc: Global, devices: u8) -> Result<Vec<Lane>, Fault>
     Ok(lanes)
 }
 
-// Performs a task on a device, and gives its operation back. What has no effect on the memory doesn't go there.
-fn perform_on(memory: &mut Memory, device: DeviceId, task: Task) -> Op
+// Performs an operation on a device, and gives its label back. What has no effect on the memory doesn't go there.
+fn perform_on(memory: &mut Memory, device: DeviceId, op: Op) -> OpLabel
     requires device { device < length memory.old.devices }
-    requires allowed { IsAllowed memory.old device task }
-    ensures op { result ≡ op_of task }
-    ensures performed { PerformsOn device (op_of task) memory.old memory.new }
+    requires allowed { IsAllowed memory.old device op }
+    ensures op { result ≡ op_label op }
+    ensures performed { PerformsOn device (op_label op) memory.old memory.new }
 {
-    match task {
-        Task::Await { queue, number } => Op::Await { queue, number },
-        Task::Close => Op::Close,
-        task => memory.do_op(device, task),
+    match op {
+        Op::Await { queue, number } => OpLabel::Await { queue, number },
+        Op::Close => OpLabel::Close,
+        op => memory.do_op(device, op),
     }
 }
 

@@ -1,1 +1,1 @@
-mod Flushing
+mod StatusReplay

@@ -1,3 +1,5 @@
+//! The program between its streams, and the status that it ends with.
+
 ghost use Rattle.std.specs.Prelude.{◌≡◌, true, false, [], IfSome};
 ghost use Rattle.std.specs.Io.KnownBytes.{Appends};
 ghost use Rattle.acc_driver.specs.Inputs.{parts};
@@ -14,7 +16,7 @@ const USAGE: &[u8] =
 /// What the program does: without words it replays the input with the default options, writes the report to
 /// the output, and answers 0, or 1 where a host was refused. A fault of a text, and words, are answered by 2, all
 /// else by 3, with one line to the errors.
-pub fn status_of<R: Read, W: Write, E: Write>(
+pub(crate) fn status_of<R: Read, W: Write, E: Write>(
     alloc: Global,
     has_words: bool,
     input: &mut R,
@@ -50,7 +52,7 @@ fn replay<R: Read, W: Write>(
 }
 
 /// Tells a fault by its line, and answers its status.
-pub fn told<E: Write>(fault: DriverFault, errors: &mut E) -> u8
+pub(crate) fn told<E: Write>(fault: DriverFault, errors: &mut E) -> u8
     ensures { result ≡ status_for fault }
 {
     let _ = writeln!(errors, "accq: {fault}");

@@ -1,3 +1,5 @@
+//! Tests over readers and writers that fail.
+
 use crate::status::{status_of, told};
 use acc_driver::DriverFault;
 use std::io::{Error, ErrorKind, Read, Result, Write};

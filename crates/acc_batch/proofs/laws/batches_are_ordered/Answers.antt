@@ -1,4 +1,4 @@
-use Rattle.acc_batch.proofs.Ordered.{label_ordered, close_ordered}
+use Rattle.acc_batch.proofs.OrderedBatches.{label_ordered, close_ordered}
 use Rattle.acc_batch.proofs.laws.batches_are_ordered.Goals as goal
 
 pub returns-clause-placed : goal.returns-clause-placed

@@ -3,11 +3,11 @@ use Rattle.std.specs.Prelude.{All, Contains}
 use Rattle.std.proofs.lemmas.List.Elements.{All-nil, All-cons}
 use Rattle.acc_base.proofs.Members.{no_member, member_first, member_rest, member_one, member_cases}
 use Rattle.acc_base.specs.declared.ids.TheConstants.{QUEUES}
-use Rattle.acc_batch.specs.declared.operation.Op.TheVariants.{Make, CopyIn, Release, Await}
-use Rattle.acc_batch.specs.declared.operation.Label.{Label}
+use Rattle.acc_batch.specs.declared.label.OpLabel.TheVariants.{Make, CopyIn, Release, Await}
+use Rattle.acc_batch.specs.declared.label.Label.{Label}
 use Rattle.acc_batch.specs.Awaits.{is_await, IsOrdered, IsNumbered, StandsBehind, one_queue, awaited, uses_made, releases_used}
-use Rattle.acc_batch.specs.AwaitExamples.{queue, cells, first_batch, maker, user}
-use Rattle.acc_batch.proofs.Ordered.{label_ordered}
+use Rattle.acc_batch.specs.worked.Awaits.{queue, cells, first_batch, maker, user}
+use Rattle.acc_batch.proofs.OrderedBatches.{label_ordered}
 use Rattle.acc_batch.proofs.laws.worked_awaits.Goals as goal
 
 pub returns-clause-awaits : goal.returns-clause-awaits

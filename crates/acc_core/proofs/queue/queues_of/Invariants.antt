@@ -1,6 +1,6 @@
 use Rattle.std.proofs.Common.{◌≡◌, length}
 use Rattle.std.specs.Prelude.{All}
-use Rattle.acc_core.specs.Queues.{IsEmptyQueue}
+use Rattle.acc_core.specs.inner.Queues.{IsEmptyQueue}
 use Rattle.acc_core.proofs.queue.queues_of.Given as goal
 
 abbrev pub invariant-loop : goal.invariant-loop

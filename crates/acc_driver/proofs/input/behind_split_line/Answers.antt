@@ -1,6 +1,6 @@
 use Rattle.std.proofs.Common.{◌≤◌, length, sym, ◌∙◌, arith}
 use Rattle.std.proofs.lemmas.List.{drop_all}
-use Rattle.acc_driver.proofs.Splitting.{behind_split}
+use Rattle.acc_driver.proofs.SplitText.{behind_split}
 use Rattle.acc_driver.proofs.input.behind_split_line.Goals as goal
 
 pub returns-in_default : goal.returns-in_default

@@ -1,4 +1,4 @@
-use Rattle.acc_driver.proofs.Splitting.{too_short}
+use Rattle.acc_driver.proofs.SplitText.{too_short}
 use Rattle.acc_driver.proofs.input.is_split_line.Goals as goal
 
 pub returns-in_default : goal.returns-in_default

@@ -1,5 +1,5 @@
 use Rattle.std.proofs.Common.{◌+◌, ◌≤◌, length, sym, ◌∙◌, arith}
-use Rattle.acc_driver.proofs.Splitting.{next_line, split_script, split_schedule, whole_script, no_schedule}
+use Rattle.acc_driver.proofs.SplitText.{next_line, split_script, split_schedule, whole_script, no_schedule}
 use Rattle.acc_driver.proofs.input.split.Goals as goal
 
 pub returns-then-is_split_line-clause-script : goal.returns-then-is_split_line-clause-script

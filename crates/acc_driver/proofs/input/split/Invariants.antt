@@ -1,5 +1,5 @@
 use Rattle.std.proofs.Common.{◌≤◌, length}
-use Rattle.acc_driver.proofs.Splitting.{LineBegins}
+use Rattle.acc_driver.proofs.SplitText.{LineBegins}
 use Rattle.acc_driver.proofs.input.split.Given as goal
 
 abbrev pub invariant-loop : goal.invariant-loop

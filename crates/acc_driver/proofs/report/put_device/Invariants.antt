@@ -1,16 +1,16 @@
 use Rattle.std.proofs.Common.{◌-◌, length, take}
 use Rattle.std.specs.List.{flat_map}
 use Rattle.acc_core.specs.Machine.{standing_of}
-use Rattle.acc_core.specs.Present.{presences}
-use Rattle.acc_driver.specs.Puts.{Puts, sink}
-use Rattle.acc_driver.specs.Arrays.{texts}
-use Rattle.acc_driver.specs.Reports.{presence_text}
+use Rattle.acc_present.specs.Presences.{presences}
+use Rattle.acc_report.specs.Puts.{Puts, sink}
+use Rattle.acc_script.specs.Arrays.{texts}
+use Rattle.acc_report.specs.Lines.{presence_text}
 use Rattle.acc_driver.proofs.report.put_device.Given as goal
 
 abbrev pub invariant-loop-entry : goal.invariant-loop-entry
 invariant-loop-entry g l =
     Puts (sink (g.W.Write.contents l.fn.out) l.fn.failed) (sink (g.W.Write.contents l.out) l.failed)
-    (flat_map (presence_text (texts l.names) l.device) (take l.place (presences ((standing_of l.world).marks l.device))))
+    (flat_map (presence_text (texts l.names) l.device) (take l.index (presences ((standing_of l.world).marks l.device))))
 
 abbrev pub decreases-loop-entry : goal.decreases-loop-entry
-decreases-loop-entry g l = length (presences ((standing_of l.world).marks l.device)) - l.place
+decreases-loop-entry g l = length (presences ((standing_of l.world).marks l.device)) - l.index

@@ -1,5 +1,5 @@
 use Rattle.acc_driver.specs.Reports.{host_text}
-use Rattle.acc_driver.proofs.Putting.{puts_below}
+use Rattle.acc_report.proofs.JoinedPuts.{puts_below}
 use Rattle.acc_driver.proofs.report.put_hosts.Goals as goal
 
 pub loop-host-preserved : goal.loop-host-preserved

@@ -1,5 +1,6 @@
-use Rattle.acc_driver.specs.Puts.{Puts, sink}
-use Rattle.acc_driver.specs.Reports.{each_below, host_text}
+use Rattle.acc_report.specs.Puts.{Puts, sink}
+use Rattle.acc_report.specs.Lines.{each_below}
+use Rattle.acc_driver.specs.Reports.{host_text}
 use Rattle.acc_driver.proofs.report.put_hosts.Given as goal
 
 abbrev pub invariant-loop-host : goal.invariant-loop-host

@@ -1,6 +1,6 @@
-use Rattle.acc_driver.specs.Arrays.{texts}
+use Rattle.acc_script.specs.Arrays.{texts}
 use Rattle.acc_driver.specs.Reports.{device_text}
-use Rattle.acc_driver.proofs.Putting.{puts_below}
+use Rattle.acc_report.proofs.JoinedPuts.{puts_below}
 use Rattle.acc_driver.proofs.report.put_presences.Goals as goal
 
 pub loop-device-preserved : goal.loop-device-preserved

@@ -1,6 +1,7 @@
-use Rattle.acc_driver.specs.Puts.{Puts, sink}
-use Rattle.acc_driver.specs.Arrays.{texts}
-use Rattle.acc_driver.specs.Reports.{each_below, device_text}
+use Rattle.acc_report.specs.Puts.{Puts, sink}
+use Rattle.acc_script.specs.Arrays.{texts}
+use Rattle.acc_report.specs.Lines.{each_below}
+use Rattle.acc_driver.specs.Reports.{device_text}
 use Rattle.acc_driver.proofs.report.put_presences.Given as goal
 
 abbrev pub invariant-loop-device : goal.invariant-loop-device

@@ -1,5 +1,5 @@
 use Rattle.acc_driver.specs.Reports.{queues_text}
-use Rattle.acc_driver.proofs.Putting.{puts_below}
+use Rattle.acc_report.proofs.JoinedPuts.{puts_below}
 use Rattle.acc_driver.proofs.report.put_queues.Goals as goal
 
 pub loop-device-preserved : goal.loop-device-preserved

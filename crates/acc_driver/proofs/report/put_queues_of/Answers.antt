@@ -1,7 +1,7 @@
 use Rattle.std.proofs.Common.{◌≡◌, arith}
 use Rattle.acc_base.specs.declared.ids.TheConstants.{QUEUES}
 use Rattle.acc_driver.specs.Reports.{queue_text, queues_text}
-use Rattle.acc_driver.proofs.Putting.{puts_below}
+use Rattle.acc_report.proofs.JoinedPuts.{puts_below}
 use Rattle.acc_driver.proofs.report.put_queues_of.Goals as goal
 
 pub loop-queue-preserved : goal.loop-queue-preserved

@@ -1,5 +1,6 @@
-use Rattle.acc_driver.specs.Puts.{Puts, sink}
-use Rattle.acc_driver.specs.Reports.{each_below, queue_text}
+use Rattle.acc_report.specs.Puts.{Puts, sink}
+use Rattle.acc_report.specs.Lines.{each_below}
+use Rattle.acc_driver.specs.Reports.{queue_text}
 use Rattle.acc_driver.proofs.report.put_queues_of.Given as goal
 
 abbrev pub invariant-loop-queue : goal.invariant-loop-queue

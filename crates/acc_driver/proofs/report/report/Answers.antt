@@ -1,6 +1,6 @@
 use Rattle.acc_driver.specs.Reports.{report}
-use Rattle.acc_driver.specs.declared.put.ReportFault.TheVariants.{Write}
-use Rattle.acc_driver.proofs.Putting.{puts_then, written, front_written}
+use Rattle.acc_report.specs.declared.bytes.ReportFault.TheVariants.{Write}
+use Rattle.acc_report.proofs.JoinedPuts.{puts_then, written, front_written}
 use Rattle.acc_driver.proofs.report.report.Goals as goal
 
 pub returns-then-failed : goal.returns-then-failed

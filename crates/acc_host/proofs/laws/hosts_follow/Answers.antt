@@ -1,5 +1,5 @@
-use Rattle.acc_host.proofs.Standing.{ready_stands, Stands-follow, refused_stands, stands_on}
-use Rattle.acc_host.proofs.Bareness.{follows_bare}
+use Rattle.acc_host.proofs.HostStands.{ready_stands, Stands-follow, refused_stands, stands_on}
+use Rattle.acc_host.proofs.BareStatements.{follows_bare}
 use Rattle.acc_host.proofs.laws.hosts_follow.Goals as goal
 
 pub returns-clause-first : goal.returns-clause-first

@@ -1,4 +1,4 @@
-use Rattle.acc_host.proofs.Examples.{questions_follow, seen_follows, default_follows}
+use Rattle.acc_host.proofs.WorkedHosts.{questions_follow, seen_follows, default_follows}
 use Rattle.acc_host.proofs.laws.worked_hosts.Goals as goal
 
 pub returns-clause-questions : goal.returns-clause-questions

@@ -1,5 +1,5 @@
 use Rattle.std.proofs.Common.{ap, arith, length}
-use Rattle.acc_kernel.proofs.Rowing.{same_rows}
+use Rattle.acc_kernel.proofs.CellIn.{same_rows}
 use Rattle.acc_kernel.proofs.job.copy_rows.Goals as goal
 
 pub returns-clause-rows : goal.returns-clause-rows

@@ -3,7 +3,7 @@ use Rattle.std.specs.Prelude.{◌==◌}
 use Rattle.std.specs.List.{list_any}
 use Rattle.std.proofs.lemmas.List.{take_all}
 use Rattle.acc_kernel.specs.Jobs.{Use, AreDistinct}
-use Rattle.acc_kernel.proofs.Flagging.{unset_at, distinct_next, not_distinct, flag_next}
+use Rattle.acc_kernel.proofs.ArrayFlags.{unset_at, distinct_next, not_distinct, flag_next}
 use Rattle.acc_kernel.proofs.uses.are_distinct.Goals as goal
 
 pub loop-range-init : goal.loop-range-init

@@ -3,7 +3,7 @@ use Rattle.std.specs.Prelude.{◌+ℤ◌, not, ◌&&◌}
 use Rattle.std.proofs.lemmas.Int.{to_z-of_z}
 use mir.Syntax.{w64, w128}
 use Rattle.acc_kernel.specs.Jobs.{has_cell}
-use Rattle.acc_kernel.proofs.Holding.{wide, wide_sum}
+use Rattle.acc_kernel.proofs.HeldBy.{wide, wide_sum}
 use Rattle.acc_kernel.proofs.uses.is_lacking.Goals as goal
 
 pub returns : goal.returns

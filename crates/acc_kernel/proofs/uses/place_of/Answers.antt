@@ -1,7 +1,7 @@
 use Rattle.std.proofs.Common.{refl, length}
 use Rattle.std.specs.Prelude.{nat_lt}
 use Rattle.acc_kernel.specs.Jobs.{place_of}
-use Rattle.acc_kernel.proofs.Rowing.{place_if_none}
+use Rattle.acc_kernel.proofs.CellIn.{place_if_none}
 use Rattle.acc_kernel.proofs.uses.place_of.Goals as goal
 
 pub returns-in-None : goal.returns-in-None

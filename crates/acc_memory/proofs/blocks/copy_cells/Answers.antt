@@ -1,6 +1,6 @@
 use Rattle.std.proofs.Common.{◌+◌, ◌-◌, drop, length-drop, arith}
 use Rattle.std.proofs.lemmas.List.{length-take-le}
-use Rattle.acc_memory.proofs.Copying.{is_copy}
+use Rattle.acc_memory.proofs.CopyCells.{is_copy}
 use Rattle.acc_memory.proofs.blocks.copy_cells.Goals as goal
 
 pub returns : goal.returns

@@ -1,6 +1,6 @@
 use Rattle.std.proofs.Common.{◌-◌, length, refl, arith}
 use Rattle.std.proofs.lemmas.Bool.{eqb-true}
-use Rattle.acc_memory.proofs.Copying.{is_copy_from}
+use Rattle.acc_memory.proofs.CopyCells.{is_copy_from}
 use Rattle.acc_memory.proofs.blocks.fill.Goals as goal
 
 pub returns-clause-copied : goal.returns-clause-copied

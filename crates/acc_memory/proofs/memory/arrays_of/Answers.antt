@@ -1,4 +1,4 @@
-use Rattle.acc_memory.proofs.Arrays.{arrays_more}
+use Rattle.acc_memory.proofs.HostArrays.{arrays_more}
 use Rattle.acc_memory.proofs.memory.arrays_of.Goals as goal
 
 pub loop-n-preserved : goal.loop-n-preserved

@@ -1,4 +1,4 @@
-use Rattle.acc_memory.proofs.Devices.{AreRoomier, HasRoomBelow}
+use Rattle.acc_memory.proofs.MemoryCalls.{AreRoomier, HasRoomBelow}
 use Rattle.acc_memory.proofs.memory.spare_all.Given as goal
 
 abbrev pub invariant-loop-n : goal.invariant-loop-n

@@ -4,13 +4,13 @@ use Rattle.std.specs.Option.{option_to_list}
 use Rattle.std.proofs.lemmas.Grind.{flat_map-append}
 use Rattle.acc_base.specs.Queues.{every_queue}
 use Rattle.acc_base.specs.declared.range.Range.{Range}
-use Rattle.acc_batch.specs.declared.operation.Op.{Op}
+use Rattle.acc_batch.specs.declared.label.OpLabel.{OpLabel}
 use Rattle.acc_present.specs.Notes.{Note}
 use Rattle.acc_place.specs.declared.directive.Clause.TheVariants.{Copy}
 use Rattle.acc_place.specs.declared.judge.Marked.{Marked}
-use Rattle.acc_place.specs.Noting.{last_made, note_found, used_ranges}
-use Rattle.acc_place.specs.Walks.{group_ops}
-use Rattle.acc_place.proofs.Raising.{first_and_rest, made_both, same_for}
+use Rattle.acc_place.specs.inner.Noting.{last_made, note_found, used_ranges}
+use Rattle.acc_place.specs.inner.Walks.{group_ops}
+use Rattle.acc_place.proofs.AwaitedNumbers.{first_and_rest, made_both, same_for}
 use Rattle.acc_place.proofs.awaits.+raise_group.Goals as goal
 
 abbrev no_step : Marked
@@ -24,7 +24,7 @@ returns-in-len1-up t c = λ notes h f is.
     let first = get_or ts 0 no_step in
     let rest = take (length ts - 1) (drop 1 ts) in
     let split = first_and_rest ts no_step c.in-len1-up.len_at_least in
-    let uses = λ (ops : List Op). flat_map used_ranges ops in
+    let uses = λ (ops : List OpLabel). flat_map used_ranges ops in
     let own = c.raise_if.ensures notes h f is in
     let made : (q : ℕ) → max (f q) (last_made found (uses (option_to_list c.op_of.result)) q) ≡ max (f q) (last_made found (uses (group_ops g first)) q) =
     λ q. ap (λ o. max (f q) (last_made found (uses (option_to_list o)) q)) c.op_of.ensures in

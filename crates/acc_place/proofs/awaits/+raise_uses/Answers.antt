@@ -3,8 +3,8 @@ use Rattle.acc_base.specs.Queues.{every_queue}
 use Rattle.acc_base.specs.declared.range.Range.{Range}
 use Rattle.acc_kernel.specs.Jobs.{Use}
 use Rattle.acc_present.specs.Notes.{Note}
-use Rattle.acc_place.specs.Noting.{last_made, made_at, note_found}
-use Rattle.acc_place.proofs.Raising.{first_and_rest, made_first, same_for}
+use Rattle.acc_place.specs.inner.Noting.{last_made, made_at, note_found}
+use Rattle.acc_place.proofs.AwaitedNumbers.{first_and_rest, made_first, same_for}
 use Rattle.acc_place.proofs.awaits.+raise_uses.Goals as goal
 
 pub returns-in-len1-up : goal.returns-in-len1-up

@@ -6,11 +6,11 @@ use Rattle.acc_base.specs.declared.range.Range.{Range}
 use Rattle.acc_present.specs.Notes.{Note}
 use Rattle.acc_place.specs.declared.plan.Group.{Group}
 use Rattle.acc_place.specs.declared.plan.Group.TheVariants.{CopyIns, Updates, CopyOuts}
-use Rattle.acc_place.specs.Noting.{ended_range, last_made, last_used, note_found, used_ranges}
+use Rattle.acc_place.specs.inner.Noting.{ended_range, last_made, last_used, note_found, used_ranges}
 use Rattle.acc_place.specs.Targets.{queues_named}
-use Rattle.acc_place.specs.Trials.{named_count, number_in}
-use Rattle.acc_place.specs.Walks.{group_ops, marked_ops}
-use Rattle.acc_place.proofs.Raising.{made_by_groups, regrouped, same_for}
+use Rattle.acc_place.specs.inner.Trials.{named_count, number_in}
+use Rattle.acc_place.specs.inner.Walks.{group_ops, marked_ops}
+use Rattle.acc_place.proofs.AwaitedNumbers.{made_by_groups, regrouped, same_for}
 use Rattle.acc_place.proofs.awaits.awaited_numbers.Goals as goal
 
 pub returns : goal.returns

@@ -1,4 +1,4 @@
-use Rattle.acc_place.proofs.Raising.{cells_of_in, cells_of_out}
+use Rattle.acc_place.proofs.AwaitedNumbers.{cells_of_in, cells_of_out}
 use Rattle.acc_place.proofs.awaits.raise_op.Goals as goal
 
 pub raise_range-requires : goal.raise_range-requires

@@ -1,5 +1,5 @@
 use Rattle.std.proofs.Common.{◌∙◌}
-use Rattle.acc_place.proofs.Raising.{no_holder, none_raised}
+use Rattle.acc_place.proofs.AwaitedNumbers.{no_holder, none_raised}
 use Rattle.acc_place.proofs.awaits.raise_range.Goals as goal
 
 pub returns-in-Absent : goal.returns-in-Absent

@@ -1,6 +1,6 @@
 use Rattle.std.proofs.Common.{◌≡◌, length}
 use Rattle.std.specs.Prelude.{All}
-use Rattle.acc_place.specs.Devices.{IsEmpty}
+use Rattle.acc_place.specs.inner.Devices.{IsEmpty}
 use Rattle.acc_place.proofs.device.devices_of.Given as goal
 
 abbrev pub invariant-loop : goal.invariant-loop

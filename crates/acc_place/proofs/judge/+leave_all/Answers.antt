@@ -2,13 +2,13 @@ use Rattle.std.proofs.Common.{◌≡◌, ◌<◌, List, [], ◌∷◌, ◌++◌,
 use Rattle.acc_present.specs.Drafts.{drafted}
 use Rattle.acc_present.specs.declared.change.Change.TheVariants.{StructuredDown}
 use Rattle.acc_place.specs.declared.directive.Clause.TheVariants.{Copy}
-use Rattle.acc_place.specs.declared.directive.Item.{Item}
+use Rattle.acc_place.specs.declared.directive.DataItem.{DataItem}
 use Rattle.acc_place.specs.declared.judge.Marked.{Marked}
-use Rattle.acc_place.specs.Walks.{holding, holding_after, marked_in, all_marked, AllEntered}
-use Rattle.acc_place.proofs.Walking.{rest_of, rest_is, length-rest, left_is, all_rest, all_marked-next, entered-next}
+use Rattle.acc_place.specs.inner.Walks.{holding, holding_after, marked_in, all_marked, AllEntered}
+use Rattle.acc_place.proofs.WalkItem.{rest_of, rest_is, length-rest, left_is, all_rest, all_marked-next, entered-next}
 use Rattle.acc_place.proofs.judge.+leave_all.Goals as goal
 
-abbrev no_item : Item
+abbrev no_item : DataItem
 no_item = record { clause = Copy; range = record { array = 0; lo = 0; len = 0 } }
 
 pub leave_all-requires : goal.leave_all-requires
@@ -28,7 +28,7 @@ leave_all-requires t c =
         (
           omega (arith, fewer, c.mark.ensures.changed, c.mark.ensures.draft_room, c.requires.draft_room),
           (
-            all_rest (λ (i : Item). 0 < i.range.len) items c.requires.cells,
+            all_rest (λ (i : DataItem). 0 < i.range.len) items c.requires.cells,
             (entered, omega (arith, fewer, c.push_reserved.ensures.len, c.push_reserved.ensures.capacity, c.requires.step_room)),
           ),
         ),

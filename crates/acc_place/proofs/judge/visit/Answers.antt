@@ -1,14 +1,14 @@
 use Rattle.std.proofs.Common.{◌≡◌, true, false, ◌∙◌, arith}
 use Rattle.acc_present.specs.Drafts.{drafted}
-use Rattle.acc_base.specs.Configurations.{is_in_array}
+use Rattle.acc_base.specs.Configurations.{has_range}
 use Rattle.acc_place.specs.Standings.{change_by}
-use Rattle.acc_place.proofs.Judging.{fault-outside, found_is, fine_item}
-use Rattle.acc_place.proofs.Walking.{can_mark}
+use Rattle.acc_place.proofs.FaultIn.{fault-outside, found_is, fine_item}
+use Rattle.acc_place.proofs.WalkItem.{can_mark}
 use Rattle.acc_place.proofs.judge.visit.Goals as goal
 
-pub returns-then-not-is_in_array-clause-refused : goal.returns-then-not-is_in_array-clause-refused
-returns-then-not-is_in_array-clause-refused c =
-    let outside : is_in_array c.args.known.now.config.now.arrays c.args.item.now.range ≡ false = cc in
+pub returns-then-not-has_range-clause-refused : goal.returns-then-not-has_range-clause-refused
+returns-then-not-has_range-clause-refused c =
+    let outside : has_range c.args.known.now.config.now.arrays c.args.item.now.range ≡ false = cc in
     fault-outside c.args.known.now.config.now c.args.kind.now (drafted c.args.known.now.table.now c.args.draft.now) c.args.item.now outside
 
 pub mark-requires-clause-can : goal.mark-requires-clause-can
@@ -18,10 +18,10 @@ mark-requires-clause-can c =
     let t = c.args.known.now.table.now in
     let d = c.args.draft.now in
     let item = c.args.item.now in
-    let inside : is_in_array config.arrays item.range ≡ true = cc in
+    let inside : has_range config.arrays item.range ≡ true = cc in
     let fault =
-    found_is config k t d item c.look-found.result c.capacity.result c.used_cells.result c.fault_of.result inside c.look-found.ensures
-    c.requires.draft c.requires.capacity c.capacity.ensures c.used_cells.ensures c.fault_of.ensures in
+    found_is config k t d item c.look-found.result c.capacity.result c.used_cells.result c.found_fault.result inside c.look-found.ensures
+    c.requires.draft c.requires.capacity c.capacity.ensures c.used_cells.ensures c.found_fault.ensures in
     let fine = fine_item config k (drafted t d) item (fault ∙ c.in-None.is) in
     rw (c.requires.capacity, c.change.ensures) (can_mark (change_by k) (drafted t d) item.range config.capacity 1 fine c.requires.entered c.requires.low (omega arith))
 
@@ -29,16 +29,16 @@ pub returns-in-Some-clause-refused : goal.returns-in-Some-clause-refused
 returns-in-Some-clause-refused c =
     let config = c.args.known.now.config.now in
     let item = c.args.item.now in
-    let inside : is_in_array config.arrays item.range ≡ true = cc in
-    found_is config c.args.kind.now c.args.known.now.table.now c.args.draft.now item c.look-found.result c.capacity.result c.used_cells.result c.fault_of.result inside c.look-found.ensures
-    c.requires.draft c.requires.capacity c.capacity.ensures c.used_cells.ensures c.fault_of.ensures
+    let inside : has_range config.arrays item.range ≡ true = cc in
+    found_is config c.args.kind.now c.args.known.now.table.now c.args.draft.now item c.look-found.result c.capacity.result c.used_cells.result c.found_fault.result inside c.look-found.ensures
+    c.requires.draft c.requires.capacity c.capacity.ensures c.used_cells.ensures c.found_fault.ensures
     ∙ c.in-Some.is
 
 pub returns-in-None-clause-fine : goal.returns-in-None-clause-fine
 returns-in-None-clause-fine c =
     let config = c.args.known.now.config.now in
     let item = c.args.item.now in
-    let inside : is_in_array config.arrays item.range ≡ true = cc in
-    found_is config c.args.kind.now c.args.known.now.table.now c.args.draft.now item c.look-found.result c.capacity.result c.used_cells.result c.fault_of.result inside c.look-found.ensures
-    c.requires.draft c.requires.capacity c.capacity.ensures c.used_cells.ensures c.fault_of.ensures
+    let inside : has_range config.arrays item.range ≡ true = cc in
+    found_is config c.args.kind.now c.args.known.now.table.now c.args.draft.now item c.look-found.result c.capacity.result c.used_cells.result c.found_fault.result inside c.look-found.ensures
+    c.requires.draft c.requires.capacity c.capacity.ensures c.used_cells.ensures c.found_fault.ensures
     ∙ c.in-None.is

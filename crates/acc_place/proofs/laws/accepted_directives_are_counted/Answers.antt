@@ -1,4 +1,4 @@
-use Rattle.acc_place.proofs.Counted.{accepted_counted, entered_left}
+use Rattle.acc_place.proofs.DirectivesCounted.{accepted_counted, entered_left}
 use Rattle.acc_place.proofs.laws.accepted_directives_are_counted.Goals as goal
 
 pub returns-clause-counted : goal.returns-clause-counted

@@ -1,4 +1,4 @@
-use Rattle.acc_place.proofs.Planning.{plan_at_closing, plan_kept, plan_beside}
+use Rattle.acc_place.proofs.StandingIn.{plan_at_closing, plan_kept, plan_beside}
 use Rattle.acc_place.proofs.laws.plans_are_kept.Goals as goal
 
 pub returns-clause-accepted : goal.returns-clause-accepted

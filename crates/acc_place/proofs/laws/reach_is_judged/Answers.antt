@@ -1,4 +1,4 @@
-use Rattle.acc_place.proofs.PastReach.{reach_judged}
+use Rattle.acc_place.proofs.ReachJudged.{reach_judged}
 use Rattle.acc_place.proofs.laws.reach_is_judged.Goals as goal
 
 pub returns : goal.returns

@@ -1,11 +1,12 @@
 use Rattle.std.proofs.Common.{◌++◌, [], ◌∷◌, get_or, take, length, ap, ◌∙◌, arith}
-use Rattle.acc_place.specs.Loops.{implicit_among, lengths_of}
-use Rattle.acc_place.proofs.Filling.{among_more, length_taken}
+use Rattle.acc_place.specs.Implicit.{implicit_among}
+use Rattle.acc_base.specs.Configurations.{lengths_of}
+use Rattle.acc_place.proofs.LoopItems.{among_more, length_taken}
 use Rattle.acc_place.proofs.loops.add_all_implicit.Goals as goal
 
 pub loop-array-preserved : goal.loop-array-preserved
 loop-array-preserved c =
-    let lengths = lengths_of c.args.config.now in
+    let lengths = lengths_of c.args.config.now.arrays in
     let arrays = c.args.arrays.now in
     let at = c.loop-array.array-index in
     let next = implicit_among lengths c.args.regions.now c.args.host c.args.directive.now (get_or arrays at 0 ∷ []) in

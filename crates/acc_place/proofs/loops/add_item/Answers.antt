@@ -1,5 +1,5 @@
 use Rattle.std.proofs.Common.{[], ◌∷◌, arith}
-use Rattle.acc_place.proofs.Filling.{take_full}
+use Rattle.acc_place.proofs.LoopItems.{take_full}
 use Rattle.acc_place.proofs.loops.add_item.Goals as goal
 
 pub returns-else-len-le-MAX_ITEMS-clause-items : goal.returns-else-len-le-MAX_ITEMS-clause-items

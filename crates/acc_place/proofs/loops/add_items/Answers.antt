@@ -1,10 +1,10 @@
 use Rattle.std.proofs.Common.{◌++◌, [], ◌∷◌, get_or, take, length, ap, ◌∙◌, arith}
 use Rattle.acc_place.specs.declared.directive.Clause.TheVariants.{Copy}
-use Rattle.acc_place.specs.declared.directive.Item.{Item}
-use Rattle.acc_place.proofs.Filling.{taken_more, length_taken}
+use Rattle.acc_place.specs.declared.directive.DataItem.{DataItem}
+use Rattle.acc_place.proofs.LoopItems.{taken_more, length_taken}
 use Rattle.acc_place.proofs.loops.add_items.Goals as goal
 
-abbrev no_item : Item
+abbrev no_item : DataItem
 no_item = record { clause = Copy; range = record { array = 0; lo = 0; len = 0 } }
 
 pub loop-item-preserved : goal.loop-item-preserved

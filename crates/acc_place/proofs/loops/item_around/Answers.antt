@@ -1,7 +1,7 @@
 use Rattle.std.proofs.Common.{◌+◌, drop, sym, ap, ◌∙◌}
 use Rattle.std.specs.Option.{option_or}
 use Rattle.acc_place.specs.Implicit.{item_of, items_around}
-use Rattle.acc_place.proofs.Filling.{around_from}
+use Rattle.acc_place.proofs.LoopItems.{around_from}
 use Rattle.acc_place.proofs.loops.item_around.Goals as goal
 
 pub returns-in-Some : goal.returns-in-Some

@@ -1,21 +1,12 @@
 use Rattle.std.proofs.Common.{◌∙◌, sym}
-use Rattle.std.proofs.lemmas.List.Elements.{All-more}
-use Rattle.acc_place.specs.Loops.{StaysInsideOf}
-use Rattle.acc_place.proofs.Looping.{past_more, stays_after_all}
+use Rattle.acc_place.proofs.LoopReach.{stays_nowhere, stays_within}
 use Rattle.acc_place.proofs.loops.reaches_past.Goals as goal
 
-pub loop-array-preserved : goal.loop-array-preserved
-loop-array-preserved c =
-    let k = c.args.kernel.now in
-    let items = c.args.items.now in
-    let arrays = c.arrays-arrays.result.now in
-    let at = c.loop-array.array-index in
-    record {
-      past = past_more k items arrays at 0 c.loop-array-test.true c.loop-array.invariant.past (sym c.reaches_past_in.ensures.past ∙ c.if-reaches_past_in.false);
-      held = All-more (StaysInsideOf k items) arrays at 0 c.loop-array-test.true c.loop-array.invariant.held (c.reaches_past_in.ensures.held c.if-reaches_past_in.false);
-    }
+pub returns-in-None-clause-held : goal.returns-in-None-clause-held
+returns-in-None-clause-held c = λ inside. stays_nowhere c.args.kernel.now c.args.items.now c.args.array c.in-None.ensures.nothing
 
-pub returns-clause-held : goal.returns-clause-held
-returns-clause-held c =
+pub returns-in-Some-item_of-clause-held : goal.returns-in-Some-item_of-clause-held
+returns-in-Some-item_of-clause-held c =
     λ inside.
-    stays_after_all c.args.kernel.now c.args.items.now c.arrays-arrays.result.now c.loop-array.array-index c.arrays-arrays.ensures c.loop-array-test.false c.loop-array.invariant.held
+    stays_within c.args.kernel.now c.args.items.now c.args.array c.in-Some.reach c.in-Some-item_of.item.now c.in-Some.ensures.reached c.in-Some-item_of.ensures
+    (sym c.passes.ensures ∙ inside)

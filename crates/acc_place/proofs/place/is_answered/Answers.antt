@@ -5,15 +5,15 @@ use Rattle.std.specs.Option.{option_map}
 use Rattle.std.proofs.lemmas.Iterator.{YieldsList-from_slice}
 use Rattle.std.proofs.lemmas.Iterator.Search.{all_from_yields_List}
 use Rattle.acc_present.specs.Presences.{Presence, holder, is_present}
-use Rattle.acc_place.specs.declared.directive.Item.{Item}
+use Rattle.acc_place.specs.declared.directive.DataItem.{DataItem}
 use Rattle.acc_place.specs.declared.directive.Kind.TheVariants as kind
-use Rattle.acc_place.proofs.Planning.{held_is_present}
+use Rattle.acc_place.proofs.StandingIn.{held_is_present}
 use Rattle.acc_place.proofs.place.is_answered.Goals as goal
 
-abbrev has_counters : List Presence → Item → Bool
+abbrev has_counters : List Presence → DataItem → Bool
 has_counters ps i = is_some {T = ℕ × ℕ} (option_map (λ (p : Presence). (p.s, p.d)) (holder ps i.range))
 
-all_held : (ps : List Presence) (items : List Item) → list_all (has_counters ps) items ≡ list_all (λ (i : Item). is_present ps i.range) items
+all_held : (ps : List Presence) (items : List DataItem) → list_all (has_counters ps) items ≡ list_all (λ (i : DataItem). is_present ps i.range) items
 all_held ps [] = refl
 all_held ps (i ∷ is) =
     ap (λ v. v && list_all (has_counters ps) is) (held_is_present {X = ℕ × ℕ} (λ (p : Presence). (p.s, p.d)) ps i.range) ∙ ap (λ v. is_present ps i.range && v) (all_held ps is)

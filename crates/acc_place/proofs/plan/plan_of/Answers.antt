@@ -1,12 +1,12 @@
 use Rattle.std.proofs.Common.{◌≡◌, ◌∙◌, ap}
 use Rattle.std.specs.Option.{option_to_list}
 use Rattle.acc_batch.specs.Awaits.{with_awaits}
-use Rattle.acc_place.specs.Noting.{awaits_from}
+use Rattle.acc_place.specs.inner.Noting.{awaits_from}
 use Rattle.acc_place.specs.Plans.{label_for}
 use Rattle.acc_place.specs.Targets.{is_alone}
-use Rattle.acc_place.specs.Trials.{behind_noted, next_in}
-use Rattle.acc_place.specs.Walks.{marked_ops}
-use Rattle.acc_place.proofs.Simple.{behind_their_awaits, have_their_cells, labelled_cells, listed}
+use Rattle.acc_place.specs.inner.Trials.{behind_noted, next_in}
+use Rattle.acc_place.specs.inner.Walks.{marked_ops}
+use Rattle.acc_place.proofs.PlanOf.{behind_their_awaits, have_their_cells, labelled_cells, listed}
 use Rattle.acc_place.proofs.plan.plan_of.Goals as goal
 
 pub batch_of-requires : goal.batch_of-requires

@@ -2,8 +2,8 @@ use Rattle.std.proofs.Common.{◌≡◌, map, sym, ◌∙◌, Some, None}
 use Rattle.acc_present.specs.Presences.{holder}
 use Rattle.acc_present.specs.Tables.{entry_presence}
 use Rattle.acc_present.specs.Drafts.{with_changed}
-use Rattle.acc_present.proofs.Drafting.{held_beside, beside_none, beside_hidden, beside_seen, overlaps_changed, none_seen, apart_seen, none_looked}
-use Rattle.acc_present.proofs.Searching.{is_present-some, not_partly}
+use Rattle.acc_present.proofs.DraftShows.{held_beside, beside_none, beside_hidden, beside_seen, overlaps_changed, none_seen, apart_seen, none_looked}
+use Rattle.acc_present.proofs.Holder.{is_present-some, not_partly}
 use Rattle.acc_present.proofs.draft.look_beside.Goals as goal
 
 pub returns-then-overlaps_one : goal.returns-then-overlaps_one
@@ -13,7 +13,7 @@ returns-then-overlaps_one c =
     let r = c.args.range in
     let x = entry_presence c.in-Present.entry in
     let some : holder ps r ≡ Some x = (rw c.in-Present.is at c.look.ensures.look).0 in
-    let hidden = beside_hidden cs ps r x c.keeps_order.ensures.table c.requires.cells some (sym c.overlaps_one.ensures ∙ c.if-overlaps_one.true) in
+    let hidden = beside_hidden cs ps r x c.keeps.ensures.table c.requires.cells some (sym c.overlaps_one.ensures ∙ c.if-overlaps_one.true) in
     let none = sym (held_beside cs ps r None c.requires.after c.requires.cells (sym c.requires.none) (sym hidden)) in
     none_looked (with_changed cs ps) r c.overlaps_drafted.result c.partly_or_absent.result none c.overlaps_drafted.ensures c.partly_or_absent.ensures
 
@@ -24,7 +24,7 @@ returns-else-overlaps_one c =
     let r = c.args.range in
     let x = entry_presence c.in-Present.entry in
     let some : holder ps r ≡ Some x = (rw c.in-Present.is at c.look.ensures.look).0 in
-    let rest = beside_seen cs ps r x c.keeps_order.ensures.table c.requires.cells some (sym c.overlaps_one.ensures ∙ c.if-overlaps_one.false) in
+    let rest = beside_seen cs ps r x c.keeps.ensures.table c.requires.cells some (sym c.overlaps_one.ensures ∙ c.if-overlaps_one.false) in
     let seen = sym (held_beside cs ps r (Some x) c.requires.after c.requires.cells (sym c.requires.none) (sym rest)) in
     let qs = with_changed cs ps in
     (seen, not_partly qs r (is_present-some qs r x seen))

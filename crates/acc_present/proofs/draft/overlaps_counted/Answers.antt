@@ -5,7 +5,7 @@ use Rattle.std.proofs.lemmas.Iterator.Search.{any_from_yields_List}
 use Rattle.acc_base.specs.Ranges.{range_overlaps}
 use Rattle.acc_present.specs.declared.table.Entry.{Entry}
 use Rattle.acc_present.specs.Tables.{entry_presence, has_count}
-use Rattle.acc_present.proofs.Drafting.{overlaps_any-counted}
+use Rattle.acc_present.proofs.DraftShows.{overlaps_any-counted}
 use Rattle.acc_present.proofs.draft.overlaps_counted.Goals as goal
 
 pub returns : goal.returns

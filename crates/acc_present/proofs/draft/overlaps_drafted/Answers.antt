@@ -4,7 +4,7 @@ use Rattle.acc_base.specs.Ranges.{range_overlaps}
 use Rattle.acc_present.specs.Presences.{Presence, overlaps_any}
 use Rattle.acc_present.specs.Tables.{entry_presence}
 use Rattle.acc_present.specs.Drafts.{beside}
-use Rattle.acc_present.proofs.Drafting.{any_drafted}
+use Rattle.acc_present.proofs.DraftShows.{any_drafted}
 use Rattle.acc_present.proofs.draft.overlaps_drafted.Goals as goal
 
 pub returns-then-overlaps_counted : goal.returns-then-overlaps_counted

@@ -1,4 +1,4 @@
-use Rattle.acc_present.proofs.Balancing.{legal, structured_is_the_difference}
+use Rattle.acc_present.proofs.LegalMarks.{legal, structured_is_the_difference}
 use Rattle.acc_present.proofs.laws.legal_marks.Goals as goal
 
 pub returns-clause-difference : goal.returns-clause-difference

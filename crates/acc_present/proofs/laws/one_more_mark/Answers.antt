@@ -1,5 +1,5 @@
-use Rattle.acc_present.proofs.Balancing.{legal, can_count-balanced, can_count-dynamic}
-use Rattle.acc_present.proofs.OneMore.{presences-more}
+use Rattle.acc_present.proofs.LegalMarks.{legal, can_count-balanced, can_count-dynamic}
+use Rattle.acc_present.proofs.Presences.{presences-more}
 use Rattle.acc_present.proofs.laws.one_more_mark.Goals as goal
 
 pub returns-clause-legal : goal.returns-clause-legal

@@ -4,7 +4,7 @@ use Rattle.acc_base.specs.Ranges.{range_overlaps}
 use Rattle.acc_present.specs.Lifetimes.{is_before}
 use Rattle.acc_present.specs.declared.table.Entry.{Entry}
 use Rattle.acc_present.specs.Tables.{entry_presence}
-use Rattle.acc_present.proofs.SearchingBeside.{beside_stops}
+use Rattle.acc_present.proofs.OverlapsBeside.{beside_stops}
 use Rattle.acc_present.proofs.table.+overlaps_beside_in.Goals as goal
 
 pub returns-else-not-stands_before : goal.returns-else-not-stands_before

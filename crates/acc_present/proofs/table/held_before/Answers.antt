@@ -2,13 +2,13 @@ use Rattle.std.proofs.Common.{◌≡◌, ◌-◌, true, false, map, sym, ap, ◌
 use Rattle.acc_base.specs.Ranges.{range_contains}
 use Rattle.acc_present.specs.declared.table.Entry.{Entry}
 use Rattle.acc_present.specs.Tables.{entry_presence}
-use Rattle.acc_present.proofs.Searching.{holder_is-none, holder_is-later, slice_get-entry}
+use Rattle.acc_present.proofs.Holder.{holder_is-none, holder_is-later, slice_get-entry}
 use Rattle.acc_present.proofs.table.held_before.Goals as goal
 
 pub returns-then-behind-eq0-clause-held : goal.returns-then-behind-eq0-clause-held
 returns-then-behind-eq0-clause-held c =
     holder_is-none (map entry_presence c.args.entries.now) c.args.range c.args.behind c.requires.table c.requires.cells
-    c.requires.place c.if-behind-eq0.true
+    c.requires.index c.if-behind-eq0.true
 
 pub returns-then-contains-clause-held : goal.returns-then-contains-clause-held
 returns-then-contains-clause-held c =
@@ -17,7 +17,7 @@ returns-then-contains-clause-held c =
     let x = c.index-entries-behind.result in
     let is : c.get.result.now ≡ x = c.get.ensures in
     let has : range_contains x.range c.args.range ≡ true = ap (λ (e : Entry). range_contains e.range c.args.range) (sym is) ∙ (sym c.contains.ensures.bounds ∙ c.if-contains.true) in
-    holder_is-later es c.args.range k x c.requires.table c.requires.cells c.requires.place (omega arith) (omega arith) c.index-entries-behind.is
+    holder_is-later es c.args.range k x c.requires.table c.requires.cells c.requires.index (omega arith) (omega arith) c.index-entries-behind.is
     ∙ rw has (sym (slice_get-entry es (k - 1) x (omega arith) c.index-entries-behind.is))
 
 pub returns-else-contains-clause-held : goal.returns-else-contains-clause-held
@@ -27,5 +27,5 @@ returns-else-contains-clause-held c =
     let x = c.index-entries-behind.result in
     let is : c.get.result.now ≡ x = c.get.ensures in
     let has : range_contains x.range c.args.range ≡ false = ap (λ (e : Entry). range_contains e.range c.args.range) (sym is) ∙ (sym c.contains.ensures.bounds ∙ c.if-contains.false) in
-    holder_is-later es c.args.range k x c.requires.table c.requires.cells c.requires.place (omega arith) (omega arith) c.index-entries-behind.is
+    holder_is-later es c.args.range k x c.requires.table c.requires.cells c.requires.index (omega arith) (omega arith) c.index-entries-behind.is
     ∙ rw has refl

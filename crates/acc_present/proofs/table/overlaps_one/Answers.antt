@@ -5,7 +5,7 @@ use Rattle.acc_base.specs.Ranges.{range_overlaps}
 use Rattle.acc_present.specs.declared.table.Entry.{Entry}
 use Rattle.acc_present.specs.Presences.{Presence}
 use Rattle.acc_present.specs.Tables.{entry_presence}
-use Rattle.acc_present.proofs.SearchingBeside.{list_any-map}
+use Rattle.acc_present.proofs.OverlapsBeside.{list_any-map}
 use Rattle.acc_present.proofs.table.overlaps_one.Goals as goal
 
 pub returns : goal.returns

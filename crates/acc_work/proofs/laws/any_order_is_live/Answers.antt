@@ -1,4 +1,4 @@
-use Rattle.acc_work.proofs.Next.{any_order}
+use Rattle.acc_work.proofs.NextUsesLive.{any_order}
 use Rattle.acc_work.proofs.laws.any_order_is_live.Goals as goal
 
 pub returns : goal.returns

@@ -1,4 +1,4 @@
-use Rattle.acc_work.proofs.Wholes.{whole_is}
+use Rattle.acc_work.proofs.GreatestWhole.{whole_is}
 use Rattle.acc_work.proofs.laws.whole_is_greatest.Goals as goal
 
 pub returns : goal.returns

@@ -1,7 +1,7 @@
 use Rattle.std.proofs.Common.{◌≡◌, ◌++◌, length, ap, ◌∙◌, arith}
 use Rattle.std.specs.Prelude.{IsOk}
-use Rattle.acc_memory.proofs.Showing.{shows_values}
-use Rattle.acc_work.proofs.Taken.{length_from}
+use Rattle.acc_memory.proofs.ShownValues.{shows_values}
+use Rattle.acc_work.proofs.TakenLabels.{length_from}
 use Rattle.acc_work.proofs.work.values_in.Goals as goal
 
 pub returns : goal.returns

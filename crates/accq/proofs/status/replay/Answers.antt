@@ -1,5 +1,5 @@
 use Rattle.acc_driver.specs.Replays.{defaults}
-use Rattle.accq.proofs.Flushing.{not_out}
+use Rattle.accq.proofs.StatusReplay.{not_out}
 use Rattle.accq.proofs.status.replay.Goals as goal
 
 pub returns-in-Err : goal.returns-in-Err

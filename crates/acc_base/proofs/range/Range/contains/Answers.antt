@@ -1,4 +1,4 @@
-use Rattle.acc_base.proofs.Sets.{contains_is_includes}
+use Rattle.acc_base.proofs.ContainsAndOverlaps.{contains_is_includes}
 use Rattle.acc_base.proofs.range.Range.contains.Goals as goal
 
 pub returns-clause-set : goal.returns-clause-set

@@ -1,4 +1,4 @@
-use Rattle.acc_base.proofs.Sets.{overlaps_is_meets}
+use Rattle.acc_base.proofs.ContainsAndOverlaps.{overlaps_is_meets}
 use Rattle.acc_base.proofs.range.Range.overlaps.Goals as goal
 
 pub returns-clause-set : goal.returns-clause-set

@@ -3,16 +3,16 @@ use Rattle.std.proofs.lemmas.List.{length-map}
 use Rattle.std.proofs.lemmas.Result.{err_from_is_err_and}
 use Rattle.acc_base.specs.Queues.{seat}
 use Rattle.acc_base.specs.declared.fault.Fault.TheVariants.{Memory}
-use Rattle.acc_batch.specs.declared.operation.Label.{Label}
-use Rattle.acc_batch.specs.Tasks.{op_of}
+use Rattle.acc_batch.specs.declared.label.Label.{Label}
+use Rattle.acc_batch.specs.Ops.{op_label}
 use Rattle.acc_batch.proofs.Seats.{seat_found}
 use Rattle.acc_core.specs.contracts.accelerator.Accelerator.{the_view}
-use Rattle.acc_core.specs.Queues.{QueueView, no_queue, queue_in, pushed}
-use Rattle.acc_core.specs.Ties.{IsAccelerator, state_of_parts}
-use Rattle.acc_core.proofs.Placing.{planned, batch_empty, batch_goes, keeps_empty, keeps_batch, places_full, places_batch, places_memory}
-use Rattle.acc_core.proofs.ClosingQueue.{has_accepted, has_planned}
+use Rattle.acc_core.specs.inner.Queues.{QueueView, no_queue, queue_in, queue_pushed}
+use Rattle.acc_core.specs.inner.Ties.{IsAccelerator, state_of_parts}
+use Rattle.acc_core.proofs.Accept.{planned, batch_empty, batch_goes, keeps_empty, keeps_batch, places_full, places_batch, places_memory}
+use Rattle.acc_core.proofs.CloseQueue.{has_accepted, has_planned}
 use Rattle.acc_core.proofs.Seats.{room_there, waiting_low}
-use Rattle.acc_core.proofs.Showing.{roomier}
+use Rattle.acc_core.proofs.ItemAnswer.{roomier}
 use Rattle.acc_core.proofs.accelerator.Accelerator.accept.Goals as goal
 
 pub invariant_of-self-in-None : goal.invariant_of-self-in-None
@@ -21,7 +21,7 @@ invariant_of-self-in-None c =
     let w = the_view i in
     let d = c.args.directive.now in
     let e = c.in_ok-plan.ensures in
-    let k = c.keeps_order.ensures.order in
+    let k = c.keeps.ensures.order in
     let items = c.items_of-items_done.result in
     let facts = planned i.place c.plan.new.self c.in_ok-plan.plan c.args.host items d e.config e.history e.counts e.fits.0 e.plan.0 e.plan.1 e.plan.2 in
     let none = batch_empty w c.args.host items d (c.in-None.ensures.batch ∙ (e.batch ∙ facts.labelled)) in (
@@ -36,7 +36,7 @@ index-requires c =
     let w = the_view i in
     let d = c.args.directive.now in
     let e = c.in_ok-plan.ensures in
-    let k = c.keeps_order.ensures.order in
+    let k = c.keeps.ensures.order in
     let items = c.items_of-items_done.result in
     let facts = planned i.place c.plan.new.self c.in_ok-plan.plan c.args.host items d e.config e.history e.counts e.fits.0 e.plan.0 e.plan.1 e.plan.2 in
     let b = c.in-Some.batch in
@@ -52,7 +52,7 @@ returns-then-len-room c =
     let w = the_view i in
     let d = c.args.directive.now in
     let e = c.in_ok-plan.ensures in
-    let k = c.keeps_order.ensures.order in
+    let k = c.keeps.ensures.order in
     let items = c.items_of-items_done.result in
     let facts = planned i.place c.plan.new.self c.in_ok-plan.plan c.args.host items d e.config e.history e.counts e.fits.0 e.plan.0 e.plan.1 e.plan.2 in
     let b = c.in-Some.batch in
@@ -72,7 +72,7 @@ returns-in-None-checked_add c =
     let w = the_view i in
     let d = c.args.directive.now in
     let e = c.in_ok-plan.ensures in
-    let k = c.keeps_order.ensures.order in
+    let k = c.keeps.ensures.order in
     let items = c.items_of-items_done.result in
     let facts = planned i.place c.plan.new.self c.in_ok-plan.plan c.args.host items d e.config e.history e.counts e.fits.0 e.plan.0 e.plan.1 e.plan.2 in
     rw (← c.self.view_is) (places_memory w _ c.args.host d Memory facts.accepted refl (rw (e.config, e.history, e.counts) refl))
@@ -83,7 +83,7 @@ spare-requires c =
     let w = the_view i in
     let d = c.args.directive.now in
     let e = c.in_ok-plan.ensures in
-    let k = c.keeps_order.ensures.order in
+    let k = c.keeps.ensures.order in
     let items = c.items_of-items_done.result in
     let facts = planned i.place c.plan.new.self c.in_ok-plan.plan c.args.host items d e.config e.history e.counts e.fits.0 e.plan.0 e.plan.1 e.plan.2 in
     let b = c.in-Some.batch in
@@ -109,7 +109,7 @@ returns-in_err-spare-in-Some c =
     let w = the_view i in
     let d = c.args.directive.now in
     let e = c.in_ok-plan.ensures in
-    let k = c.keeps_order.ensures.order in
+    let k = c.keeps.ensures.order in
     let items = c.items_of-items_done.result in
     let facts = planned i.place c.plan.new.self c.in_ok-plan.plan c.args.host items d e.config e.history e.counts e.fits.0 e.plan.0 e.plan.1 e.plan.2 in
     let kept = c.in_err-spare-in-Some.ensures.kept in
@@ -122,7 +122,7 @@ index_mut-requires c =
     let w = the_view i in
     let d = c.args.directive.now in
     let e = c.in_ok-plan.ensures in
-    let k = c.keeps_order.ensures.order in
+    let k = c.keeps.ensures.order in
     let items = c.items_of-items_done.result in
     let facts = planned i.place c.plan.new.self c.in_ok-plan.plan c.args.host items d e.config e.history e.counts e.fits.0 e.plan.0 e.plan.1 e.plan.2 in
     let b = c.in-Some.batch in
@@ -138,7 +138,7 @@ push-requires-clause-room c =
     let w = the_view i in
     let d = c.args.directive.now in
     let e = c.in_ok-plan.ensures in
-    let k = c.keeps_order.ensures.order in
+    let k = c.keeps.ensures.order in
     let items = c.items_of-items_done.result in
     let facts = planned i.place c.plan.new.self c.in_ok-plan.plan c.args.host items d e.config e.history e.counts e.fits.0 e.plan.0 e.plan.1 e.plan.2 in
     let b = c.in-Some.batch in
@@ -150,7 +150,7 @@ push-requires-clause-room c =
     let held : c.len.result ≡ length (queue_in i.queues.items b.at).held = c.len.ensures ∙ ap (λ (x : QueueView). length x.held) queue in
     let room : c.room.result ≡ w.config.room = c.room.ensures ∙ (ap (λ x. x.room) c.config.ensures ∙ ap (λ x. x.room) e.config) in
     let entry = seat_found no_queue i.queues.items b.at c.index_mut.result.now s.queue s.held (rw seat_is at c.index_mut.ensures.value) in
-    let count : c.len-count.result ≡ length b.ops = omega (arith, c.len-count.ensures, ap length c.ops.ensures.ops, length-map c.ops.result.now op_of) in
+    let count : c.len-count.result ≡ length b.ops = omega (arith, c.len-count.ensures, ap length c.ops.ensures.ops, length-map c.ops.result.now op_label) in
     let enough = room_there w.config.room i.queues.items b.at s.queue s.held q.roomy in
     omega (arith, held, room, c.if-len-room.false, enough, ap (λ (x : QueueView). length x.held) entry, ap (λ (x : QueueView). x.room) entry)
 
@@ -160,7 +160,7 @@ push-requires-clause-few c =
     let w = the_view i in
     let d = c.args.directive.now in
     let e = c.in_ok-plan.ensures in
-    let k = c.keeps_order.ensures.order in
+    let k = c.keeps.ensures.order in
     let items = c.items_of-items_done.result in
     let facts = planned i.place c.plan.new.self c.in_ok-plan.plan c.args.host items d e.config e.history e.counts e.fits.0 e.plan.0 e.plan.1 e.plan.2 in
     let b = c.in-Some.batch in
@@ -169,7 +169,7 @@ push-requires-clause-few c =
     let q = c.self.invariant.0.parts in
     let seat_is : c.seat-seat.result ≡ seat b.at = c.seat-seat.ensures ∙ ap (λ (l : Label). seat l.at) c.label.ensures in
     let entry = seat_found no_queue i.queues.items b.at c.index_mut.result.now s.queue s.held (rw seat_is at c.index_mut.ensures.value) in
-    let count : c.len-count.result ≡ length b.ops = omega (arith, c.len-count.ensures, ap length c.ops.ensures.ops, length-map c.ops.result.now op_of) in
+    let count : c.len-count.result ≡ length b.ops = omega (arith, c.len-count.ensures, ap length c.ops.ensures.ops, length-map c.ops.result.now op_label) in
     omega (arith, c.in-Some-checked_add.ensures, waiting_low i.queues.items b.at s.queue s.held, q.all_waiting, ap (λ (x : QueueView). x.waiting) entry)
 
 pub invariant_of-self-in-Some : goal.invariant_of-self-in-Some
@@ -178,7 +178,7 @@ invariant_of-self-in-Some c =
     let w = the_view i in
     let d = c.args.directive.now in
     let e = c.in_ok-plan.ensures in
-    let k = c.keeps_order.ensures.order in
+    let k = c.keeps.ensures.order in
     let items = c.items_of-items_done.result in
     let facts = planned i.place c.plan.new.self c.in_ok-plan.plan c.args.host items d e.config e.history e.counts e.fits.0 e.plan.0 e.plan.1 e.plan.2 in
     let b = c.in-Some.batch in
@@ -190,12 +190,12 @@ invariant_of-self-in-Some c =
     let held : c.len.result ≡ length (queue_in i.queues.items b.at).held = c.len.ensures ∙ ap (λ (x : QueueView). length x.held) queue in
     let room : c.room.result ≡ w.config.room = c.room.ensures ∙ (ap (λ x. x.room) c.config.ensures ∙ ap (λ x. x.room) e.config) in
     let entry = seat_found no_queue i.queues.items b.at c.index_mut.result.now s.queue s.held (rw seat_is at c.index_mut.ensures.value) in
-    let count : c.len-count.result ≡ length b.ops = omega (arith, c.len-count.ensures, ap length c.ops.ensures.ops, length-map c.ops.result.now op_of) in
+    let count : c.len-count.result ≡ length b.ops = omega (arith, c.len-count.ensures, ap length c.ops.ensures.ops, length-map c.ops.result.now op_label) in
     let p = c.in_ok-spare-in-Some.ensures in
     let more : c.in-Some-checked_add.waiting ≡ i.waiting + length b.ops = omega (arith, c.in-Some-checked_add.ensures, count) in
     let low : length (queue_in i.queues.items b.at).held < w.config.room = omega (arith, held, room, c.if-len-room.false) in
     let log : length i.work.work + c.in-Some-checked_add.waiting ≤ c.spare.new.self.room = rw (← p.kept.work) p.log in
-    let new = c.push.ensures ∙ (ap (λ (x : QueueView). pushed x b c.len-count.result) entry ∙ ap (pushed (queue_in i.queues.items b.at) b) count) in
+    let new = c.push.ensures ∙ (ap (λ (x : QueueView). queue_pushed x b c.len-count.result) entry ∙ ap (queue_pushed (queue_in i.queues.items b.at) b) count) in
     rw (seat_is, new) (
       keeps_batch w _ i.work c.spare.new.self i.queues.items b i.waiting c.in-Some-checked_add.waiting c.args.host d c.self.invariant.0 s facts.accepted
           (rw (c.accept-placed.ensures.place, c.in-Some.ensures.plan, e.config, e.history, e.counts, e.plan.0, e.plan.1, e.plan.2, c.items_of-items_done.ensures, p.kept.work, p.kept.counts) refl)
@@ -209,7 +209,7 @@ returns-in_ok-spare-in-Some c =
     let w = the_view i in
     let d = c.args.directive.now in
     let e = c.in_ok-plan.ensures in
-    let k = c.keeps_order.ensures.order in
+    let k = c.keeps.ensures.order in
     let items = c.items_of-items_done.result in
     let facts = planned i.place c.plan.new.self c.in_ok-plan.plan c.args.host items d e.config e.history e.counts e.fits.0 e.plan.0 e.plan.1 e.plan.2 in
     let b = c.in-Some.batch in

@@ -1,5 +1,5 @@
-use Rattle.acc_core.specs.Ties.{state_of_parts}
-use Rattle.acc_core.proofs.ClosingQueue.{has_begun, keeps_begun}
+use Rattle.acc_core.specs.inner.Ties.{state_of_parts}
+use Rattle.acc_core.proofs.CloseQueue.{has_begun, keeps_begun}
 use Rattle.acc_core.proofs.accelerator.Accelerator.begin_closing.Goals as goal
 
 pub invariant_of-self : goal.invariant_of-self

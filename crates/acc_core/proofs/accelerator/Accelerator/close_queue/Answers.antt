@@ -3,11 +3,11 @@ use Rattle.acc_batch.proofs.Seats.{seat_found}
 use Rattle.acc_place.specs.Closing.{handed_out, IsOut}
 use Rattle.acc_place.specs.Histories.{CanClose, IsQueue}
 use Rattle.acc_core.specs.Machine.{standing_of}
-use Rattle.acc_core.specs.Queues.{QueueView, no_queue, pushed, queue_in}
-use Rattle.acc_core.specs.Ties.{state_of_parts}
-use Rattle.acc_core.proofs.ClosingInTurn.{closes_did, is_closed_then}
-use Rattle.acc_core.proofs.ClosingQueue.{can_now, close_some, has_closed, keeps_closed}
-use Rattle.acc_core.proofs.LastBatches.{left_some}
+use Rattle.acc_core.specs.inner.Queues.{QueueView, no_queue, queue_pushed, queue_in}
+use Rattle.acc_core.specs.inner.Ties.{state_of_parts}
+use Rattle.acc_core.proofs.ClosesOne.{closes_did, is_closed_then}
+use Rattle.acc_core.proofs.CloseQueue.{can_now, close_some, has_closed, keeps_closed}
+use Rattle.acc_core.proofs.LeftOpen.{left_some}
 use Rattle.acc_core.proofs.Seats.{seated, waiting_low}
 use Rattle.acc_core.proofs.accelerator.Accelerator.close_queue.Goals as goal
 
@@ -17,7 +17,7 @@ push-requires-clause-few c =
     let w = state_of_parts i.place i.work in
     let at = c.args.at in
     let there : IsQueue w.config at = rw (← c.self.view_is) at c.requires.there in
-    let k = c.keeps_order.ensures.order in
+    let k = c.keeps.ensures.order in
     let q = c.self.invariant.0.parts in
     let s = seated w i.work i.queues.items i.waiting at q k there.0 there.1 in
     let out : IsOut (handed_out i.place at) at = rw c.close_batch.ensures.place at c.in-Some.ensures.out in
@@ -40,7 +40,7 @@ invariant_of-self-in-Some c =
     let w = state_of_parts i.place i.work in
     let at = c.args.at in
     let there : IsQueue w.config at = rw (← c.self.view_is) at c.requires.there in
-    let k = c.keeps_order.ensures.order in
+    let k = c.keeps.ensures.order in
     let q = c.self.invariant.0.parts in
     let s = seated w i.work i.queues.items i.waiting at q k there.0 there.1 in
     let out : IsOut (handed_out i.place at) at = rw c.close_batch.ensures.place at c.in-Some.ensures.out in
@@ -52,7 +52,7 @@ invariant_of-self-in-Some c =
     let fits : length (queue_in i.queues.items at).held < w.config.room = omega (arith, held, room, c.if-room-len.false) in
     let entry = seat_found no_queue i.queues.items at c.index_mut.result.now s.queue s.held (rw c.seat-seat.ensures at c.index_mut.ensures.value) in
     let can : CanClose w.config (standing_of w) at = record { there = there; begun = rw (← c.self.view_is) at c.requires.begun; unplaced = out.unplaced } in
-    let new = c.push.ensures ∙ ap (λ (x : QueueView). pushed x b 1) entry in
+    let new = c.push.ensures ∙ ap (λ (x : QueueView). queue_pushed x b 1) entry in
     rw (c.close_done.ensures, c.close_batch.ensures.place, c.seat-seat.ensures, new)
     (keeps_closed w i.work i.queues.items i.waiting at b c.self.invariant.0 s can given.1 fits, has_closed i.place i.unclosed (i.unclosed - 1) at there given.0 out (omega (arith, left_some w.config (standing_of w) at there out.unplaced, c.self.invariant.1.count)) c.self.invariant.1)
 
@@ -62,7 +62,7 @@ returns-else-room-len-clause-state c =
     let w = state_of_parts i.place i.work in
     let at = c.args.at in
     let there : IsQueue w.config at = rw (← c.self.view_is) at c.requires.there in
-    let k = c.keeps_order.ensures.order in
+    let k = c.keeps.ensures.order in
     let q = c.self.invariant.0.parts in
     let s = seated w i.work i.queues.items i.waiting at q k there.0 there.1 in
     let out : IsOut (handed_out i.place at) at = rw c.close_batch.ensures.place at c.in-Some.ensures.out in

@@ -1,7 +1,7 @@
 use Rattle.std.proofs.Common.{◌≡◌, true, refl, sym, ◌∙◌}
 use Rattle.acc_core.specs.Machine.{is_there}
-use Rattle.acc_core.specs.Ties.{state_of_parts}
-use Rattle.acc_core.proofs.Enabling.{enabled_filled}
+use Rattle.acc_core.specs.inner.Ties.{state_of_parts}
+use Rattle.acc_core.proofs.Enabled.{enabled_filled}
 use Rattle.acc_core.proofs.Seats.{seated_there}
 use Rattle.acc_core.proofs.accelerator.Accelerator.enabled.Goals as goal
 
@@ -11,7 +11,7 @@ returns c =
     let w = state_of_parts i.place i.work in
     let at = c.args.at in
     let q = c.self.invariant.0.parts in
-    let k = c.keeps_order.ensures.order in
+    let k = c.keeps.ensures.order in
     let there : is_there w at ≡ true = rw c.config.ensures at (sym c.has_queue.ensures ∙ c.if-not-has_queue.false) in
     let s = seated_there w i.work i.queues.items i.waiting at q k there in
     rw (← c.self.view_is)

@@ -3,15 +3,15 @@ use Rattle.std.specs.Prelude.{replicate}
 use Rattle.acc_base.specs.declared.ids.TheConstants.{QUEUES}
 use Rattle.acc_base.specs.Queues.{queue_count}
 use Rattle.acc_work.specs.Works.{taken_counts}
-use Rattle.acc_core.proofs.ClosingQueue.{has_all}
-use Rattle.acc_core.proofs.Opening.{is_opening, none_taken}
+use Rattle.acc_core.proofs.CloseQueue.{has_all}
+use Rattle.acc_core.proofs.AcceleratorNew.{is_opening, none_taken}
 use Rattle.acc_core.proofs.accelerator.Accelerator.new.Goals as goal
 
 -- no queue took a batch
 took_none : (c : goal.In_ok-new) → taken_counts c.spare_closes.new.work ≡ replicate (queue_count c.args.config) 0
 took_none c =
     let w = c.in_ok-work.ensures in
-    let count : length c.in_ok-work.work.lanes ≡ queue_count c.args.config = c.keeps_order.ensures.order.count ∙ ap (λ n. n * QUEUES) w.devices in
+    let count : length c.in_ok-work.work.lanes ≡ queue_count c.args.config = c.keeps.ensures.order.count ∙ ap (λ n. n * QUEUES) w.devices in
     c.in_ok-spare_closes.ensures.kept.counts ∙ (none_taken c.in_ok-work.work.lanes w.lanes ∙ ap (λ n. replicate n 0) count)
 
 pub invariant_of-result : goal.invariant_of-result

@@ -1,10 +1,10 @@
 use Rattle.std.proofs.Common.{◌≡◌, true, false, refl, sym, ap, ◌∙◌}
 use Rattle.acc_work.specs.Items.{shown_by}
 use Rattle.acc_core.specs.Machine.{can_tell, told_of}
-use Rattle.acc_core.specs.Ties.{state_of_parts, has_cells}
-use Rattle.acc_core.proofs.Changes.{tells_truth}
-use Rattle.acc_core.proofs.Done.{all_done_taken}
-use Rattle.acc_core.proofs.Showing.{roomier, taken_kept, told_item, cells_tell, told_is, item_given}
+use Rattle.acc_core.specs.inner.Ties.{state_of_parts, has_cells}
+use Rattle.acc_core.proofs.StepChanges.{tells_truth}
+use Rattle.acc_core.proofs.BatchesDone.{all_done_taken}
+use Rattle.acc_core.proofs.ItemAnswer.{roomier, taken_kept, told_item, cells_tell, told_is, item_given}
 use Rattle.acc_core.proofs.accelerator.Accelerator.record.Goals as goal
 
 -- what was told is what the item tells
@@ -15,14 +15,14 @@ is_told c =
     let kept = c.in_default.ensures.kept in
     told_is w c.spare_item.new.self c.args.item c.host_item.ensures.0 (roomier c.self.invariant.0 kept).memory
     (λ device counts.
-    rw (kept.taken, kept.work) (all_done_taken w i.work i.queues.items i.waiting device 0 counts c.self.invariant.0.parts c.keeps_order.ensures.order refl))
+    rw (kept.taken, kept.work) (all_done_taken w i.work i.queues.items i.waiting device 0 counts c.self.invariant.0.parts c.keeps.ensures.order refl))
     c.host_item.ensures.1
 
 -- and its cells are there
 can_be_told : (c : goal.After-host_item) → can_tell (state_of_parts c.self.inside.place c.self.inside.work) c.args.item ≡ true
 can_be_told c =
     let there : has_cells c.self.inside.place.config.arrays c.args.item ≡ true =
-    rw (← c.config-config.ensures, ← c.plain.ensures) (sym c.has_cells.ensures ∙ c.if-not-has_cells.false) in
+    rw (← c.config-config.ensures, ← c.label.ensures) (sym c.has_cells.ensures ∙ c.if-not-has_cells.false) in
     cells_tell (state_of_parts c.self.inside.place c.self.inside.work) c.args.item c.requires.item ∙ there
 
 pub invariant_of-self-2 : goal.invariant_of-self-2

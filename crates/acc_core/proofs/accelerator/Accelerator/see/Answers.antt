@@ -1,7 +1,7 @@
 use Rattle.std.proofs.Common.{refl, sym, ◌∙◌}
-use Rattle.acc_core.specs.Ties.{state_of_parts}
-use Rattle.acc_core.proofs.Done.{all_done_taken}
-use Rattle.acc_core.proofs.Showing.{roomier, taken_kept, told_item}
+use Rattle.acc_core.specs.inner.Ties.{state_of_parts}
+use Rattle.acc_core.proofs.BatchesDone.{all_done_taken}
+use Rattle.acc_core.proofs.ItemAnswer.{roomier, taken_kept, told_item}
 use Rattle.acc_core.proofs.accelerator.Accelerator.see.Goals as goal
 
 pub host_item-requires-clause-item : goal.host_item-requires-clause-item
@@ -9,7 +9,7 @@ host_item-requires-clause-item c =
     let i = c.self.inside in
     let kept = c.in_ok-spare_item.ensures.kept in
     let w = state_of_parts i.place i.work in
-    let same = all_done_taken w i.work i.queues.items i.waiting c.args.device 0 c.args.counts c.self.invariant.0.parts c.keeps_order.ensures.order refl in
+    let same = all_done_taken w i.work i.queues.items i.waiting c.args.device 0 c.args.counts c.self.invariant.0.parts c.keeps.ensures.order refl in
     rw (c.in_ok-item.ensures.item, kept.taken, kept.work) (same ∙ rw (← c.self.view_is) at (sym c.reached.ensures ∙ c.if-not-reached.false))
 
 pub invariant_of-self-2 : goal.invariant_of-self-2

@@ -2,7 +2,7 @@ use Rattle.std.proofs.Common.{◌≡◌, ◌+◌, ◌∷◌, [], ◌++◌, take,
 use Rattle.std.proofs.lemmas.List.{take_all, take_more}
 use Rattle.acc_core.specs.Machine.{Runs}
 use Rattle.acc_core.proofs.HostLaws.{HostLaws}
-use Rattle.acc_core.proofs.Runs.{Runs-more}
+use Rattle.acc_core.proofs.RunParts.{Runs-more}
 use Rattle.acc_core.proofs.WorldSteps.{has_run}
 use Rattle.acc_core.proofs.world.World.advance.Goals as goal
 

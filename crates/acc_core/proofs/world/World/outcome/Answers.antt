@@ -1,5 +1,5 @@
 use Rattle.acc_core.proofs.HostLaws.{HostLaws}
-use Rattle.acc_core.proofs.Stepping.{AllStand-follow}
+use Rattle.acc_core.proofs.StandingHosts.{AllStand-follow}
 use Rattle.acc_core.proofs.world.World.outcome.Goals as goal
 
 pub returns-clause-follow : goal.returns-clause-follow

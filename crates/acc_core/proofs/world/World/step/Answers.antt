@@ -2,11 +2,11 @@ use Rattle.std.proofs.Common.{◌≡◌, ◌<◌, ◌≤◌, length, refl, ◌�
 use Rattle.std.specs.Prelude.{slice_get, slice_set}
 use Rattle.std.proofs.lemmas.List.{length-set}
 use Rattle.std.proofs.lemmas.Option.{slice_get_past, slice_get_read}
-use Rattle.acc_core.specs.declared.event.Event.TheVariants as event
+use Rattle.acc_host.specs.declared.event.Event.TheVariants as event
 use Rattle.acc_core.specs.Machine.{Step}
 use Rattle.acc_core.proofs.HostLaws.{HostLaws}
 use Rattle.acc_core.proofs.HostSteps.{host_steps, no_host}
-use Rattle.acc_core.proofs.Stepping.{stands_at}
+use Rattle.acc_core.proofs.StandingHosts.{stands_at}
 use Rattle.acc_core.proofs.WorldSteps.{closes_world, still_world, takes, performs}
 use Rattle.acc_core.proofs.world.World.step.Goals as goal
 

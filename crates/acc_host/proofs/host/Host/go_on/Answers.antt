@@ -3,7 +3,7 @@ use Rattle.std.specs.Prelude.{slice_get}
 use Rattle.std.proofs.lemmas.Option.{slice_get_past}
 use Rattle.std.proofs.lemmas.List.{length-map}
 use Rattle.acc_host.specs.Hosts.{HostView, bare}
-use Rattle.acc_host.proofs.Staying.{at_the_end}
+use Rattle.acc_host.proofs.GoOn.{at_the_end}
 use Rattle.acc_host.proofs.host.Host.go_on.Goals as goal
 
 pub returns-then-self-len-clause-steps : goal.returns-then-self-len-clause-steps

@@ -1,6 +1,6 @@
 use Rattle.std.proofs.Common.{sym, subst}
 use Rattle.acc_host.specs.Following.{Stands}
-use Rattle.acc_host.proofs.Standing.{Steps-stands}
+use Rattle.acc_host.proofs.HostStands.{Steps-stands}
 use Rattle.acc_host.proofs.host.Host.next.Goals as goal
 
 pub returns-clause-follows : goal.returns-clause-follows

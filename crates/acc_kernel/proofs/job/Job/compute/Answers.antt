@@ -2,7 +2,7 @@ use Rattle.std.proofs.Common.{◌≡◌, List, ◌∙◌, ap, sym, subst}
 use Rattle.std.specs.Prelude.{ℤ}
 use Rattle.acc_kernel.specs.Jobs.{Use, Computation, AreDistinct, AreRows, HoldReached, cell_in, computed}
 use Rattle.acc_kernel.specs.Kernels.{Loop, value_after}
-use Rattle.acc_kernel.proofs.Rowing.{rows_are}
+use Rattle.acc_kernel.proofs.CellIn.{rows_are}
 use Rattle.acc_kernel.proofs.job.Job.compute.Goals as goal
 
 pub run-requires : goal.run-requires
@@ -31,7 +31,7 @@ returns c =
     ∙ (ap (λ (u : List Use). value_after c.self.inside.kernel (cell_in u c.copy_rows.new.target.rows)) c.copy_rows.ensures.uses
     ∙ ap (λ (r : List (List ℤ)). value_after c.self.inside.kernel (cell_in c.self.inside.outputs.uses r)) c.copy_rows.ensures.rows))) in
     let shape : AreRows c.self.inside.outputs.uses c.run.new.window.rows =
-    subst (λ (u : List Use). AreRows u c.run.new.window.rows) same c.keeps_shape-3.ensures in
+    subst (λ (u : List Use). AreRows u c.run.new.window.rows) same c.keeps-3.ensures in
     let rows = rows_are c.self.inside.outputs.uses c.run.new.window.rows (value_after c.self.inside.kernel (cell_in c.self.inside.outputs.uses c.self.inside.inputs.rows)) c.self.invariant.1 shape ran in
     let make : List Use → List (List ℤ) → Computation = λ u r. record { kernel = c.self.inside.kernel; uses = u; inputs = c.self.inside.inputs.rows; outputs = r } in
     subst (λ (w : Computation). make c.run.new.window.uses c.run.new.window.rows ≡ record w { outputs = computed w }) c.self.view_is

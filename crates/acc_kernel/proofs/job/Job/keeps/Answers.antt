@@ -8,6 +8,6 @@ returns c =
     (record {
       distinct = c.self.invariant.1;
       reached = c.self.invariant.2;
-      inputs = subst (λ (uses : List Use). AreRows uses c.self.inside.inputs.rows) c.self.invariant.0 c.keeps_shape.ensures;
-      outputs = c.keeps_shape-2.ensures;
+      inputs = subst (λ (uses : List Use). AreRows uses c.self.inside.inputs.rows) c.self.invariant.0 c.keeps.ensures;
+      outputs = c.keeps-2.ensures;
     })

@@ -3,15 +3,15 @@ use Rattle.std.proofs.lemmas.Int.{to_z-of_z}
 use Rattle.std.proofs.lemmas.List.{get_or_default}
 use mir.Syntax.{w64}
 use Rattle.acc_kernel.specs.Jobs.{Use, no_use}
-use Rattle.acc_kernel.specs.RowTables.{Stored}
-use Rattle.acc_kernel.proofs.Rowing.{spot_of}
-use Rattle.acc_kernel.proofs.Splicing.{HasAll, first_there, room_for, read_run}
+use Rattle.acc_kernel.specs.inner.RowTables.{RowsView}
+use Rattle.acc_kernel.proofs.CellIn.{spot_of}
+use Rattle.acc_kernel.proofs.SplicedRow.{HasAll, first_there, room_for, read_run}
 use Rattle.acc_kernel.proofs.rows.RowsWindow.read.Goals as goal
 
 pub index-requires : goal.index-requires
 index-requires c =
     let all : HasAll c.self.inside.uses.items c.args.array c.args.first (length c.args.into.now) =
-    subst (λ (v : Stored). HasAll v.uses c.args.array c.args.first (length c.args.into.now)) (sym c.self.view_is) c.requires.has in
+    subst (λ (v : RowsView). HasAll v.uses c.args.array c.args.first (length c.args.into.now)) (sym c.self.view_is) c.requires.has in
     let s = spot_of c.self.inside.uses.items c.self.inside.places.items c.self.inside.rows.items c.args.array c.args.first c.from.result c.index-place.result.now
     c.self.invariant c.from.ensures c.ranges.array.fits c.index-place.ensures
     (first_there c.self.inside.uses.items c.args.array c.args.first (length c.args.into.now) c.requires.some all) in
@@ -21,7 +21,7 @@ index-requires c =
 pub index-requires-2 : goal.index-requires-2
 index-requires-2 c =
     let all : HasAll c.self.inside.uses.items c.args.array c.args.first (length c.args.into.now) =
-    subst (λ (v : Stored). HasAll v.uses c.args.array c.args.first (length c.args.into.now)) (sym c.self.view_is) c.requires.has in
+    subst (λ (v : RowsView). HasAll v.uses c.args.array c.args.first (length c.args.into.now)) (sym c.self.view_is) c.requires.has in
     let s = spot_of c.self.inside.uses.items c.self.inside.places.items c.self.inside.rows.items c.args.array c.args.first c.from.result c.index-place.result.now
     c.self.invariant c.from.ensures c.ranges.array.fits c.index-place.ensures
     (first_there c.self.inside.uses.items c.args.array c.args.first (length c.args.into.now) c.requires.some all) in
@@ -31,7 +31,7 @@ index-requires-2 c =
 pub distance-requires : goal.distance-requires
 distance-requires c =
     let all : HasAll c.self.inside.uses.items c.args.array c.args.first (length c.args.into.now) =
-    subst (λ (v : Stored). HasAll v.uses c.args.array c.args.first (length c.args.into.now)) (sym c.self.view_is) c.requires.has in
+    subst (λ (v : RowsView). HasAll v.uses c.args.array c.args.first (length c.args.into.now)) (sym c.self.view_is) c.requires.has in
     let s = spot_of c.self.inside.uses.items c.self.inside.places.items c.self.inside.rows.items c.args.array c.args.first c.from.result c.index-place.result.now
     c.self.invariant c.from.ensures c.ranges.array.fits c.index-place.ensures
     (first_there c.self.inside.uses.items c.args.array c.args.first (length c.args.into.now) c.requires.some all) in
@@ -43,7 +43,7 @@ distance-requires c =
 pub copy_to-requires : goal.copy_to-requires
 copy_to-requires c =
     let all : HasAll c.self.inside.uses.items c.args.array c.args.first (length c.args.into.now) =
-    subst (λ (v : Stored). HasAll v.uses c.args.array c.args.first (length c.args.into.now)) (sym c.self.view_is) c.requires.has in
+    subst (λ (v : RowsView). HasAll v.uses c.args.array c.args.first (length c.args.into.now)) (sym c.self.view_is) c.requires.has in
     let s = spot_of c.self.inside.uses.items c.self.inside.places.items c.self.inside.rows.items c.args.array c.args.first c.from.result c.index-place.result.now
     c.self.invariant c.from.ensures c.ranges.array.fits c.index-place.ensures
     (first_there c.self.inside.uses.items c.args.array c.args.first (length c.args.into.now) c.requires.some all) in
@@ -57,7 +57,7 @@ copy_to-requires c =
 pub returns : goal.returns
 returns c =
     let all : HasAll c.self.inside.uses.items c.args.array c.args.first (length c.args.into.now) =
-    subst (λ (v : Stored). HasAll v.uses c.args.array c.args.first (length c.args.into.now)) (sym c.self.view_is) c.requires.has in
+    subst (λ (v : RowsView). HasAll v.uses c.args.array c.args.first (length c.args.into.now)) (sym c.self.view_is) c.requires.has in
     let s = spot_of c.self.inside.uses.items c.self.inside.places.items c.self.inside.rows.items c.args.array c.args.first c.from.result c.index-place.result.now
     c.self.invariant c.from.ensures c.ranges.array.fits c.index-place.ensures
     (first_there c.self.inside.uses.items c.args.array c.args.first (length c.args.into.now) c.requires.some all) in

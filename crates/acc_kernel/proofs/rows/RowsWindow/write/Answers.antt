@@ -3,15 +3,15 @@ use Rattle.std.proofs.lemmas.Int.{to_z-of_z}
 use Rattle.std.proofs.lemmas.List.{get_or_default}
 use mir.Syntax.{w64}
 use Rattle.acc_kernel.specs.Jobs.{Use, no_use}
-use Rattle.acc_kernel.specs.RowTables.{Stored}
-use Rattle.acc_kernel.proofs.Rowing.{spot_of}
-use Rattle.acc_kernel.proofs.Splicing.{HasAll, first_there, room_for, spliced, length-spliced, shape_kept, write_run}
+use Rattle.acc_kernel.specs.inner.RowTables.{RowsView}
+use Rattle.acc_kernel.proofs.CellIn.{spot_of}
+use Rattle.acc_kernel.proofs.SplicedRow.{HasAll, first_there, room_for, spliced, length-spliced, shape_kept, write_run}
 use Rattle.acc_kernel.proofs.rows.RowsWindow.write.Goals as goal
 
 pub index-requires : goal.index-requires
 index-requires c =
     let all : HasAll c.self.inside.uses.items c.args.array c.args.first (length c.args.values.now) =
-    subst (λ (v : Stored). HasAll v.uses c.args.array c.args.first (length c.args.values.now)) (sym c.self.view_is) c.requires.has in
+    subst (λ (v : RowsView). HasAll v.uses c.args.array c.args.first (length c.args.values.now)) (sym c.self.view_is) c.requires.has in
     let s = spot_of c.self.inside.uses.items c.self.inside.places.items c.self.inside.rows.items c.args.array c.args.first c.from.result c.index-place.result.now
     c.self.invariant c.from.ensures c.ranges.array.fits c.index-place.ensures
     (first_there c.self.inside.uses.items c.args.array c.args.first (length c.args.values.now) c.requires.some all) in
@@ -21,7 +21,7 @@ index-requires c =
 pub distance-at-requires : goal.distance-at-requires
 distance-at-requires c =
     let all : HasAll c.self.inside.uses.items c.args.array c.args.first (length c.args.values.now) =
-    subst (λ (v : Stored). HasAll v.uses c.args.array c.args.first (length c.args.values.now)) (sym c.self.view_is) c.requires.has in
+    subst (λ (v : RowsView). HasAll v.uses c.args.array c.args.first (length c.args.values.now)) (sym c.self.view_is) c.requires.has in
     let s = spot_of c.self.inside.uses.items c.self.inside.places.items c.self.inside.rows.items c.args.array c.args.first c.from.result c.index-place.result.now
     c.self.invariant c.from.ensures c.ranges.array.fits c.index-place.ensures
     (first_there c.self.inside.uses.items c.args.array c.args.first (length c.args.values.now) c.requires.some all) in
@@ -33,7 +33,7 @@ distance-at-requires c =
 pub index_mut-row-requires : goal.index_mut-row-requires
 index_mut-row-requires c =
     let all : HasAll c.self.inside.uses.items c.args.array c.args.first (length c.args.values.now) =
-    subst (λ (v : Stored). HasAll v.uses c.args.array c.args.first (length c.args.values.now)) (sym c.self.view_is) c.requires.has in
+    subst (λ (v : RowsView). HasAll v.uses c.args.array c.args.first (length c.args.values.now)) (sym c.self.view_is) c.requires.has in
     let s = spot_of c.self.inside.uses.items c.self.inside.places.items c.self.inside.rows.items c.args.array c.args.first c.from.result c.index-place.result.now
     c.self.invariant c.from.ensures c.ranges.array.fits c.index-place.ensures
     (first_there c.self.inside.uses.items c.args.array c.args.first (length c.args.values.now) c.requires.some all) in
@@ -43,7 +43,7 @@ index_mut-row-requires c =
 pub copy_from-requires : goal.copy_from-requires
 copy_from-requires c =
     let all : HasAll c.self.inside.uses.items c.args.array c.args.first (length c.args.values.now) =
-    subst (λ (v : Stored). HasAll v.uses c.args.array c.args.first (length c.args.values.now)) (sym c.self.view_is) c.requires.has in
+    subst (λ (v : RowsView). HasAll v.uses c.args.array c.args.first (length c.args.values.now)) (sym c.self.view_is) c.requires.has in
     let s = spot_of c.self.inside.uses.items c.self.inside.places.items c.self.inside.rows.items c.args.array c.args.first c.from.result c.index-place.result.now
     c.self.invariant c.from.ensures c.ranges.array.fits c.index-place.ensures
     (first_there c.self.inside.uses.items c.args.array c.args.first (length c.args.values.now) c.requires.some all) in
@@ -57,7 +57,7 @@ copy_from-requires c =
 pub invariant_of-self : goal.invariant_of-self
 invariant_of-self c =
     let all : HasAll c.self.inside.uses.items c.args.array c.args.first (length c.args.values.now) =
-    subst (λ (v : Stored). HasAll v.uses c.args.array c.args.first (length c.args.values.now)) (sym c.self.view_is) c.requires.has in
+    subst (λ (v : RowsView). HasAll v.uses c.args.array c.args.first (length c.args.values.now)) (sym c.self.view_is) c.requires.has in
     let s = spot_of c.self.inside.uses.items c.self.inside.places.items c.self.inside.rows.items c.args.array c.args.first c.from.result c.index-place.result.now
     c.self.invariant c.from.ensures c.ranges.array.fits c.index-place.ensures
     (first_there c.self.inside.uses.items c.args.array c.args.first (length c.args.values.now) c.requires.some all) in
@@ -78,7 +78,7 @@ invariant_of-self c =
 pub returns-clause-cells : goal.returns-clause-cells
 returns-clause-cells c =
     let all : HasAll c.self.inside.uses.items c.args.array c.args.first (length c.args.values.now) =
-    subst (λ (v : Stored). HasAll v.uses c.args.array c.args.first (length c.args.values.now)) (sym c.self.view_is) c.requires.has in
+    subst (λ (v : RowsView). HasAll v.uses c.args.array c.args.first (length c.args.values.now)) (sym c.self.view_is) c.requires.has in
     let s = spot_of c.self.inside.uses.items c.self.inside.places.items c.self.inside.rows.items c.args.array c.args.first c.from.result c.index-place.result.now
     c.self.invariant c.from.ensures c.ranges.array.fits c.index-place.ensures
     (first_there c.self.inside.uses.items c.args.array c.args.first (length c.args.values.now) c.requires.some all) in

@@ -1,7 +1,7 @@
 use Rattle.std.proofs.Common.{◌≡◌, Some, sym, ap, ◌∙◌}
 use Rattle.acc_memory.specs.Blocks.{row_of, row_with}
 use Rattle.acc_memory.specs.Memories.{rows_in, find_row}
-use Rattle.acc_memory.proofs.Devices.{device_at}
+use Rattle.acc_memory.proofs.MemoryCalls.{device_at}
 use Rattle.acc_memory.proofs.Rows.{find_row-name}
 use Rattle.acc_memory.proofs.memory.Memory.block.Goals as goal
 

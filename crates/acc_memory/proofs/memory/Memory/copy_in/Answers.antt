@@ -1,12 +1,12 @@
 use Rattle.std.proofs.Common.{◌≡◌, ◌+◌, map, set, refl, ◌∙◌, arith, Some}
 use Rattle.std.specs.Prelude.{slice_get}
 use Rattle.std.proofs.lemmas.List.{length-map, length-set}
-use Rattle.acc_batch.specs.declared.operation.Op.TheVariants.{CopyIn}
+use Rattle.acc_batch.specs.declared.label.OpLabel.TheVariants.{CopyIn}
 use Rattle.acc_memory.specs.Memories.{PerformsOn}
 use Rattle.acc_memory.specs.Values.{Host_cell}
-use Rattle.acc_memory.proofs.Arrays.{array_low, array_at, replace_at}
-use Rattle.acc_memory.proofs.Devices.{memory, device_at, shows_rows, shows_array, performs_on}
-use Rattle.acc_memory.proofs.Fitting.{range_fits, fits_after}
+use Rattle.acc_memory.proofs.HostArrays.{array_low, array_at, replace_at}
+use Rattle.acc_memory.proofs.MemoryCalls.{memory, device_at, shows_rows, shows_array, performs_on}
+use Rattle.acc_memory.proofs.BlocksFit.{range_fits, fits_after}
 use Rattle.acc_memory.proofs.memory.Memory.copy_in.Goals as goal
 
 pub index-requires : goal.index-requires

@@ -1,11 +1,11 @@
 use Rattle.std.proofs.Common.{◌≡◌, ◌+◌, length, map, set, refl, ap, ◌∙◌, arith}
 use Rattle.std.specs.Vec.{with_items}
 use Rattle.std.proofs.lemmas.List.{length-map, with_items_is}
-use Rattle.acc_batch.specs.declared.operation.Op.TheVariants.{CopyOut}
+use Rattle.acc_batch.specs.declared.label.OpLabel.TheVariants.{CopyOut}
 use Rattle.acc_memory.specs.Memories.{PerformsOn}
-use Rattle.acc_memory.proofs.Arrays.{array_low, array_at, array_after, unchanged}
-use Rattle.acc_memory.proofs.Devices.{memory, device_at, shows_rows, shows_array, hosts_copy_out, rows_copy_out, performs_on}
-use Rattle.acc_memory.proofs.Fitting.{range_fits, fits_after}
+use Rattle.acc_memory.proofs.HostArrays.{array_low, array_at, array_after, unchanged}
+use Rattle.acc_memory.proofs.MemoryCalls.{memory, device_at, shows_rows, shows_array, hosts_copy_out, rows_copy_out, performs_on}
+use Rattle.acc_memory.proofs.BlocksFit.{range_fits, fits_after}
 use Rattle.acc_memory.proofs.memory.Memory.copy_out.Goals as goal
 
 pub index_mut-requires : goal.index_mut-requires

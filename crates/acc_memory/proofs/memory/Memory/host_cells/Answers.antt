@@ -1,6 +1,6 @@
 use Rattle.std.proofs.Common.{◌≡◌, ◌+◌, ◌-◌, length, map, take, drop, ap, ◌∙◌, arith}
-use Rattle.acc_memory.proofs.Arrays.{array_at}
-use Rattle.acc_memory.proofs.Devices.{memory, range_values}
+use Rattle.acc_memory.proofs.HostArrays.{array_at}
+use Rattle.acc_memory.proofs.MemoryCalls.{memory, range_values}
 use Rattle.acc_memory.proofs.memory.Memory.host_cells.Goals as goal
 
 pub returns : goal.returns

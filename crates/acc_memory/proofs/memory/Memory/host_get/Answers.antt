@@ -2,7 +2,7 @@ use Rattle.std.proofs.Common.{◌+◌, sym, ap, length, arith, rules, w64}
 use Rattle.std.specs.Prelude.{FitsSigned}
 use Rattle.std.proofs.lemmas.Int.{to_z-of_z}
 use Rattle.acc_memory.specs.Values.{or_zero}
-use Rattle.acc_memory.proofs.Arrays.{array_at}
+use Rattle.acc_memory.proofs.HostArrays.{array_at}
 use Rattle.acc_memory.proofs.memory.Memory.host_get.Goals as goal
 
 pub cell_at-requires : goal.cell_at-requires

@@ -2,9 +2,9 @@ use Rattle.std.proofs.Common.{◌+◌, ◌<◌, length, map, set, refl, arith, w
 use Rattle.std.specs.Vec.{with_item}
 use Rattle.std.proofs.lemmas.Int.{to_z-of_z}
 use Rattle.std.proofs.lemmas.List.{length-set}
-use Rattle.acc_memory.proofs.Arrays.{ArrayAfter, array_at, array_after}
-use Rattle.acc_memory.proofs.Devices.{shows_write}
-use Rattle.acc_memory.proofs.Fitting.{fits_kept}
+use Rattle.acc_memory.proofs.HostArrays.{ArrayAfter, array_at, array_after}
+use Rattle.acc_memory.proofs.MemoryCalls.{shows_write}
+use Rattle.acc_memory.proofs.BlocksFit.{fits_kept}
 use Rattle.acc_memory.proofs.memory.Memory.host_set.Goals as goal
 
 after : (c : goal.After-self-1) → ArrayAfter (λ v. v.items) c.self.inside.arrays.items c.args.array c.index_mut-cells.result.now (with_item c.index_mut-cells.result.now c.args.cell c.args.value)

@@ -1,12 +1,12 @@
 use Rattle.std.proofs.Common.{◌≡◌, map, set, refl, ◌∙◌, Some}
 use Rattle.std.specs.Prelude.{slice_get}
 use Rattle.std.proofs.lemmas.List.{length-set}
-use Rattle.acc_batch.specs.declared.operation.Op.TheVariants.{Make}
+use Rattle.acc_batch.specs.declared.label.OpLabel.TheVariants.{Make}
 use Rattle.acc_memory.specs.Memories.{PerformsOn}
 use Rattle.acc_memory.specs.Values.{Host_cell}
-use Rattle.acc_memory.proofs.Arrays.{replace_at}
-use Rattle.acc_memory.proofs.Devices.{memory, device_at, shows_rows, performs_on}
-use Rattle.acc_memory.proofs.Fitting.{fits_after}
+use Rattle.acc_memory.proofs.HostArrays.{replace_at}
+use Rattle.acc_memory.proofs.MemoryCalls.{memory, device_at, shows_rows, performs_on}
+use Rattle.acc_memory.proofs.BlocksFit.{fits_after}
 use Rattle.acc_memory.proofs.memory.Memory.make.Goals as goal
 
 at_device : (c : goal.After-index_mut-blocks) → slice_get c.self.inside.devices.items c.args.device ≡ Some c.index_mut-blocks.result.now

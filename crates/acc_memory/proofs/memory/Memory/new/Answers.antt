@@ -1,6 +1,7 @@
 use Rattle.std.proofs.Common.{◌≡◌, map, true}
 use Rattle.std.proofs.lemmas.List.Elements.{All-nil}
-use Rattle.acc_memory.specs.Memories.{ends_in, lengths_of}
+use Rattle.acc_memory.specs.Memories.{ends_in}
+use Rattle.acc_base.specs.Configurations.{lengths_of}
 use Rattle.acc_batch.specs.Lives.{Made}
 use Rattle.acc_memory.proofs.memory.Memory.new.Goals as goal
 

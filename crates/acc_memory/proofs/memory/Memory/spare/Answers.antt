@@ -1,6 +1,6 @@
 use Rattle.std.proofs.Common.{refl, ap, map}
 use Rattle.acc_memory.specs.Memories.{made_of}
-use Rattle.acc_memory.proofs.Fitting.{fits_kept}
+use Rattle.acc_memory.proofs.BlocksFit.{fits_kept}
 use Rattle.acc_memory.proofs.memory.Memory.spare.Goals as goal
 
 pub invariant_of-self : goal.invariant_of-self

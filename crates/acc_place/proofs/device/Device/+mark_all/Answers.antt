@@ -1,13 +1,13 @@
 use Rattle.std.proofs.Common.{length, get_or, rules, arith, ap}
 use Rattle.acc_place.specs.declared.directive.Clause.TheVariants.{Copy}
-use Rattle.acc_place.specs.declared.directive.Item.{Item}
-use Rattle.acc_place.specs.Devices.{held_on}
-use Rattle.acc_place.specs.Walks.{Holding, AllEntered, AllFine, HasRoomFor}
-use Rattle.acc_place.proofs.Marking.{fresh_later, opened_later}
-use Rattle.acc_place.proofs.Walking.{rest_of, rest_is, can_mark, fine-first, fine-next, entered-first, entered-next, room_rest}
+use Rattle.acc_place.specs.declared.directive.DataItem.{DataItem}
+use Rattle.acc_place.specs.inner.Devices.{held_on}
+use Rattle.acc_place.specs.inner.Walks.{Holding, AllEntered, AllFine, HasRoomFor}
+use Rattle.acc_place.proofs.DeviceNotes.{fresh_later, opened_later}
+use Rattle.acc_place.proofs.WalkItem.{rest_of, rest_is, can_mark, fine-first, fine-next, entered-first, entered-next, room_rest}
 use Rattle.acc_place.proofs.device.Device.+mark_all.Goals as goal
 
-abbrev no_item : Item
+abbrev no_item : DataItem
 no_item = record { clause = Copy; range = record { array = 0; lo = 0; len = 0 } }
 
 pub mark-requires-clause-can : goal.mark-requires-clause-can

@@ -1,8 +1,8 @@
 use Rattle.std.proofs.Common.{List, get_or, sym, subst}
 use Rattle.acc_kernel.specs.Jobs.{Use}
 use Rattle.acc_present.specs.Notes.{HasNotes, changed_at, used_by}
-use Rattle.acc_place.specs.Noting.{changed_all}
-use Rattle.acc_place.proofs.Raising.{first_and_rest}
+use Rattle.acc_place.specs.inner.Noting.{changed_all}
+use Rattle.acc_place.proofs.AwaitedNumbers.{first_and_rest}
 use Rattle.acc_place.proofs.device.Device.+note_uses.Goals as goal
 
 pub returns-in-len1-up-clause-notes : goal.returns-in-len1-up-clause-notes

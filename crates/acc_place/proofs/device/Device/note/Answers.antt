@@ -1,9 +1,9 @@
 use Rattle.std.proofs.Common.{List, refl, subst, ◌∙◌}
 use Rattle.acc_kernel.specs.Jobs.{Use}
 use Rattle.acc_present.specs.Notes.{HasNotes, used_by}
-use Rattle.acc_place.specs.Noting.{changed_all}
-use Rattle.acc_batch.specs.declared.operation.Op.TheVariants.{Make, CopyIn, CopyOut}
-use Rattle.acc_place.proofs.Marking.{cells_noted}
+use Rattle.acc_place.specs.inner.Noting.{changed_all}
+use Rattle.acc_batch.specs.declared.label.OpLabel.TheVariants.{Make, CopyIn, CopyOut}
+use Rattle.acc_place.proofs.DeviceNotes.{cells_noted}
 use Rattle.acc_place.proofs.device.Device.note.Goals as goal
 
 pub note_make-requires-clause-cells : goal.note_make-requires-clause-cells

@@ -2,7 +2,7 @@ use Rattle.std.proofs.Common.{[], ◌∷◌, ◌++◌, map, sym, ap, ◌∙◌}
 use Rattle.std.specs.Prelude.{slice_set, vec_capacity, ◌-◌}
 use Rattle.std.proofs.lemmas.List.{length-map, map-set}
 use Rattle.acc_base.specs.Queues.{seat}
-use Rattle.acc_place.proofs.Setting.{shown_at, shown_same}
+use Rattle.acc_place.proofs.SliceSet.{shown_at, shown_same}
 use Rattle.acc_place.proofs.labels.Labels.push.Goals as goal
 
 pub returns-clause-queues : goal.returns-clause-queues

@@ -1,7 +1,7 @@
 use Rattle.std.proofs.Common.{[], length, ap, arith}
 use Rattle.std.specs.Prelude.{vec_capacity, ◌-◌}
 use Rattle.std.proofs.lemmas.List.{length-map}
-use Rattle.acc_place.proofs.Setting.{shown_more, shown_new, shown_same}
+use Rattle.acc_place.proofs.SliceSet.{shown_more, shown_new, shown_same}
 use Rattle.acc_place.proofs.labels.Labels.spare.Goals as goal
 
 pub returns-in_err-reserve-clause-queues : goal.returns-in_err-reserve-clause-queues

@@ -4,20 +4,20 @@ use Rattle.acc_present.specs.declared.change.Change.TheVariants.{StructuredDown}
 use Rattle.acc_place.specs.declared.plan.Plan.TheInside.{Inside as PlanInside}
 use Rattle.acc_place.specs.declared.closes.Close.{Close}
 use Rattle.acc_place.specs.declared.device.Device.{Device}
-use Rattle.acc_place.specs.Devices.{held_on}
+use Rattle.acc_place.specs.inner.Devices.{held_on}
 use Rattle.acc_place.specs.Plans.{PlanView, standing_in, Fits}
 use Rattle.acc_place.specs.Standings.{change_by}
-use Rattle.acc_place.specs.Walks.{holding_after_all, holding_between, holding_behind, ends_of}
+use Rattle.acc_place.specs.inner.Walks.{holding_after_all, holding_between, holding_behind, ends_of}
 use Rattle.acc_place.specs.Batches.{counts_queues}
 use Rattle.acc_place.specs.Targets.{queue_by, queues_named}
-use Rattle.acc_place.specs.Trials.{counts_in}
-use Rattle.acc_place.proofs.Accepted.{accepted_device, all_cells, device_in, entered_in, items_in, length-ends, room_for}
-use Rattle.acc_place.proofs.Accepting.{label_cells, notes_then}
+use Rattle.acc_place.specs.inner.Trials.{counts_in}
+use Rattle.acc_place.proofs.AcceptedDirective.{accepted_device, all_cells, device_in, entered_in, items_in, length-ends, room_for}
+use Rattle.acc_place.proofs.PlaceAccept.{label_cells, notes_then}
 use Rattle.acc_place.proofs.KeptCloses.{closes_pushed}
-use Rattle.acc_place.proofs.Planning.{acted_on, are_put, device_low, label_room, place_pushed, pushed_view, answer_is}
-use Rattle.acc_place.proofs.Seen.{room_of, seen}
-use Rattle.acc_place.proofs.Setting.{shown_same}
-use Rattle.acc_place.proofs.Walking.{room_all}
+use Rattle.acc_place.proofs.StandingIn.{acted_on, are_put, device_low, label_room, place_pushed, pushed_view, answer_is}
+use Rattle.acc_place.proofs.PlaceParts.{room_of, seen}
+use Rattle.acc_place.proofs.SliceSet.{shown_same}
+use Rattle.acc_place.proofs.WalkItem.{room_all}
 use Rattle.acc_place.proofs.place.Place.accept.Goals as goal
 
 abbrev planned : PlanInside → PlanView
@@ -29,7 +29,7 @@ index_mut-there-requires c =
     let h = c.self.invariant.0 in
     let q = planned c.plan.inside in
     let fits : Fits (seen w) q = rw (← c.self.view_is, ← c.plan.view_is) at c.requires in
-    let n = c.from.ensures ∙ (c.number.ensures ∙ c.device_of-device.ensures) in
+    let n = c.from.ensures ∙ (c.number.ensures ∙ c.device_by-device.ensures) in
     let here = accepted_device w.config (standing_in (seen w)) q.host q.directive fits.accepted in
     omega (arith, w.devices.ok.0, device_low (seen w) q.host q.directive w.devices.items w.regions.items c.as_slice-2.result.now w.labels.queues c.from.result h.tied here c.as_slice-2.ensures.value n)
 
@@ -39,7 +39,7 @@ is_answered-present-requires c =
     let h = c.self.invariant.0 in
     let q = planned c.plan.inside in
     let fits : Fits (seen w) q = rw (← c.self.view_is, ← c.plan.view_is) at c.requires in
-    let n = c.from.ensures ∙ (c.number.ensures ∙ c.device_of-device.ensures) in
+    let n = c.from.ensures ∙ (c.number.ensures ∙ c.device_by-device.ensures) in
     let put = are_put (seen w) q.host q.directive c.as_slice.result.now c.items-items.result.now (h.tied.inside ∙ sym c.as_slice.ensures.value) (c.items-items.ensures ∙ c.put_items.ensures) in
     let v = c.index_mut-there.result.now in
     let a = acted_on (seen w) q w.devices.items w.regions.items c.as_slice-2.result.now w.labels.queues c.from.result v c.items-items.result.now h.tied fits refl c.as_slice-2.ensures.value n c.index_mut-there.ensures.value put in
@@ -52,7 +52,7 @@ mark_all-requires-clause-fine c =
     let h = c.self.invariant.0 in
     let q = planned c.plan.inside in
     let fits : Fits (seen w) q = rw (← c.self.view_is, ← c.plan.view_is) at c.requires in
-    let n = c.from.ensures ∙ (c.number.ensures ∙ c.device_of-device.ensures) in
+    let n = c.from.ensures ∙ (c.number.ensures ∙ c.device_by-device.ensures) in
     let put = are_put (seen w) q.host q.directive c.as_slice.result.now c.items-items.result.now (h.tied.inside ∙ sym c.as_slice.ensures.value) (c.items-items.ensures ∙ c.put_items.ensures) in
     let v = c.index_mut-there.result.now in
     let a = acted_on (seen w) q w.devices.items w.regions.items c.as_slice-2.result.now w.labels.queues c.from.result v c.items-items.result.now h.tied fits refl c.as_slice-2.ensures.value n c.index_mut-there.ensures.value put in
@@ -64,7 +64,7 @@ mark_all-requires-clause-entered c =
     let h = c.self.invariant.0 in
     let q = planned c.plan.inside in
     let fits : Fits (seen w) q = rw (← c.self.view_is, ← c.plan.view_is) at c.requires in
-    let n = c.from.ensures ∙ (c.number.ensures ∙ c.device_of-device.ensures) in
+    let n = c.from.ensures ∙ (c.number.ensures ∙ c.device_by-device.ensures) in
     let put = are_put (seen w) q.host q.directive c.as_slice.result.now c.items-items.result.now (h.tied.inside ∙ sym c.as_slice.ensures.value) (c.items-items.ensures ∙ c.put_items.ensures) in
     let v = c.index_mut-there.result.now in
     let a = acted_on (seen w) q w.devices.items w.regions.items c.as_slice-2.result.now w.labels.queues c.from.result v c.items-items.result.now h.tied fits refl c.as_slice-2.ensures.value n c.index_mut-there.ensures.value put in
@@ -76,7 +76,7 @@ mark_all-requires-clause-room c =
     let h = c.self.invariant.0 in
     let q = planned c.plan.inside in
     let fits : Fits (seen w) q = rw (← c.self.view_is, ← c.plan.view_is) at c.requires in
-    let n = c.from.ensures ∙ (c.number.ensures ∙ c.device_of-device.ensures) in
+    let n = c.from.ensures ∙ (c.number.ensures ∙ c.device_by-device.ensures) in
     let put = are_put (seen w) q.host q.directive c.as_slice.result.now c.items-items.result.now (h.tied.inside ∙ sym c.as_slice.ensures.value) (c.items-items.ensures ∙ c.put_items.ensures) in
     let v = c.index_mut-there.result.now in
     let a = acted_on (seen w) q w.devices.items w.regions.items c.as_slice-2.result.now w.labels.queues c.from.result v c.items-items.result.now h.tied fits refl c.as_slice-2.ensures.value n c.index_mut-there.ensures.value put in
@@ -89,7 +89,7 @@ note_label-requires c =
     let h = c.self.invariant.0 in
     let q = planned c.plan.inside in
     let fits : Fits (seen w) q = rw (← c.self.view_is, ← c.plan.view_is) at c.requires in
-    let n = c.from.ensures ∙ (c.number.ensures ∙ c.device_of-device.ensures) in
+    let n = c.from.ensures ∙ (c.number.ensures ∙ c.device_by-device.ensures) in
     let put = are_put (seen w) q.host q.directive c.as_slice.result.now c.items-items.result.now (h.tied.inside ∙ sym c.as_slice.ensures.value) (c.items-items.ensures ∙ c.put_items.ensures) in
     let v = c.index_mut-there.result.now in
     let a = acted_on (seen w) q w.devices.items w.regions.items c.as_slice-2.result.now w.labels.queues c.from.result v c.items-items.result.now h.tied fits refl c.as_slice-2.ensures.value n c.index_mut-there.ensures.value put in
@@ -101,7 +101,7 @@ mark_all-requires-2-clause-fine c =
     let h = c.self.invariant.0 in
     let q = planned c.plan.inside in
     let fits : Fits (seen w) q = rw (← c.self.view_is, ← c.plan.view_is) at c.requires in
-    let n = c.from.ensures ∙ (c.number.ensures ∙ c.device_of-device.ensures) in
+    let n = c.from.ensures ∙ (c.number.ensures ∙ c.device_by-device.ensures) in
     let put = are_put (seen w) q.host q.directive c.as_slice.result.now c.items-items.result.now (h.tied.inside ∙ sym c.as_slice.ensures.value) (c.items-items.ensures ∙ c.put_items.ensures) in
     let v = c.index_mut-there.result.now in
     let a = acted_on (seen w) q w.devices.items w.regions.items c.as_slice-2.result.now w.labels.queues c.from.result v c.items-items.result.now h.tied fits refl c.as_slice-2.ensures.value n c.index_mut-there.ensures.value put in
@@ -116,7 +116,7 @@ mark_all-requires-2-clause-entered c =
     let h = c.self.invariant.0 in
     let q = planned c.plan.inside in
     let fits : Fits (seen w) q = rw (← c.self.view_is, ← c.plan.view_is) at c.requires in
-    let n = c.from.ensures ∙ (c.number.ensures ∙ c.device_of-device.ensures) in
+    let n = c.from.ensures ∙ (c.number.ensures ∙ c.device_by-device.ensures) in
     let put = are_put (seen w) q.host q.directive c.as_slice.result.now c.items-items.result.now (h.tied.inside ∙ sym c.as_slice.ensures.value) (c.items-items.ensures ∙ c.put_items.ensures) in
     let v = c.index_mut-there.result.now in
     let a = acted_on (seen w) q w.devices.items w.regions.items c.as_slice-2.result.now w.labels.queues c.from.result v c.items-items.result.now h.tied fits refl c.as_slice-2.ensures.value n c.index_mut-there.ensures.value put in
@@ -131,7 +131,7 @@ mark_all-requires-2-clause-room c =
     let h = c.self.invariant.0 in
     let q = planned c.plan.inside in
     let fits : Fits (seen w) q = rw (← c.self.view_is, ← c.plan.view_is) at c.requires in
-    let n = c.from.ensures ∙ (c.number.ensures ∙ c.device_of-device.ensures) in
+    let n = c.from.ensures ∙ (c.number.ensures ∙ c.device_by-device.ensures) in
     let put = are_put (seen w) q.host q.directive c.as_slice.result.now c.items-items.result.now (h.tied.inside ∙ sym c.as_slice.ensures.value) (c.items-items.ensures ∙ c.put_items.ensures) in
     let v = c.index_mut-there.result.now in
     let a = acted_on (seen w) q w.devices.items w.regions.items c.as_slice-2.result.now w.labels.queues c.from.result v c.items-items.result.now h.tied fits refl c.as_slice-2.ensures.value n c.index_mut-there.ensures.value put in
@@ -156,7 +156,7 @@ invariant_of-self c =
     let h = c.self.invariant.0 in
     let q = planned c.plan.inside in
     let fits : Fits (seen w) q = rw (← c.self.view_is, ← c.plan.view_is) at c.requires in
-    let n = c.from.ensures ∙ (c.number.ensures ∙ c.device_of-device.ensures) in
+    let n = c.from.ensures ∙ (c.number.ensures ∙ c.device_by-device.ensures) in
     let put = are_put (seen w) q.host q.directive c.as_slice.result.now c.items-items.result.now (h.tied.inside ∙ sym c.as_slice.ensures.value) (c.items-items.ensures ∙ c.put_items.ensures) in
     let v = c.index_mut-there.result.now in
     let a = acted_on (seen w) q w.devices.items w.regions.items c.as_slice-2.result.now w.labels.queues c.from.result v c.items-items.result.now h.tied fits refl c.as_slice-2.ensures.value n c.index_mut-there.ensures.value put in
@@ -171,11 +171,11 @@ invariant_of-self c =
     let is : held_on after ≡ holding_behind d.kind (held_on v) items = left ∙ ap (λ g. holding_after_all (Some StructuredDown) g (ends_of d.kind items)) middle in
     let notes =
     notes_then (seen w) q v c.mark_all.new.self noted after a.tied fits h.lawful (rw (a.own, c.change.ensures, c.kind-kind.ensures) at c.mark_all.ensures.holding) c.note_label.ensures.held
-    c.mark_all.ensures.notes c.note_label.ensures.notes c.mark_all-2.ensures.notes c.keeps_order.ensures.noted in
+    c.mark_all.ensures.notes c.note_label.ensures.notes c.mark_all-2.ensures.notes c.keeps.ensures.noted in
     let closes = map (λ (x : Close). is_some x.batch) w.closes.items in (
       place_pushed w.config w.history.items c.push_reserved.new.self.items w.counts.items c.push_reserved-2.new.self.items closes (room_of w) q w.devices.items (slice_set w.devices.items c.from.result after)
-          w.regions.items c.settle.new.regions.items w.labels.queues c.push_label-batch.new.labels.queues v after
-          c.push_reserved.ensures.items c.push_reserved-2.ensures.items c.settle.ensures.regions c.push_label-batch.ensures.queues (ap (λ k. slice_set w.devices.items k after) a.device) h fits
+          w.regions.items c.enter_or_leave.new.regions.items w.labels.queues c.push_label-batch.new.labels.queues v after
+          c.push_reserved.ensures.items c.push_reserved-2.ensures.items c.enter_or_leave.ensures.regions c.push_label-batch.ensures.queues (ap (λ k. slice_set w.devices.items k after) a.device) h fits
           (rw a.device at a.there) is (c.mark_all-2.ensures.capacity ∙ (c.note_label.ensures.capacity ∙ c.mark_all.ensures.capacity)) notes,
       rw (c.push_reserved.ensures.capacity, c.push_label-batch.ensures.room)
           (closes_pushed w.config w.history.items c.push_reserved.new.self.items w.counts.items c.push_reserved-2.new.self.items closes (room_of w) q w.closing w.closes.items _ c.push_reserved.ensures.items c.push_reserved-2.ensures.items
@@ -188,7 +188,7 @@ returns-clause-place c =
     let q = planned c.plan.inside in
     let v = c.index_mut-there.result.now in
     let rooms = shown_same (λ (x : Device). x.table.room) w.devices.items c.from.result v c.mark_all-2.new.self c.index_mut-there.ensures.value (c.mark_all-2.ensures.room ∙ (c.note_label.ensures.room ∙ c.mark_all.ensures.room)) in
-    rw (← c.self.view_is, ← c.plan.view_is, c.push_reserved.ensures.capacity, c.push_reserved-2.ensures.capacity, c.settle.ensures.room, c.push_label-batch.ensures.room, rooms)
+    rw (← c.self.view_is, ← c.plan.view_is, c.push_reserved.ensures.capacity, c.push_reserved-2.ensures.capacity, c.enter_or_leave.ensures.room, c.push_label-batch.ensures.room, rooms)
     (pushed_view w.config w.history.items c.push_reserved.new.self.items w.counts.items c.push_reserved-2.new.self.items (map (λ (x : Close). is_some x.batch) w.closes.items) (room_of w) q c.push_reserved.ensures.items c.push_reserved-2.ensures.items)
 
 pub returns-clause-answer : goal.returns-clause-answer
@@ -197,12 +197,12 @@ returns-clause-answer c =
     let h = c.self.invariant.0 in
     let q = planned c.plan.inside in
     let fits : Fits (seen w) q = rw (← c.self.view_is, ← c.plan.view_is) at c.requires in
-    let n = c.from.ensures ∙ (c.number.ensures ∙ c.device_of-device.ensures) in
+    let n = c.from.ensures ∙ (c.number.ensures ∙ c.device_by-device.ensures) in
     let put = are_put (seen w) q.host q.directive c.as_slice.result.now c.items-items.result.now (h.tied.inside ∙ sym c.as_slice.ensures.value) (c.items-items.ensures ∙ c.put_items.ensures) in
     let v = c.index_mut-there.result.now in
     let a = acted_on (seen w) q w.devices.items w.regions.items c.as_slice-2.result.now w.labels.queues c.from.result v c.items-items.result.now h.tied fits refl c.as_slice-2.ensures.value n c.index_mut-there.ensures.value put in
     let told = rw (a.own, c.kind-kind.ensures) at c.is_answered-present.ensures in
-    let device : c.device_of-device.result ≡ device_in (standing_in (seen w)) q.host q.directive = sym (c.from.ensures ∙ c.number.ensures) ∙ a.device in
+    let device : c.device_by-device.result ≡ device_in (standing_in (seen w)) q.host q.directive = sym (c.from.ensures ∙ c.number.ensures) ∙ a.device in
     let counted = c.counts_for-counts.ensures ∙ ap (λ k. counts_in (counts_queues q.directive.kind (queue_by q.directive.kind q.directive)) w.labels.queues k (queues_named q.directive)) device in
     rw (← c.self.view_is, ← c.plan.view_is)
     (answer_is (seen w) q v.table v.opened w.labels.queues c.push_label-batch.result c.counts_for-counts.result c.is_answered-present.result a.tied fits h.tied.labelled counted c.push_label-batch.ensures.result told)

@@ -1,9 +1,9 @@
 use Rattle.std.proofs.Common.{reverse, length, refl}
 use Rattle.acc_place.specs.Closing.{IsOut}
 use Rattle.acc_place.specs.Histories.{standing}
-use Rattle.acc_place.specs.Places.{IsCloseOf}
+use Rattle.acc_place.specs.inner.Places.{IsCloseOf}
 use Rattle.acc_place.proofs.KeptCloses.{at_hand_set, close_at, close_set, close_with}
-use Rattle.acc_place.proofs.Seen.{seen}
+use Rattle.acc_place.proofs.PlaceParts.{seen}
 use Rattle.acc_place.proofs.place.Place.close_back.Goals as goal
 
 pub invariant_of-self : goal.invariant_of-self

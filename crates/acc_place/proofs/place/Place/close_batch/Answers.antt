@@ -7,11 +7,11 @@ use Rattle.acc_batch.specs.Labels.{on_queue}
 use Rattle.acc_place.specs.declared.closes.Close.{Close}
 use Rattle.acc_place.specs.Closing.{is_at_hand}
 use Rattle.acc_place.specs.Histories.{IsQueue}
-use Rattle.acc_place.specs.Places.{close_in, ClosesQueue, IsCloseOf}
+use Rattle.acc_place.specs.inner.Places.{close_in, ClosesQueue, IsCloseOf}
 use Rattle.acc_place.specs.Plans.{standing_in}
 use Rattle.acc_place.proofs.KeptCloses.{at_hand_is, at_hand_set, close_at, close_set, close_without, label_closes, set_own}
-use Rattle.acc_place.proofs.Queues.{is_queue}
-use Rattle.acc_place.proofs.Seen.{seen}
+use Rattle.acc_place.proofs.QueuesAfter.{is_queue}
+use Rattle.acc_place.proofs.PlaceParts.{seen}
 use Rattle.acc_place.proofs.place.Place.close_batch.Goals as goal
 
 pub invariant_of-self-2 : goal.invariant_of-self-2

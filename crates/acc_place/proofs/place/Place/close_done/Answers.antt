@@ -1,18 +1,18 @@
 use Rattle.std.proofs.Common.{◌≡◌, ◌+◌, Some, ◌∷◌, reverse, length, refl, sym, ap, ◌∙◌, arith}
 use Rattle.std.specs.Prelude.{is_some, slice_set, true}
-use Rattle.acc_batch.specs.declared.operation.Label.{Label}
+use Rattle.acc_batch.specs.declared.label.Label.{Label}
 use Rattle.acc_batch.specs.Awaits.{close_label}
 use Rattle.acc_batch.specs.Labels.{on_queue}
 use Rattle.acc_place.specs.declared.closes.Close.{Close}
 use Rattle.acc_place.specs.declared.directive.PlaceEntry.TheVariants.{Closed}
 use Rattle.acc_place.specs.Closing.{IsOut}
 use Rattle.acc_place.specs.Histories.{CanClose}
-use Rattle.acc_place.specs.Places.{no_close, ClosesQueue, IsCloseOf}
+use Rattle.acc_place.specs.inner.Places.{no_close, ClosesQueue, IsCloseOf}
 use Rattle.acc_place.specs.Plans.{standing_in}
 use Rattle.acc_place.proofs.KeptCloses.{close_at, close_gone, closed_by, entry_room, label_closes}
-use Rattle.acc_place.proofs.Planning.{reverse-push}
-use Rattle.acc_place.proofs.Seen.{seen}
-use Rattle.acc_place.proofs.Setting.{shown_same}
+use Rattle.acc_place.proofs.StandingIn.{reverse-push}
+use Rattle.acc_place.proofs.PlaceParts.{seen}
+use Rattle.acc_place.proofs.SliceSet.{shown_same}
 use Rattle.acc_place.proofs.place.Place.close_done.Goals as goal
 
 pub push_reserved-requires : goal.push_reserved-requires

@@ -6,7 +6,7 @@ use Rattle.acc_base.specs.declared.ids.TheConstants.{QUEUES}
 use Rattle.acc_place.specs.Histories.{is_closed}
 use Rattle.acc_place.specs.Plans.{standing_in, PlaceView}
 use Rattle.acc_place.proofs.LastClose.{closed_there}
-use Rattle.acc_place.proofs.Seen.{seen}
+use Rattle.acc_place.proofs.PlaceParts.{seen}
 use Rattle.acc_place.proofs.place.Place.is_closed.Goals as goal
 
 -- a queue that isn't there isn't closed

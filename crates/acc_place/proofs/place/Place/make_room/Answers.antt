@@ -6,11 +6,11 @@ use Rattle.acc_base.specs.Queues.{seat}
 use Rattle.acc_place.specs.declared.device.Device.{Device}
 use Rattle.acc_place.specs.Histories.{standing, IsQueue}
 use Rattle.acc_place.specs.Plans.{IsRoomy}
-use Rattle.acc_place.specs.Walks.{Holding}
+use Rattle.acc_place.specs.inner.Walks.{Holding}
 use Rattle.acc_place.proofs.KeptCloses.{closes_spared}
-use Rattle.acc_place.proofs.Planning.{place_spared, placed_there, present_there, roomier, roomy_by}
-use Rattle.acc_place.proofs.Seen.{seen}
-use Rattle.acc_place.proofs.Setting.{shown_at, shown_more, shown_new}
+use Rattle.acc_place.proofs.StandingIn.{place_spared, placed_there, present_there, roomier, roomy_by}
+use Rattle.acc_place.proofs.PlaceParts.{seen}
+use Rattle.acc_place.proofs.SliceSet.{shown_at, shown_more, shown_new}
 use Rattle.acc_place.proofs.place.Place.make_room.Goals as goal
 
 pub invariant_of-self-in_err-spare-2 : goal.invariant_of-self-in_err-spare-2

@@ -2,7 +2,7 @@ use Rattle.std.proofs.Common.{arith, ap, ◌∙◌}
 use Rattle.std.specs.Prelude.{is_some}
 use Rattle.acc_place.specs.declared.closes.Close.{Close}
 use Rattle.acc_place.proofs.KeptCloses.{at_hand_is, closes_new}
-use Rattle.acc_place.proofs.Planning.{first_place}
+use Rattle.acc_place.proofs.StandingIn.{first_place}
 use Rattle.acc_place.proofs.place.Place.new.Goals as goal
 
 pub invariant_of-result : goal.invariant_of-result

@@ -6,11 +6,11 @@ use Rattle.acc_place.specs.declared.judge.Known.{Known}
 use Rattle.acc_place.specs.Accepting.{refusal}
 use Rattle.acc_place.specs.Histories.{IsQueue}
 use Rattle.acc_place.specs.Plans.{PlaceView, queue_for, standing_in, Fits, IsPlanOf, IsRoomy, label_for}
-use Rattle.acc_place.specs.Noting.{notes_on}
-use Rattle.acc_place.specs.Trials.{behind_noted, next_in, ops_by, steps_by}
-use Rattle.acc_place.proofs.Accepted.{device_in}
-use Rattle.acc_place.proofs.Planning.{counted_by, fault_known, fits_known, known_in, known_of, memory_as, own_device, plan_of_now, refused_as, same_place}
-use Rattle.acc_place.proofs.Seen.{seen, seen_with}
+use Rattle.acc_place.specs.inner.Noting.{notes_on}
+use Rattle.acc_place.specs.inner.Trials.{behind_noted, next_in, ops_by, steps_by}
+use Rattle.acc_place.proofs.AcceptedDirective.{device_in}
+use Rattle.acc_place.proofs.StandingIn.{counted_by, fault_known, fits_known, known_in, known_of, memory_as, own_device, plan_of_now, refused_as, same_place}
+use Rattle.acc_place.proofs.PlaceParts.{seen, seen_with}
 use Rattle.acc_place.proofs.place.Place.plan.Goals as goal
 
 pub judge-requires-clause-known : goal.judge-requires-clause-known

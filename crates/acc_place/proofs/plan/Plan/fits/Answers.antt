@@ -1,7 +1,7 @@
 use Rattle.std.proofs.Common.{◌≡◌, length, ap, ◌∙◌}
 use Rattle.std.proofs.lemmas.Bool.{eqb-true}
 use Rattle.std.proofs.lemmas.List.{length-reverse}
-use Rattle.acc_place.proofs.Planning.{still_fits}
+use Rattle.acc_place.proofs.StandingIn.{still_fits}
 use Rattle.acc_place.proofs.plan.Plan.fits.Goals as goal
 
 pub returns-clause-fits : goal.returns-clause-fits

@@ -1,25 +1,25 @@
 use Rattle.std.proofs.Common.{◌≡◌, List, length, ap, ◌∙◌, arith, subst}
 use Rattle.std.specs.Prelude.{IfOk}
 use Rattle.std.specs.Option.{option_to_list}
-use Rattle.acc_batch.specs.declared.operation.Op.{Op}
+use Rattle.acc_batch.specs.declared.label.OpLabel.{OpLabel}
 use Rattle.acc_present.specs.Drafts.{drafted}
 use Rattle.acc_place.specs.declared.trial.Trial.TheInside.{Inside}
 use Rattle.acc_place.specs.Plans.{label_for}
 use Rattle.acc_place.specs.Standings.{change_by, loop_of}
 use Rattle.acc_place.specs.declared.judge.Marked.{Marked}
-use Rattle.acc_place.specs.Trials.{behind_noted, held_by, items_by, next_in, IsTried, TrialView}
-use Rattle.acc_place.specs.Walks.{holding_between, ends_of, marked_ops, all_steps, run_in}
-use Rattle.acc_place.proofs.Accepted.{length-ends}
-use Rattle.acc_place.proofs.Celled.{run_cells, steps_cells}
-use Rattle.acc_place.proofs.Trying.{is_clean, run_made, steps_made}
-use Rattle.acc_place.proofs.Walking.{entered_alike, length-marked}
+use Rattle.acc_place.specs.inner.Trials.{behind_noted, held_by, items_by, next_in, IsTried, TrialView}
+use Rattle.acc_place.specs.inner.Walks.{holding_between, ends_of, marked_ops, all_steps, run_in}
+use Rattle.acc_place.proofs.AcceptedDirective.{length-ends}
+use Rattle.acc_place.proofs.TrialPlan.{run_cells, steps_cells}
+use Rattle.acc_place.proofs.TriedDirective.{is_clean, run_made, steps_made}
+use Rattle.acc_place.proofs.WalkItem.{entered_alike, length-marked}
 use Rattle.acc_place.proofs.trial.Trial.plan.Goals as goal
 
 abbrev seen : Inside → TrialView
 seen w = record { draft = w.draft; steps = w.steps.items; items = w.items.items }
 
-pub run_of-requires-clause-cells : goal.run_of-requires-clause-cells
-run_of-requires-clause-cells c =
+pub run_in-requires-clause-cells : goal.run_in-requires-clause-cells
+run_in-requires-clause-cells c =
     let k = c.args.known.now in
     let host = c.args.host in
     let d = c.args.directive.now in
@@ -27,8 +27,8 @@ run_of-requires-clause-cells c =
     let own : c.as_slice-items.result.now ≡ items_by k host d = c.as_slice-items.ensures.value ∙ tried.whole in
     rw own (is_clean k host d c.requires.known tried.draft.table tried.faultless).cells
 
-pub run_of-requires-clause-held : goal.run_of-requires-clause-held
-run_of-requires-clause-held c =
+pub run_in-requires-clause-held : goal.run_in-requires-clause-held
+run_in-requires-clause-held c =
     let k = c.args.known.now in
     let host = c.args.host in
     let d = c.args.directive.now in
@@ -126,7 +126,7 @@ returns-clause-label c = λ notes noted.
     let made = (rw c.kind-kind.ensures at c.in_ok-run.ensures.run) ∙ ap (λ ys. run_in (loop_of d.kind) ys ps) here in
     let run : option_to_list c.in_ok-run.run' ≡ run_in (loop_of d.kind) items (holding_between d.kind h items).presences =
     run_made d.kind h ps w.items.items items (option_to_list c.in_ok-run.run') tried.marks tried.whole made in
-    let behind : List Op → List Marked → Type 0 =
+    let behind : List OpLabel → List Marked → Type 0 =
     λ run_ops ts. IfOk c.plan_of.result (λ q. q.label ≡ label_for k.at (next_in k) host c.args.items_done (behind_noted k notes d (marked_ops run_ops ts) ts)) in
     let loop = run_in (loop_of d.kind) items (holding_between d.kind h items).presences in
-    subst (λ (ts : List Marked). behind loop ts) steps (subst (λ (os : List Op). behind os c.as_slice.result.now) run (c.plan_of.ensures.label notes noted))
+    subst (λ (ts : List Marked). behind loop ts) steps (subst (λ (os : List OpLabel). behind os c.as_slice.result.now) run (c.plan_of.ensures.label notes noted))

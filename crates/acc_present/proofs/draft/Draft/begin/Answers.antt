@@ -1,4 +1,4 @@
-use Rattle.acc_present.proofs.Drafting.{beside_all}
+use Rattle.acc_present.proofs.DraftShows.{beside_all}
 use Rattle.acc_present.proofs.draft.Draft.begin.Goals as goal
 
 pub returns-clause-drafted : goal.returns-clause-drafted
@@ -9,8 +9,8 @@ returns-clause-draft c =
     let ps = c.args.table.now.presences in
     let same = beside_all ps in
     record {
-      table = c.keeps_order.ensures.table;
-      after = rw (c.clear.ensures.items, same) c.keeps_order.ensures.table;
+      table = c.keeps.ensures.table;
+      after = rw (c.clear.ensures.items, same) c.keeps.ensures.table;
       counted = rw (c.clear.ensures.items, same) c.used_cells-self-inside.ensures;
-      within = rw (c.clear.ensures.items, same) c.keeps_order.ensures.capacity;
+      within = rw (c.clear.ensures.items, same) c.keeps.ensures.capacity;
     }

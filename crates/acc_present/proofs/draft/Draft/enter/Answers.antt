@@ -2,9 +2,9 @@ use Rattle.std.proofs.Common.{◌≡◌, map, sym, ap, ◌∙◌, refl, None, ar
 use Rattle.acc_present.specs.Presences.{holder}
 use Rattle.acc_present.specs.Tables.{entry_presence, entry_mark, has_count}
 use Rattle.acc_present.specs.Drafts.{with_changed}
-use Rattle.acc_present.proofs.Entering.{entry_opens, has_count-entered, stays}
-use Rattle.acc_present.proofs.DraftMarking.{counts_entry, opens_entry}
-use Rattle.acc_present.proofs.Searching.{is_present-some, is_present-none}
+use Rattle.acc_present.proofs.EnterAndExit.{entry_opens, has_count-entered, stays}
+use Rattle.acc_present.proofs.DraftMarks.{counts_entry, opens_entry}
+use Rattle.acc_present.proofs.Holder.{is_present-some, is_present-none}
 use Rattle.acc_present.proofs.draft.Draft.enter.Goals as goal
 
 pub returns-in-Some-clause-drafted : goal.returns-in-Some-clause-drafted
@@ -14,7 +14,7 @@ returns-in-Some-clause-drafted c =
     let qs = with_changed (map entry_presence c.self.inside.changed.items) ps in
     let d = rw (← c.self.view_is) at c.requires.draft in
     let m = entry_mark c.args.counter r in
-    let k = counts_entry m c.place_for.new.changed.items ps qs c.in-Some.i c.index.result.now c.counted_up.result d.table d.after c.requires.cells c.in-Some.ensures.same c.in-Some.ensures.held
+    let k = counts_entry m c.index_for.new.changed.items ps qs c.in-Some.i c.index.result.now c.counted_up.result d.table d.after c.requires.cells c.in-Some.ensures.same c.in-Some.ensures.held
     (omega (arith, c.in-Some.ensures.within)) c.index.ensures c.counted_up.ensures.presence in
     rw (← c.self.view_is) (k.same ∙ stays m c.args.block qs (is_present-some qs r (entry_presence c.index.result.now) k.seen))
 
@@ -26,7 +26,7 @@ returns-in-Some-clause-draft c =
     let x = c.index.result.now in
     let d = rw (← c.self.view_is) at c.requires.draft in
     let m = entry_mark c.args.counter r in
-    let k = counts_entry m c.place_for.new.changed.items ps qs c.in-Some.i x c.counted_up.result d.table d.after c.requires.cells c.in-Some.ensures.same c.in-Some.ensures.held
+    let k = counts_entry m c.index_for.new.changed.items ps qs c.in-Some.i x c.counted_up.result d.table d.after c.requires.cells c.in-Some.ensures.same c.in-Some.ensures.held
     (omega (arith, c.in-Some.ensures.within)) c.index.ensures c.counted_up.ensures.presence in
     let counted = ap has_count c.counted_up.ensures.presence ∙ has_count-entered c.args.counter (entry_presence x) in
     let cells = rw counted at k.used in
@@ -39,7 +39,7 @@ returns-in-Some-clause-result c =
     let qs = with_changed (map entry_presence c.self.inside.changed.items) ps in
     let x = c.index.result.now in
     let d = rw (← c.self.view_is) at c.requires.draft in
-    let k = counts_entry (entry_mark c.args.counter r) c.place_for.new.changed.items ps qs c.in-Some.i x c.counted_up.result d.table d.after c.requires.cells c.in-Some.ensures.same c.in-Some.ensures.held
+    let k = counts_entry (entry_mark c.args.counter r) c.index_for.new.changed.items ps qs c.in-Some.i x c.counted_up.result d.table d.after c.requires.cells c.in-Some.ensures.same c.in-Some.ensures.held
     (omega (arith, c.in-Some.ensures.within)) c.index.ensures c.counted_up.ensures.presence in
     rw (← c.self.view_is) (rw (is_present-some qs r (entry_presence x) k.seen) refl)
 
@@ -51,7 +51,7 @@ returns-in-None-clause-drafted c =
     let d = rw (← c.self.view_is) at c.requires.draft in
     let whole = rw (← c.self.view_is) at c.requires.whole in
     let none : holder qs r ≡ None = sym c.in-None.ensures.held in
-    let k = opens_entry (entry_mark c.args.counter r) c.args.block c.place_for.new.changed.items ps qs c.new_entry.result d.table d.after c.requires.cells c.in-None.ensures.same
+    let k = opens_entry (entry_mark c.args.counter r) c.args.block c.index_for.new.changed.items ps qs c.new_entry.result d.table d.after c.requires.cells c.in-None.ensures.same
     (entry_opens c.args.counter) none whole c.new_entry.ensures.presence in
     rw (← c.self.view_is, c.push_reserved.ensures.items) k.same
 
@@ -63,7 +63,7 @@ returns-in-None-clause-draft c =
     let d = rw (← c.self.view_is) at c.requires.draft in
     let whole = rw (← c.self.view_is) at c.requires.whole in
     let none : holder qs r ≡ None = sym c.in-None.ensures.held in
-    let k = opens_entry (entry_mark c.args.counter r) c.args.block c.place_for.new.changed.items ps qs c.new_entry.result d.table d.after c.requires.cells c.in-None.ensures.same
+    let k = opens_entry (entry_mark c.args.counter r) c.args.block c.index_for.new.changed.items ps qs c.new_entry.result d.table d.after c.requires.cells c.in-None.ensures.same
     (entry_opens c.args.counter) none whole c.new_entry.ensures.presence in
     let capacity = rw (← c.self.view_is) at c.requires.capacity in
     rw c.push_reserved.ensures.items

@@ -2,8 +2,8 @@ use Rattle.std.proofs.Common.{map, sym, ◌∙◌}
 use Rattle.std.proofs.lemmas.List.{length-map}
 use Rattle.acc_present.specs.Tables.{entry_presence}
 use Rattle.acc_present.specs.Drafts.{with_changed}
-use Rattle.acc_present.proofs.Drafting.{held_changed}
-use Rattle.acc_present.proofs.Searching.{slice_get-entry, is_present-some, not_partly}
+use Rattle.acc_present.proofs.DraftShows.{held_changed}
+use Rattle.acc_present.proofs.Holder.{slice_get-entry, is_present-some, not_partly}
 use Rattle.acc_present.proofs.draft.Draft.look.Goals as goal
 
 pub returns-in-Some : goal.returns-in-Some

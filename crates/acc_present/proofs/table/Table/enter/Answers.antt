@@ -1,8 +1,8 @@
 use Rattle.std.proofs.Common.{◌≡◌, refl, None}
 use Rattle.acc_present.specs.Presences.{holder}
-use Rattle.acc_present.proofs.Entering.{shown, found_at, entered_again, entered_new}
-use Rattle.acc_present.proofs.Searching.{is_present-none}
-use Rattle.acc_present.proofs.Noting.{noted_set, noted_insert, noted_at}
+use Rattle.acc_present.proofs.EnterAndExit.{shown, found_at, entered_again, entered_new}
+use Rattle.acc_present.proofs.Holder.{is_present-none}
+use Rattle.acc_present.proofs.EntryNotes.{noted_set, noted_insert, noted_at}
 use Rattle.acc_present.specs.Presences.{Presence}
 use Rattle.std.proofs.Common.{ap, sym, ◌∙◌}
 use Rattle.acc_present.proofs.table.Table.enter.Goals as goal
@@ -42,7 +42,7 @@ invariant_of-self-in-None c =
     let whole = rw (← c.self.view_is) at c.requires.whole in
     let capacity = rw (← c.self.view_is) at c.requires.capacity in
     let room = rw (← c.self.view_is) at c.requires.room in
-    let at = rw c.as_slice-entries.ensures at c.place_behind-behind.ensures.place in
+    let at = rw c.as_slice-entries.ensures at c.index_behind-behind.ensures.index in
     let b = entered_new es c.args.range c.args.counter c.args.block c.new_entry.result c.self.inside.used c.self.inside.capacity
     c.self.invariant c.requires.cells none whole (capacity none) c.new_entry.ensures.presence in
     rw (c.insert.ensures.items, at, c.from.ensures) b.table
@@ -54,7 +54,7 @@ returns-in-None-clause-presences c =
     let whole = rw (← c.self.view_is) at c.requires.whole in
     let capacity = rw (← c.self.view_is) at c.requires.capacity in
     let room = rw (← c.self.view_is) at c.requires.room in
-    let at = rw c.as_slice-entries.ensures at c.place_behind-behind.ensures.place in
+    let at = rw c.as_slice-entries.ensures at c.index_behind-behind.ensures.index in
     let b = entered_new es c.args.range c.args.counter c.args.block c.new_entry.result c.self.inside.used c.self.inside.capacity
     c.self.invariant c.requires.cells none whole (capacity none) c.new_entry.ensures.presence in
     rw (← c.self.view_is, c.insert.ensures.items, at) b.same

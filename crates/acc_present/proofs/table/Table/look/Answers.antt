@@ -1,9 +1,9 @@
 use Rattle.std.proofs.Common.{◌≡◌, true, false, map, sym, ◌∙◌, refl, None}
 use Rattle.acc_present.specs.Presences.{holder, overlaps_any}
 use Rattle.acc_present.specs.Tables.{entry_presence}
-use Rattle.acc_present.proofs.Entering.{found_at}
-use Rattle.acc_present.proofs.Noting.{noted_at}
-use Rattle.acc_present.proofs.Searching.{is_present-none, not_partly}
+use Rattle.acc_present.proofs.EnterAndExit.{found_at}
+use Rattle.acc_present.proofs.EntryNotes.{noted_at}
+use Rattle.acc_present.proofs.Holder.{is_present-none, not_partly}
 use Rattle.acc_present.proofs.table.Table.look.Goals as goal
 
 pub returns-in-Some-clause-look : goal.returns-in-Some-clause-look

@@ -1,9 +1,9 @@
 use Rattle.std.proofs.Common.{◌≡◌, ap, None}
 use Rattle.acc_present.specs.Notes.{made_by}
 use Rattle.acc_present.specs.Presences.{Presence, holder}
-use Rattle.acc_present.proofs.Entering.{shown, found_at}
-use Rattle.acc_present.proofs.Searching.{is_present-none}
-use Rattle.acc_present.proofs.Noting.{noted_change, noted_none, none_contains, shown_kept}
+use Rattle.acc_present.proofs.EnterAndExit.{shown, found_at}
+use Rattle.acc_present.proofs.Holder.{is_present-none}
+use Rattle.acc_present.proofs.EntryNotes.{noted_change, noted_none, none_contains, shown_kept}
 use Rattle.acc_present.proofs.table.Table.note_make.Goals as goal
 
 pub invariant_of-self : goal.invariant_of-self

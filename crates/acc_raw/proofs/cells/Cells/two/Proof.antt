@@ -45,8 +45,8 @@ use Rattle.acc_raw.proofs.cells.Window.TheLaws.{the_laws, the_loose}
 use Rattle.acc_raw.proofs.cells.Cells.two.Statement.{statement}
 use Rattle.acc_raw.proofs.cells.Cells.two.Code as code
 use Rattle.acc_raw.proofs.cells.Cells.whole.Met.{met}
-use Rattle.acc_raw.proofs.Lending.{Pair, pair_of, slice_with, ties, under}
-use Rattle.acc_raw.proofs.Placing.{length-middle}
+use Rattle.acc_raw.proofs.LentSlice.{Pair, pair_of, slice_with, ties, under}
+use Rattle.acc_raw.proofs.WithWindows.{length-middle}
 use Rattle.acc_raw.proofs.TwoWindows.{placed, window_at, lends_windows}
 
 abbrev stayed : Stays f.ended.signature.params f.ended.kept

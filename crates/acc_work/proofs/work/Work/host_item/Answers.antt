@@ -2,7 +2,7 @@ use Rattle.std.proofs.Common.{refl, ap, ◌∙◌}
 use Rattle.acc_work.specs.declared.log.Told.TheVariants as told
 use Rattle.acc_work.specs.Logs.{all_done}
 use Rattle.acc_work.specs.Works.{taken_labels}
-use Rattle.acc_work.proofs.Taken.{told_quiet}
+use Rattle.acc_work.proofs.TakenLabels.{told_quiet}
 use Rattle.acc_work.proofs.work.Work.host_item.Goals as goal
 
 pub returns-in-Seen : goal.returns-in-Seen

@@ -1,5 +1,5 @@
 use Rattle.std.proofs.Common.{reverse, arith}
-use Rattle.acc_work.proofs.Counters.{items_of-le-all_items}
+use Rattle.acc_work.proofs.AllItems.{items_of-le-all_items}
 use Rattle.acc_work.proofs.work.Work.push_item.Goals as goal
 
 pub overflow_add-self : goal.overflow_add-self

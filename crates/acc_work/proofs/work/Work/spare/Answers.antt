@@ -3,7 +3,7 @@ use Rattle.acc_work.specs.contracts.work.Work.{the_view}
 use Rattle.acc_work.specs.Lanes.{LaneView}
 use Rattle.acc_work.specs.Works.{IsRoomier}
 use Rattle.acc_work.proofs.Lanes.{found, seat_low}
-use Rattle.acc_work.proofs.Steps.{room_made}
+use Rattle.acc_work.proofs.LaneChanges.{room_made}
 use Rattle.acc_work.proofs.work.Work.spare.Goals as goal
 
 pub returns-in_err-spare-2-clause-kept : goal.returns-in_err-spare-2-clause-kept

@@ -1,0 +1,44 @@
+-- Operations in a queue, with the memory that performing them needs.
+use Rattle.std.specs.Prelude.{◌≡◌, List, [], ◌∷◌, map, replicate, pos}
+use Rattle.acc_batch.specs.declared.label.OpLabel.{OpLabel}
+use Rattle.acc_batch.specs.declared.label.OpLabel.TheVariants as label
+use Rattle.acc_batch.specs.declared.op.Op.{Op}
+use Rattle.acc_batch.specs.declared.op.Op.TheVariants as op
+use Rattle.acc_kernel.specs.Jobs.{AreDistinct, HoldReached}
+
+-- what a loop uses names each array at most once, and has all cells that the loop reaches
+abbrev pub HasItsCells : OpLabel → Type 0
+HasItsCells (label.Make b r) = Unit {0}
+HasItsCells (label.CopyIn b r) = Unit {0}
+HasItsCells (label.CopyOut b r) = Unit {0}
+HasItsCells (label.Release b) = Unit {0}
+HasItsCells (label.Run k uses) = AreDistinct uses × HoldReached k uses
+HasItsCells (label.Await q n) = Unit {0}
+HasItsCells label.Close = Unit {0}
+
+-- the label of an operation
+abbrev pub op_label : Op → OpLabel
+op_label (op.Make b) = label.Make b.block b.range
+op_label (op.CopyIn b r) = label.CopyIn b r
+op_label (op.CopyOut b r) = label.CopyOut b r
+op_label (op.Release b) = label.Release b
+op_label (op.Run k uses) = label.Run k uses
+op_label (op.Await q n) = label.Await q n
+op_label op.Close = label.Close
+
+abbrev pub op_labels : List Op → List OpLabel
+op_labels ops = map op_label ops
+
+-- a block that is made has the cells of its range, all zero, and a loop has its cells
+abbrev pub IsReady : Op → Type 0
+IsReady (op.Make b) = b.cells ≡ replicate b.range.len (pos 0)
+IsReady (op.CopyIn b r) = Unit {0}
+IsReady (op.CopyOut b r) = Unit {0}
+IsReady (op.Release b) = Unit {0}
+IsReady (op.Run k uses) = HasItsCells (label.Run k uses)
+IsReady (op.Await q n) = Unit {0}
+IsReady op.Close = Unit {0}
+
+abbrev pub AllReady : List Op → Type 0
+AllReady [] = Unit {0}
+AllReady (t ∷ ts) = IsReady t × AllReady ts

@@ -1,0 +1,117 @@
+//! An operation in a queue, with the memory that performing it needs.
+
+ghost use Rattle.std.specs.Prelude.{◌≡◌, IfOk, IfErr};
+ghost use Rattle.acc_batch.specs.Ops.{op_label, HasItsCells, IsReady};
+
+use crate::label::OpLabel;
+use acc_base::{BlockId, Fault, Listed, QueueId, Range, Shared};
+use acc_kernel::Kernel;
+use acc_raw::Cells;
+use std::alloc::Global;
+use std::mem::size_of;
+
+/// A block of a device: its range and its cells.
+#[derive(Drop)]
+pub struct Block {
+    pub block: BlockId,
+    pub range: Range,
+    pub cells: Cells,
+}
+
+/// An operation in a queue, with the memory that performing it needs.
+#[derive(Drop)]
+pub enum Op {
+    /// The block's cells are as many as its range has, all zero.
+    Make {
+        block: Block,
+    },
+    CopyIn {
+        block: BlockId,
+        range: Range,
+    },
+    CopyOut {
+        block: BlockId,
+        range: Range,
+    },
+    Release {
+        block: BlockId,
+    },
+    /// What the loop uses names each array at most once, and has all cells that the loop reaches.
+    Run {
+        kernel: Shared<Kernel>,
+        uses: Shared<Listed<(BlockId, Range)>>,
+    },
+    Await {
+        queue: QueueId,
+        number: u64,
+    },
+    Close,
+}
+
+// A batch moves with two of them.
+const _: () = prove!(size_of::<Op>() == 56);
+
+impl Op {
+    ghost use Rattle.acc_base.specs.declared.fault.Fault.TheVariants as fault;
+
+    /// The operation of a label, one that has its cells, by `OpLabel::has_its_cells`.
+    ///
+    /// # Errors
+    ///
+    /// `Memory` where memory is refused.
+    pub fn new(alloc: Global, label: &OpLabel) -> Result<Self, Fault>
+        requires cells { HasItsCells label.now }
+        ensures label { IfOk result (λ op. op_label op ≡ label.now) }
+        ensures ready { IfOk result IsReady }
+        ensures fault { IfErr result (λ f. f ≡ fault.Memory) }
+    {
+        match label {
+            OpLabel::Make { block, range } => {
+                let cells = Cells::zeroed(alloc, range.len as usize)?;
+                let block = Block {
+                    block: *block,
+                    range: *range,
+                    cells,
+                };
+                Ok(Op::Make { block })
+            }
+            OpLabel::CopyIn { block, range } => Ok(Op::CopyIn {
+                block: *block,
+                range: *range,
+            }),
+            OpLabel::CopyOut { block, range } => Ok(Op::CopyOut {
+                block: *block,
+                range: *range,
+            }),
+            OpLabel::Release { block } => Ok(Op::Release { block: *block }),
+            OpLabel::Run { kernel, uses } => {
+                let kernel = kernel.try_clone()?;
+                let uses = uses.try_clone()?;
+                Ok(Op::Run { kernel, uses })
+            }
+            OpLabel::Await { queue, number } => Ok(Op::Await {
+                queue: *queue,
+                number: *number,
+            }),
+            OpLabel::Close => Ok(Op::Close),
+        }
+    }
+
+    /// Its label: the operation without its memory. It takes none.
+    pub fn into_label(self) -> OpLabel
+        ensures { result ≡ op_label self }
+    {
+        match self {
+            Op::Make { block } => {
+                let Block { block, range, .. } = block;
+                OpLabel::Make { block, range }
+            }
+            Op::CopyIn { block, range } => OpLabel::CopyIn { block, range },
+            Op::CopyOut { block, range } => OpLabel::CopyOut { block, range },
+            Op::Release { block } => OpLabel::Release { block },
+            Op::Run { kernel, uses } => OpLabel::Run { kernel, uses },
+            Op::Await { queue, number } => OpLabel::Await { queue, number },
+            Op::Close => OpLabel::Close,
+        }
+    }
+}

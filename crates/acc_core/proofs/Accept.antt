@@ -1,0 +1,303 @@
+-- A directive is accepted, and its batch placed on the queue.
+use Rattle.std.proofs.Common.{◌≡◌, ℕ, ◌+◌, ◌<◌, ◌≤◌, true, false, List, [], ◌∷◌, ◌++◌, length, refl, sym, ap, subst, ◌∙◌, arith, Option, None, Some}
+use Rattle.std.specs.Prelude.{◌==◌, ◌&&◌, not, All, Ok, Err}
+use Rattle.std.proofs.lemmas.Bool.{eq-eqb, ne_eqb}
+use Rattle.std.proofs.lemmas.List.{append_assoc, append-nil, length-append, length-set}
+use Rattle.std.proofs.lemmas.List.Elements.{All-head, All-push}
+use Rattle.acc_base.proofs.Lists.{All-behind}
+use Rattle.acc_base.specs.declared.config.TheConstants.{MAX_HOSTS}
+use Rattle.acc_place.specs.Directives.{Directive}
+use Rattle.acc_batch.specs.declared.label.Label.{Label}
+use Rattle.acc_batch.specs.declared.label.OpLabel.{OpLabel}
+use Rattle.acc_base.specs.declared.fault.Fault.{Fault}
+use Rattle.acc_base.specs.declared.fault.Fault.TheVariants.{Memory, QueueFull}
+use Rattle.acc_base.specs.declared.ids.QueueAt.{QueueAt}
+use Rattle.acc_base.specs.declared.ids.TheConstants.{QUEUES}
+use Rattle.acc_base.specs.Configurations.{Configuration}
+use Rattle.acc_base.specs.Queues.{queue_count, same_queue, seat}
+use Rattle.acc_place.specs.Accepting.{refusal}
+use Rattle.acc_core.specs.inner.Answers.{Places}
+use Rattle.acc_place.specs.declared.directive.Placed.{Placed}
+use Rattle.acc_place.specs.Batches.{batch_of, answer_of, next_number, walk_at}
+use Rattle.acc_place.specs.Histories.{is_closed, standing, IsQueue}
+use Rattle.acc_place.specs.Plans.{PlaceView, PlanView, standing_in, Fits, label_for, label_in}
+use Rattle.acc_batch.specs.Labels.{on_queue, ops_of}
+use Rattle.acc_core.specs.Legality.{Legal}
+use Rattle.acc_work.specs.Logs.{items_of, value}
+use Rattle.acc_core.specs.inner.Closing.{left_open}
+use Rattle.acc_core.specs.Machine.{State, standing_of, with_directive, fault_of_place, place_fault, queue_fault, is_empty, is_full, batches_held, labels_of}
+use Rattle.acc_place.specs.Standings.{walk_of}
+use Rattle.acc_memory.specs.Memories.{rows_on, room_on}
+use Rattle.acc_memory.proofs.ShownValues.{shows_same}
+use Rattle.acc_core.specs.inner.Queues.{QueueView, no_queue, queue_in, queues_with, queue_pushed}
+use Rattle.acc_core.specs.inner.Ties.{QueueIs, Queued, Remembers, IsAccelerator}
+use Rattle.acc_work.specs.Lanes.{LaneView}
+use Rattle.acc_work.specs.Works.{WorkView, KeepsOrder, IsRoomier, HasMadeRoom, lane_at}
+use Rattle.acc_core.proofs.LegalSteps.{legal_accepted, labels_accepted}
+use Rattle.acc_base.proofs.SameQueue.{same_queue_itself}
+use Rattle.acc_batch.proofs.Labels.{on_queue-append, ops_of-append}
+use Rattle.acc_batch.proofs.Seats.{each_seat}
+use Rattle.acc_core.proofs.LeftOpen.{left_same, left_some}
+use Rattle.acc_core.proofs.AddedLabels.{added}
+use Rattle.acc_core.proofs.Lanes.{few_batches}
+use Rattle.acc_place.proofs.LabelsThere.{labels_there}
+use Rattle.acc_core.proofs.BatchesDone.{held_filled}
+use Rattle.acc_core.proofs.Seats.{IsSeated, seated, room_changed, waiting_changed, waiting_low}
+use Rattle.acc_core.proofs.TakeBatch.{with_taken, held_is}
+
+-- a directive closes no queue
+closed_accepted : (w : State) (host : ℕ) (d : Directive) (at : QueueAt) → is_closed (standing_of (with_directive w host d)) at ≡ is_closed (standing_of w) at
+unfolding standing
+closed_accepted w host d at = refl
+
+-- an empty batch adds no label
+labels_empty : (w : State) (host : ℕ) (d : Directive) → batch_of (standing_of w) (walk_of (standing_of w) host d) ≡ [] → labels_of (with_directive w host d) ≡ labels_of w
+labels_empty w host d e =
+    let at = walk_at (walk_of (standing_of w) host d) in
+    labels_accepted w host d
+    ∙ (ap (λ ops. labels_of w ++ added at (next_number at (labels_of w)) host (items_of host w.work) ops) e ∙ append-nil (labels_of w))
+
+-- a batch that isn't empty adds one label
+added_one : (at : QueueAt) (number host items_done : ℕ) (ops : List OpLabel) → 0 < length ops
+    → added at number host items_done ops ≡ record { at = at; number = number; host = host; items_done = items_done; ops = ops } ∷ []
+added_one at number host items_done [] some = absurd (omega (arith, some))
+added_one at number host items_done (op ∷ ops) some = refl
+
+-- the label that a directive's batch gets
+abbrev next_label : State → ℕ → Directive → Label
+next_label w host d =
+    let at = walk_at (walk_of (standing_of w) host d) in
+    record { at = at; number = next_number at (labels_of w); host = host; items_done = items_of host w.work; ops = batch_of (standing_of w) (walk_of (standing_of w) host d) }
+
+-- a directive's batch that isn't empty adds that label behind all others
+labels_more : (w : State) (host : ℕ) (d : Directive) → 0 < length (batch_of (standing_of w) (walk_of (standing_of w) host d)) → labels_of (with_directive w host d) ≡ labels_of w ++ next_label w host d ∷ []
+labels_more w host d some =
+    let at = walk_at (walk_of (standing_of w) host d) in
+    labels_accepted w host d
+    ∙ ap (λ ls. labels_of w ++ ls) (added_one at (next_number at (labels_of w)) host (items_of host w.work) (batch_of (standing_of w) (walk_of (standing_of w) host d)) some)
+
+-- the queues and their lanes depend on the labels and the log alone
+pub queued_same : (w w' : State) (v : WorkView) (queues : List QueueView) (waiting : ℕ) → w'.config ≡ w.config → labels_of w' ≡ labels_of w → ((at : QueueAt) → is_closed (standing_of w') at ≡ is_closed (standing_of w) at) → w'.work ≡ w.work → Queued w v queues waiting → Queued w' v queues waiting
+queued_same w w' v queues waiting c e closed f q = record {
+  each = λ at. subst (λ ls. QueueIs w'.config ls at (lane_at v at) (queue_in queues at)) (sym e) (subst (λ x. QueueIs x (labels_of w) at (lane_at v at) (queue_in queues at)) (sym c) (q.each at));
+  count = rw c q.count;
+  devices = rw c q.devices;
+  roomy = rw c q.roomy;
+  all_waiting = omega (arith, q.all_waiting, left_same (standing_of w) (standing_of w') (queue_count w.config) closed, ap (λ x. left_open (standing_of w') (queue_count x)) c);
+  close_room = λ at there early. q.close_room at (rw c at there) (sym (closed at) ∙ early);
+  filled = rw e q.filled;
+  hosts = rw e q.hosts;
+  log_room = rw f q.log_room;
+  block_room = rw c q.block_room;
+}
+
+-- more room for a lane leaves its queue what it is
+pub is_roomier : {config : Configuration} {labels : List Label} {at : QueueAt} {lane lane' : LaneView} {queue : QueueView} → IsRoomier lane lane' → QueueIs config labels at lane queue → QueueIs config labels at lane' queue
+is_roomier {lane = lane} {lane' = lane'} more h =
+    let taken : lane'.taken ≡ lane.taken = ap (λ (l : LaneView). l.taken) more.kept in
+    let left : lane'.left ≡ lane.left = ap (λ (l : LaneView). l.left) more.kept in
+    record {
+      split = rw taken h.split;
+      counted = rw left h.counted;
+      held_low = h.held_low;
+      lane_room = omega (arith, h.lane_room, ap length taken, more.room);
+    }
+
+-- a queue's labels, where one more is placed on it, and where it is placed on another
+placed_here : (labels : List Label) (b : Label) → on_queue b.at (labels ++ b ∷ []) ≡ on_queue b.at labels ++ b ∷ []
+placed_here labels b = on_queue-append b.at labels (b ∷ []) ∙ rw (same_queue_itself b.at) refl
+
+placed_elsewhere : (labels : List Label) (b : Label) (other : QueueAt) → same_queue b.at other ≡ false → on_queue other (labels ++ b ∷ []) ≡ on_queue other labels
+placed_elsewhere labels b other differ = on_queue-append other labels (b ∷ []) ∙ rw differ (append-nil (on_queue other labels))
+
+-- the operations of one more label stand behind all others
+ops_more : (ls : List Label) (l : Label) → ops_of (ls ++ l ∷ []) ≡ ops_of ls ++ l.ops
+ops_more ls l = ops_of-append ls (l ∷ []) ∙ ap (λ r. ops_of ls ++ r) (append-nil l.ops)
+
+-- batches that wait in a queue, and the queues that aren't closed, are no more than what waits
+few_wait : (w : State) (v : WorkView) (queues : List QueueView) (waiting : ℕ) (at : QueueAt) → IsSeated w.config.devices v queues at → Queued w v queues waiting → length (queue_in queues at).held + left_open (standing_of w) (queue_count w.config) ≤ waiting
+few_wait w v queues waiting at s q =
+    let h = q.each at in
+    omega (arith, few_batches (queue_in queues at).held (held_filled w v queues waiting at q), h.counted, waiting_low queues at s.queue s.held, q.all_waiting)
+
+-- One more batch joins its queue, where there is room for its operations.
+queued_more : (w w' : State) (v v' : WorkView) (queues : List QueueView) (b : Label) (waiting waiting' : ℕ) → IsSeated w.config.devices v queues b.at → Queued w v queues waiting → KeepsOrder v → w'.config ≡ w.config
+    → labels_of w' ≡ labels_of w ++ b ∷ [] → ((at : QueueAt) → is_closed (standing_of w') at ≡ is_closed (standing_of w) at) → w'.work ≡ w.work → HasMadeRoom v v' → b.host < MAX_HOSTS → 0 < length b.ops → length (queue_in queues b.at).held < w.config.room → waiting' ≡ waiting + length b.ops
+    → length w.work + waiting' ≤ v'.room → length (lane_at v' b.at).taken + waiting' ≤ (lane_at v' b.at).room → ((d : ℕ) → d < length v'.memory.devices → length (rows_on v'.memory d) + waiting' ≤ room_on v'.memory d)
+    → Queued w' v' (queues_with queues b.at (queue_pushed (queue_in queues b.at) b (length b.ops))) waiting'
+queued_more w w' v v' queues b waiting waiting' s q order c e closed f k host some fits more log_room lane_room block_room =
+    let at = b.at in
+    let ls = labels_of w in
+    let queue = queue_in queues at in
+    let new = queue_pushed queue b (length b.ops) in
+    let few = few_wait w v queues waiting at s q in
+    let room =
+    each_seat (λ other x. IsQueue w.config other → is_closed (standing_of w) other ≡ false → length (lane_at v' other).taken + length x.held < (lane_at v' other).room)
+    (λ other x. IsQueue w.config other → is_closed (standing_of w) other ≡ false → length (lane_at v' other).taken + length x.held < (lane_at v' other).room) no_queue queues at new s.queue s.held
+    (λ other there early. (let m = k.lanes other in omega (arith, q.close_room other there early, m.room, ap (λ (l : LaneView). length l.taken) m.kept)))
+    (λ there early. omega (arith, lane_room, length-append queue.held (b ∷ []), few, more, some, left_some w.config (standing_of w) at there early))
+    (λ other differ x same. same) in
+    let h = is_roomier (k.lanes at) (q.each at) in
+    let sum = waiting_changed queues at new s.queue s.held in
+    let each = each_seat (λ other x. QueueIs w.config ls other (lane_at v' other) x) (λ other x. QueueIs w.config (ls ++ b ∷ []) other (lane_at v' other) x) no_queue queues at new s.queue s.held (λ other. is_roomier (k.lanes other) (q.each other))
+    (record {
+      split = placed_here ls b ∙ (ap (λ r. r ++ b ∷ []) h.split ∙ append_assoc (lane_at v' at).taken queue.held (b ∷ []));
+      counted = omega (arith, h.counted, ap length (ops_more queue.held b), length-append (ops_of queue.held) b.ops);
+      held_low = omega (arith, fits, length-append queue.held (b ∷ []));
+      lane_room = omega (arith, lane_room, length-append queue.held (b ∷ []), few, more, some);
+    })
+    (λ other differ x same. record { split = placed_elsewhere ls b other differ ∙ same.split; counted = same.counted; held_low = same.held_low; lane_room = same.lane_room }) in
+    record {
+      each = λ other. subst (λ x. QueueIs w'.config x other (lane_at v' other) (queue_in (queues_with queues at new) other)) (sym e) (subst (λ x. QueueIs x (ls ++ b ∷ []) other (lane_at v' other) (queue_in (queues_with queues at new) other)) (sym c) (each other));
+      count = rw c (length-set queues (seat at) new ∙ q.count);
+      devices = rw c (k.devices ∙ q.devices);
+      roomy = rw c (room_changed w.config.room queues at new s.queue s.held q.roomy refl);
+      all_waiting = omega (arith, q.all_waiting, sum, more, left_same (standing_of w) (standing_of w') (queue_count w.config) closed, ap (λ x. left_open (standing_of w') (queue_count x)) c);
+      close_room = λ other there early. room other (rw c at there) (sym (closed other) ∙ early);
+      filled = rw e (All-push (λ (x : Label). 0 < length x.ops) ls b q.filled some);
+      hosts = rw e (All-push (λ (x : Label). x.host < MAX_HOSTS) ls b q.hosts host);
+      log_room = rw f log_room;
+      block_room = λ d low. block_room d (omega (arith, low, ap (λ x. x.devices) c, k.devices, q.devices));
+    }
+
+-- the memory shows the same values where room was made
+pub remembers_room : (w w' : State) (v v' : WorkView) → Remembers w v → w'.config ≡ w.config → w'.work ≡ w.work → HasMadeRoom v v' → Remembers w' v'
+remembers_room w w' v v' r c f k = record {
+  shows = rw (c, f) (shows_same v.memory v'.memory (value w.config.arrays w.work) k.arrays k.rows r.shows);
+  blocks = λ d. rw (f, k.rows d) (r.blocks d);
+  lengths = rw (c, k.arrays) r.lengths;
+}
+
+-- An accelerator that accepted a directive with an empty batch.
+pub keeps_empty : (w w' : State) (v : WorkView) (queues : List QueueView) (waiting host : ℕ) (d : Directive) → IsAccelerator w v queues waiting → refusal w.config (standing_of w) host d ≡ None
+    → batch_of (standing_of w) (walk_of (standing_of w) host d) ≡ [] → w' ≡ with_directive w host d → IsAccelerator w' v queues waiting
+keeps_empty w w' v queues waiting host d a e none is =
+    rw is (record {
+      legal = legal_accepted w host d a.legal e;
+      few_items = a.few_items;
+      parts = queued_same w (with_directive w host d) v queues waiting refl (labels_empty w host d none) (closed_accepted w host d) refl a.parts;
+      memory = record { shows = a.memory.shows; blocks = a.memory.blocks; lengths = a.memory.lengths };
+    })
+
+no_ops : (at : QueueAt) (number host items_done : ℕ) (ops : List OpLabel) → None ≡ label_for at number host items_done ops → ops ≡ []
+no_ops at number host items_done [] is = refl
+no_ops at number host items_done (op ∷ ops) is = absurd (cc)
+
+-- a directive without a label has an empty batch
+pub batch_empty : (w : State) (host items_done : ℕ) (d : Directive) → None ≡ label_in (standing_of w) host items_done (walk_of (standing_of w) host d) → batch_of (standing_of w) (walk_of (standing_of w) host d) ≡ []
+batch_empty w host items_done d is = no_ops (walk_at (walk_of (standing_of w) host d)) (next_number (walk_at (walk_of (standing_of w) host d)) (labels_of w)) host items_done (batch_of (standing_of w) (walk_of (standing_of w) host d)) is
+
+some_ops : (at : QueueAt) (number host items_done : ℕ) (ops : List OpLabel) (b : Label) → Some b ≡ label_for at number host items_done ops
+    → (0 < length ops) × (b ≡ record { at = at; number = number; host = host; items_done = items_done; ops = ops })
+some_ops at number host items_done [] b is = absurd (cc)
+some_ops at number host items_done (op ∷ ops) b is = (omega arith, cc)
+
+-- one with a label has a batch with that label
+pub record IsPlaced (w : State) (host : ℕ) (d : Directive) (b : Label) : Type 0 where
+  pub some : 0 < length (batch_of (standing_of w) (walk_of (standing_of w) host d))
+  pub same : b ≡ next_label w host d
+
+pub batch_placed : (w : State) (host : ℕ) (d : Directive) (b : Label) → Some b ≡ label_in (standing_of w) host (items_of host w.work) (walk_of (standing_of w) host d) → IsPlaced w host d b
+batch_placed w host d b is =
+    let at = walk_at (walk_of (standing_of w) host d) in
+    let made = some_ops at (next_number at (labels_of w)) host (items_of host w.work) (batch_of (standing_of w) (walk_of (standing_of w) host d)) b is in
+    record { some = made.0; same = made.1 }
+
+-- the last of a list has what all have
+last_has : (P : Label → Type 0) (ls : List Label) (l : Label) → All P (ls ++ l ∷ []) → P l
+last_has P ls l h = All-head P l [] (All-behind P ls (l ∷ []) h)
+
+-- its queue is there
+pub placed_there : (w : State) (host : ℕ) (d : Directive) (b : Label) → Legal w → refusal w.config (standing_of w) host d ≡ None → IsPlaced w host d b → (b.at.device < w.config.devices) × (b.at.queue < QUEUES)
+placed_there w host d b l e p =
+    let new = with_directive w host d in
+    let all = labels_there new.config new.history new.counts (legal_accepted w host d l e).accepted in
+    let labels : labels_of new ≡ labels_of w ++ b ∷ [] = rw p.same (labels_more w host d p.some) in
+    let there = last_has (λ (x : Label). (x.at.device < w.config.devices) × (x.at.queue < QUEUES) × (0 < length x.ops)) (labels_of w) b (rw labels at all) in
+    (there.0, there.1)
+
+-- An accelerator that accepted a directive and put its batch on its queue.
+pub keeps_batch : (w w' : State) (v v' : WorkView) (queues : List QueueView) (b : Label) (waiting waiting' host : ℕ) (d : Directive) → IsAccelerator w v queues waiting → IsSeated w.config.devices v queues b.at
+    → refusal w.config (standing_of w) host d ≡ None → w' ≡ with_directive w host d → HasMadeRoom v v' → IsPlaced w host d b → host < MAX_HOSTS → length (queue_in queues b.at).held < w.config.room
+    → waiting' ≡ waiting + length b.ops → length w.work + waiting' ≤ v'.room → length (lane_at v' b.at).taken + waiting' ≤ (lane_at v' b.at).room
+    → ((n : ℕ) → n < length v'.memory.devices → length (rows_on v'.memory n) + waiting' ≤ room_on v'.memory n) → KeepsOrder v
+    → IsAccelerator w' v' (queues_with queues b.at (queue_pushed (queue_in queues b.at) b (length b.ops))) waiting'
+keeps_batch w w' v v' queues b waiting waiting' host d a s e is k l low fits more log_room lane_room block_room order =
+    let labels : labels_of (with_directive w host d) ≡ labels_of w ++ b ∷ [] = rw l.same (labels_more w host d l.some) in
+    rw is (record {
+      legal = legal_accepted w host d a.legal e;
+      few_items = a.few_items;
+      parts = queued_more w (with_directive w host d) v v' queues b waiting waiting' s a.parts order refl labels (closed_accepted w host d) refl k (rw l.same low) (rw l.same l.some) fits more log_room lane_room block_room;
+      memory = remembers_room w (with_directive w host d) v v' a.memory refl refl k;
+    })
+
+-- operations that are there aren't none
+not_empty : (ops : List OpLabel) → 0 < length ops → is_empty ops ≡ false
+not_empty [] some = absurd (omega (arith, some))
+not_empty (op ∷ ops) some = refl
+
+-- a batch that isn't empty finds its queue full where that holds its room
+full_at : (w : State) (v : WorkView) (queues : List QueueView) (waiting host : ℕ) (d : Directive) (b : Label) → Queued w v queues waiting → IsSeated w.config.devices v queues b.at → IsPlaced w host d b
+    → is_full (with_taken w v) (standing_of w) (walk_of (standing_of w) host d) ≡ (length (queue_in queues b.at).held == w.config.room)
+full_at w v queues waiting host d b q s p =
+    let ops = batch_of (standing_of w) (walk_of (standing_of w) host d) in
+    let at = walk_at (walk_of (standing_of w) host d) in
+    let here : at ≡ b.at = ap (λ (x : Label). x.at) (sym p.same) in
+    ap (λ e. not e && (batches_held (with_taken w v) (labels_of w) at == w.config.room)) (not_empty ops p.some)
+    ∙ (ap (λ other. batches_held (with_taken w v) (labels_of w) other == w.config.room) here ∙ ap (λ n. n == w.config.room) (held_is w v queues b.at (queue_in queues b.at) s (q.each b.at)))
+
+-- the fault is by that
+fault_is : (w : State) (v : WorkView) (queues : List QueueView) (waiting host : ℕ) (d : Directive) (b : Label) → Queued w v queues waiting → IsSeated w.config.devices v queues b.at → refusal w.config (standing_of w) host d ≡ None
+    → IsPlaced w host d b → fault_of_place false (with_taken w v) host d ≡ queue_fault (length (queue_in queues b.at).held == w.config.room)
+fault_is w v queues waiting host d b q s e p = ap (place_fault false (with_taken w v) host d) e ∙ ap queue_fault (full_at w v queues waiting host d b q s p)
+
+-- A directive whose queue holds its room is refused.
+pub places_full : (w w' : State) (v : WorkView) (queues : List QueueView) (waiting host : ℕ) (d : Directive) (b : Label) → Queued w v queues waiting → IsSeated w.config.devices v queues b.at → refusal w.config (standing_of w) host d ≡ None
+    → IsPlaced w host d b → length (queue_in queues b.at).held ≡ w.config.room → w' ≡ with_taken w v → Places (with_taken w v) host d (Err QueueFull) w'
+places_full w w' v queues waiting host d b q s e p full is =
+    (false, fault_is w v queues waiting host d b q s e p ∙ ap queue_fault (eq-eqb (length (queue_in queues b.at).held) w.config.room full), is)
+
+-- A directive with a batch is answered with the batch's queue and number.
+pub places_batch : (w w' : State) (v : WorkView) (queues : List QueueView) (waiting host : ℕ) (d : Directive) (b : Label) (placed : Placed) → Queued w v queues waiting → IsSeated w.config.devices v queues b.at
+    → refusal w.config (standing_of w) host d ≡ None → IsPlaced w host d b → ¬ length (queue_in queues b.at).held ≡ w.config.room → placed ≡ answer_of (standing_of w) d (walk_of (standing_of w) host d)
+    → w' ≡ with_directive (with_taken w v) host d → Places (with_taken w v) host d (Ok placed) w'
+places_batch w w' v queues waiting host d b placed q s e p room answer is =
+    (fault_is w v queues waiting host d b q s e p ∙ ap queue_fault (ne_eqb (length (queue_in queues b.at).held) w.config.room room), answer, is)
+
+-- A directive that is planned and finds no memory is refused.
+pub places_memory : (w w' : State) (host : ℕ) (d : Directive) (fault : Fault) → refusal w.config (standing_of w) host d ≡ None → fault ≡ Memory → w' ≡ w → Places w host d (Err fault) w'
+places_memory w w' host d fault e same is = (true, ap (place_fault true w host d) e ∙ ap Some (sym same), is)
+
+-- What a plan says of the place before it, in which it changed nothing but spare memory.
+pub record IsPlanned (p : PlaceView) (host items_done : ℕ) (d : Directive) (label : Option Label) : Type 0 where
+  pub accepted : refusal p.config (standing_in p) host d ≡ None
+  pub labelled : label ≡ label_in (standing_in p) host items_done (walk_of (standing_in p) host d)
+
+pub planned : (p after : PlaceView) (q : PlanView) (host items_done : ℕ) (d : Directive) → after.config ≡ p.config → after.history ≡ p.history → after.counts ≡ p.counts → Fits after q
+    → q.host ≡ host → q.items_done ≡ items_done → q.directive ≡ d → IsPlanned p host items_done d q.label
+planned p after q host items_done d config history counts fits same_host same_items same =
+    let st : standing_in after ≡ standing_in p = ap (λ c. standing c after.history after.counts) config ∙ (ap (λ xs. standing p.config xs after.counts) history ∙ ap (standing p.config p.history) counts) in
+    record {
+      accepted =
+          sym (ap (λ x. refusal x (standing_in after) q.host q.directive) config
+          ∙ (ap (λ s. refusal p.config s q.host q.directive) st
+          ∙ (ap (λ h. refusal p.config (standing_in p) h q.directive) same_host ∙ ap (refusal p.config (standing_in p) host) same))) ∙ fits.accepted;
+      labelled =
+          fits.labelled
+          ∙ (ap (λ s. label_in s q.host q.items_done (walk_of s q.host q.directive)) st
+          ∙ (ap (λ h. label_in (standing_in p) h q.items_done (walk_of (standing_in p) h q.directive)) same_host
+          ∙ (ap (λ n. label_in (standing_in p) host n (walk_of (standing_in p) host q.directive)) same_items
+          ∙ ap (λ e. label_in (standing_in p) host items_done (walk_of (standing_in p) host e)) same)));
+    }
+
+-- Where a directive's batch goes: it is placed, and its queue is there.
+pub record Goes (w : State) (v : WorkView) (queues : List QueueView) (host : ℕ) (d : Directive) (b : Label) : Type 0 where
+  pub placed : IsPlaced w host d b
+  pub seat : IsSeated w.config.devices v queues b.at
+
+pub batch_goes : (w : State) (v : WorkView) (queues : List QueueView) (waiting host items_done : ℕ) (d : Directive) (b : Label) → IsAccelerator w v queues waiting → KeepsOrder v → refusal w.config (standing_of w) host d ≡ None
+    → items_done ≡ items_of host w.work → Some b ≡ label_in (standing_of w) host items_done (walk_of (standing_of w) host d) → Goes w v queues host d b
+batch_goes w v queues waiting host items_done d b a k e items named =
+    let p = batch_placed w host d b (named ∙ ap (λ n. label_in (standing_of w) host n (walk_of (standing_of w) host d)) items) in
+    let there = placed_there w host d b a.legal e p in
+    record { placed = p; seat = seated w v queues waiting b.at a.parts k there.0 there.1 }

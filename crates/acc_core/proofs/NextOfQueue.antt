@@ -1,0 +1,50 @@
+-- The operation that a queue performs next is the next of all that were placed there, and uses live blocks.
+use Rattle.std.proofs.Common.{inl, inr, ◌≡◌, ℕ, List, [], ◌∷◌, length, take, drop, sym, ◌∙◌}
+use Rattle.std.proofs.lemmas.Bool.{cases_Bool}
+use Rattle.std.proofs.lemmas.List.{append_assoc}
+use Rattle.acc_base.specs.declared.ids.QueueAt.{QueueAt}
+use Rattle.acc_base.specs.Queues.{same_queue}
+use Rattle.acc_work.specs.declared.log.WorkEntry.{WorkEntry}
+use Rattle.acc_work.specs.declared.log.WorkEntry.TheVariants as entry
+use Rattle.acc_batch.specs.declared.label.Label.{Label}
+use Rattle.acc_batch.specs.declared.label.OpLabel.{OpLabel}
+use Rattle.acc_batch.specs.Labels.{on_queue, ops_of}
+use Rattle.acc_work.specs.Orders.{IsPrefix, InOrder}
+use Rattle.acc_core.specs.Legality.{Legal}
+use Rattle.acc_batch.specs.Lives.{UsesLive}
+use Rattle.acc_work.specs.Logs.{performed, device_ops}
+use Rattle.acc_core.specs.Machine.{State, standing_of, taken_on, ops_left}
+use Rattle.acc_base.proofs.SameQueue.{same_queue_is}
+use Rattle.acc_work.proofs.NextUsesLive.{any_order}
+use Rattle.acc_place.proofs.LabelsSound.{labels_sound}
+use Rattle.acc_batch.proofs.Labels.{ops_of_all}
+use Rattle.acc_batch.proofs.NextOperation.{NextOp, next_in}
+
+-- what isn't performed of the first batches begins with the next operation of all of them
+next_of_taken : (labels : List Label) (taken : ℕ) (done : List OpLabel) (op : OpLabel) (ops : List OpLabel) → IsPrefix done (ops_of labels) → drop (length done) (ops_of (take taken labels)) ≡ op ∷ ops → NextOp done op (ops_of labels)
+next_of_taken labels taken done op ops p e =
+    let first = ops_of (take taken labels) in
+    let second = ops_of (drop taken labels) in
+    let cut = ops_of_all taken labels in
+    next_in done first second p.0 op ops (p.1 ∙ cut) e cut
+
+-- the next operation of a queue
+pub next_of_all : (w : State) (at : QueueAt) (op : OpLabel) (ops : List OpLabel) → InOrder (standing_of w).labels w.work → ops_left w (standing_of w).labels at ≡ op ∷ ops
+    → NextOp (performed at w.work) op (ops_of (on_queue at (standing_of w).labels))
+next_of_all w at op ops h e = next_of_taken (on_queue at (standing_of w).labels) (taken_on w at) (performed at w.work) op ops (h at) e
+
+-- the queue that performs it has its prefix still, and so has each other queue
+pub in_order_performed : (labels : List Label) (work : List WorkEntry) (at : QueueAt) (op : OpLabel) → InOrder labels work
+    → NextOp (performed at work) op (ops_of (on_queue at labels)) → InOrder labels (entry.Op at op ∷ work)
+in_order_performed labels work at op h next = λ other. elim (cases_Bool (same_queue at other)) [
+  | inl same ↦
+      let there : NextOp (performed other work) op (ops_of (on_queue other labels)) = rw (same_queue_is at other same) at next in
+      rw same (there.later, append_assoc (performed other work) (op ∷ []) there.later ∙ sym there.split)
+  | inr differ ↦ rw differ (h other)
+]
+
+-- The next operation of a queue uses live blocks, whatever the queues have performed.
+pub next_uses_live : (w : State) (at : QueueAt) (op : OpLabel) (ops : List OpLabel) → Legal w → ops_left w (standing_of w).labels at ≡ op ∷ ops → UsesLive w.config.arrays op (device_ops at.device w.work)
+next_uses_live w at op ops l e =
+    let next = next_of_all w at op ops l.prefix e in
+    any_order w.config.arrays (standing_of w).labels w.work at op next.later (labels_sound w.config w.history w.counts l.accepted) l.prefix l.awaited next.split

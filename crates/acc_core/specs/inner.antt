@@ -1,0 +1,4 @@
+pub mod Answers
+pub mod Closing
+pub mod Queues
+pub mod Ties

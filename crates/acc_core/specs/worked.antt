@@ -1,0 +1,4 @@
+pub mod Closes
+pub mod Hosts
+pub mod Programs
+pub mod Queues

@@ -1,7 +1,0 @@
-use Rattle.std.proofs.Common.{sym, ◌∙◌}
-use Rattle.std.specs.Prelude.{bytes_eq}
-use Rattle.acc_driver.proofs.Names.{any_text}
-use Rattle.acc_driver.proofs.arrays.Arrays.has.Goals as goal
-
-pub returns : goal.returns
-returns c = rw (← c.self.view_is) (c.contains.ensures ∙ sym (any_text (bytes_eq c.args.name.now) c.self.inside.names.keys))

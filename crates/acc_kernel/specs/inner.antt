@@ -1,0 +1,4 @@
+pub mod Columns
+pub mod RowTables
+pub mod Running
+pub mod Scans

@@ -1,6 +1,0 @@
-use Rattle.acc_kernel_tests.proofs.Singles.{is_the_cell}
-use Rattle.acc_kernel_tests.proofs.window.after.Goals as goal
-
-pub run_at-requires-clause-has : goal.run_at-requires-clause-has
-run_at-requires-clause-has c =
-    λ array cell r. is_the_cell c.new-2.result array cell (c.is_held_by.ensures.0 c.if-not-is_held_by.false array cell r)

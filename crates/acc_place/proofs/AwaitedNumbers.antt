@@ -1,0 +1,148 @@
+-- The numbers that a batch awaits, as they are raised range by range.
+use Rattle.std.proofs.Common.{inl, inr, ◌≡◌, ◌⊎◌, ℕ, suc, ◌-◌, ◌<◌, ◌≤◌, true, false, List, [], ◌∷◌, ◌++◌, length, map, get_or, drop, take, refl, sym, ap, ◌∙◌, arith, Option, Some, None}
+use Rattle.std.specs.Prelude.{All, max, not}
+use Rattle.std.specs.List.{flat_map}
+use Rattle.std.proofs.Math.Seq.{take-length}
+use Rattle.std.proofs.lemmas.Bool.{and_parts, not-true}
+use Rattle.std.proofs.lemmas.List.Elements.{All-head}
+use Rattle.std.proofs.lemmas.Grind.{flat_map-append}
+use Rattle.acc_base.specs.declared.range.Range.{Range}
+use Rattle.acc_base.specs.Queues.{every_queue}
+use Rattle.acc_batch.specs.declared.label.OpLabel.{OpLabel}
+use Rattle.acc_batch.specs.declared.label.OpLabel.TheVariants.{CopyIn, CopyOut}
+use Rattle.acc_kernel.specs.Jobs.{Use}
+use Rattle.acc_present.specs.Notes.{Note}
+use Rattle.acc_present.specs.Presences.{Presence, holder, is_present, overlaps_any}
+use Rattle.acc_present.specs.Tables.{IsLook}
+use Rattle.acc_present.specs.declared.table.Look.{Look}
+use Rattle.acc_present.specs.declared.table.Look.TheVariants as look
+use Rattle.acc_present.proofs.Holder.{is_present-some}
+use Rattle.acc_place.specs.declared.judge.Marked.{Marked}
+use Rattle.acc_place.specs.declared.plan.Group.{Group}
+use Rattle.acc_place.specs.declared.plan.Group.TheVariants.{Makes, CopyIns, Updates, CopyOuts, Releases}
+use Rattle.acc_place.specs.inner.Noting.{last_made, last_used, made_at, used_ranges}
+use Rattle.acc_place.specs.inner.Walks.{group_ops, marked_ops}
+
+-- what a slice is, where it isn't empty
+pub first_and_rest : {X : Type 0} (xs : List X) (d : X) → 1 ≤ length xs → xs ≡ get_or xs 0 d ∷ take (length xs - 1) (drop 1 xs)
+first_and_rest [] d some = absurd (omega arith)
+first_and_rest (x ∷ xs) d some = (let e : suc (length xs) - 1 ≡ length xs = omega arith in ap (λ r. x ∷ r) (sym (ap (λ n. take n xs) e ∙ take-length xs)))
+
+pub same_for : (f g : ℕ → ℕ) (qs : List ℕ) → ((q : ℕ) → f q ≡ g q) → map f qs ≡ map g qs
+same_for f g [] h = refl
+same_for f g (q ∷ qs) h = rw (h q, same_for f g qs h) refl
+
+-- nothing raises no number
+pub none_raised : (f : ℕ → ℕ) → map f every_queue ≡ map (λ q. max (f q) 0) every_queue
+none_raised f = same_for f (λ q. max (f q) 0) every_queue (λ q. omega arith)
+
+-- ## Ranges that aren't present
+
+-- what is partly present nothing holds
+partly_held : (ps : List Presence) (r : Range) → overlaps_any ps r ≡ true → not (is_present ps r) ≡ true → holder ps r ≡ None
+partly_held ps r some no_one = by_holder (holder ps r) refl
+  where
+    by_holder : (o : Option Presence) → holder ps r ≡ o → o ≡ None
+    by_holder None e = refl
+    by_holder (Some p) e = (let w : true ≡ false = sym (is_present-some ps r p e) ∙ not-true (is_present ps r) no_one in absurd cc)
+
+-- what is absent or partly present has no entry
+pub no_holder : (ps : List Presence) (r : Range) (l : Look) → IsLook ps r l → (l ≡ look.Absent) ⊎ (l ≡ look.Partly) → holder ps r ≡ None
+no_holder ps r l found (inl absent) = (let none : IsLook ps r look.Absent = rw absent at found in none.0)
+no_holder ps r l found (inr partly) =
+    let some : IsLook ps r look.Partly = rw partly at found in
+    let parts = and_parts (overlaps_any ps r) (not (is_present ps r)) some in
+    partly_held ps r parts.0 parts.1
+
+-- ## Two lists, one behind the other
+
+pub made_both : (found : Range → Note) (us vs : List Use) (q : ℕ) → last_made found (us ++ vs) q ≡ max (last_made found us q) (last_made found vs q)
+made_both found [] vs q = omega arith
+made_both found (u ∷ us) vs q = (let ih = made_both found us vs q in omega (arith, ih))
+
+pub used_both : (found : Range → Note) (us vs : List Use) (q : ℕ) → last_used found (us ++ vs) q ≡ max (last_used found us q) (last_used found vs q)
+used_both found [] vs q = omega arith
+used_both found (u ∷ us) vs q = (let ih = used_both found us vs q in omega (arith, ih))
+
+-- ## One more range
+
+-- the maker of a range, and then those of others
+pub made_first : (found : Range → Note) (f : ℕ → ℕ) (u : Use) (us : List Use) (q : ℕ) → max (max (f q) (made_at q (found u.1))) (last_made found us q) ≡ max (f q) (last_made found (u ∷ us) q)
+made_first found f u us q = omega arith
+
+-- what is raised one after another, at once
+max_assoc : (a b c : ℕ) → max (max a b) c ≡ max a (max b c)
+max_assoc a b c = omega arith
+
+pub regrouped : (n c r u o e : ℕ) → max (max (max (max (max n c) r) u) o) e ≡ max n (max (max c (max r (max u o))) e)
+regrouped n c r u o e =
+    ap (λ x. max x e) (max_assoc (max (max n c) r) u o ∙ (max_assoc (max n c) r (max u o) ∙ max_assoc n c (max r (max u o)))) ∙ max_assoc n (max c (max r (max u o))) e
+
+-- ## Ranges with cells
+
+-- a range that an operation uses has cells
+abbrev pub HasCells : Use → Type 0
+HasCells u = 0 < u.1.len
+
+pub cells_of_in : (op : OpLabel) (b : ℕ) (r : Range) → op ≡ CopyIn b r → All HasCells (used_ranges op) → 0 < r.len
+cells_of_in op b r is all = (let here : All HasCells ((b, r) ∷ []) = rw is at all in All-head HasCells (b, r) [] here)
+
+pub cells_of_out : (op : OpLabel) (b : ℕ) (r : Range) → op ≡ CopyOut b r → All HasCells (used_ranges op) → 0 < r.len
+cells_of_out op b r is all = (let here : All HasCells ((b, r) ∷ []) = rw is at all in All-head HasCells (b, r) [] here)
+
+-- ## The operations of a batch
+
+-- makes and releases use nothing
+none_of_one : (g : OpLabel → List Use) (f : Marked → List OpLabel) (ts : List Marked) → ((t : Marked) → flat_map g (f t) ≡ []) → flat_map g (flat_map f ts) ≡ []
+none_of_one g f [] none = refl
+none_of_one g f (t ∷ ts) none = flat_map-append g (f t) (flat_map f ts) ∙ (ap (λ r. flat_map g (f t) ++ r) (none_of_one g f ts none) ∙ (ap (λ r. r ++ []) (none t)))
+
+makes_none : (t : Marked) → flat_map used_ranges (group_ops Makes t) ≡ []
+makes_none t = by_block t.opened refl
+  where
+    by_block : (o : Option ℕ) → t.opened ≡ o → flat_map used_ranges (group_ops Makes t) ≡ []
+    by_block None e = rw e refl
+    by_block (Some b) e = rw e refl
+
+releases_none : (t : Marked) → flat_map used_ranges (group_ops Releases t) ≡ []
+releases_none t = by_block t.ended refl
+  where
+    by_block : (o : Option ℕ) → t.ended ≡ o → flat_map used_ranges (group_ops Releases t) ≡ []
+    by_block None e = rw e refl
+    by_block (Some b) e = rw e refl
+
+-- what the operations of these groups use
+abbrev group_uses : Group → List Marked → List Use
+group_uses g ts = flat_map used_ranges (flat_map (group_ops g) ts)
+
+-- What a batch's operations use, raised group by group.
+pub made_by_groups : (found : Range → Note) (run : List OpLabel) (ts : List Marked) (q : ℕ)
+    → last_made found (flat_map used_ranges (marked_ops run ts)) q
+    ≡ max (last_made found (group_uses CopyIns ts) q) (max (last_made found (flat_map used_ranges run) q) (max (last_made found (group_uses Updates ts) q) (last_made found (group_uses CopyOuts ts) q)))
+unfolding marked_ops
+made_by_groups found run ts q =
+    let a = flat_map (group_ops Makes) ts in
+    let b = flat_map (group_ops CopyIns) ts in
+    let u = flat_map (group_ops Updates) ts in
+    let o = flat_map (group_ops CopyOuts) ts in
+    let r = flat_map (group_ops Releases) ts in
+    let uses = λ (ops : List OpLabel). flat_map used_ranges ops in
+    let parts : uses (a ++ (b ++ (run ++ (u ++ (o ++ r))))) ≡ uses a ++ (uses b ++ (uses run ++ (uses u ++ (uses o ++ uses r)))) =
+    flat_map-append used_ranges a (b ++ (run ++ (u ++ (o ++ r))))
+    ∙ ap (λ x. uses a ++ x) (flat_map-append used_ranges b (run ++ (u ++ (o ++ r)))
+    ∙ ap (λ x. uses b ++ x) (flat_map-append used_ranges run (u ++ (o ++ r))
+    ∙ ap (λ x. uses run ++ x) (flat_map-append used_ranges u (o ++ r)
+    ∙ ap (λ x. uses u ++ x) (flat_map-append used_ranges o r)))) in
+    let none_a = ap (λ x. last_made found x q) (none_of_one used_ranges (group_ops Makes) ts makes_none) in
+    let none_r = ap (λ x. last_made found x q) (none_of_one used_ranges (group_ops Releases) ts releases_none) in
+    ap (λ x. last_made found x q) parts
+    ∙ (made_both found (uses a) (uses b ++ (uses run ++ (uses u ++ (uses o ++ uses r)))) q
+    ∙ omega (
+      arith,
+      none_a,
+      none_r,
+      made_both found (uses b) (uses run ++ (uses u ++ (uses o ++ uses r))) q,
+      made_both found (uses run) (uses u ++ (uses o ++ uses r)) q,
+      made_both found (uses u) (uses o ++ uses r) q,
+      made_both found (uses o) (uses r) q,
+    ))

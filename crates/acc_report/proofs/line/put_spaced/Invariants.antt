@@ -1,0 +1,10 @@
+use Rattle.std.proofs.Common.{ℤ, codes, ◌++◌, take}
+use Rattle.std.specs.Fmt.{signed_decimal}
+use Rattle.std.specs.List.{flat_map}
+use Rattle.acc_report.specs.Puts.{Puts, sink}
+use Rattle.acc_report.proofs.line.put_spaced.Given as goal
+
+abbrev pub invariant-loop-value : goal.invariant-loop-value
+invariant-loop-value g l =
+    Puts (sink (g.W.Write.contents l.fn.out) l.fn.failed) (sink (g.W.Write.contents l.out) l.failed)
+    (flat_map (λ (v : ℤ). codes " " ++ signed_decimal v) (take l.value-index l.values))

@@ -1,0 +1,179 @@
+//! The lines of a report.
+
+ghost use Rattle.std.specs.Prelude.{◌≡◌, ◌++◌, [], codes, slice_index_or};
+ghost use Rattle.std.specs.Fmt.{signed_decimal};
+ghost use Rattle.std.specs.List.{flat_map};
+ghost use Rattle.acc_present.specs.Tables.{entry_presence};
+ghost use Rattle.acc_script.specs.Arrays.{texts};
+ghost use Rattle.acc_report.specs.Lines.{values_text, printed_text, shown_text, refusal_text, state_text, host_state_text, presence_text, queue_name, totals_text};
+ghost use Rattle.acc_report.specs.Puts.{Puts, sink};
+
+use crate::bytes::{put, put_number, put_signed};
+use acc_base::{DeviceId, Fault, HostId, QueueAt, QueueId};
+use acc_host::HostState;
+use acc_present::Entry;
+use acc_work::{Told, WorkEntry};
+use std::io::Write;
+
+/// What a host printed.
+pub fn put_prints<W: Write>(out: &mut W, failed: &mut bool, log: &[WorkEntry], host: HostId)
+    ensures { Puts (sink (W.contents out.old) failed.old) (sink (W.contents out.new) failed.new) (flat_map (printed_text host) log.now) }
+{
+    for entry in log {
+        put_printed(out, failed, entry, host);
+    }
+}
+
+// What an entry prints for a host.
+#[tactic(auto, using(crate::proofs::JoinedPuts::puts_nothing), unfolding(crate::specs::Lines::printed_text))]
+fn put_printed<W: Write>(out: &mut W, failed: &mut bool, entry: &WorkEntry, host: HostId)
+    ensures { Puts (sink (W.contents out.old) failed.old) (sink (W.contents out.new) failed.new) (printed_text host entry.now) }
+{
+    match entry {
+        WorkEntry::Item {
+            host: printer,
+            what,
+        } if *printer == host => put_shown(out, failed, what),
+        _ => {}
+    }
+}
+
+#[tactic(auto, using(crate::proofs::JoinedPuts::puts_nothing), unfolding(crate::specs::Lines::shown_text))]
+fn put_shown<W: Write>(out: &mut W, failed: &mut bool, what: &Told)
+    ensures { Puts (sink (W.contents out.old) failed.old) (sink (W.contents out.new) failed.new) (shown_text what.now) }
+{
+    if let Told::Print { range: _, values } = what {
+        put_values(out, failed, values.as_slice());
+        put(out, failed, b"\n");
+    }
+}
+
+// Values, separated by one space.
+fn put_values<W: Write>(out: &mut W, failed: &mut bool, values: &[i64])
+    ensures { Puts (sink (W.contents out.old) failed.old) (sink (W.contents out.new) failed.new) (values_text values.now) }
+{
+    if let Some((first, rest)) = values.split_first() {
+        put_signed(out, failed, first);
+        put_spaced(out, failed, rest);
+    }
+}
+
+// Values, each with a space before it.
+fn put_spaced<W: Write>(out: &mut W, failed: &mut bool, values: &[i64])
+    ensures { Puts (sink (W.contents out.old) failed.old) (sink (W.contents out.new) failed.new) (flat_map (λ v. codes " " ++ signed_decimal v) values.now) }
+{
+    for value in values {
+        put(out, failed, b" ");
+        put_signed(out, failed, value);
+    }
+}
+
+/// Where a host stands.
+#[tactic(auto, using(crate::proofs::JoinedPuts::puts_nothing))]
+pub fn put_host_state<W: Write>(out: &mut W, failed: &mut bool, state: Option<HostState>)
+    ensures { Puts (sink (W.contents out.old) failed.old) (sink (W.contents out.new) failed.new) (host_state_text state) }
+{
+    if let Some(state) = state {
+        put_state(out, failed, state);
+    }
+}
+
+#[tactic(auto, unfolding(crate::specs::Lines::state_text))]
+fn put_state<W: Write>(out: &mut W, failed: &mut bool, state: HostState)
+    ensures { Puts (sink (W.contents out.old) failed.old) (sink (W.contents out.new) failed.new) (state_text state) }
+{
+    match state {
+        HostState::Running { ended: _ } => put(out, failed, b"unfinished\n"),
+        HostState::Finished => put(out, failed, b"done\n"),
+        HostState::Refused {
+            ended: _,
+            line,
+            fault,
+        } => put_refusal(out, failed, line, fault),
+    }
+}
+
+// The line of a refusal.
+fn put_refusal<W: Write>(out: &mut W, failed: &mut bool, line: u32, fault: Fault)
+    ensures { Puts (sink (W.contents out.old) failed.old) (sink (W.contents out.new) failed.new) (refusal_text line fault) }
+{
+    put(out, failed, b"refused ");
+    put_number(out, failed, line);
+    put(out, failed, b" F");
+    put_number(out, failed, fault.number());
+    put(out, failed, b" ");
+    put(out, failed, fault.name().as_bytes());
+    put(out, failed, b"\n");
+}
+
+/// A range that is present on a device, with its counters.
+pub fn put_presence<W: Write>(
+    out: &mut W,
+    failed: &mut bool,
+    names: &[&[u8]],
+    device: DeviceId,
+    entry: &Entry,
+)
+    ensures { Puts (sink (W.contents out.old) failed.old) (sink (W.contents out.new) failed.new) (presence_text (texts names.now) device (entry_presence entry.now)) }
+{
+    put(out, failed, b"present ");
+    put_number(out, failed, device.number());
+    put(out, failed, b" ");
+    put(out, failed, name_at(names, entry.range.array));
+    put(out, failed, b"[");
+    put_number(out, failed, entry.range.lo);
+    put(out, failed, b":");
+    put_number(out, failed, entry.range.len);
+    put(out, failed, b"] s ");
+    put_number(out, failed, entry.s);
+    put(out, failed, b" d ");
+    put_number(out, failed, entry.d);
+    put(out, failed, b"\n");
+}
+
+// The name of an array, or no bytes where there is no such array.
+fn name_at<'a>(names: &[&'a [u8]], array: u8) -> &'a [u8]
+    ensures { result.now ≡ slice_index_or (texts names.now) array [] }
+{
+    match names.get(usize::from(array)) {
+        Some(name) => name,
+        None => &[],
+    }
+}
+
+/// What a queue has performed; one that has no batch has no line.
+pub fn put_totals<W: Write>(
+    out: &mut W,
+    failed: &mut bool,
+    at: &QueueAt,
+    batches: u64,
+    performed: u64,
+    operations: u64,
+)
+    ensures { Puts (sink (W.contents out.old) failed.old) (sink (W.contents out.new) failed.new) (totals_text at.now batches performed operations) }
+{
+    if batches > 0 {
+        put(out, failed, b"queue ");
+        put_number(out, failed, at.device.number());
+        put(out, failed, b" ");
+        put_queue_name(out, failed, at.queue);
+        put(out, failed, b" batches ");
+        put_number(out, failed, batches);
+        put(out, failed, b" operations ");
+        put_number(out, failed, performed);
+        put(out, failed, b" of ");
+        put_number(out, failed, operations);
+        put(out, failed, b"\n");
+    }
+}
+
+// The queue of an async value is two behind that value.
+fn put_queue_name<W: Write>(out: &mut W, failed: &mut bool, queue: QueueId)
+    ensures { Puts (sink (W.contents out.old) failed.old) (sink (W.contents out.new) failed.new) (queue_name queue) }
+{
+    match queue.number() {
+        0 => put(out, failed, b"sync"),
+        1 => put(out, failed, b"noval"),
+        number => put_number(out, failed, number - 2),
+    }
+}

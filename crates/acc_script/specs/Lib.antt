@@ -1,0 +1,10 @@
+pub mod Arrays
+pub mod Faults
+pub mod RangeSpellings
+pub mod Schedules
+pub mod Scripts
+pub mod Statements
+pub mod Texts
+pub mod Tokens
+pub mod Turns
+pub mod worked

@@ -1,0 +1,91 @@
+-- What a work side keeps where one of its lanes changes.
+use Rattle.std.proofs.Common.{inl, inr, ◌≡◌, ℕ, ◌<◌, ◌≤◌, true, false, List, [], ◌∷◌, ◌++◌, length, map, refl, sym, ap, ◌∙◌, arith}
+use Rattle.std.specs.Prelude.{slice_index_or}
+use Rattle.std.proofs.Math.Seq.{map-set_same}
+use Rattle.std.proofs.lemmas.Bool.{cases_Bool}
+use Rattle.std.proofs.lemmas.List.{append_assoc, get_or_default, length-append}
+use Rattle.acc_base.specs.declared.config.TheConstants.{MAX_HOSTS}
+use Rattle.acc_base.specs.declared.ids.QueueAt.{QueueAt}
+use Rattle.acc_base.specs.declared.ids.TheConstants.{QUEUES}
+use Rattle.acc_base.specs.Queues.{same_queue, seat}
+use Rattle.acc_base.proofs.SameQueue.{same_queue_itself}
+use Rattle.acc_batch.specs.declared.label.Label.{Label}
+use Rattle.acc_batch.specs.declared.label.OpLabel.{OpLabel}
+use Rattle.acc_memory.specs.Memories.{MemoryView, rows_on, room_on}
+use Rattle.acc_work.specs.declared.log.WorkEntry.{WorkEntry}
+use Rattle.acc_work.specs.declared.log.WorkEntry.TheVariants as entry
+use Rattle.acc_work.specs.Lanes.{LaneView, no_lane, lane_in, lanes_with, lane_with_batch, lane_with_left}
+use Rattle.acc_work.specs.Logs.{performed}
+use Rattle.acc_work.specs.Works.{WorkView, HasMadeRoom, IsRoomier, IsInOrder, NextMayFollow, goes_on, lane_at}
+use Rattle.acc_work.proofs.Lanes.{lane_there, each_lane, taken_with}
+use Rattle.acc_work.proofs.TakenLabels.{all_at_more, lane_filled, order_filled}
+
+-- as many batches were taken where a lane has as many
+pub count_kept : (lanes : List LaneView) (at : QueueAt) (new : LaneView) → at.queue < QUEUES → seat at < length lanes → length new.taken ≡ length (lane_in lanes at).taken
+    → map (λ (l : LaneView). length l.taken) (lanes_with lanes at new) ≡ map (λ (l : LaneView). length l.taken) lanes
+count_kept lanes at new low there same =
+    map-set_same (λ (l : LaneView). length l.taken) lanes (seat at) new no_lane (same ∙ ap (λ (l : LaneView). length l.taken) (lane_there lanes at low))
+
+-- Room was made for a queue, in the memory and in the log.
+pub room_made : (w : WorkView) (memory : MemoryView) (room : ℕ) (at : QueueAt) (lane : LaneView) → at.queue < QUEUES → seat at < length w.lanes → IsRoomier (lane_at w at) lane → w.room ≤ room
+    → memory.arrays ≡ w.memory.arrays → length memory.devices ≡ length w.memory.devices → ((d : ℕ) → rows_on memory d ≡ rows_on w.memory d) → ((d : ℕ) → room_on w.memory d ≤ room_on memory d)
+    → HasMadeRoom w (record w { memory = memory; room = room; lanes = lanes_with w.lanes at lane })
+room_made w memory room at lane low there more wider arrays devices rows block_room = record {
+  work = refl;
+  arrays = arrays;
+  devices = devices;
+  rows = rows;
+  taken = taken_with w.lanes at lane low (ap (λ (l : LaneView). l.taken) more.kept);
+  counts = count_kept w.lanes at lane low there (ap (λ (l : LaneView). length l.taken) more.kept);
+  lanes = each_lane (λ other l. l ≡ lane_in w.lanes other) (λ other l. IsRoomier (lane_in w.lanes other) l) w.lanes at lane low there (λ other. refl) more
+      (λ other differ l e. rw (← e) (record { kept = refl; room = omega arith }));
+  room = wider;
+  block_room = block_room;
+}
+
+-- Each queue's order, where one takes a batch.
+pub order_offered : (work : List WorkEntry) (lanes : List LaneView) (at : QueueAt) (l : Label) → at.queue < QUEUES → seat at < length lanes → ((other : QueueAt) → IsInOrder work other (lane_in lanes other))
+    → l.at ≡ at → 0 < length l.ops → l.host < MAX_HOSTS → length (lane_in lanes at).left ≤ 0 → (other : QueueAt) → IsInOrder work other (lane_in (lanes_with lanes at (lane_with_batch (lane_in lanes at) l)) other)
+order_offered work lanes at l low there all here some host none =
+    let o = all at in
+    let lane = lane_in lanes at in
+    each_lane (IsInOrder work) (IsInOrder work) lanes at (lane_with_batch lane l) low there all (record {
+      in_order = order_filled lane l (performed at work) o.in_order none;
+      on_queue = all_at_more at lane.taken l o.on_queue here;
+      counted = o.counted;
+      batches = lane_filled lane l o.batches some host;
+    })
+    (λ other differ x h. h)
+
+-- Each queue's order, where one performs an operation.
+pub order_performed : (work : List WorkEntry) (lanes : List LaneView) (at : QueueAt) (op : OpLabel) (ops : List OpLabel) → at.queue < QUEUES → seat at < length lanes → ((other : QueueAt) → IsInOrder work other (lane_in lanes other))
+    → (lane_in lanes at).left ≡ op ∷ ops → (other : QueueAt) → IsInOrder (entry.Op at op ∷ work) other (lane_in (lanes_with lanes at (lane_with_left (lane_in lanes at) ops)) other)
+order_performed work lanes at op ops low there all next =
+    let o = all at in
+    let lane = lane_in lanes at in
+    let more : performed at (entry.Op at op ∷ work) ≡ performed at work ++ op ∷ [] = rw (same_queue_itself at) refl in
+    each_lane (IsInOrder work) (IsInOrder (entry.Op at op ∷ work)) lanes at (lane_with_left lane ops) low there all (record {
+      in_order = rw more (append_assoc (performed at work) (op ∷ []) ops ∙ (ap (λ r. performed at work ++ r) (sym next) ∙ o.in_order));
+      on_queue = o.on_queue;
+      counted = omega (arith, o.counted, ap length more, length-append (performed at work) (op ∷ []));
+      batches = record { filled = o.batches.filled; hosts = o.batches.hosts; begun = (let b = o.batches.begun in omega (arith, b, ap length next)) };
+    })
+    (λ other differ x h. stays other differ x h)
+  where
+    stays : (other : QueueAt) → same_queue at other ≡ false → (x : LaneView) → IsInOrder work other x → IsInOrder (entry.Op at op ∷ work) other x
+    stays other differ x h =
+        let same : performed other (entry.Op at op ∷ work) ≡ performed other work = rw differ refl in
+        record { in_order = rw same h.in_order; on_queue = h.on_queue; counted = rw same h.counted; batches = h.batches }
+
+-- a queue has performed no more operations than the log has entries
+pub performed-le-length : (at : QueueAt) (work : List WorkEntry) → length (performed at work) ≤ length work
+performed-le-length at [] = omega arith
+performed-le-length at (entry.Op q op ∷ before) =
+    let ih = performed-le-length at before in
+    elim (cases_Bool (same_queue q at)) [ inl same ↦ rw same (omega (arith, ih, length-append (performed at before) (op ∷ []))) | inr differ ↦ rw differ (omega (arith, ih)) ]
+performed-le-length at (entry.Item host what ∷ before) = omega (arith, performed-le-length at before)
+
+-- where a queue goes on there is room in the log
+pub goes_room : (w : WorkView) (at : QueueAt) (left : List OpLabel) → goes_on w at left ≡ true → NextMayFollow w at left → length w.work < w.room
+goes_room w at [] goes may = absurd (let no : false ≡ true = goes in cc)
+goes_room w at (op ∷ ops) goes may = may.room

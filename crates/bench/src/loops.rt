@@ -1,0 +1,145 @@
+ghost use Rattle.std.specs.Prelude.{◌≤◌};
+
+use acc_base::{BlockId, Fault, Listed, Range, Shared};
+use acc_kernel::{Job, Kernel};
+use std::alloc::Global;
+use tool_loops::{LESS, PLUS, Part, TIMES, job_of, statements_of};
+
+/// How many cells a loop assigns, and the most that it may be told to.
+pub const CELLS: u32 = 1_000;
+
+// x[i] and its neighbours, where x is array 0
+const BEFORE: Part = Part::Read(0, -1);
+
+const HERE: Part = Part::Read(0, 0);
+
+const BEHIND: Part = Part::Read(0, 1);
+
+/// `y[i] = x[i] + 1`
+const INCREASE: [Part; 3] = [HERE, Part::Number(1), PLUS];
+
+/// `y[i] = 3 * x[i] + 7`
+const SCALE: [Part; 5] = [Part::Number(3), HERE, TIMES, Part::Number(7), PLUS];
+
+/// `y[i] = x[i - 1] + 2 * x[i] + x[i + 1]`
+const SMOOTH: [Part; 7] = [BEFORE, Part::Number(2), HERE, TIMES, PLUS, BEHIND, PLUS];
+
+/// `y[i] = x[i] < 50 ? x[i] * x[i] : -x[i]`
+const CHOOSE: [Part; 9] = [
+    HERE,
+    Part::Number(50),
+    LESS,
+    HERE,
+    HERE,
+    TIMES,
+    HERE,
+    Part::Negate,
+    Part::Choose,
+];
+
+/// `y[i] = (((x[i] * i + 1) * i + 2) * i + 3) * i + 4`
+const QUARTIC: [Part; 17] = [
+    HERE,
+    Part::Index,
+    TIMES,
+    Part::Number(1),
+    PLUS,
+    Part::Index,
+    TIMES,
+    Part::Number(2),
+    PLUS,
+    Part::Index,
+    TIMES,
+    Part::Number(3),
+    PLUS,
+    Part::Index,
+    TIMES,
+    Part::Number(4),
+    PLUS,
+];
+
+/// `y[i] = ((((x[i] * i + 1) * i + 2) * i + 3) * i + 4) * i + 5`
+const POWERS: [Part; 21] = [
+    HERE,
+    Part::Index,
+    TIMES,
+    Part::Number(1),
+    PLUS,
+    Part::Index,
+    TIMES,
+    Part::Number(2),
+    PLUS,
+    Part::Index,
+    TIMES,
+    Part::Number(3),
+    PLUS,
+    Part::Index,
+    TIMES,
+    Part::Number(4),
+    PLUS,
+    Part::Index,
+    TIMES,
+    Part::Number(5),
+    PLUS,
+];
+
+/// The names of the loops.
+pub const NAMES: [&str; 6] = ["increase", "scale", "smooth", "choose", "quartic", "powers"];
+
+/// The value that the loop of a name assigns.
+pub(crate) fn parts_of(name: &str) -> &'static [Part] {
+    match name {
+        "increase" => &INCREASE,
+        "scale" => &SCALE,
+        "smooth" => &SMOOTH,
+        "choose" => &CHOOSE,
+        "quartic" => &QUARTIC,
+        "powers" => &POWERS,
+        _ => &[],
+    }
+}
+
+/// A job that computes it for i from 1 to so many, at most `CELLS`, where x has some values.
+pub(crate) fn job_for(
+    alloc: Global,
+    parts: &'static [Part],
+    cells: u32,
+) -> Result<Option<Job>, Fault> {
+    let cells = cells.min(CELLS);
+    let statements = statements_of(alloc, &[(1, parts)])?;
+    let Ok(kernel) = Kernel::new(alloc, 1, i64::from(cells) + 1, statements) else {
+        return Ok(None);
+    };
+    let kernel = Shared::new(alloc, kernel)?;
+    let uses = vec![in alloc; whole(1, 0, cells), whole(2, 1, cells)]?;
+    let uses = Shared::new(alloc, Listed::from_vec(uses))?;
+    let Some(mut job) = job_of(alloc, &kernel, &uses)? else {
+        return Ok(None);
+    };
+    fill(alloc, &mut job, cells)?;
+    Ok(Some(job))
+}
+
+// An array with its cells from 0 to one behind the last that is assigned.
+fn whole(block: u64, array: u8, cells: u32) -> (BlockId, Range)
+    requires { cells ≤ 1000 }
+{
+    let len = cells + 2;
+    (BlockId::new(block), Range { array, lo: 0, len })
+}
+
+// Sets x[n] to 37 n modulo 101.
+fn fill(alloc: Global, job: &mut Job, cells: u32) -> Result<(), Fault>
+    requires { cells ≤ 1000 }
+{
+    let mut values = Vec::new(alloc);
+    for n in 0..cells + 2 {
+        values.push(i64::from(n * 37 % 101))?;
+    }
+    if let Some((_, range)) = job.uses().first() {
+        if values.len() == range.len as usize {
+            job.set_input(0, values.as_slice());
+        }
+    }
+    Ok(())
+}

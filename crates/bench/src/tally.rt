@@ -1,0 +1,146 @@
+use crate::script::Script;
+use crate::workloads::{ARRAYS, Failure, OTHER_CELLS, Workload};
+use acc_base::{Config, DeviceId, Fault, HostId, Listed, MAX_CAPACITY, QUEUES, QueueAt, QueueId};
+use acc_core::{HostProgram, Reply, Statement, Told, WorkEntry, World};
+use std::alloc::{AllocError, Global};
+use std::fmt::{self, Display, Formatter, Write};
+
+/// What came of a run.
+#[derive(Clone, Copy, Default)]
+pub struct Tally {
+    /// How many events there were.
+    pub events: usize,
+    /// How many of them did something.
+    pub did: u64,
+    /// How many batches were placed on all queues.
+    pub batches: u64,
+    /// How many operations all queues performed.
+    pub operations: u64,
+    /// What the last print showed, as one number.
+    pub sum: i64,
+}
+
+impl Display for Tally {
+    fn fmt<W: Write>(&self, f: &mut Formatter<W>) -> fmt::Result {
+        write!(
+            f,
+            "did {} of {} batches {} operations {} sum {}",
+            self.did, self.events, self.batches, self.operations, self.sum
+        )
+    }
+}
+
+/// Runs a workload with so many turns, or its opening alone.
+pub(crate) fn tally_of(
+    alloc: Global,
+    workload: &Workload,
+    turns: u32,
+    is_whole: bool,
+) -> Result<Tally, Failure> {
+    let Script {
+        statements,
+        opening,
+        events,
+        ..
+    } = workload.script(alloc, turns)?;
+    let mut world = world_of(alloc, workload, statements)?;
+    let events = events.as_slice();
+    let count = if is_whole {
+        events.len()
+    } else {
+        opening.min(events.len())
+    };
+    let replies = world.run(&events[..count])?;
+    let (batches, operations) = totals_of(&world);
+    Ok(Tally {
+        events: count,
+        did: did_in(replies.as_slice()),
+        batches,
+        operations,
+        sum: sum_of(world.log()),
+    })
+}
+
+// How many batches a queue holds; it never has more than one here.
+const ROOM: u32 = 4;
+
+// One host with these statements.
+fn world_of(
+    alloc: Global,
+    workload: &Workload,
+    statements: Vec<Statement>,
+) -> Result<World, Fault> {
+    let arrays = arrays_of(alloc, workload)?;
+    let config = Config::new(workload.devices, 1, arrays, MAX_CAPACITY, ROOM)?;
+    let program = HostProgram {
+        host: HostId::new(0),
+        statements: Listed::from_vec(statements),
+    };
+    World::new(alloc, config, vec![in alloc; program]?)
+}
+
+fn arrays_of(alloc: Global, workload: &Workload) -> Result<Vec<Vec<i64>>, AllocError> {
+    let mut arrays = vec![in alloc;
+        cells_of(alloc, 37, workload.cells)?,
+        cells_of(alloc, 53, workload.cells)?,
+    ]?;
+    if workload.has_others {
+        for array in 2..ARRAYS {
+            arrays.push(cells_of(alloc, u32::from(array), OTHER_CELLS)?)?;
+        }
+    }
+    Ok(arrays)
+}
+
+// Multiples of a number, modulo 101.
+fn cells_of(alloc: Global, factor: u32, count: u32) -> Result<Vec<i64>, AllocError> {
+    let mut cells = Vec::new(alloc);
+    for n in 0..count {
+        cells.push(i64::from(n.wrapping_mul(factor) % 101))?;
+    }
+    Ok(cells)
+}
+
+// How many batches were placed on all queues, and how many operations they performed.
+fn totals_of(world: &World) -> (u64, u64) {
+    let mut batches = 0u64;
+    let mut operations = 0u64;
+    for device in 0..world.devices() {
+        for queue in 0..QUEUES {
+            let totals = world.totals(QueueAt {
+                device: DeviceId::new(device),
+                queue: QueueId::new(queue),
+            });
+            batches = batches.wrapping_add(totals.batches);
+            operations = operations.wrapping_add(totals.performed);
+        }
+    }
+    (batches, operations)
+}
+
+fn did_in(replies: &[Reply]) -> u64 {
+    let mut did = 0u64;
+    for reply in replies {
+        if *reply == Reply::Did {
+            did = did.wrapping_add(1);
+        }
+    }
+    did
+}
+
+// What the log's last entry shows, if it is a print.
+fn sum_of(log: &[WorkEntry]) -> i64 {
+    let mut sum = 0i64;
+    if let Some(
+        WorkEntry::Item {
+            what: Told::Print { values, .. },
+            ..
+        },
+    ) = log.last()
+    {
+        for value in values.as_slice() {
+            sum = sum.wrapping_mul(31).wrapping_add(*value);
+        }
+    }
+    sum
+}

@@ -1,0 +1,123 @@
+ghost use Rattle.std.specs.Prelude.{◌≡◌, ◌+◌, ◌<◌, ◌≤◌, length};
+ghost use Rattle.acc_present.specs.Drafts.{IsDraft};
+
+use crate::fixtures::{CELLS, cells, entered_into};
+use acc_base::{BlockId, Fault, QueueId, Range};
+use acc_present::{Counter, Draft, Entered, Entry, Left, Look, Table};
+use std::process::Abort;
+use std::test::Fail;
+use tool_scarce::Hoard;
+
+// Enters a range into a draft, with all that has to be tested before.
+fn drafted_into(
+    rt: &impl Abort,
+    table: &Table,
+    draft: &mut Draft,
+    range: Range,
+    block: u64,
+) -> Entered
+    requires draft { IsDraft table.now draft.old }
+    requires capacity { table.now.capacity ≡ CELLS }
+    requires cells { 0 < range.len }
+    requires room { length draft.old.changed < draft.old.room }
+    ensures draft { IsDraft table.now draft.new }
+    ensures changed { length draft.new.changed ≤ length draft.old.changed + 1 }
+    ensures room { draft.new.room ≡ draft.old.room }
+{
+    let used = draft.used_cells();
+    assert!(rt; used < CELLS - 1_000);
+    assert!(rt; range.len < 1_000);
+    let found = draft.look(table, range);
+    match &found {
+        Look::Absent => draft.enter(table, range, &found, Counter::Dynamic, BlockId::new(block)),
+        Look::Present(entry) => {
+            assert!(rt; entry.d < 1_000);
+            draft.enter(table, range, &found, Counter::Dynamic, BlockId::new(block))
+        }
+        Look::Partly => {
+            assert!(rt; false, "partly present");
+            Entered::Counted
+        }
+    }
+}
+
+// Leaves a range in a draft, as it is found there.
+fn drafted_out_of(table: &Table, draft: &mut Draft, range: Range) -> Left
+    requires draft { IsDraft table.now draft.old }
+    requires cells { 0 < range.len }
+    requires room { length draft.old.changed < draft.old.room }
+    ensures draft { IsDraft table.now draft.new }
+    ensures changed { length draft.new.changed ≤ length draft.old.changed + 1 }
+    ensures room { draft.new.room ≡ draft.old.room }
+{
+    let found = draft.look(table, range);
+    draft.leave(table, range, &found, Counter::Dynamic)
+}
+
+fn entry(range: Range, block: u64, d: u64) -> Look {
+    Look::Present(Entry {
+        range,
+        block: BlockId::new(block),
+        s: 0,
+        d,
+        maker: (QueueId::SYNC, 0),
+        uses: [0; 8],
+    })
+}
+
+#[test]
+fn a_draft_shows_what_its_marks_make(rt: HostRuntime) -> Result<(), Fail> {
+    let mut table = Table::new(rt.alloc(), CELLS);
+    let _ = entered_into(&rt, &mut table, cells(0, 2), 1);
+    let _ = entered_into(&rt, &mut table, cells(2, 2), 2);
+    let _ = entered_into(&rt, &mut table, cells(8, 4), 3);
+    let _ = entered_into(&rt, &mut table, cells(8, 4), 4);
+    let mut draft = Draft::with_room(rt.alloc(), 16)?;
+    draft.begin(&table);
+    assert_eq!(rt; draft.look(&table, cells(0, 4)), Look::Partly);
+    assert_eq!(rt;
+        drafted_out_of(&table, &mut draft, cells(0, 2)),
+        Left::Ended(BlockId::new(1))
+    );
+    assert_eq!(rt; draft.look(&table, cells(0, 4)), Look::Partly);
+    assert_eq!(rt;
+        drafted_out_of(&table, &mut draft, cells(2, 2)),
+        Left::Ended(BlockId::new(2))
+    );
+    assert_eq!(rt; draft.look(&table, cells(0, 4)), Look::Absent);
+    assert_eq!(rt;
+        drafted_out_of(&table, &mut draft, cells(0, 4)),
+        Left::Nothing
+    );
+    assert_eq!(rt;
+        drafted_into(&rt, &table, &mut draft, cells(1, 5), 4),
+        Entered::Opened
+    );
+    assert_eq!(rt; draft.look(&table, cells(2, 3)), entry(cells(1, 5), 4, 1));
+    assert_eq!(rt; draft.look(&table, cells(0, 2)), Look::Partly);
+    assert_eq!(rt;
+        drafted_out_of(&table, &mut draft, cells(9, 1)),
+        Left::Counted
+    );
+    assert_eq!(rt; draft.look(&table, cells(8, 4)), entry(cells(8, 4), 3, 1));
+    assert_eq!(rt;
+        drafted_out_of(&table, &mut draft, cells(8, 4)),
+        Left::Ended(BlockId::new(3))
+    );
+    assert_eq!(rt; draft.look(&table, cells(6, 3)), Look::Absent);
+    assert_eq!(rt; draft.used_cells(), 5);
+    assert_eq!(rt; table.used_cells(), 8);
+    draft.begin(&table);
+    assert_eq!(rt; draft.look(&table, cells(8, 4)), entry(cells(8, 4), 3, 2));
+    Ok(())
+}
+
+#[test]
+fn a_draft_that_has_no_memory(rt: HostRuntime) -> Result<(), Fail> {
+    let mut hoard = Hoard::new(rt.alloc())?;
+    hoard.fill(rt.alloc());
+    let made = Draft::with_room(rt.alloc(), 100_000);
+    hoard.free();
+    assert_eq!(rt; made.map(|_| ()), Err(Fault::Memory));
+    Ok(())
+}

@@ -1,0 +1,42 @@
+use acc_kernel::Kernel;
+use std::test::Fail;
+use tool_loops::Part::{Choose, Index, Negate, Number, Read};
+use tool_loops::{PLUS, Row, TIMES, statements_of};
+
+/// The statements of a loop, and the arrays that it refers to: each once, by its first reference.
+const CASES: [(&[Row], &[u8]); 4] = [
+    // a[i] = 1
+    (&[(0, &[Number(1)])], &[0]),
+    // c[i] = c[i] + a[i + 1] * c[i]
+    (
+        &[(2, &[Read(2, 0), Read(0, 1), Read(2, 0), TIMES, PLUS])],
+        &[2, 0],
+    ),
+    // c[i] = i ? b[i] : a[i]; b[i] = c[i]
+    (
+        &[
+            (2, &[Index, Read(1, 0), Read(0, 0), Choose]),
+            (1, &[Read(2, 0)]),
+        ],
+        &[2, 1, 0],
+    ),
+    // b[i] = last[i - 1] ? b[i] : 0; a[i] = -last[i]
+    (
+        &[
+            (1, &[Read(255, -1), Read(1, 0), Number(0), Choose]),
+            (0, &[Read(255, 0), Negate]),
+        ],
+        &[1, 255, 0],
+    ),
+];
+
+#[test]
+fn loops_tell_their_arrays(rt: HostRuntime) -> Result<(), Fail> {
+    for (statements, arrays) in &CASES {
+        let statements = statements_of(rt.alloc(), statements)?;
+        let kernel = Kernel::new(rt.alloc(), 0, 2, statements)?;
+        assert_eq!(rt; kernel.arrays(), *arrays);
+        assert_eq!(rt; kernel.try_clone(rt.alloc())?.arrays(), *arrays);
+    }
+    Ok(())
+}

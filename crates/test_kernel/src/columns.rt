@@ -1,0 +1,265 @@
+use acc_base::{BlockId, Fault, Listed, Range, Shared};
+use acc_kernel::{Job, Kernel};
+use std::alloc::Global;
+use std::process::Abort;
+use std::test::Fail;
+use tool_loops::Part::{Choose, Index, Negate, Number, Read};
+use tool_loops::{LESS, MINUS, PLUS, Row, TIMES, job_of, statements_of};
+
+/// What a loop does at index i of x, y and z, the arrays 0, 1 and 2.
+#[derive(Clone, Copy, Debug)]
+enum Body {
+    /// `y[i] = 3 * x[i] + 7`
+    Scaled,
+    /// `y[i] = x[i - 1] - x[i + 2]`
+    Shifted,
+    /// `y[i] = x[i] * x[i] * 8000000000000003`
+    Wrapped,
+    /// `y[i] = x[i] < 0 ? -x[i] : i`
+    Chosen,
+    /// `z[i] = 2 * z[i] + i`
+    Own,
+    /// `y[i] = x[i] + i; z[i] = y[i] * y[i]; y[i] = z[i] - x[i + 1]`
+    Chained,
+    /// `y[i] = ((x[i] * i + 1) * i + 2) * i - x[i - 1]`
+    Deep,
+    /// `y[i] = x[i] - (i - (x[i] - (i - (x[i] - (i - x[i - 1])))))`, of which more values wait than few columns hold
+    High,
+}
+
+const BODIES: [(Body, &[Row]); 8] = [
+    (
+        Body::Scaled,
+        &[(1, &[Number(3), Read(0, 0), TIMES, Number(7), PLUS])],
+    ),
+    (Body::Shifted, &[(1, &[Read(0, -1), Read(0, 2), MINUS])]),
+    (
+        Body::Wrapped,
+        &[(1, &[Read(0, 0), Read(0, 0), TIMES, Number(FACTOR), TIMES])],
+    ),
+    (
+        Body::Chosen,
+        &[(
+            1,
+            &[
+                Read(0, 0),
+                Number(0),
+                LESS,
+                Read(0, 0),
+                Negate,
+                Index,
+                Choose,
+            ],
+        )],
+    ),
+    (
+        Body::Own,
+        &[(2, &[Number(2), Read(2, 0), TIMES, Index, PLUS])],
+    ),
+    (
+        Body::Chained,
+        &[
+            (1, &[Read(0, 0), Index, PLUS]),
+            (2, &[Read(1, 0), Read(1, 0), TIMES]),
+            (1, &[Read(2, 0), Read(0, 1), MINUS]),
+        ],
+    ),
+    (
+        Body::Deep,
+        &[(
+            1,
+            &[
+                Read(0, 0),
+                Index,
+                TIMES,
+                Number(1),
+                PLUS,
+                Index,
+                TIMES,
+                Number(2),
+                PLUS,
+                Index,
+                TIMES,
+                Read(0, -1),
+                MINUS,
+            ],
+        )],
+    ),
+    (
+        Body::High,
+        &[(
+            1,
+            &[
+                Read(0, 0),
+                Index,
+                Read(0, 0),
+                Index,
+                Read(0, 0),
+                Index,
+                Read(0, -1),
+                MINUS,
+                MINUS,
+                MINUS,
+                MINUS,
+                MINUS,
+                MINUS,
+            ],
+        )],
+    ),
+];
+
+/// A product with it passes the greatest number.
+const FACTOR: i64 = 8_000_000_000_000_003;
+
+/// From which index on, and how many turns: none, few, fewer than a column has, as many, more, and several columns.
+const SPANS: [(i64, i64); 16] = [
+    (1, 0),
+    (3, -40),
+    (-70, 0),
+    (-1, -64),
+    (1, 1),
+    (2, 4),
+    (5, 7),
+    (1, 8),
+    (60, 9),
+    (1, 31),
+    (7, 32),
+    (1, 33),
+    (40, 63),
+    (1, 64),
+    (2, 65),
+    (3, 100),
+];
+
+/// How many cells each array has.
+const CELLS: u32 = 110;
+
+// What the cells hold before the loop: of x some are below zero.
+fn before(array: u8, cell: i64) -> i64 {
+    match array {
+        0 => cell.wrapping_mul(37).wrapping_sub(1_500),
+        1 => -1,
+        _ => cell.wrapping_mul(cell),
+    }
+}
+
+// What cell i of y and of z holds after the turn at i.
+fn turned(body: Body, i: i64) -> (i64, i64) {
+    let x = |cell: i64| before(0, cell);
+    let (y, z) = (before(1, i), before(2, i));
+    match body {
+        Body::Scaled => (x(i).wrapping_mul(3).wrapping_add(7), z),
+        Body::Shifted => {
+            let left = x(i.wrapping_sub(1));
+            (left.wrapping_sub(x(i.wrapping_add(2))), z)
+        }
+        Body::Wrapped => (x(i).wrapping_mul(x(i)).wrapping_mul(FACTOR), z),
+        Body::Chosen => (if x(i) < 0 { x(i).wrapping_neg() } else { i }, z),
+        Body::Own => (y, z.wrapping_mul(2).wrapping_add(i)),
+        Body::Chained => {
+            let sum = x(i).wrapping_add(i);
+            let square = sum.wrapping_mul(sum);
+            (square.wrapping_sub(x(i.wrapping_add(1))), square)
+        }
+        Body::Deep => {
+            let first = x(i).wrapping_mul(i).wrapping_add(1);
+            let second = first.wrapping_mul(i).wrapping_add(2);
+            let left = second.wrapping_mul(i);
+            (left.wrapping_sub(x(i.wrapping_sub(1))), z)
+        }
+        Body::High => {
+            let thrice = x(i).wrapping_sub(i).wrapping_mul(3);
+            (thrice.wrapping_add(x(i.wrapping_sub(1))), z)
+        }
+    }
+}
+
+// What a cell holds after the loop.
+fn after(body: Body, (lo, hi): (i64, i64), array: u8, cell: i64) -> i64 {
+    if cell < lo || hi <= cell {
+        return before(array, cell);
+    }
+    match array {
+        0 => before(0, cell),
+        1 => turned(body, cell).0,
+        _ => turned(body, cell).1,
+    }
+}
+
+// An array's values, cell by cell.
+fn values_of<V: Fn(i64) -> i64>(alloc: Global, value: V) -> Result<Vec<i64>, Fault>
+    requires { V.IsAlwaysCallable value }
+{
+    let mut values = Vec::new(alloc);
+    for cell in 0..CELLS {
+        values.push(value(i64::from(cell)))?;
+    }
+    Ok(values)
+}
+
+// Cells 0 to 109 of x, y and z.
+fn uses_of(alloc: Global) -> Result<Shared<Listed<(BlockId, Range)>>, Fault> {
+    let range = |array| Range {
+        array,
+        lo: 0,
+        len: CELLS,
+    };
+    let uses = vec![in alloc;
+        (BlockId::new(1), range(0)),
+        (BlockId::new(2), range(1)),
+        (BlockId::new(3), range(2)),
+    ]?;
+    Shared::new(alloc, Listed::from_vec(uses))
+}
+
+// Sets the inputs of a use that has as many cells.
+fn set_input(job: &mut Job, place: usize, values: &[i64]) {
+    if let Some((_, range)) = job.uses().get(place) {
+        if range.len as usize == values.len() {
+            job.set_input(place, values);
+        }
+    }
+}
+
+fn check(
+    rt: &impl Abort,
+    alloc: Global,
+    (body, rows): (Body, &[Row]),
+    (lo, turns): (i64, i64),
+) -> Result<(), Fail> {
+    let hi = lo.wrapping_add(turns);
+    let kernel = Kernel::new(alloc, lo, hi, statements_of(alloc, rows)?)?;
+    let kernel = Shared::new(alloc, kernel)?;
+    let Some(mut job) = job_of(alloc, &kernel, &uses_of(alloc)?)? else {
+        assert!(rt; false, "{body:?} isn't held");
+        return Ok(());
+    };
+    for array in 0..3u8 {
+        let values = values_of(alloc, |cell| before(array, cell))?;
+        set_input(&mut job, usize::from(array), values.as_slice());
+    }
+    job.compute();
+    assert_eq!(rt; job.uses().len(), 3);
+    for array in 0..3u8 {
+        let wanted = values_of(alloc, |cell| after(body, (lo, hi), array, cell))?;
+        let place = usize::from(array);
+        if place < job.uses().len() {
+            assert_eq!(rt;
+                job.output(place),
+                wanted.as_slice(),
+                "{body:?}, {turns} turns from {lo} on"
+            );
+        }
+    }
+    Ok(())
+}
+
+#[test]
+fn columns_give_what_turns_give(rt: HostRuntime) -> Result<(), Fail> {
+    for case in &BODIES {
+        for span in &SPANS {
+            check(&rt, rt.alloc(), *case, *span)?;
+        }
+    }
+    Ok(())
+}

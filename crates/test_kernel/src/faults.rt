@@ -1,0 +1,132 @@
+use acc_base::Fault;
+use acc_kernel::{Assign, Expr, Kernel, KernelFault, MAX_DISTANCE, Reach};
+use std::alloc::Global;
+use std::test::Fail;
+use tool_loops::Part::{self, Choose, Index, Negate, Number, Read};
+use tool_loops::{PLUS, expr_of};
+
+#[test]
+fn the_texts_of_kernel_faults(rt: HostRuntime) -> Result<(), Fail> {
+    let texts = [
+        (KernelFault::ReadsAssigned, "K1 ReadsAssigned"),
+        (KernelFault::NoStatement, "K2 NoStatement"),
+        (KernelFault::TooDeep, "K3 TooDeep"),
+        (KernelFault::TooFar, "K4 TooFar"),
+        (KernelFault::TooMany, "F5 TooMany"),
+        (KernelFault::Memory, "F11 Memory"),
+    ];
+    for (fault, text) in &texts {
+        let shown = format!(in rt.alloc(); "{fault}")?;
+        assert_eq!(rt; shown.as_str(), *text);
+    }
+    Ok(())
+}
+
+// The loop's name behind so many minus signs: its depth is one more.
+fn minus_signs(alloc: Global, count: usize) -> Result<Expr, Fault> {
+    let mut expr = Expr::index(alloc)?;
+    for _ in 0..count {
+        expr.negate()?;
+    }
+    Ok(expr)
+}
+
+// So many statements `x[i] = value`, where x is array 0.
+fn repeated(alloc: Global, count: usize, value: &Expr) -> Result<Vec<Assign>, Fault> {
+    let mut statements = Vec::new(alloc);
+    for _ in 0..count {
+        let value = value.try_clone(alloc)?;
+        statements.push(Assign { array: 0, value })?;
+    }
+    Ok(statements)
+}
+
+#[test]
+fn depths_and_counts_at_their_limits(rt: HostRuntime) -> Result<(), Fail> {
+    let cases = [
+        (31, 1, None),
+        (32, 1, Some(KernelFault::TooDeep)),
+        (0, 0, Some(KernelFault::NoStatement)),
+        (0, 16, None),
+        (0, 17, Some(KernelFault::TooMany)),
+        (32, 17, Some(KernelFault::TooDeep)),
+    ];
+    for (signs, count, fault) in &cases {
+        let value = minus_signs(rt.alloc(), *signs)?;
+        assert_eq!(rt; value.depth(), *signs + 1);
+        let statements = repeated(rt.alloc(), *count, &value)?;
+        assert_eq!(rt; Kernel::new(rt.alloc(), 0, 1, statements).err(), *fault);
+    }
+    Ok(())
+}
+
+#[test]
+fn bounds_at_their_limits(rt: HostRuntime) -> Result<(), Fail> {
+    let cases = [
+        (-MAX_DISTANCE, MAX_DISTANCE, None),
+        (MAX_DISTANCE, -MAX_DISTANCE, None),
+        (-65_537, 0, Some(KernelFault::TooFar)),
+        (65_537, 0, Some(KernelFault::TooFar)),
+        (0, 65_537, Some(KernelFault::TooFar)),
+        (0, -65_537, Some(KernelFault::TooFar)),
+        (i64::MIN, i64::MAX, Some(KernelFault::TooFar)),
+    ];
+    let index = Expr::index(rt.alloc())?;
+    for (lo, hi, fault) in &cases {
+        let statements = repeated(rt.alloc(), 1, &index)?;
+        assert_eq!(rt; Kernel::new(rt.alloc(), *lo, *hi, statements).err(), *fault);
+    }
+    Ok(())
+}
+
+/// The fault of `x[i] = value` from 0 to 1: of several the first.
+const FAULTS: [(&[Part], Option<KernelFault>); 11] = [
+    (&[Read(1, 65_536)], None),
+    (&[Read(1, -65_536)], None),
+    (&[Read(1, 65_537)], Some(KernelFault::TooFar)),
+    (&[Read(1, -65_537)], Some(KernelFault::TooFar)),
+    (&[Read(1, i64::MIN)], Some(KernelFault::TooFar)),
+    (&[Read(0, 0)], None),
+    (&[Read(0, 1)], Some(KernelFault::ReadsAssigned)),
+    (&[Read(0, -1), Negate], Some(KernelFault::ReadsAssigned)),
+    (
+        &[Number(0), Read(0, 1), Index, Choose],
+        Some(KernelFault::ReadsAssigned),
+    ),
+    (
+        &[Number(0), Index, Read(0, 65_537), Choose],
+        Some(KernelFault::ReadsAssigned),
+    ),
+    (&[Read(0, 0), Read(1, 1), PLUS], None),
+];
+
+#[test]
+fn expressions_have_their_faults(rt: HostRuntime) -> Result<(), Fail> {
+    for (parts, fault) in &FAULTS {
+        let value = expr_of(rt.alloc(), parts)?;
+        let statements = repeated(rt.alloc(), 1, &value)?;
+        assert_eq!(rt; Kernel::new(rt.alloc(), 0, 2, statements).err(), *fault);
+    }
+    Ok(())
+}
+
+#[test]
+fn what_a_loop_reaches(rt: HostRuntime) -> Result<(), Fail> {
+    let cases = [
+        (2, 5, Some((0, 7)), Some((2, 4))),
+        (-3, -1, Some((-5, 1)), Some((-3, -2))),
+        (4, 4, None, None),
+        (4, 3, None, None),
+    ];
+    let value = expr_of(rt.alloc(), &[Index, Read(1, -2), Read(1, 3), Choose])?;
+    for (lo, hi, read, assigned) in &cases {
+        let statements = repeated(rt.alloc(), 1, &value)?;
+        let kernel = Kernel::new(rt.alloc(), *lo, *hi, statements)?.try_clone(rt.alloc())?;
+        let reach = |(first, last): (i64, i64)| Reach { first, last };
+        assert_eq!(rt; kernel.reach(0), assigned.map(reach));
+        assert_eq!(rt; kernel.reach(1), read.map(reach));
+        assert_eq!(rt; kernel.reach(2), None);
+        assert_eq!(rt; kernel.statements().len(), 1);
+    }
+    Ok(())
+}

@@ -1,0 +1,165 @@
+use crate::computed::check;
+use acc_base::{BlockId, Fault, Listed, Range, Shared};
+use acc_kernel::{Assign, Expr, Kernel, KernelFault, Operator};
+use std::alloc::Global;
+use std::process::Abort;
+use std::test::Fail;
+use tool_loops::Part::{self, Choose, Index, Negate, Number, Read};
+use tool_loops::{Row, TIMES, job_of, statements_of};
+use tool_scarce::at_each_amount;
+
+/// `-(i * 5) ? y[i + 2] : y[i]`, where y is array 1
+const PARTS: [Part; 7] = [
+    Index,
+    Number(5),
+    TIMES,
+    Negate,
+    Read(1, 2),
+    Read(1, 0),
+    Choose,
+];
+
+/// `x[i] = -(i * 5) ? y[i + 2] : y[i]`, where x is array 0 and y is array 1
+const LOOP: [Row; 1] = [(0, &PARTS)];
+
+// A loop from 0 to 1, or none where it is refused for another reason than want of memory.
+fn kernel_of(alloc: Global, statements: Vec<Assign>) -> Result<Option<Kernel>, Fault> {
+    match Kernel::new(alloc, 0, 2, statements) {
+        Ok(kernel) => Ok(Some(kernel)),
+        Err(KernelFault::Memory) => Err(Fault::Memory),
+        Err(_) => Ok(None),
+    }
+}
+
+// Sixteen statements that refer to the arrays 0 to 31 in order. No memory is given back while they are made.
+fn pairs(alloc: Global) -> Result<Vec<Assign>, Fault> {
+    let mut statements = Vec::with_capacity(alloc, 16)?;
+    for n in 0..16u8 {
+        let value = Expr::read(alloc, 2 * n + 1, 0)?;
+        statements.push(Assign {
+            array: 2 * n,
+            value,
+        })?;
+    }
+    Ok(statements)
+}
+
+/// Each loop is of statements that are made for it, and these may be refused, too.
+#[test]
+fn a_loop_is_refused_until_there_is_memory(rt: HostRuntime) -> Result<(), Fail> {
+    let alloc = rt.alloc();
+    let mut made = 0u32;
+    let (refusals, kernel) = at_each_amount(alloc, || {
+        let statements = pairs(alloc)?;
+        made = made.wrapping_add(1);
+        kernel_of(alloc, statements)
+    })?;
+    assert!(rt;
+        4 < made && made < refusals,
+        "{made} loops, {refusals} refusals"
+    );
+    let Some(kernel) = kernel else {
+        assert!(rt; false, "refused");
+        return Ok(());
+    };
+    assert_eq!(rt; kernel.arrays().len(), 32);
+    for (place, array) in kernel.arrays().iter().enumerate() {
+        assert_eq!(rt; usize::from(*array), place);
+    }
+    Ok(())
+}
+
+/// Each call that makes an expression, alone; what was refused to grow is as it was.
+#[test]
+fn expressions_are_refused_until_there_is_memory(rt: HostRuntime) -> Result<(), Fail> {
+    let alloc = rt.alloc();
+    let (refusals, five) = at_each_amount(alloc, || Expr::number(alloc, 5))?;
+    assert!(rt; 0 < refusals, "number");
+    let (refusals, mut expr) = at_each_amount(alloc, || Expr::index(alloc))?;
+    assert!(rt; 0 < refusals, "index");
+    let (refusals, first) = at_each_amount(alloc, || Expr::read(alloc, 1, 2))?;
+    assert!(rt; 0 < refusals, "read");
+    let second = Expr::read(alloc, 1, 0)?;
+    let (refusals, ()) = at_each_amount(alloc, || expr.binary(Operator::Times, &five))?;
+    assert!(rt; 0 < refusals, "binary");
+    // it may have room for this
+    expr.negate()?;
+    let (refusals, mut copy) = at_each_amount(alloc, || expr.try_clone(alloc))?;
+    assert!(rt; 0 < refusals, "try_clone");
+    let (refusals, ()) = at_each_amount(alloc, || copy.choose(&first, &second))?;
+    assert!(rt; 0 < refusals, "choose");
+    let (refusals, whole) = at_each_amount(alloc, || copy.try_clone(alloc))?;
+    assert!(rt; 0 < refusals, "try_clone");
+    for expr in [copy, whole] {
+        assert_eq!(rt; expr.depth(), 4);
+        check_values(&rt, alloc, expr)?;
+    }
+    Ok(())
+}
+
+// `x[i] = -(i * 5) ? y[i + 2] : y[i]` from 0 to 1, where the expression is as here.
+fn check_values(rt: &impl Abort, alloc: Global, value: Expr) -> Result<(), Fail> {
+    let statements = vec![in alloc; Assign { array: 0, value }]?;
+    let Some(kernel) = kernel_of(alloc, statements)? else {
+        assert!(rt; false, "refused");
+        return Ok(());
+    };
+    let y = [10, 20, 30, 40];
+    check(rt, alloc, kernel, (&[7, 7], &[10, 40]), (&y, &y))?;
+    Ok(())
+}
+
+/// An expression that was just made has no room for another step.
+#[test]
+fn a_minus_sign_is_refused_until_there_is_memory(rt: HostRuntime) -> Result<(), Fail> {
+    let alloc = rt.alloc();
+    let mut expr = Expr::number(alloc, 5)?;
+    let (refusals, ()) = at_each_amount(alloc, || expr.negate())?;
+    assert!(rt; 0 < refusals);
+    assert_eq!(rt; expr.depth(), 2);
+    Ok(())
+}
+
+#[test]
+fn copies_of_a_loop_are_refused_until_there_is_memory(rt: HostRuntime) -> Result<(), Fail> {
+    let alloc = rt.alloc();
+    let Some(kernel) = kernel_of(alloc, statements_of(alloc, &LOOP)?)? else {
+        assert!(rt; false, "refused");
+        return Ok(());
+    };
+    let (refusals, copy) = at_each_amount(alloc, || kernel.try_clone(alloc))?;
+    assert!(rt; 1 < refusals);
+    assert_eq!(rt; copy.statements().len(), 1);
+    assert_eq!(rt; copy.arrays(), [0, 1].as_slice());
+    Ok(())
+}
+
+// As many cells of two arrays.
+fn uses_of(alloc: Global, len: u32) -> Result<Shared<Listed<(BlockId, Range)>>, Fault> {
+    let range = |array| Range { array, lo: 0, len };
+    let uses = vec![in alloc; (BlockId::new(1), range(0)), (BlockId::new(2), range(1))]?;
+    Shared::new(alloc, Listed::from_vec(uses))
+}
+
+#[test]
+fn a_job_is_refused_until_there_is_memory(rt: HostRuntime) -> Result<(), Fail> {
+    let alloc = rt.alloc();
+    let Some(kernel) = kernel_of(alloc, statements_of(alloc, &LOOP)?)? else {
+        assert!(rt; false, "refused");
+        return Ok(());
+    };
+    let kernel = Shared::new(alloc, kernel)?;
+    let uses = uses_of(alloc, 4)?;
+    let (refusals, job) = at_each_amount(alloc, || job_of(alloc, &kernel, &uses))?;
+    assert!(rt; 5 < refusals, "{refusals} refusals");
+    let Some(job) = job else {
+        assert!(rt; false, "not held");
+        return Ok(());
+    };
+    assert_eq!(rt; job.uses().len(), 2);
+    let (loop_of_job, uses_of_job) = job.into_parts();
+    assert_eq!(rt; loop_of_job.get().arrays(), [0, 1].as_slice());
+    assert_eq!(rt; uses_of_job.get().as_slice(), uses.get().as_slice());
+    assert!(rt; job_of(alloc, &kernel, &uses_of(alloc, 3)?)?.is_none());
+    Ok(())
+}

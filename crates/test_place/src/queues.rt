@@ -1,0 +1,657 @@
+ghost use Rattle.std.specs.Prelude.{IfOk};
+ghost use Rattle.acc_place.specs.Plans.{Fits};
+
+use crate::fixtures::{answer, check_labels, check_ops, directive_with, place_with};
+use crate::memory::plan_at_each_amount;
+use crate::tables::Cells::{self, A, B};
+use crate::tables::Deed::{self, Await, In, Make, Out, Release, Run};
+use crate::tables::Named::{self, All, Nothing, These};
+use crate::tables::Word::{
+    self, Data, End, Enter, Exit, Over, Test, Update, UpdateIfPresent, Wait,
+};
+use Answer::{Counts, NoBatch, Placing};
+use acc_base::{DeviceId, Fault, HostId, QueueAt, QueueCounts};
+use acc_batch::{Batch, Label};
+use acc_place::Clause::{self, Copyin, Copyout, Create, Delete, Present, UpdateDevice, UpdateSelf};
+use acc_place::{ASYNC_NOVAL, ASYNC_SYNC, Directive, Place, Placed, Plan, Target};
+use std::alloc::Global;
+use std::process::Abort;
+use std::test::Fail;
+use tool_directives::queue;
+use tool_loops::Body;
+
+/// How a directive is answered.
+#[derive(Clone, Copy)]
+enum Answer {
+    NoBatch,
+    /// By its batch, with the queue of the directive's device and the number there.
+    Placing(u8, u64),
+    Counts(QueueCounts),
+}
+
+/// A directive of a host, whose default async value is given, for a device; its answer, and the operations of its batch.
+#[derive(Clone, Copy)]
+struct Case {
+    host: u8,
+    device: u8,
+    default: i64,
+    target: Target,
+    waits: Named,
+    word: Word,
+    items: &'static [(Clause, Cells)],
+    answer: Answer,
+    ops: &'static [Deed],
+}
+
+/// A wait of the first host for the first device, without clauses, that places nothing.
+const PLAIN: Case = Case {
+    host: 0,
+    device: 0,
+    default: ASYNC_NOVAL,
+    target: Target::Plain,
+    waits: Nothing,
+    word: Wait,
+    items: &[],
+    answer: NoBatch,
+    ops: &[],
+};
+
+/// The same with an async clause.
+const ON_1: Case = Case {
+    target: Target::Value { value: 1 },
+    ..PLAIN
+};
+
+const ON_2: Case = Case {
+    target: Target::Value { value: 2 },
+    ..PLAIN
+};
+
+const ON_3: Case = Case {
+    target: Target::Value { value: 3 },
+    ..PLAIN
+};
+
+fn directive_for(alloc: Global, case: &Case) -> Result<Directive, Fault> {
+    let mut directive = directive_with(alloc, case.word, case.items, case.target, case.waits)?;
+    directive.set_ids(DeviceId::new(case.device), case.default);
+    Ok(directive)
+}
+
+fn plan_for(alloc: Global, place: &mut Place, case: &Case) -> Result<Plan, Fault>
+    ensures { IfOk result (λ q. Fits place.new q) }
+{
+    let directive = directive_for(alloc, case)?;
+    place.plan(HostId::new(case.host), 0, &directive)
+}
+
+fn answer_of(case: &Case) -> Placed {
+    match case.answer {
+        NoBatch => answer(None, false),
+        Placing(number, batch) => answer(Some((queue(case.device, number), batch)), false),
+        Counts(counts) => Placed {
+            batch: None,
+            counts,
+            present: false,
+        },
+    }
+}
+
+// The batch, if there are operations, has these.
+fn check_batch(rt: &impl Abort, batch: Option<Batch>, wanted: &[Deed]) {
+    match batch {
+        None => assert!(rt; wanted.is_empty(), "no batch"),
+        Some(batch) => {
+            assert!(rt; !wanted.is_empty(), "a batch");
+            let (label, ops) = batch.into_parts();
+            check_labels(rt, label.ops.get().as_slice(), wanted);
+            check_ops(rt, ops, wanted);
+        }
+    }
+}
+
+fn is_labelled(label: &Label, at: &QueueAt, number: u64, host: u8) -> bool {
+    label.at == *at && label.number == number && label.host == HostId::new(host)
+}
+
+// The batch of a case is the last one of its queue.
+fn check_placed(rt: &impl Abort, place: &Place, case: &Case) {
+    if let Placing(at, number) = case.answer {
+        let at = queue(case.device, at);
+        match place.placed(at, number) {
+            Some(label) => {
+                assert!(rt;
+                    is_labelled(label, &at, number, case.host),
+                    "batch {number}"
+                );
+                check_labels(rt, label.ops.get().as_slice(), case.ops);
+            }
+            None => panic!(rt; "no batch {number}"),
+        }
+        assert!(rt; place.placed_count(at) == number, "batch {number}");
+    }
+}
+
+// Accepts a case, and looks at its batch and its answer.
+fn check_case(rt: &impl Abort, alloc: Global, place: &mut Place, case: &Case) -> Result<(), Fault> {
+    let mut plan = plan_for(alloc, place, case)?;
+    check_batch(rt, plan.take_batch(), case.ops);
+    let answer = place.accept(plan);
+    assert_eq!(rt; answer, answer_of(case));
+    check_placed(rt, place, case);
+    Ok(())
+}
+
+// Accepts each of the cases in turn.
+fn accept_cases(
+    rt: &impl Abort,
+    alloc: Global,
+    place: &mut Place,
+    cases: &[Case],
+) -> Result<(), Fault> {
+    for case in cases {
+        check_case(rt, alloc, place, case)?;
+    }
+    Ok(())
+}
+
+// A place of two devices and two hosts.
+fn place_of(alloc: Global) -> Result<Place, Fault> {
+    place_with(alloc, 2, 8)
+}
+
+// Accepts each of the cases in turn, on a new place.
+fn check_cases(rt: &impl Abort, alloc: Global, cases: &[Case]) -> Result<(), Fail> {
+    Ok(accept_cases(rt, alloc, &mut place_of(alloc)?, cases)?)
+}
+
+/// A loop on another queue awaits the maker of its block, and what releases the block awaits the loop.
+#[test]
+fn a_release_awaits_the_loop_that_awaits_the_maker(rt: HostRuntime) -> Result<(), Fail> {
+    const ALL: Cells = A(0, 8);
+    const CASES: &[Case] = &[
+        Case {
+            word: Enter,
+            items: &[(Create, ALL)],
+            answer: Placing(3, 1),
+            ops: &[Make(1, ALL)],
+            ..ON_1
+        },
+        Case {
+            word: Over(0, 2, Body::Counted),
+            items: &[(Present, ALL)],
+            answer: Placing(4, 1),
+            ops: &[Await(3, 1), Run(&[(1, ALL)])],
+            ..ON_2
+        },
+        Case {
+            word: Exit,
+            items: &[(Copyout, ALL)],
+            answer: Placing(3, 2),
+            ops: &[Await(4, 1), Out(1, ALL), Release(1)],
+            ..ON_1
+        },
+    ];
+    check_cases(&rt, rt.alloc(), CASES)
+}
+
+/// A use awaits the batch that made its block, wherever that was awaited before, and no use; none awaits its own queue. A
+/// release awaits the last batch of each other queue that made or used the block.
+#[test]
+fn uses_await_the_maker_and_not_the_uses(rt: HostRuntime) -> Result<(), Fail> {
+    const ALL: Cells = A(0, 8);
+    const COUNTED: Word = Over(0, 2, Body::Counted);
+    const CASES: &[Case] = &[
+        Case {
+            word: Enter,
+            items: &[(Copyin, ALL)],
+            answer: Placing(3, 1),
+            ops: &[Make(1, ALL), In(1, ALL)],
+            ..ON_1
+        },
+        Case {
+            word: COUNTED,
+            items: &[(Present, ALL)],
+            answer: Placing(4, 1),
+            ops: &[Await(3, 1), Run(&[(1, ALL)])],
+            ..ON_2
+        },
+        Case {
+            word: COUNTED,
+            items: &[(Present, ALL)],
+            answer: Placing(5, 1),
+            ops: &[Await(3, 1), Run(&[(1, ALL)])],
+            ..ON_3
+        },
+        Case {
+            word: Update,
+            items: &[(UpdateSelf, A(0, 2))],
+            answer: Placing(4, 2),
+            ops: &[Await(3, 1), Out(1, A(0, 2))],
+            ..ON_2
+        },
+        Case {
+            word: Update,
+            items: &[(UpdateDevice, A(1, 1))],
+            answer: Placing(3, 2),
+            ops: &[In(1, A(1, 1))],
+            ..ON_1
+        },
+        Case {
+            word: Exit,
+            items: &[(Delete, ALL)],
+            answer: Placing(4, 3),
+            ops: &[Await(3, 2), Await(5, 1), Release(1)],
+            ..ON_2
+        },
+    ];
+    check_cases(&rt, rt.alloc(), CASES)
+}
+
+/// A data construct's end is on queue sync, and awaits what used its block on another queue.
+#[test]
+fn a_constructs_end_awaits_other_queues(rt: HostRuntime) -> Result<(), Fail> {
+    const CASES: &[Case] = &[
+        Case {
+            word: Data,
+            items: &[(Copyin, A(0, 4))],
+            answer: Placing(0, 1),
+            ops: &[Make(1, A(0, 4)), In(1, A(0, 4))],
+            ..PLAIN
+        },
+        Case {
+            word: Update,
+            items: &[(UpdateSelf, A(0, 1))],
+            answer: Placing(3, 1),
+            ops: &[Await(0, 1), Out(1, A(0, 1))],
+            ..ON_1
+        },
+        Case {
+            word: End,
+            answer: Placing(0, 2),
+            ops: &[Await(3, 1), Release(1)],
+            ..PLAIN
+        },
+    ];
+    check_cases(&rt, rt.alloc(), CASES)
+}
+
+/// A wait with async places its awaits alone, and nothing where there are none; one that holds its host back places nothing,
+/// and is answered by counts.
+#[test]
+fn waits_place_their_awaits_alone(rt: HostRuntime) -> Result<(), Fail> {
+    const ONE: Named = These(&[1]);
+    const OTHER: Named = These(&[3]);
+    const CASES: &[Case] = &[
+        Case {
+            word: Enter,
+            items: &[(Create, B(0, 1))],
+            answer: Placing(3, 1),
+            ops: &[Make(1, B(0, 1))],
+            ..ON_1
+        },
+        Case {
+            waits: OTHER,
+            answer: Counts([0; 8]),
+            ..PLAIN
+        },
+        Case {
+            waits: ONE,
+            answer: Counts([0, 0, 0, 1, 0, 0, 0, 0]),
+            ..PLAIN
+        },
+        Case {
+            waits: ONE,
+            answer: Placing(4, 1),
+            ops: &[Await(3, 1)],
+            ..ON_2
+        },
+        Case {
+            waits: All,
+            answer: Placing(4, 2),
+            ops: &[Await(3, 1)],
+            ..ON_2
+        },
+        Case {
+            waits: OTHER,
+            ..ON_2
+        },
+        Case { waits: ONE, ..ON_1 },
+        Case {
+            default: 1,
+            target: Target::Unvalued,
+            waits: ONE,
+            ..PLAIN
+        },
+        Case {
+            target: Target::Value { value: ASYNC_SYNC },
+            waits: All,
+            answer: Counts([0, 0, 0, 1, 2, 0, 0, 0]),
+            ..PLAIN
+        },
+        Case {
+            waits: These(&[2, 1]),
+            answer: Placing(5, 1),
+            ops: &[Await(3, 1), Await(4, 2)],
+            ..ON_3
+        },
+    ];
+    check_cases(&rt, rt.alloc(), CASES)
+}
+
+/// Each device has its own blocks, queues and numbers, whichever host they are of, and a wait or a question is about its own
+/// device's.
+#[test]
+fn hosts_share_the_queues_of_each_device(rt: HostRuntime) -> Result<(), Fail> {
+    const HELD: Cells = A(0, 4);
+    const BOTH: Named = These(&[1, 2]);
+    const CASES: &[Case] = &[
+        Case {
+            word: Enter,
+            items: &[(Create, HELD)],
+            answer: Placing(3, 1),
+            ops: &[Make(1, HELD)],
+            ..ON_1
+        },
+        Case {
+            host: 1,
+            device: 1,
+            word: Enter,
+            items: &[(Create, HELD)],
+            answer: Placing(3, 1),
+            ops: &[Make(1, HELD)],
+            ..ON_1
+        },
+        Case {
+            host: 1,
+            word: Enter,
+            items: &[(Copyin, B(0, 2))],
+            answer: Placing(3, 2),
+            ops: &[Make(2, B(0, 2)), In(2, B(0, 2))],
+            ..ON_1
+        },
+        Case {
+            device: 1,
+            word: Update,
+            items: &[(UpdateDevice, A(0, 2))],
+            answer: Placing(4, 1),
+            ops: &[Await(3, 1), In(1, A(0, 2))],
+            ..ON_2
+        },
+        Case {
+            waits: BOTH,
+            answer: Counts([0, 0, 0, 2, 0, 0, 0, 0]),
+            ..PLAIN
+        },
+        Case {
+            device: 1,
+            waits: BOTH,
+            answer: Counts([0, 0, 0, 1, 1, 0, 0, 0]),
+            ..PLAIN
+        },
+        Case {
+            host: 1,
+            device: 1,
+            waits: These(&[2]),
+            word: Test,
+            answer: Counts([0, 0, 0, 0, 1, 0, 0, 0]),
+            ..PLAIN
+        },
+        Case {
+            host: 1,
+            waits: All,
+            word: Test,
+            answer: Counts([0, 0, 0, 2, 0, 0, 0, 0]),
+            ..PLAIN
+        },
+        Case {
+            device: 1,
+            word: Exit,
+            items: &[(Delete, HELD)],
+            answer: Placing(3, 2),
+            ops: &[Await(4, 1), Release(1)],
+            ..ON_1
+        },
+        Case {
+            host: 1,
+            waits: All,
+            word: Exit,
+            items: &[(Delete, HELD)],
+            answer: Placing(0, 1),
+            ops: &[Await(3, 2), Release(1)],
+            ..PLAIN
+        },
+    ];
+    check_cases(&rt, rt.alloc(), CASES)
+}
+
+/// A wait clause adds its awaits to those of the blocks, one await for each queue; a batch without other operations is none.
+#[test]
+fn a_wait_clause_needs_a_batch(rt: HostRuntime) -> Result<(), Fail> {
+    const WAIT: Case = Case {
+        waits: These(&[1]),
+        ..ON_2
+    };
+    const CASES: &[Case] = &[
+        Case {
+            word: Enter,
+            items: &[(Create, A(0, 4))],
+            answer: Placing(3, 1),
+            ops: &[Make(1, A(0, 4))],
+            ..ON_1
+        },
+        Case {
+            word: UpdateIfPresent,
+            items: &[(UpdateSelf, B(0, 1))],
+            ..WAIT
+        },
+        Case {
+            word: Exit,
+            items: &[(Delete, B(0, 1))],
+            ..WAIT
+        },
+        Case {
+            word: UpdateIfPresent,
+            items: &[(UpdateSelf, A(0, 1)), (UpdateSelf, B(0, 1))],
+            answer: Placing(4, 1),
+            ops: &[Await(3, 1), Out(1, A(0, 1))],
+            ..WAIT
+        },
+        Case {
+            word: Enter,
+            items: &[(Create, B(0, 1))],
+            answer: Placing(3, 2),
+            ops: &[Make(2, B(0, 1))],
+            ..ON_1
+        },
+        // all that is on queue 1, and not the maker alone
+        Case {
+            word: Update,
+            items: &[(UpdateSelf, A(1, 1))],
+            answer: Placing(4, 2),
+            ops: &[Await(3, 2), Out(1, A(1, 1))],
+            ..WAIT
+        },
+    ];
+    check_cases(&rt, rt.alloc(), CASES)
+}
+
+// The answer to a directive on a new place.
+fn placed_by(alloc: Global, case: &Case) -> Result<Placed, Fault> {
+    let mut place = place_of(alloc)?;
+    let plan = plan_for(alloc, &mut place, case)?;
+    Ok(place.accept(plan))
+}
+
+/// A host's default, an async clause, and the queue, by its number, of its batch; none where the clause is refused.
+type Targeted = (i64, Target, Option<u8>);
+
+// The directive has its batch on this queue of the first device, or its async clause is refused.
+fn is_on(placed: Result<Placed, Fault>, wanted: Option<u8>) -> bool {
+    match (placed, wanted) {
+        (Ok(placed), Some(number)) => placed == answer(Some((queue(0, number), 1)), false),
+        (Err(fault), None) => fault == Fault::BadAsync,
+        _ => false,
+    }
+}
+
+fn check_target(rt: &impl Abort, alloc: Global, targeted: &Targeted) {
+    let (default, target, wanted) = *targeted;
+    let case = Case {
+        default,
+        target,
+        word: Enter,
+        items: &[(Create, A(0, 1))],
+        ..PLAIN
+    };
+    let placed = placed_by(alloc, &case);
+    assert!(rt; is_on(placed, wanted), "{default} {target:?}");
+}
+
+/// Values of zero or more go round six queues; without an argument, and by the value of `acc_async_noval`, the host's
+/// default is meant.
+#[test]
+fn async_values_name_queues(rt: HostRuntime) -> Result<(), Fail> {
+    const CASES: &[Targeted] = &[
+        (ASYNC_NOVAL, Target::Value { value: 7 }, Some(3)),
+        (ASYNC_NOVAL, Target::Value { value: 0 }, Some(2)),
+        (ASYNC_NOVAL, Target::Value { value: 5 }, Some(7)),
+        (ASYNC_NOVAL, Target::Value { value: 6 }, Some(2)),
+        (ASYNC_NOVAL, Target::Value { value: i64::MAX }, Some(3)),
+        (ASYNC_NOVAL, Target::Value { value: -1 }, Some(1)),
+        (ASYNC_NOVAL, Target::Value { value: -2 }, Some(0)),
+        (ASYNC_NOVAL, Target::Value { value: -3 }, None),
+        (ASYNC_NOVAL, Target::Value { value: i64::MIN }, None),
+        (ASYNC_NOVAL, Target::Unvalued, Some(1)),
+        (ASYNC_NOVAL, Target::Plain, Some(0)),
+        (3, Target::Unvalued, Some(5)),
+        (3, Target::Value { value: -1 }, Some(5)),
+        (3, Target::Value { value: 4 }, Some(6)),
+        (3, Target::Value { value: -2 }, Some(0)),
+        (3, Target::Plain, Some(0)),
+        (ASYNC_SYNC, Target::Unvalued, Some(0)),
+        (ASYNC_SYNC, Target::Value { value: -1 }, Some(0)),
+    ];
+    for case in CASES {
+        check_target(&rt, rt.alloc(), case);
+    }
+    Ok(())
+}
+
+/// A device, the value of an async clause, a wait clause, the items, and the fault of such a directive, if it has one.
+type Faulty = (u8, i64, Named, &'static [(Clause, Cells)], Option<Fault>);
+
+fn fault_of(alloc: Global, faulty: &Faulty) -> Option<Fault> {
+    let (device, value, waits, items, _) = *faulty;
+    let case = Case {
+        device,
+        target: Target::Value { value },
+        waits,
+        word: Enter,
+        items,
+        ..PLAIN
+    };
+    match placed_by(alloc, &case) {
+        Ok(_) => None,
+        Err(fault) => Some(fault),
+    }
+}
+
+/// Sixteen queues are waited for, and no more; a value that names none comes before the count of queues and of items, and
+/// behind the device.
+#[test]
+fn faults_of_queues(rt: HostRuntime) -> Result<(), Fail> {
+    const ONE: &[(Clause, Cells)] = &[(Create, A(0, 1))];
+    const MANY: &[(Clause, Cells)] = &[(Create, A(0, 1)); 17];
+    const BAD_LAST: &[i64] = &[1, 1, 1, 1, 1, 1, 1, 1, 1, 1, 1, 1, 1, 1, 1, 1, -3];
+    const CASES: &[Faulty] = &[
+        (0, 1, These(&[1; 16]), ONE, None),
+        (0, 1, These(&[1; 17]), ONE, Some(Fault::TooMany)),
+        (0, 1, These(BAD_LAST), ONE, Some(Fault::BadAsync)),
+        (0, 1, These(&[-1, -2]), ONE, None),
+        (0, 1, These(&[-1, -3]), ONE, Some(Fault::BadAsync)),
+        (0, -3, These(&[1; 17]), ONE, Some(Fault::BadAsync)),
+        (0, -3, Nothing, MANY, Some(Fault::BadAsync)),
+        (0, 3, Nothing, MANY, Some(Fault::TooMany)),
+        (2, -3, Nothing, MANY, Some(Fault::BadDevice)),
+    ];
+    for (number, case) in CASES.iter().enumerate() {
+        let fault = fault_of(rt.alloc(), case);
+        assert!(rt; fault == case.4, "case {number}: {fault:?}");
+    }
+    Ok(())
+}
+
+/// A copy out of a block that was made on queue 1.
+const USE: Case = Case {
+    word: Update,
+    items: &[(UpdateSelf, A(0, 1))],
+    ops: &[Await(3, 1), Out(1, A(0, 1))],
+    ..PLAIN
+};
+
+/// The block is made, and used on each queue behind that.
+const USES: &[Case] = &[
+    Case {
+        word: Enter,
+        items: &[(Create, A(0, 4))],
+        answer: Placing(3, 1),
+        ops: &[Make(1, A(0, 4))],
+        ..ON_1
+    },
+    Case {
+        target: Target::Value { value: 2 },
+        answer: Placing(4, 1),
+        ..USE
+    },
+    Case {
+        target: Target::Value { value: 3 },
+        answer: Placing(5, 1),
+        ..USE
+    },
+    Case {
+        target: Target::Value { value: 4 },
+        answer: Placing(6, 1),
+        ..USE
+    },
+    Case {
+        target: Target::Value { value: 5 },
+        answer: Placing(7, 1),
+        ..USE
+    },
+];
+
+// A case is planned once there is memory, and then accepted by a plan of its own.
+fn check_scarce(
+    rt: &impl Abort,
+    alloc: Global,
+    place: &mut Place,
+    case: &Case,
+) -> Result<(), Fault> {
+    let directive = directive_for(alloc, case)?;
+    let mut plan = plan_at_each_amount(rt, alloc, place, case.host, &directive)?;
+    check_batch(rt, plan.take_batch(), case.ops);
+    check_case(rt, alloc, place, case)
+}
+
+/// A release that awaits four queues is planned once there is memory.
+#[test]
+fn a_batch_with_four_awaits_is_refused_until_there_is_memory(rt: HostRuntime) -> Result<(), Fail> {
+    const EXIT: Case = Case {
+        word: Exit,
+        items: &[(Delete, A(0, 4))],
+        answer: Placing(3, 2),
+        ops: &[
+            Await(4, 1),
+            Await(5, 1),
+            Await(6, 1),
+            Await(7, 1),
+            Release(1),
+        ],
+        ..ON_1
+    };
+    let mut place = place_of(rt.alloc())?;
+    accept_cases(&rt, rt.alloc(), &mut place, USES)?;
+    check_scarce(&rt, rt.alloc(), &mut place, &EXIT)?;
+    Ok(())
+}
