@@ -1,4 +1,4 @@
-// The loops of `acc_loops`, compiled as they stand: `plain NAME TIMES CELLS` computes one so many times over so many cells, and
+// The loops of `bench`, compiled as they stand: `plain NAME TIMES CELLS` computes one so many times over so many cells, and
 // prints what its cells hold as one number.
 #include <stdint.h>
 #include <stdio.h>
