@@ -8,19 +8,20 @@ use Rattle.std.proofs.lemmas.List.Sums.{position_or_len_is}
 use Rattle.std.proofs.lemmas.Slice.Eq.{bytes_eq-Decides}
 use Rattle.acc_script.specs.Arrays.{Declared, array_of, size_of}
 use Rattle.acc_script.specs.RangeSpellings.{AreNames, spelled, RangeIsReadAgain}
-use Rattle.acc_script.specs.Statements.{index_limit, range_at, range_behind, bounds_at, bound_at}
+use Rattle.acc_script.specs.Ranges.{range_of, range_at, range_behind, bounds_at, bound_at}
+use Rattle.acc_script.specs.declared.range.TheConstants.{MAX_INDEX}
 use Rattle.acc_script.specs.declared.word.TheConstants.{MAX_NAME}
 use Rattle.acc_script.specs.Tokens.{Spot, front, is_letter, is_digit, exactly, expect, number_of, name_of}
 use Rattle.acc_script.proofs.TokenSpelling.{IsNumber, is_number, number_token, word_token, opening_bracket, colon, closing_bracket}
 
 -- a bound, before a byte that ends it
-bound_here : (in_directive : Bool) (line n : ℕ) (rest : List ℕ) → n ≤ index_limit → prefix_len is_digit rest ≡ 0 → is_letter (front rest) ≡ false
+bound_here : (in_directive : Bool) (line n : ℕ) (rest : List ℕ) → n ≤ MAX_INDEX → prefix_len is_digit rest ≡ 0 → is_letter (front rest) ≡ false
     → bound_at in_directive (record { line = line; bytes = decimal n ++ rest }) ≡ Ok (Some n, record { line = line; bytes = rest })
 unfolding bound_at number_of
 bound_here in_directive line n rest small ends apart = by (decimal n) (is_number n (omega arith))
   where
     by : (ds : List ℕ) → IsNumber n ds → bound_at in_directive (record { line = line; bytes = ds ++ rest }) ≡ Ok (Some n, record { line = line; bytes = rest })
-    by ds is = rw (number_token in_directive line n ds rest is ends apart, is.is, is.digit, is.value, le-ltb index_limit n small) refl
+    by ds is = rw (number_token in_directive line n ds rest is ends apart, is.is, is.digit, is.value, le-ltb MAX_INDEX n small) refl
 
 -- the place of a name among names that differ
 place_of_name : (names : List (List ℕ)) (i : ℕ) → AreNames names → i < length names → position (bytes_eq (slice_index_or names i [])) names ≡ Some i
@@ -32,7 +33,7 @@ place_of_name names i are within =
     rw (first, lt-ltb i (length names) within) refl
 
 -- a name stands for its array
-array_named : (arrays : Declared) (i line : ℕ) (after : Spot) → AreNames arrays.names → i < length arrays.names
+pub array_named : (arrays : Declared) (i line : ℕ) (after : Spot) → AreNames arrays.names → i < length arrays.names
     → array_of arrays (record { text = slice_index_or arrays.names i []; line = line; after = after }) ≡ Ok (i, after)
 unfolding array_of name_of
 array_named arrays i line after are within =
@@ -40,7 +41,7 @@ array_named arrays i line after are within =
     rw (is.first, is.free, le-ltb MAX_NAME (length (slice_index_or arrays.names i [])) is.short, place_of_name arrays.names i are within) refl
 
 -- what stands behind the opening bracket
-bounds_here : (in_directive : Bool) (array size line lo len : ℕ) (rest : List ℕ) → lo ≤ index_limit → len ≤ index_limit
+bounds_here : (in_directive : Bool) (array size line lo len : ℕ) (rest : List ℕ) → lo ≤ MAX_INDEX → len ≤ MAX_INDEX
     → bounds_at in_directive array size (record { line = line; bytes = decimal lo ++ 58 ∷ (decimal len ++ 93 ∷ rest) })
     ≡ Ok (record { array = array; lo = lo; len = len }, record { line = line; bytes = rest })
 unfolding bounds_at expect exactly
@@ -53,7 +54,7 @@ bounds_here in_directive array size line lo len rest small short =
     ) refl
 
 pub range_is_read_again : RangeIsReadAgain
-unfolding spelled range_at range_behind
+unfolding spelled range_at range_behind range_of
 range_is_read_again in_directive arrays r line rest names within lo len =
     let name : List ℕ = slice_index_or arrays.names r.array [] in
     let is = names.each r.array [] within in

@@ -1,13 +1,11 @@
 -- Events that loops put behind one another.
-use Rattle.std.proofs.Common.{◌≡◌, ℕ, zero, suc, ◌+◌, ◌*◌, List, [], ◌∷◌, ◌++◌, length, map, append_assoc, length-append, Result, Ok, refl, sym, ap, ◌∙◌, arith}
+use Rattle.std.proofs.Common.{◌≡◌, ℕ, zero, suc, ◌+◌, ◌*◌, List, [], ◌∷◌, ◌++◌, length, map, append_assoc, length-append, refl, sym, ap, ◌∙◌, arith}
 use Rattle.std.proofs.lemmas.List.{append-nil, flat_map_more, length-map, map-id}
-use Rattle.std.proofs.Math.Nat.{add-mul}
 use native.Mathlib.Nat.{mul-suc, mul_comm}
 use Rattle.std.proofs.lemmas.List.FromFn.{map-range_with_len_more, length-range_with_len}
 use Rattle.std.specs.List.{flat_map, range_with_len}
 use Rattle.acc_host.specs.declared.event.Event.{Event}
 use Rattle.acc_host.specs.declared.event.Event.TheVariants.{Host}
-use Rattle.acc_script.specs.declared.fault.ReadFault.{ReadFault}
 use Rattle.acc_script.specs.Schedules.{repeated, device_turn, turn_of}
 
 range-more : (n : ℕ) → range_with_len 0 (n + 1) ≡ range_with_len 0 n ++ n ∷ []
@@ -37,9 +35,6 @@ repeated-more turn (suc n) m =
     let one : suc n + m ≡ suc (n + m) = omega arith in
     ap (λ k. repeated k turn) one ∙ (ap (λ es. turn ++ es) (repeated-more turn n m) ∙ sym (append_assoc turn (repeated n turn) (repeated m turn)))
 
-pub ok_more : (turn : List Event) (n m k : ℕ) → k ≡ m → ◌≡◌ {A = Result (List Event) ReadFault} (Ok (repeated n turn ++ repeated m turn)) (Ok (repeated (n + k) turn))
-ok_more turn n m k e = rw e (ap (λ es. Ok es) (sym (repeated-more turn n m)))
-
 -- one turn more
 pub repeated-next : (turn : List Event) (n : ℕ) → repeated (n + 1) turn ≡ repeated n turn ++ turn
 repeated-next turn n = repeated-more turn n 1 ∙ ap (λ es. repeated n turn ++ es) (append-nil turn)
@@ -52,28 +47,16 @@ length-devices (d ∷ ds) =
     let one : length (device_turn d) ≡ 16 = refl in
     length-append (device_turn d) (flat_map device_turn ds) ∙ omega (arith, one, length-devices ds)
 
-length-turn_of : (hosts devices : ℕ) → length (turn_of hosts devices) ≡ hosts + 16 * devices
-length-turn_of hosts devices =
+pub round_length : (hosts devices : ℕ) → length (turn_of hosts devices) ≡ hosts + 16 * devices
+round_length hosts devices =
     length-append (map (λ h. Host h) (range_with_len 0 hosts)) (flat_map device_turn (range_with_len 0 devices))
     ∙ omega (arith, length-map (range_with_len 0 hosts) (λ h. Host h), length-devices (range_with_len 0 devices), length-range_with_len 0 hosts, length-range_with_len 0 devices)
 
 suc_mul : (n m : ℕ) → suc n * m ≡ m + n * m
 suc_mul n m = mul_comm (suc n) m ∙ mul-suc m n ∙ omega (arith, mul_comm m n)
 
-length-repeated : (turn : List Event) (n : ℕ) → length (repeated n turn) ≡ n * length turn
-length-repeated turn zero = omega arith
-length-repeated turn (suc n) =
+pub repeated_length : (turn : List Event) (n : ℕ) → length (repeated n turn) ≡ n * length turn
+repeated_length turn zero = omega arith
+repeated_length turn (suc n) =
     let more : suc n * length turn ≡ length turn + n * length turn = suc_mul n (length turn) in
-    length-append turn (repeated n turn) ∙ omega (arith, more, length-repeated turn n)
-
-pub repeated_turns : (hosts devices times : ℕ) → length (repeated times (turn_of hosts devices)) ≡ times * (hosts + 16 * devices)
-repeated_turns hosts devices times = length-repeated (turn_of hosts devices) times ∙ ap (λ n. times * n) (length-turn_of hosts devices)
-
-pub both_turns : (hosts devices n m : ℕ) → length (repeated n (turn_of hosts devices)) + length (repeated m (turn_of hosts devices)) ≡ (n + m) * (hosts + 16 * devices)
-both_turns hosts devices n m =
-    let size = hosts + 16 * devices in
-    omega (arith, repeated_turns hosts devices n, repeated_turns hosts devices m, add-mul n m size)
-
--- what a definition gives where nothing failed
-pub same_from_ok : (items defined : List Event) → ◌≡◌ {A = Result (List Event) ReadFault} (Ok defined) (Ok items) → items ≡ defined
-same_from_ok items defined e = cc
+    length-append turn (repeated n turn) ∙ omega (arith, more, repeated_length turn n)

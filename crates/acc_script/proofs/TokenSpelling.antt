@@ -49,7 +49,7 @@ prefix_seam p more rest all none = rw (prefix_len-append p more rest, eq-eqb (pr
 -- ## Signs
 
 -- no pair ends with =, where its first byte is none of a pair
-not_second : (b : Bool) → (b && false || false) ≡ false
+pub not_second : (b : Bool) → (b && false || false) ≡ false
 not_second true = refl
 not_second false = refl
 

@@ -3,7 +3,8 @@ use Rattle.std.specs.Prelude.{◌≡◌, ◌≤◌, ◌<◌, ℕ, Bool, true, fa
 use Rattle.std.specs.Fmt.{decimal}
 use Rattle.acc_base.specs.declared.range.Range.{Range}
 use Rattle.acc_script.specs.Arrays.{Declared}
-use Rattle.acc_script.specs.Statements.{index_limit, range_at}
+use Rattle.acc_script.specs.Ranges.{range_at}
+use Rattle.acc_script.specs.declared.range.TheConstants.{MAX_INDEX}
 use Rattle.acc_script.specs.declared.word.TheConstants.{MAX_NAME}
 use Rattle.acc_script.specs.Tokens.{front, is_letter, is_word_byte, is_reserved}
 
@@ -28,6 +29,6 @@ spelled names r =
 abbrev pub RangeIsReadAgain : Type 0
 RangeIsReadAgain =
     (in_directive : Bool) (arrays : Declared) (r : Range) (line : ℕ) (rest : List ℕ)
-    → AreNames arrays.names → r.array < length arrays.names → r.lo ≤ index_limit → r.len ≤ index_limit
+    → AreNames arrays.names → r.array < length arrays.names → r.lo ≤ MAX_INDEX → r.len ≤ MAX_INDEX
     → range_at in_directive arrays (record { line = line; bytes = spelled arrays.names r ++ rest })
     ≡ Ok (r, record { line = line; bytes = rest })

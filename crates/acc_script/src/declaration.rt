@@ -15,8 +15,8 @@ use crate::word::{exactly, expect, name_of, number_of, unwanted};
 use acc_base::{MAX_ARRAYS, MAX_CELLS};
 use std::alloc::Global;
 
-// The negative of a number of at most 2^63.
-fn negative(n: u64) -> i64
+/// The negative of a number of at most 2^63.
+pub(crate) fn negative(n: u64) -> i64
     requires { n ≤ 9223372036854775808 }
     ensures { result ≡ negative n }
 {
@@ -41,7 +41,7 @@ pub(crate) fn value_of<'a>(t: Token<'a>) -> Result<(i64, At<'a>), ReadFault>
     }
 }
 
-fn begins_value(text: &[u8]) -> bool
+pub(crate) fn begins_value(text: &[u8]) -> bool
     ensures { result ≡ begins_value text.now }
 {
     is_digit(front(text)) || is(text, b"-")
@@ -149,9 +149,9 @@ fn initial_values<'a>(
     Ok((cells, after))
 }
 
-// A name that isn't declared yet.
+/// A name that isn't declared.
 #[tactic(auto, unfolding(crate::specs::Arrays::fresh_name))]
-fn fresh_name<'a>(arrays: &Arrays<'a>, t: Token<'a>) -> Result<&'a [u8], ReadFault>
+pub(crate) fn fresh_name<'a>(arrays: &Arrays, t: Token<'a>) -> Result<&'a [u8], ReadFault>
     ensures found { Reads (λ name. (name.now, spot t.entry.after)) result (fresh_name arrays.now.names (lexeme t.entry)) }
     ensures fresh { IfOk result (λ name. list_any (bytes_eq name.now) arrays.now.names ≡ false) }
 {

@@ -1,5 +1,6 @@
 //! What is wrong with a text.
 
+use acc_base::Fault;
 use std::alloc::{AllocError, AllocFailed};
 use thiserror::Error;
 
@@ -51,6 +52,18 @@ impl From<AllocError> for ReadError {
     ghost from_gives = { λ _ error. error ≡ Memory };
 
     fn from(_refused: AllocError) -> Self {
+        ReadError::Memory
+    }
+}
+
+// What is read is made by calls that refuse for want of memory alone.
+impl From<Fault> for ReadError {
+    ghost use Rattle.std.specs.Prelude.{◌≡◌};
+    ghost use Rattle.acc_script.specs.declared.fault.ReadError.TheVariants.{Memory};
+
+    ghost from_gives = { λ _ error. error ≡ Memory };
+
+    fn from(_refused: Fault) -> Self {
         ReadError::Memory
     }
 }

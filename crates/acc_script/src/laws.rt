@@ -1,15 +1,37 @@
 //! Laws over the definitions.
 
+ghost use Rattle.acc_script.specs.ExpressionSpellings.{ExpressionIsReadAgain};
 ghost use Rattle.acc_script.specs.RangeSpellings.{RangeIsReadAgain};
-ghost use Rattle.acc_script.specs.worked.Schedules.{TwentyRounds, OneRound, WiderRound, FaultyLines, ScheduleLimits};
-ghost use Rattle.acc_script.specs.worked.Scripts.{StaleCopyText, RangeForms, ReadFaults, ScriptLimits};
+ghost use Rattle.acc_script.specs.worked.Loops.{LoopTexts, LoopForms, LoopFaults, LoopLimits};
+ghost use Rattle.acc_script.specs.worked.Schedules.{TwentyRounds, OneRound, WiderRound, EachLine, EachQueue, FaultyLines, FaultyHosts, FaultyQueues, FaultyCloses, FullSchedule, ScheduleLimits};
+ghost use Rattle.acc_script.specs.worked.Scripts.{StaleCopyText, RangeForms, ClauseNames, AsyncForms, Routines, Questions, Constructs, ReadFaults, DirectiveFaults, RoutineFaults, ScriptLimits};
 
-/// What scripts say, computed on worked texts, and each kind of fault with its line; the limits as numbers.
+/// What scripts say, computed on worked texts; the limits as numbers.
 pub fn worked_scripts()
     ensures stale_copy { StaleCopyText }
     ensures ranges { RangeForms }
-    ensures faults { ReadFaults }
+    ensures clause_names { ClauseNames }
+    ensures async_forms { AsyncForms }
+    ensures routines { Routines }
+    ensures questions { Questions }
+    ensures constructs { Constructs }
     ensures limits { ScriptLimits }
+{}
+
+/// Each kind of fault of a script with its line, computed where it is hardest to tell.
+pub fn worked_script_faults()
+    ensures faults { ReadFaults }
+    ensures directives { DirectiveFaults }
+    ensures routines { RoutineFaults }
+{}
+
+/// What the loops of scripts say, likewise: how expressions group, each form of a loop, each fault with its line, and
+/// the limit.
+pub fn worked_loop_texts()
+    ensures expressions { LoopTexts }
+    ensures forms { LoopForms }
+    ensures faults { LoopFaults }
+    ensures limits { LoopLimits }
 {}
 
 /// A range that is spelled as `NAME[LO:LEN]` is read as that range, whatever follows.
@@ -17,11 +39,22 @@ pub fn range_is_read_again()
     ensures { RangeIsReadAgain }
 {}
 
+/// An expression that a loop can have, spelled with all its parentheses, is read as that expression.
+pub fn expression_is_read_again()
+    ensures { ExpressionIsReadAgain }
+{}
+
 /// What schedules say, and their limits, likewise.
 pub fn worked_schedules()
     ensures twenty_rounds { TwentyRounds }
     ensures one_round { OneRound }
     ensures wider_round { WiderRound }
+    ensures each_line { EachLine }
+    ensures each_queue { EachQueue }
     ensures faults { FaultyLines }
+    ensures host_faults { FaultyHosts }
+    ensures queue_faults { FaultyQueues }
+    ensures close_faults { FaultyCloses }
+    ensures full { FullSchedule }
     ensures limits { ScheduleLimits }
 {}

@@ -3,9 +3,16 @@
 
 mod arrays;
 mod at;
+mod clause;
 mod declaration;
+mod directive;
+mod expression;
 mod fault;
 mod laws;
+mod loops;
+mod queue;
+mod range;
+mod routine;
 mod schedule;
 mod script;
 mod statement;
@@ -14,7 +21,10 @@ mod token;
 mod word;
 
 pub use fault::{ReadError, ReadFault, ReadKind};
-pub use laws::{range_is_read_again, worked_schedules, worked_scripts};
-pub use schedule::{Schedule, read_schedule};
+pub use laws::{
+    expression_is_read_again, range_is_read_again, worked_loop_texts, worked_schedules,
+    worked_script_faults, worked_scripts,
+};
+pub use schedule::{Schedule, ScheduleLine, Turn, read_schedule};
 pub use script::{Script, read};
 pub use text::{MAX_TEXT, line_len};

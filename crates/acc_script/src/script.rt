@@ -1,22 +1,24 @@
 //! The whole script.
 
-ghost use Rattle.std.specs.Prelude.{◌≡◌, ◌≤◌, ◌∷◌, [], All, length, IfOk};
+ghost use Rattle.std.specs.Prelude.{◌≡◌, ◌+◌, ◌≤◌, ◌<◌, ◌∷◌, [], false, All, length, IfOk, OnOk, if◌then◌else◌};
 ghost use Rattle.acc_base.specs.Configurations.{rows};
+ghost use Rattle.acc_base.specs.declared.config.TheConstants.{MAX_HOSTS};
 ghost use Rattle.acc_host.specs.Hosts.{AreNumbered};
 ghost use Rattle.acc_script.specs.Arrays.{texts, IsDeclared};
 ghost use Rattle.acc_script.specs.Faults.{Gives};
-ghost use Rattle.acc_script.specs.Scripts.{program, host_of, program_at, script_of, seen};
-ghost use Rattle.acc_script.specs.Tokens.{spot, lexeme};
+ghost use Rattle.acc_script.specs.Scripts.{program, host_at, host_turn, program_at, script_of, seen};
+ghost use Rattle.acc_script.specs.Tokens.{spot};
+ghost use Rattle.acc_script.specs.Turns.{turn, all_turns};
 
 use crate::arrays::Arrays;
 use crate::at::At;
 use crate::declaration::arrays_of;
-use crate::fault::ReadError;
-use crate::statement::statements_of;
+use crate::fault::{ReadError, ReadKind};
+use crate::statement::statements_at;
 use crate::text::check_length;
-use crate::token::{Token, token_of};
+use crate::token::{fault, token_of};
 use crate::word::{exactly, expect};
-use acc_base::{HostId, Listed};
+use acc_base::{HostId, Listed, MAX_HOSTS};
 use acc_host::HostProgram;
 use indexmap::IndexSet;
 use std::alloc::Global;
@@ -30,38 +32,95 @@ pub struct Script<'a> {
     pub programs: Vec<HostProgram>,
 }
 
-// The host's part that begins with this token; nothing stands behind it.
-#[tactic(auto, unfolding(crate::specs::Scripts::host_of))]
-fn host_of<'a>(alloc: Global, arrays: &Arrays, t: Token<'a>) -> Result<HostProgram, ReadError>
-    ensures found { Gives (λ p. program arrays.now (p ∷ [])) result (host_of arrays.now (lexeme t.entry)) }
-    ensures first { IfOk result (λ p. p.host ≡ 0) }
+// The part of a host behind its word.
+#[tactic(auto, unfolding(crate::specs::Scripts::host_at))]
+fn host_at<'a>(
+    alloc: Global,
+    arrays: &Arrays,
+    host: u8,
+    at: At<'a>,
+) -> Result<(HostProgram, At<'a>), ReadError>
+    ensures found { Gives (λ x. (x.0, spot x.1)) result (host_at arrays.now host (spot at.entry)) }
+    ensures number { IfOk result (λ x. x.0.host ≡ host) }
+    ensures shorter { IfOk result (λ x. length x.1.bytes.now ≤ length at.entry.bytes.now) }
 {
-    let at = exactly(t, b"host")?;
     let at = expect(at, false, b"{")?;
     let mut statements = Vec::new(alloc);
-    let at = statements_of(alloc, arrays, &mut statements, at)?;
-    expect(at, false, b"")?;
-    Ok(HostProgram {
-        host: HostId::new(0),
+    let at = statements_at(alloc, arrays, &mut statements, at)?;
+    let program = HostProgram {
+        host: HostId::new(host),
         statements: Listed::from_vec(statements),
-    })
+    };
+    Ok((program, at))
 }
 
-// The arrays and the host's part, from here on.
+// The part of a host, unless the text ends here.
+#[tactic(auto, using(crate::proofs::Numbered::one_more_host), unfolding(crate::specs::Scripts::host_turn))]
+fn host_turn<'a>(
+    alloc: Global,
+    arrays: &Arrays,
+    programs: &mut Vec<HostProgram>,
+    at: At<'a>,
+) -> Result<(bool, At<'a>), ReadError>
+    requires numbered { AreNumbered 0 programs.old.items }
+    requires few { length programs.old.items ≤ MAX_HOSTS }
+    ensures found { Gives (λ x. turn x.0 programs.new.items (spot x.1)) result (host_turn arrays.now programs.old.items (spot at.entry)) }
+    ensures numbered { OnOk result (AreNumbered 0 programs.new.items) }
+    ensures few { OnOk result (length programs.new.items ≤ MAX_HOSTS) }
+    ensures shorter { IfOk result (λ x. (if x.0 then 1 else 0) + length x.1.bytes.now ≤ length at.entry.bytes.now) }
+{
+    let t = token_of(at, false)?;
+    if t.text.is_empty() {
+        return Ok((false, t.after));
+    }
+    let at = exactly(t, b"host")?;
+    let host = programs.len() as u8;
+    if MAX_HOSTS <= host {
+        return Err(fault(t.line, ReadKind::Limit).into());
+    }
+    let (program, at) = host_at(alloc, arrays, host, at)?;
+    programs.push(program)?;
+    Ok((true, at))
+}
+
+// The parts of all hosts, up to the end of the text.
+#[tactic(auto, using(crate::proofs::Turns::goes_on, crate::proofs::Turns::ends, crate::proofs::Turns::fails_too))]
+fn hosts_at<'a>(
+    alloc: Global,
+    arrays: &Arrays,
+    programs: &mut Vec<HostProgram>,
+    at: At<'a>,
+) -> Result<At<'a>, ReadError>
+    requires numbered { AreNumbered 0 programs.old.items }
+    requires few { length programs.old.items ≤ MAX_HOSTS }
+    ensures found { Gives (λ a. turn false programs.new.items (spot a)) result (all_turns (host_turn arrays.now) programs.old.items (spot at.entry)) }
+    ensures numbered { OnOk result (AreNumbered 0 programs.new.items) }
+    ensures few { OnOk result (length programs.new.items ≤ MAX_HOSTS) }
+{
+    let turns = at.bytes.len() + 1;
+    let mut here = at;
+    for _ in 0..turns {
+        let (more, after) = host_turn(alloc, arrays, programs, here)?;
+        here = after;
+        if !more {
+            return Ok(here);
+        }
+    }
+    unreachable!()
+}
+
+// The arrays and the parts of the hosts, from here on.
 #[tactic(auto, unfolding(crate::specs::Scripts::program_at))]
 fn script_at<'a>(alloc: Global, at: At<'a>) -> Result<Script<'a>, ReadError>
     ensures found { Gives seen result (program_at (spot at.entry)) }
     ensures declared { IfOk result (λ s. IsDeclared (record { names = texts s.names.keys; cells = rows s.arrays.items })) }
     ensures numbered { IfOk result (λ s. AreNumbered 0 s.programs.items) }
-    ensures few { IfOk result (λ s. length s.programs.items ≤ 1) }
+    ensures few { IfOk result (λ s. length s.programs.items ≤ MAX_HOSTS) }
 {
     let mut arrays = Arrays::new(alloc);
     let at = arrays_of(alloc, &mut arrays, at)?;
-    let t = token_of(at, false)?;
     let mut programs = Vec::new(alloc);
-    if !t.text.is_empty() {
-        programs.push(host_of(alloc, &arrays, t)?)?;
-    }
+    hosts_at(alloc, &arrays, &mut programs, at)?;
     let (names, arrays) = arrays.into_parts();
     Ok(Script {
         names,
@@ -80,7 +139,7 @@ pub fn read<'a>(alloc: Global, text: &'a [u8]) -> Result<Script<'a>, ReadError>
     ensures found { Gives seen result (script_of text.now) }
     ensures declared { IfOk result (λ s. IsDeclared (record { names = texts s.names.keys; cells = rows s.arrays.items })) }
     ensures numbered { IfOk result (λ s. AreNumbered 0 s.programs.items) }
-    ensures few { IfOk result (λ s. length s.programs.items ≤ 1) }
+    ensures few { IfOk result (λ s. length s.programs.items ≤ MAX_HOSTS) }
 {
     match check_length(text) {
         Ok(()) => script_at(
