@@ -5,7 +5,7 @@ use Rattle.std.proofs.lemmas.Bool.{cases_lt, le-ltb, lt-ltb}
 use Rattle.std.specs.Prelude.{Option, Some, None, IfSome, All, ℤ, ◌==◌}
 use Rattle.std.proofs.lemmas.List.Folds.{list_any_none}
 use Rattle.std.proofs.lemmas.Bool.Decides.{nat_tests}
-use Rattle.acc_base.specs.declared.config.TheConstants.{MAX_ARRAYS, MAX_CELLS, MAX_HOSTS, MAX_CAPACITY, MAX_ROOM}
+use Rattle.acc_base.specs.declared.config.TheConstants.{MAX_ARRAYS, MAX_CELLS, MAX_DEVICES, MAX_HOSTS, MAX_CAPACITY, MAX_ROOM}
 use Rattle.acc_base.specs.Configurations.{fault_of, is_outside, has_long_array, has_empty_array}
 use Rattle.acc_script.specs.Arrays.{IsDeclared}
 use Rattle.acc_driver.specs.declared.fault.DriverFault.{DriverFault}
@@ -93,15 +93,14 @@ inside : (limit n : ℕ) → (1 ≤ n) × (n ≤ limit) → is_outside limit n �
 inside limit n h = let low = h.0 in let high = h.1 in grind (arith, nat_tests, low, high)
 
 usable_config : (options : Options) (program : Program) → AreUsable options → IsDeclared (record { names = program.names; cells = program.arrays })
-    → length program.programs ≤ 1 → fault_of (configured options program) ≡ None
+    → length program.programs ≤ MAX_HOSTS → fault_of (configured options program) ≡ None
 usable_config options program usable declared few =
     let same = declared.one_each in
     let is_few = declared.few in
     let is_short : length program.arrays ≤ MAX_ARRAYS = omega (arith, same, is_few) in
-    let one : length program.programs ≤ MAX_HOSTS = omega (arith, few) in
     rw (
-      usable.devices,
-      le-ltb MAX_HOSTS (length program.programs) one,
+      inside MAX_DEVICES options.devices usable.devices,
+      le-ltb MAX_HOSTS (length program.programs) few,
       le-ltb MAX_ARRAYS (length program.arrays) is_short,
       none_is_long program.arrays declared.sizes,
       none_is_empty program.arrays declared.sizes,
@@ -111,7 +110,7 @@ usable_config options program usable declared few =
 
 -- With usable options the one reason not to open a world is want of memory.
 pub usable_runs : (options : Options) (program : Program) (why : DriverFault) → IsDeclared (record { names = program.names; cells = program.arrays })
-    → length program.programs ≤ 1 → IsOpeningFault (configured options program) why → AreUsable options → IsRun (Err why)
+    → length program.programs ≤ MAX_HOSTS → IsOpeningFault (configured options program) why → AreUsable options → IsRun (Err why)
 usable_runs options program (fault.Runtime f) declared few opening usable =
     absurd (let off = sym (usable_config options program usable declared few) ∙ opening in cc)
 usable_runs options program fault.Memory declared few opening usable = tt

@@ -2,7 +2,7 @@
 use Rattle.std.specs.Prelude.{◌≡◌, ◌≤◌, ℕ, zero, suc, Bool, true, false, ◌||◌, List, [], length, slice_get, Option, Some, None, Result, Ok, Err}
 use Rattle.std.specs.Io.KnownBytes.{Appends}
 use Rattle.std.specs.Option.{option_map}
-use Rattle.acc_base.specs.declared.config.TheConstants.{MAX_CAPACITY, MAX_ROOM}
+use Rattle.acc_base.specs.declared.config.TheConstants.{MAX_CAPACITY, MAX_DEVICES, MAX_ROOM}
 use Rattle.acc_base.specs.Configurations.{Configuration, configuration, fault_of}
 use Rattle.acc_host.specs.declared.event.Event.{Event}
 use Rattle.acc_host.specs.declared.state.Reply.{Reply}
@@ -121,7 +121,7 @@ Answers options texts old new (Err fault.Memory) = Appends old new []
 
 -- options with which no configuration of a script is refused
 pub record AreUsable (options : Options) : Type 0 where
-  pub devices : options.devices ≡ 1
+  pub devices : (1 ≤ options.devices) × (options.devices ≤ MAX_DEVICES)
   pub cells : (1 ≤ options.cells) × (options.cells ≤ MAX_CAPACITY)
   pub room : (1 ≤ options.room) × (options.room ≤ MAX_ROOM)
 

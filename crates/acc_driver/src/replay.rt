@@ -2,6 +2,7 @@
 
 ghost use Rattle.std.specs.Prelude.{◌≡◌, ◌≤◌, All, IfOk, IfErr, IfSome, List, length};
 ghost use Rattle.acc_base.specs.Configurations.{rows, configuration};
+ghost use Rattle.acc_base.specs.declared.config.TheConstants.{MAX_HOSTS};
 ghost use Rattle.acc_host.specs.Hosts.{AreNumbered};
 ghost use Rattle.acc_core.specs.Worlds.{first_state};
 ghost use Rattle.acc_script.specs.Arrays.{IsDeclared, texts};
@@ -9,6 +10,7 @@ ghost use Rattle.acc_driver.specs.Inputs.{parts};
 ghost use Rattle.acc_core.specs.Machine.{Runs};
 ghost use Rattle.acc_host.specs.declared.state.Reply.{Reply};
 ghost use Rattle.acc_driver.specs.Replays.{Answers, RunAnswers, AreUsable, IsRun, IsOpeningFault, driver_fault, of_input, some_refused, is_refused};
+ghost use Rattle.acc_script.specs.Schedules.{kept_events};
 ghost use Rattle.acc_script.specs.Scripts.{seen};
 
 use crate::fault::{DriverFault, ReplayFault};
@@ -17,8 +19,8 @@ use crate::options::{Ended, Options};
 use crate::report::report;
 use acc_base::{Config, Fault, HostId};
 use acc_core::World;
-use acc_host::{HostProgram, HostState};
-use acc_script::{ReadError, Schedule, Script, read, read_schedule};
+use acc_host::{Event, HostProgram, HostState};
+use acc_script::{ReadError, Schedule, ScheduleLine, Script, read};
 use std::alloc::Global;
 use std::io::{Read, Write};
 
@@ -89,7 +91,7 @@ pub fn replay_texts<W: Write>(
         Err(ReadError::Fault(fault)) => return Err(ReplayFault::Script(fault)),
     };
     let hosts = hosts_of(&script.programs);
-    let schedule = match read_schedule(alloc, schedule, hosts, options.devices) {
+    let schedule = match Schedule::read(alloc, schedule, hosts, options.devices) {
         Ok(schedule) => schedule,
         Err(ReadError::Memory) => return Err(ReplayFault::Memory),
         Err(ReadError::Fault(fault)) => return Err(ReplayFault::Schedule(fault)),
@@ -107,7 +109,7 @@ fn run<W: Write>(
 ) -> Result<Ended, ReplayFault>
     requires declared { IsDeclared (record { names = texts script.names.keys; cells = rows script.arrays.items }) }
     requires numbered { AreNumbered 0 script.programs.items }
-    requires few { length script.programs.items ≤ 1 }
+    requires few { length script.programs.items ≤ MAX_HOSTS }
     ensures answers { RunAnswers options (seen script.entry) schedule.now (W.contents writer.old) (W.contents writer.new) (of_input result) }
     ensures run { AreUsable options → IsRun (of_input result) }
 {
@@ -134,15 +136,25 @@ fn run<W: Write>(
 fn run_schedule(schedule: &Schedule, world: &mut World)
     ensures { (replies : List Reply) × Runs world.old schedule.now replies world.new }
 {
-    let (turn, times) = schedule.turns();
-    for _ in 0..times {
+    let (round, lines) = schedule.lines();
+    for line in lines {
+        run_line(round, line, world);
+    }
+}
+
+// The same for the events of one line.
+fn run_line(round: &[Event], line: &ScheduleLine, world: &mut World)
+    ensures { (replies : List Reply) × Runs world.old (kept_events round.now line.now) replies world.new }
+{
+    let turn = line.turn.events(round);
+    for _ in 0..line.times {
         world.advance(turn);
     }
 }
 
 // How many hosts there are.
 fn hosts_of(programs: &Vec<HostProgram>) -> u8
-    requires few { length programs.now.items ≤ 1 }
+    requires few { length programs.now.items ≤ MAX_HOSTS }
     ensures { result ≡ length programs.now.items }
 {
     programs.len() as u8
@@ -155,7 +167,7 @@ fn open(
     programs: Vec<HostProgram>,
     options: Options,
 ) -> Result<World, ReplayFault>
-    requires few { length programs.items ≤ 1 }
+    requires few { length programs.items ≤ MAX_HOSTS }
     requires numbered { AreNumbered 0 programs.items }
     ensures opened { IfOk result (λ w. w ≡ first_state (configuration options.devices (length programs.items) (rows arrays.items) options.cells options.room) programs.items) }
     ensures refused { IfErr result (λ f. IsOpeningFault (configuration options.devices (length programs.items) (rows arrays.items) options.cells options.room) (driver_fault f)) }

@@ -24,7 +24,7 @@ abbrev pub values_text : List ℤ → List ℕ
 values_text [] = []
 values_text (value ∷ values) = signed_decimal value ++ flat_map (λ v. codes " " ++ signed_decimal v) values
 
--- what an item prints (no script has questions yet)
+-- what an item prints; answers of questions are not reported yet
 unfoldable pub shown_text : Told → List ℕ
 shown_text (Write array cell value) = []
 shown_text (Seen device counts) = []

@@ -1,8 +1,8 @@
-use Rattle.std.proofs.Common.{List}
+use Rattle.std.proofs.Common.{List, take}
 use Rattle.acc_host.specs.declared.state.Reply.{Reply}
 use Rattle.acc_core.specs.Machine.{Runs}
-use Rattle.acc_script.specs.Schedules.{repeated}
+use Rattle.acc_script.specs.Schedules.{all_events}
 use Rattle.acc_driver.proofs.replay.run_schedule.Given as goal
 
-abbrev pub invariant-loop : goal.invariant-loop
-invariant-loop l = (replies : List Reply) × Runs l.fn.world (repeated l.counter l.turn) replies l.world
+abbrev pub invariant-loop-line : goal.invariant-loop-line
+invariant-loop-line l = (replies : List Reply) × Runs l.fn.world (all_events l.round (take l.line-index l.lines)) replies l.world
