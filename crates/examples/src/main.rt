@@ -5,10 +5,11 @@ use acc_driver::{Options, replay_one};
 use std::alloc::Global;
 use std::{fs, io};
 
-const NAMES: [&str; 7] = [
+const NAMES: [&str; 8] = [
     "counting",
     "mistake",
     "parts",
+    "queues",
     "ranges",
     "refusal",
     "stale",

@@ -71,51 +71,6 @@ fn worked_inputs_have_their_reports(rt: HostRuntime) -> Result<(), Fail> {
     Ok(())
 }
 
-/// What no script says today, with the line of the word that it is told by.
-#[test]
-fn what_is_not_known_yet_is_form(rt: HostRuntime) -> Result<(), Fail> {
-    let unknown: [(&'static [u8], u32); 12] = [
-        (b"host { }\nhost { }", 2),
-        (b"int a[1];", 1),
-        (
-            b"long a[1];\nhost {\n#pragma acc enter data create(a)\n}",
-            3,
-        ),
-        (
-            b"long a[1];\nhost {\n#pragma acc enter data pcopyin(a)\n}",
-            3,
-        ),
-        (
-            b"long a[1];\nhost {\n#pragma acc exit data delete(a) finalize\n}",
-            3,
-        ),
-        (
-            b"long a[1];\nhost {\n#pragma acc enter data copyin(a) async(1)\n}",
-            3,
-        ),
-        (
-            b"long a[1];\nhost {\n#pragma acc enter data copyin(a) wait(1)\n}",
-            3,
-        ),
-        (b"long a[1];\nhost {\n\n#pragma acc update self(a)\n}", 4),
-        (b"long a[1];\nhost {\n#pragma acc parallel loop\n}", 3),
-        (b"long a[1];\nhost {\n#pragma acc data copy(a)\n}", 3),
-        (b"long a[1];\nhost {\nacc_copyin(a);\n}", 3),
-        (b"long a[1];\nhost {\nprint(acc_is_present(a));\n}", 3),
-    ];
-    for (input, line) in &unknown {
-        let mut input = *input;
-        let (answer, written) = replayed(rt.alloc(), &mut input);
-        let form = ReadFault {
-            line: *line,
-            kind: ReadKind::Form,
-        };
-        assert_eq!(rt; answer, Err(DriverFault::Script(form)));
-        assert_eq!(rt; written.len(), 0);
-    }
-    Ok(())
-}
-
 /// Each kind of fault of a script, with its line; a schedule's fault is told behind it.
 #[test]
 fn faults_of_scripts_are_told(rt: HostRuntime) -> Result<(), Fail> {
@@ -126,7 +81,7 @@ fn faults_of_scripts_are_told(rt: HostRuntime) -> Result<(), Fail> {
             ReadKind::End,
         ),
         (b"long a[4];\nhost {\n%%\nround 0\n", 3, ReadKind::End),
-        (b"long a[4];\n\n$\n%%\ntake 0 0\n", 3, ReadKind::Text),
+        (b"long a[4];\n\n$\n%%\ntake 0 9\n", 3, ReadKind::Text),
         (
             b"long a[4];\nhost { b[0] = 1; }\n%%\nround 0",
             2,
@@ -153,10 +108,10 @@ fn faults_of_scripts_are_told(rt: HostRuntime) -> Result<(), Fail> {
 fn faults_of_schedules_are_told(rt: HostRuntime) -> Result<(), Fail> {
     let faulty: [(&'static [u8], u32, ReadKind); 8] = [
         (b"host { }\n%%\nround 20\n%%\n", 2, ReadKind::Form),
-        (b"%%\n# a\n\ntake 0 0\n", 3, ReadKind::Form),
-        (b"%%\ndo 0 sync\n", 1, ReadKind::Form),
-        (b"%%\nhost 0\n", 1, ReadKind::Form),
-        (b"%%\nclose\n", 1, ReadKind::Form),
+        (b"%%\n# a\n\ntake 0 zero\n", 3, ReadKind::Name),
+        (b"%%\ndo 1 sync\n", 1, ReadKind::Name),
+        (b"%%\nhost 0\n", 1, ReadKind::Name),
+        (b"%%\nclose 2\n", 1, ReadKind::Form),
         (b"%%\nround 0\n", 1, ReadKind::Limit),
         (b"%%\nround 10001\nround 0\r\n", 1, ReadKind::Limit),
         (b"%%\nround 1\r\n", 1, ReadKind::Text),
