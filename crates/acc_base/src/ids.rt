@@ -9,7 +9,7 @@ use std::marker::Model;
 pub const QUEUES: u8 = 8;
 
 /// A number for each queue of a device, in queue order.
-pub type QueueCounts = [u64; 8];
+pub type QueueCounts = [u64; QUEUES as usize];
 
 /// A device, by its number from 0.
 #[derive(Clone, Copy, Debug, PartialEq, Eq)]
@@ -153,6 +153,16 @@ impl QueueAt {
     ghost use Rattle.acc_base.specs.Queues.{at_seat, seat};
     ghost use Rattle.acc_base.specs.declared.ids.TheConstants.{QUEUES};
 
+    /// The queue of a device for directives without an `async` clause.
+    pub fn sync(device: DeviceId) -> Self
+        ensures { result ≡ record { device = device; queue = 0 } }
+    {
+        QueueAt {
+            device,
+            queue: QueueId::SYNC,
+        }
+    }
+
     /// Its index among the queues of all devices, by device, then in queue order, from 0.
     pub fn seat(self) -> usize
         ensures { result ≡ seat self }
@@ -168,8 +178,8 @@ impl QueueAt {
         ensures queue { result.queue < QUEUES }
     {
         QueueAt {
-            device: DeviceId::new((index / 8) as u8),
-            queue: QueueId::new((index % 8) as u8),
+            device: DeviceId::new((index / u16::from(QUEUES)) as u8),
+            queue: QueueId::new((index % u16::from(QUEUES)) as u8),
         }
     }
 }

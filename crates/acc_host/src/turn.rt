@@ -12,7 +12,7 @@ ghost use Rattle.acc_work.specs.declared.item.Shown.{Shown};
 use crate::engine::Engine;
 use crate::program::{Act, Statement};
 use crate::state::{After, Awaited, Ids, Phase};
-use acc_base::{DeviceId, Fault, HostId, QueueCounts, QueueId};
+use acc_base::{DeviceId, Fault, HostId, QUEUES, QueueCounts, QueueId};
 use acc_place::{ASYNC_NOVAL, Directive, Kind, Placed};
 use acc_work::Item;
 use std::alloc::Global;
@@ -23,7 +23,7 @@ fn owed_batch(placed: Placed) -> After
 {
     match placed.batch {
         Some((at, number)) if at.queue == QueueId::SYNC => {
-            let mut counts = [0; 8];
+            let mut counts = [0; QUEUES as usize];
             counts[0] = number;
             After::Waits {
                 what: Awaited {
@@ -44,7 +44,7 @@ fn is_nothing(counts: &QueueCounts) -> bool
 }
 
 // What a host owes after a directive.
-fn owed(directive: &Directive, placed: Placed) -> After
+fn owed_by(directive: &Directive, placed: Placed) -> After
     ensures { result ≡ owing (owed_by directive.now placed) }
 {
     match directive.kind() {
@@ -170,7 +170,7 @@ fn act<E: Engine>(
 {
     match act {
         Act::Place { directive } => match engine.place(host, directive) {
-            Ok(placed) => Ok(owed(directive, placed)),
+            Ok(placed) => Ok(owed_by(directive, placed)),
             Err(fault) => Err(fault),
         },
         Act::Write { array, cell, value } => {

@@ -9,7 +9,7 @@ use Rattle.std.proofs.lemmas.Int.{ints, clamps}
 use Rattle.std.proofs.lemmas.List.Elements.{All-contains, Contains-append_left, Contains-push, Contains-push_cases}
 use Rattle.acc_kernel.specs.declared.reach.Reach.{Reach}
 use Rattle.acc_kernel.specs.Faults.{IsNear, IsWithinLimits}
-use Rattle.acc_kernel.specs.Kernels.{Loop, references, Reaches, IsReach, spanned, widened}
+use Rattle.acc_kernel.specs.Kernels.{Loop, references, Reaches, IsReach, spanned, widened_span}
 use Rattle.acc_kernel.specs.Trees.{Reference}
 
 -- a reference to the array, so far from the index
@@ -57,7 +57,7 @@ module _ (array : ℕ) where
   greater refs x y a b = elim (int_lt y x) as (λ c. IsNamed array refs (if c then x else y)) [ true ↦ a | false ↦ b ]
 
   -- one more reference to this array
-  wider : (refs : List Reference) (r : Reference) (o : Option Reach) → r.array ≡ array → IsSpan array refs o → IsSpan array (refs ++ r ∷ []) (widened o r.offset)
+  wider : (refs : List Reference) (r : Reference) (o : Option Reach) → r.array ≡ array → IsSpan array refs o → IsSpan array (refs ++ r ∷ []) (widened_span o r.offset)
   wider refs r None e s = (
     itself refs r e,
     itself refs r e,
@@ -73,7 +73,7 @@ module _ (array : ℕ) where
   )
 
   span_more : (refs : List Reference) (r : Reference) (o : Option Reach) (b : Bool) → (r.array == array) ≡ b → IsSpan array refs o
-      → IsSpan array (refs ++ r ∷ []) (if b then widened o r.offset else o)
+      → IsSpan array (refs ++ r ∷ []) (if b then widened_span o r.offset else o)
   span_more refs r o true e s = wider refs r o ((Decides-eqb r.array array).0 e) s
   span_more refs r o false e s = other refs r o (λ same. let never : ⊥ = cc ((Decides-eqb r.array array).1 same) in never) s
 

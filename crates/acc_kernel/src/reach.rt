@@ -1,7 +1,7 @@
 //! The cells that a loop reaches.
 
 ghost use Rattle.std.specs.Prelude.{◌≡◌};
-ghost use Rattle.acc_kernel.specs.Kernels.{widened};
+ghost use Rattle.acc_kernel.specs.Kernels.{widened_span};
 
 /// The least and the greatest cell of an array that a loop reaches.
 #[derive(Clone, Copy, Debug, PartialEq, Eq)]
@@ -11,8 +11,8 @@ pub struct Reach {
 }
 
 /// The least and the greatest offset, with one more.
-pub(crate) fn widened(span: Option<Reach>, offset: i64) -> Option<Reach>
-    ensures { result ≡ widened span offset }
+pub(crate) fn widened_span(span: Option<Reach>, offset: i64) -> Option<Reach>
+    ensures { result ≡ widened_span span offset }
 {
     match span {
         None => Some(Reach {

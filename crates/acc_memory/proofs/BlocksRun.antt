@@ -20,7 +20,7 @@ use Rattle.acc_memory.specs.Blocks.{row_of}
 use Rattle.acc_memory.specs.Memories.{Row, HasRanges, IsMemory, ShowsRows, made_of, find_row, row_cell, row_has, index_of, is_ascending, is_before_all, is_whole}
 use Rattle.acc_batch.specs.Lives.{Made}
 use Rattle.acc_memory.specs.inner.Windows.{KeepsBlocks, AreIndices, block_for, cell_at, window_has, has_at, window_cells}
-use Rattle.acc_memory.specs.Values.{Cell, Block_cell, is_in, or_zero, seen_by, use_with, after_loop, after_op}
+use Rattle.acc_memory.specs.Values.{Cell, Block_cell, is_in, or_zero, cells_by, use_with, after_loop, after_op}
 use Rattle.acc_memory.proofs.BlockCalls.{rows_of}
 use Rattle.acc_memory.proofs.CopyCells.{slice_get-set_same, slice_get-set_other}
 use Rattle.acc_memory.proofs.Rows.{row_there, find_row-name, index_of-found, index_of-here, index_of-past, ascending_parts, list_all-at}
@@ -301,7 +301,7 @@ module _ (bs : List Block) (indices : List ℕ) (k : Loop) (uses : List Use) (r 
 
   -- and it is what its block shows
   seen_was : (device : ℕ) (was : Cell → ℤ) → ShowsRows device (rows_of bs) was → (array : ℕ) (cell : ℤ) → has_cell uses array cell ≡ true
-      → window_cells bs indices array cell ≡ seen_by uses device was array cell
+      → window_cells bs indices array cell ≡ cells_by uses device was array cell
   seen_was device was shows array cell has =
       let o = use_of uses array cell has in
       let u : Use = get_or uses (jobs.place_of uses array) no_use in
@@ -312,7 +312,7 @@ module _ (bs : List Block) (indices : List ℕ) (k : Loop) (uses : List Use) (r 
       ap (cell_at (block_for bs indices array)) o.is
       ∙ (ap (λ q. cell_at q (pos o.at)) there
       ∙ (cell_is b.block.cells b.block.range.lo o.at b.low
-      ∙ (ap (λ row. row_cell row o.at) (sym b.found) ∙ (shown ∙ ap (seen_by uses device was array) (sym o.is)))))
+      ∙ (ap (λ row. row_cell row o.at) (sym b.found) ∙ (shown ∙ ap (cells_by uses device was array) (sym o.is)))))
 
   -- ## What a loop makes of a cell
 
@@ -380,7 +380,7 @@ module _ (bs : List Block) (indices : List ℕ) (k : Loop) (uses : List Use) (r 
           ∙ cell_is b.new.cells b.new.range.lo i low
 
       -- a cell that a use has
-      cell_used : (u : Use) → use_with uses n i ≡ Some u → row_cell (Some (row_of b.new)) i ≡ value_after k (seen_by uses device was) u.1.array (pos i)
+      cell_used : (u : Use) → use_with uses n i ≡ Some u → row_cell (Some (row_of b.new)) i ≡ value_after k (cells_by uses device was) u.1.array (pos i)
       cell_used u found =
           let f = find_some (names_cell n i) uses u found in
           let j : ℕ = f.0 in
@@ -402,7 +402,7 @@ module _ (bs : List Block) (indices : List ℕ) (k : Loop) (uses : List Use) (r 
           sym (seen_new table)
           ∙ (ap (λ a. window_cells bs' indices a (pos i)) array
           ∙ (ap (λ g. g u.1.array (pos i)) ran
-          ∙ loop_alike k (window_cells bs indices) (seen_by uses device was) u.1.array (pos i)
+          ∙ loop_alike k (window_cells bs indices) (cells_by uses device was) u.1.array (pos i)
           (λ a c reach. seen_was device was shows a c (r.reached a c reach)) (seen_was device was shows u.1.array (pos i) has)))
 
       -- one that none has
@@ -448,7 +448,7 @@ module _ (bs : List Block) (indices : List ℕ) (k : Loop) (uses : List Use) (r 
             | inr apart ↦ is_kept (kept.others (index_of (rows_of bs) n) b.old b.at_old (λ q. let both : Some p ≡ Some (index_of (rows_of bs) n) = sym e ∙ q in let never : p ≡ index_of (rows_of bs) n = cc in apart never))
           ]
 
-      cell_ran : (o : Option Use) → use_with uses n i ≡ o → row_cell (Some (row_of b.new)) i ≡ after_loop k (seen_by uses device was) o i (was (Block_cell device n i))
+      cell_ran : (o : Option Use) → use_with uses n i ≡ o → row_cell (Some (row_of b.new)) i ≡ after_loop k (cells_by uses device was) o i (was (Block_cell device n i))
       cell_ran None e = cell_unused e
       cell_ran (Some u) e = cell_used u e
 

@@ -1,10 +1,10 @@
--- Which block is found after one is placed or released.
+-- Which block is found after one is inserted or released.
 use Rattle.std.proofs.Common.{inl, inr, ◌≡◌, ℕ, Bool, true, false, cond, List, [], ◌∷◌, refl, sym, ap, arith, Some, None, Option}
 use Rattle.std.specs.Prelude.{not, filter, nat_lt, ◌==◌}
 use Rattle.std.specs.Option.{option_or}
 use Rattle.std.proofs.lemmas.Bool.{cases_Bool, eqb-true, eq-eqb, ne_eqb, le-ltb}
 use Rattle.std.proofs.lemmas.List.Folds.{find-append}
-use Rattle.acc_memory.specs.Memories.{block_placed_in, find_block}
+use Rattle.acc_memory.specs.Memories.{block_inserted, find_block}
 use Rattle.acc_batch.specs.Lives.{Made}
 
 -- one value behind a test, or else behind its contrary, is that value
@@ -36,9 +36,9 @@ find_passed p (x ∷ xs) c =
       ]
     ]
 
--- a block that was placed is found
-pub find_placed : (b : Made) (bs : List Made) → find_block (block_placed_in b bs) b.block ≡ Some b
-find_placed b bs =
+-- a block that was inserted is found
+pub find_inserted : (b : Made) (bs : List Made) → find_block (block_inserted b bs) b.block ≡ Some b
+find_inserted b bs =
     rw (
       find-append (λ k. k.block == b.block) (filter (λ k. nat_lt k.block b.block) bs) (b ∷ filter (λ k. not (nat_lt k.block b.block)) bs),
       find_passed (λ n. nat_lt n b.block) bs b.block,
@@ -46,8 +46,8 @@ find_placed b bs =
       eq-eqb b.block b.block refl,
     ) refl
 
--- where a block was placed, each other block is found as before
-pub find_beside : (b : Made) (bs : List Made) (c : ℕ) → (b.block ≡ c → ⊥) → find_block (block_placed_in b bs) c ≡ find_block bs c
+-- where a block was inserted, each other block is found as before
+pub find_beside : (b : Made) (bs : List Made) (c : ℕ) → (b.block ≡ c → ⊥) → find_block (block_inserted b bs) c ≡ find_block bs c
 find_beside b bs c differ =
     rw (
       find-append (λ k. k.block == c) (filter (λ k. nat_lt k.block b.block) bs) (b ∷ filter (λ k. not (nat_lt k.block b.block)) bs),

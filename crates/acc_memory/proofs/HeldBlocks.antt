@@ -4,9 +4,9 @@ use Rattle.std.specs.Prelude.{Contains, not, filter, ◌==◌}
 use Rattle.std.proofs.lemmas.List.{map-append}
 use Rattle.std.proofs.lemmas.List.Elements.{Contains-append_left, Contains-push, Contains-push_cases}
 use Rattle.acc_base.proofs.Members.{no_member, member_image}
-use Rattle.acc_memory.specs.Memories.{block_placed_in, find_block}
+use Rattle.acc_memory.specs.Memories.{block_inserted, find_block}
 use Rattle.acc_batch.specs.Lives.{Made}
-use Rattle.acc_memory.proofs.FindBlock.{find_placed, find_beside, find_kept, find_none}
+use Rattle.acc_memory.proofs.FindBlock.{find_inserted, find_beside, find_kept, find_none}
 
 -- A block that was made and not released is there, with its range; one that was never made is not.
 pub record Held (makings : List Made) (gone : List ℕ) (bs : List Made) : Type 0 where
@@ -22,12 +22,12 @@ held_first = record {
 
 -- so it is after a block is made that never was
 pub held_make : (makings : List Made) (gone : List ℕ) (bs : List Made) (b : Made) → Held makings gone bs →
-    (Contains (map (λ (m : Made). m.block) makings) b.block → ⊥) → Held (makings ++ b ∷ []) gone (block_placed_in b bs)
+    (Contains (map (λ (m : Made). m.block) makings) b.block → ⊥) → Held (makings ++ b ∷ []) gone (block_inserted b bs)
 held_make makings gone bs b h fresh = record {
   there = λ m c live. elim (Contains-push_cases makings b m c) [
     | inl old ↦
         find_beside b bs m.block (λ same. fresh (rw same (member_image (λ (x : Made). x.block) makings m old))) ∙ h.there m old live
-    | inr new ↦ rw (← new) (find_placed b bs)
+    | inr new ↦ rw (← new) (find_inserted b bs)
   ];
   absent = λ c none.
       find_beside b bs c (λ same. none (rw (map-append (λ (m : Made). m.block) makings (b ∷ []), ← same) (Contains-push (map (λ (m : Made). m.block) makings) b.block)))

@@ -3,7 +3,7 @@ use Rattle.std.proofs.Common.{◌≡◌, ℕ, zero, suc, ◌+◌, ◌<◌, ◌�
 use Rattle.std.specs.Prelude.{◌==◌, not, nat_lt, nat_le, filter, insert, remove, slice_get}
 use Rattle.std.specs.List.{list_all}
 use Rattle.std.proofs.lemmas.Bool.{cases_Bool, cases_eq, and_parts, and_from, eq-eqb, ne_eqb, lt-ltb, le-ltb, ltb-true, ltb-false, le-leb, lt-leb}
-use Rattle.acc_memory.specs.Memories.{Row, find_row, find_block, made_of, block_placed_in, index_of, is_before_all, is_ascending, is_whole, IsMemory}
+use Rattle.acc_memory.specs.Memories.{Row, find_row, find_block, made_of, block_inserted, index_of, is_before_all, is_ascending, is_whole, IsMemory}
 use Rattle.acc_batch.specs.Lives.{Made}
 
 -- ## The order
@@ -233,7 +233,7 @@ all_behind n (row ∷ rows) h =
     (rw behind ih.0, rw behind (ap (λ ks. made_of row ∷ ks) ih.1))
 
 pub made-insert : (rows : List Row) (y : Row) → is_ascending rows ≡ true → find_row rows y.block ≡ None
-    → map made_of (insert rows (index_of rows y.block) y) ≡ block_placed_in (made_of y) (map made_of rows)
+    → map made_of (insert rows (index_of rows y.block) y) ≡ block_inserted (made_of y) (map made_of rows)
 made-insert [] y h none = refl
 made-insert (row ∷ rows) y h none =
     let parts = ascending_parts row rows h in

@@ -83,14 +83,14 @@ made_of row = record { block = row.block; range = row.range }
 abbrev pub held_blocks : MemoryView → ℕ → List Made
 held_blocks m device = map made_of (rows_on m device)
 
--- a block is placed behind those with smaller numbers
-abbrev pub block_placed_in : Made → List Made → List Made
-block_placed_in b bs =
+-- a block is inserted behind those with smaller numbers
+abbrev pub block_inserted : Made → List Made → List Made
+block_inserted b bs =
     filter (λ k. nat_lt k.block b.block) bs ++ b ∷ filter (λ k. not (nat_lt k.block b.block)) bs
 
 -- what one operation makes of the blocks that are there
 abbrev pub blocks_after : OpLabel → List Made → List Made
-blocks_after (Make b r) bs = block_placed_in (record { block = b; range = r }) bs
+blocks_after (Make b r) bs = block_inserted (record { block = b; range = r }) bs
 blocks_after (CopyIn b r) bs = bs
 blocks_after (CopyOut b r) bs = bs
 blocks_after (Release b) bs = filter (λ k. not (k.block == b)) bs
@@ -100,8 +100,6 @@ blocks_after Close bs = bs
 
 abbrev pub find_block : List Made → ℕ → Option Made
 find_block bs block = find (λ k. k.block == block) bs
-
--- how long each host array is
 
 -- the index of the first row whose number is not smaller
 abbrev pub index_of : List Row → ℕ → ℕ

@@ -21,9 +21,9 @@ abbrev pub block_of : List Use → ℕ → ℕ
 block_of uses array = (slice_index_or uses (jobs.place_of uses array) no_use).0
 
 -- What a loop with these uses sees on a device: as a cell of an array, the block's that it uses for the array.
-abbrev pub seen_by : List Use → ℕ → (Cell → ℤ) → ℕ → ℤ → ℤ
-seen_by uses device was array (pos cell) = was (Block_cell device (block_of uses array) cell)
-seen_by uses device was array (negsuc n) = pos 0
+abbrev pub cells_by : List Use → ℕ → (Cell → ℤ) → ℕ → ℤ → ℤ
+cells_by uses device was array (pos cell) = was (Block_cell device (block_of uses array) cell)
+cells_by uses device was array (negsuc n) = pos 0
 
 -- the use that has this cell of a block, if there is one
 abbrev pub use_with : List Use → ℕ → ℕ → Option Use
@@ -31,8 +31,8 @@ use_with uses block cell = find (λ u. (u.0 == block) && is_in u.1 cell) uses
 
 -- A cell that a use has gets the value that the loop gives it over the cells that it sees; another stays.
 abbrev pub after_loop : Loop → (ℕ → ℤ → ℤ) → Option Use → ℕ → ℤ → ℤ
-after_loop k seen None cell was = was
-after_loop k seen (Some u) cell was = value_after k seen u.1.array (pos cell)
+after_loop k cells None cell was = was
+after_loop k cells (Some u) cell was = value_after k cells u.1.array (pos cell)
 
 -- the cells of a block after one more operation on its device
 abbrev pub block_after : OpLabel → ℕ → (Cell → ℤ) → ℕ → ℕ → ℤ
@@ -45,7 +45,7 @@ block_after (Release b) device was block cell = was (Block_cell device block cel
 block_after (Await q n) device was block cell = was (Block_cell device block cell)
 block_after Close device was block cell = was (Block_cell device block cell)
 block_after (Run k uses) device was block cell =
-    after_loop k (seen_by uses device was) (use_with uses block cell) cell (was (Block_cell device block cell))
+    after_loop k (cells_by uses device was) (use_with uses block cell) cell (was (Block_cell device block cell))
 
 -- the cells of the host arrays after it
 abbrev pub host_after : OpLabel → ℕ → (Cell → ℤ) → ℕ → ℕ → ℤ

@@ -33,7 +33,7 @@ use Rattle.acc_place.specs.declared.directive.Region.{Region}
 use Rattle.acc_place.specs.declared.directive.TheConstants.{MAX_ITEMS, MAX_DIRECTIVES}
 use Rattle.acc_place.specs.Accepting.{fault_at, first_fault, fault_where, is_deep, is_outside, refusal}
 use Rattle.acc_place.specs.Batches.{grouped, labels_with, operations_of, next_number, runs, runs_by}
-use Rattle.acc_place.specs.Counts.{IsEnteredBy, entered_ranges}
+use Rattle.acc_place.specs.Counters.{IsEnteredBy, entered_ranges}
 use Rattle.acc_place.specs.declared.directive.PlaceEntry.{PlaceEntry}
 use Rattle.acc_place.specs.Histories.{after_directive, standing, AllAccepted}
 use Rattle.acc_place.specs.inner.Noting.{ended_range, notes_on}
@@ -42,7 +42,7 @@ use Rattle.acc_place.specs.Plans.{label_for}
 use Rattle.acc_place.specs.Regions.{open_region, regions_on}
 use Rattle.acc_place.specs.Targets.{has_bad_queue, waits_on_too_many}
 use Rattle.acc_place.specs.Standings.{Asked, Standing, Subject, Walk, all_asked, all_visits, change_by, ends_by, loop_of, marks_after, marks_behind, marks_between, subject_by, visits, walk_of, walk_on, with_marks}
-use Rattle.acc_place.specs.inner.Walks.{Holding, device_by, holding, holding_after, holding_after_all, holding_between, holding_behind, ends_of, opens_one, fault_or, limit_fault, first_fault_in, past_fault, all_steps, run_in, marked_ops, AllHeldFor, AllLow, HasRoomFor, AllEntered, AllFine}
+use Rattle.acc_place.specs.inner.Judging.{Holding, device_by, holding, holding_after, holding_after_all, holding_between, holding_behind, ends_of, opens_one, fault_or, limit_fault, first_fault_in, past_fault, all_steps, run_in, marked_ops, AllHeldFor, AllLow, HasRoomFor, AllEntered, AllFine}
 use Rattle.acc_place.proofs.EnteredRanges.{entered_after, entered_ends, entered_subject, fine_left, held_between}
 use Rattle.acc_place.proofs.RegionsOn.{regions_beside, subject_device}
 use Rattle.acc_place.proofs.NotesOn.{notes_beside}

@@ -21,7 +21,7 @@ use Rattle.acc_place.specs.declared.judge.Marked.{Marked}
 use Rattle.acc_place.specs.declared.plan.Group.{Group}
 use Rattle.acc_place.specs.declared.plan.Group.TheVariants.{Makes, CopyIns, Updates, CopyOuts, Releases}
 use Rattle.acc_place.specs.inner.Noting.{last_made, last_used, made_at, used_ranges}
-use Rattle.acc_place.specs.inner.Walks.{group_ops, marked_ops}
+use Rattle.acc_place.specs.inner.Judging.{group_ops, marked_ops}
 
 -- what a slice is, where it isn't empty
 pub first_and_rest : {X : Type 0} (xs : List X) (d : X) → 1 ≤ length xs → xs ≡ get_or xs 0 d ∷ take (length xs - 1) (drop 1 xs)

@@ -10,7 +10,7 @@ use Rattle.acc_present.specs.Notes.{Note}
 use Rattle.acc_present.specs.declared.change.Change.{Change}
 use Rattle.acc_place.specs.inner.Devices.{AreFresh}
 use Rattle.acc_place.specs.inner.Noting.{noted_ranges}
-use Rattle.acc_place.specs.inner.Walks.{Holding, holding_after, opens_one}
+use Rattle.acc_place.specs.inner.Judging.{Holding, holding_after, opens_one}
 use Rattle.acc_place.proofs.AwaitedNumbers.{HasCells}
 use Rattle.acc_place.proofs.WalkItem.{opened-least}
 

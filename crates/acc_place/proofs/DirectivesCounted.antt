@@ -20,12 +20,12 @@ use Rattle.acc_place.specs.declared.directive.Region.{Region}
 use Rattle.acc_place.specs.declared.directive.Target.TheVariants.{Plain}
 use Rattle.acc_place.specs.declared.directive.TheConstants.{MAX_ITEMS, MAX_DIRECTIVES}
 use Rattle.acc_place.specs.declared.directive.Waits.TheVariants.{Nothing}
-use Rattle.acc_place.specs.Counts.{AcceptedAreCounted, EnteredCanBeLeft}
+use Rattle.acc_place.specs.Counters.{AcceptedAreCounted, EnteredCanBeLeft}
 use Rattle.acc_place.specs.Histories.{AllAccepted, after_directive, standing}
 use Rattle.acc_place.specs.inner.Places.{IsTiedOn}
 use Rattle.acc_place.specs.Regions.{open_region, region_of, regions_after}
 use Rattle.acc_place.specs.Standings.{Standing, change_by, left_by, loop_of, subject_by}
-use Rattle.acc_place.specs.inner.Walks.{Holding, holding, holding_after, holding_behind, fault_in, fault_or, first_fault_in, limit_fault, past_fault, AllEntered}
+use Rattle.acc_place.specs.inner.Judging.{Holding, holding, holding_after, holding_behind, fault_in, fault_or, first_fault_in, limit_fault, past_fault, AllEntered}
 use Rattle.acc_place.proofs.AfterClose.{tied_begun, tied_closed}
 use Rattle.acc_place.proofs.AcceptedDirective.{device_in, items_in, is_free, refused_by, entered_in, tied_after, tied_beside}
 use Rattle.acc_place.proofs.EnteredRanges.{is_held, open_has, without_all}

@@ -27,12 +27,12 @@ use Rattle.acc_place.specs.declared.directive.DataItem.{DataItem}
 use Rattle.acc_place.specs.declared.directive.Kind.{Kind}
 use Rattle.acc_place.specs.declared.directive.Kind.TheVariants.{Data, EndData, EnterData, ExitData, Update, Loop, Wait, AsyncTest, IsPresent}
 use Rattle.acc_place.specs.declared.directive.Region.{Region}
-use Rattle.acc_place.specs.Counts.{IsEnteredBy, count_inside, entered_ranges}
+use Rattle.acc_place.specs.Counters.{IsEnteredBy, count_inside, entered_ranges}
 use Rattle.acc_place.specs.inner.Places.{IsThere}
 use Rattle.acc_place.specs.Implicit.{implicit_items}
 use Rattle.acc_place.specs.Regions.{open_region, region_of, regions_after, regions_on, without_open}
 use Rattle.acc_place.specs.Standings.{change_by, exit_by, left_by, subject_by}
-use Rattle.acc_place.specs.inner.Walks.{Holding, device_by, holding, holding_after, holding_after_all, holding_between, holding_behind, ends_of, mark_by, presences_by, AllHeldFor, HasEntered, AllEntered, AllFine, IsFine}
+use Rattle.acc_place.specs.inner.Judging.{Holding, device_by, holding, holding_after, holding_after_all, holding_between, holding_behind, ends_of, mark_by, presences_by, AllHeldFor, HasEntered, AllEntered, AllFine, IsFine}
 use Rattle.acc_place.proofs.OpenRegion.{none_without}
 use Rattle.acc_place.proofs.RegionsOn.{open_on, without_on}
 

@@ -20,7 +20,7 @@ use Rattle.acc_place.specs.declared.directive.Kind.{Kind}
 use Rattle.acc_place.specs.declared.directive.Kind.TheVariants as kind
 use Rattle.acc_place.specs.Accepting.{fault_where, first_fault, wants_whole, wants_presence}
 use Rattle.acc_place.specs.Standings.{change_by}
-use Rattle.acc_place.specs.inner.Walks.{fault_in, found_fault, can_open_by, opens_one, block_found, block_held, IsFine}
+use Rattle.acc_place.specs.inner.Judging.{fault_in, found_fault, can_open_by, opens_one, block_found, block_held, IsFine}
 
 and_false : (b : Bool) → (b && false) ≡ false
 and_false true = refl

@@ -23,7 +23,7 @@ use Rattle.acc_place.specs.declared.directive.DataItem.{DataItem}
 use Rattle.acc_place.specs.Standings.{Asked, Visit, visits}
 use Rattle.acc_place.specs.declared.directive.Clause.{Clause}
 use Rattle.acc_place.specs.declared.directive.Clause.TheVariants.{Copy, Copyin, Copyout, Create, Present, Delete, UpdateSelf, UpdateDevice}
-use Rattle.acc_place.specs.Batches.{opened_blocks, ended_blocks, holding_blocks, makes, copy_ins, updates, updates_by, use_by, uses_of, runs_by, copy_outs, releases, copies_in, copies_out}
+use Rattle.acc_place.specs.Batches.{opened_blocks, ended_blocks, holding_blocks, makes, copy_ins, updates, updates_by, use_by, uses_by, runs_by, copy_outs, releases, copies_in, copies_out}
 use Rattle.acc_base.specs.Configurations.{has_range}
 use Rattle.acc_batch.specs.Lives.{blocks_made, blocks_released, HoldsBlock, AllUse, Made}
 use Rattle.acc_place.proofs.VisitLives.{made-append, released-append, AllUse-append, marked_by, visit_is, visit, made_of, Booked, booked_more, ended_is, held_block_is, is_opened, new_made, new_is_made, live_member}
@@ -198,7 +198,7 @@ uses_held makings gone ms items (array ∷ arrays) h =
 pub run_of : (makings : List Made) (gone : List ℕ) (ms : List Mark) (run : Option Loop) (items : List DataItem) → ((r : Range) (b : ℕ) → Contains (holding_blocks ms r) b → HoldsIn makings gone r b) → All (Copies makings gone) (runs_by run items ms)
 run_of makings gone ms None items h = All-nil (Copies makings gone)
 run_of makings gone ms (Some k) items h =
-    All-cons (Copies makings gone) (Run k (uses_of k items ms)) [] (uses_held makings gone ms items (arrays_of k) h) (All-nil (Copies makings gone))
+    All-cons (Copies makings gone) (Run k (uses_by k items ms)) [] (uses_held makings gone ms items (arrays_of k) h) (All-nil (Copies makings gone))
 
 -- From what was made and released before a directive, each visit's blocks are held.
 pub visits_hold : (asks : List Asked) (ms : List Mark) (makings : List Made) (gone : List ℕ) (all : List Made) (first : List ℕ) → Booked ms makings gone →

@@ -20,7 +20,7 @@ use Rattle.acc_place.specs.Directives.{Directive}
 use Rattle.acc_place.specs.declared.directive.DataItem.{DataItem}
 use Rattle.acc_place.specs.declared.directive.Kind.{Kind}
 use Rattle.acc_place.specs.declared.directive.Kind.TheVariants as kind
-use Rattle.acc_place.specs.Batches.{opened_blocks, ended_blocks, holding_blocks, makes, copy_ins, updates, updates_by, use_by, uses_of, runs_by, copy_outs, releases, copies_in, copies_out, grouped}
+use Rattle.acc_place.specs.Batches.{opened_blocks, ended_blocks, holding_blocks, makes, copy_ins, updates, updates_by, use_by, uses_by, runs_by, copy_outs, releases, copies_in, copies_out, grouped}
 use Rattle.acc_place.specs.Implicit.{item_of}
 use Rattle.acc_place.specs.inner.Noting.{noted_ranges}
 use Rattle.acc_place.specs.Standings.{Standing, Asked, Walk, Visit, visits, all_visits, marks_after, marks_between, all_asked, change_by, exit_by, ends_by, subject_by, walk_of}
@@ -111,7 +111,7 @@ uses_so P items marks (array ∷ arrays) h =
 
 pub run_so : (P : Use → Type 0) (k : Option Loop) (items : List DataItem) (marks : List Mark) → HoldingSo P items marks → All (NotesSo P) (runs_by k items marks)
 run_so P None items marks h = All-nil (NotesSo P)
-run_so P (Some k) items marks h = All-cons (NotesSo P) (Run k (uses_of k items marks)) [] (uses_so P items marks (arrays_of k) h) (All-nil (NotesSo P))
+run_so P (Some k) items marks h = All-cons (NotesSo P) (Run k (uses_by k items marks)) [] (uses_so P items marks (arrays_of k) h) (All-nil (NotesSo P))
 
 -- Where the blocks of all visits are so, and those of a loop, all that the operations make or use is so.
 pub grouped_so : (P : Use → Type 0) (run : List OpLabel) (vs : List Visit) → All (IsSoAt P) vs → All (NotesSo P) run → All (NotesSo P) (grouped run vs)

@@ -26,7 +26,7 @@ use Rattle.acc_present.proofs.TableFilter.{none_from_absent}
 use Rattle.acc_present.proofs.Holder.{is_present-holder}
 use Rattle.acc_place.specs.declared.directive.DataItem.{DataItem}
 use Rattle.acc_place.specs.Accepting.{reaches_past}
-use Rattle.acc_place.specs.Batches.{found_block, uses_of}
+use Rattle.acc_place.specs.Batches.{found_block, uses_by}
 use Rattle.acc_place.specs.Implicit.{item_of}
 use Rattle.acc_place.specs.Loops.{IsInside, StaysInside, StaysInsideOf, use_in, uses_among, uses_in}
 
@@ -276,5 +276,5 @@ module _ (items : List DataItem) (ps : List Presence) where
   run_has_its_cells k stays present = (uses_distinct k, uses_hold k stays present)
 
 -- what it uses after marks, in the words of a directive's batch
-pub uses_after : (k : Loop) (items : List DataItem) (marks : List Mark) → uses_of k items marks ≡ uses_in k items (presences marks)
+pub uses_after : (k : Loop) (items : List DataItem) (marks : List Mark) → uses_by k items marks ≡ uses_in k items (presences marks)
 uses_after k items marks = refl

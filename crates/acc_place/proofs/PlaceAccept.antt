@@ -15,7 +15,7 @@ use Rattle.acc_place.specs.Histories.{after_directive, AllAccepted}
 use Rattle.acc_place.specs.inner.Noting.{noted_by, noted_ranges, noted_with, notes_on}
 use Rattle.acc_place.specs.Plans.{label_for, standing_in, Fits, PlaceView, PlanView}
 use Rattle.acc_place.specs.Standings.{marks_between, walk_of}
-use Rattle.acc_place.specs.inner.Walks.{Holding, holding_between}
+use Rattle.acc_place.specs.inner.Judging.{Holding, holding_between}
 use Rattle.acc_place.proofs.AcceptedDirective.{device_in, items_in, middle_is, walk_known, IsTiedAt}
 use Rattle.acc_place.proofs.NotesOn.{fresh_after, fresh_before, noted_cells, notes_after}
 use Rattle.acc_place.proofs.AwaitedNumbers.{HasCells}

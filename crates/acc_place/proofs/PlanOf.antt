@@ -18,7 +18,7 @@ use Rattle.acc_place.specs.declared.plan.Group.TheVariants.{Makes, CopyIns, Upda
 use Rattle.acc_place.specs.Batches.{copies_in, copies_out}
 use Rattle.acc_place.specs.inner.Noting.{awaits_from}
 use Rattle.acc_place.specs.Plans.{label_for}
-use Rattle.acc_place.specs.inner.Walks.{op_for, update_for, op_of, group_ops, block_of, marked_ops}
+use Rattle.acc_place.specs.inner.Judging.{op_for, update_for, op_of, group_ops, block_of, marked_ops}
 
 copied_in : (copies : Bool) (b : ℕ) (r : Range) → IfSome (if copies then Some (op.CopyIn b r) else None) HasItsCells
 copied_in true b r = tt

@@ -8,7 +8,7 @@ use Rattle.acc_place.specs.declared.directive.Kind.TheVariants as kind
 use Rattle.acc_place.specs.declared.directive.Region.{Region}
 use Rattle.acc_place.specs.Regions.{open_region, regions_after, regions_on, without_open}
 use Rattle.acc_place.specs.Standings.{left_by, subject_by}
-use Rattle.acc_place.specs.inner.Walks.{device_by}
+use Rattle.acc_place.specs.inner.Judging.{device_by}
 use Rattle.acc_place.proofs.OpenRegion.{none_without}
 
 some_is : (a b : Region) → Some a ≡ Some b → a ≡ b

@@ -46,7 +46,7 @@ use Rattle.acc_place.specs.Standings.{Standing, Walk, all_visits, loop_of, subje
 use Rattle.acc_place.specs.inner.Noting.{awaits_from, ended_range, last_made, last_used, note_found, notes_on, used_ranges}
 use Rattle.acc_place.specs.Targets.{is_alone, queue_by, queues_named}
 use Rattle.acc_place.specs.inner.Trials.{behind_noted, counts_in, fault_by, held_by, items_by, named_count, next_in, number_in, ops_by, steps_by, IsKnown}
-use Rattle.acc_place.specs.inner.Walks.{Holding, device_by, holding, holding_between, holding_behind, limit_fault, fault_or, first_fault_in, past_fault, run_in, marked_ops, all_steps}
+use Rattle.acc_place.specs.inner.Judging.{Holding, device_by, holding, holding_between, holding_behind, limit_fault, fault_or, first_fault_in, past_fault, run_in, marked_ops, all_steps}
 use Rattle.acc_place.proofs.AcceptedDirective.{IsFree, IsTiedAt, accepted_device, device_in, few_for, items_in, label_at, labels_after, low_for, refused_by, is_free, tied_after, tied_beside, batch_is, ended_is, walk_known}
 use Rattle.acc_place.proofs.NotesOn.{batch_planned}
 use Rattle.acc_place.proofs.AwaitedNumbers.{same_for}

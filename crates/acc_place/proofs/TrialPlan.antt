@@ -18,7 +18,7 @@ use Rattle.acc_place.specs.Implicit.{item_of}
 use Rattle.acc_place.specs.Loops.{use_in, uses_among}
 use Rattle.acc_place.specs.inner.Noting.{used_ranges}
 use Rattle.acc_place.specs.Standings.{change_by}
-use Rattle.acc_place.specs.inner.Walks.{Holding, holding_after, holding_between, all_marked, all_steps, ends_of, marked_in, run_in}
+use Rattle.acc_place.specs.inner.Judging.{Holding, holding_after, holding_between, all_marked, all_steps, ends_of, marked_in, run_in}
 use Rattle.acc_place.proofs.AwaitedNumbers.{HasCells}
 
 abbrev pub ItemHasCells : DataItem → Type 0

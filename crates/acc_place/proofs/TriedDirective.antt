@@ -17,11 +17,11 @@ use Rattle.acc_place.specs.declared.judge.Known.{Known}
 use Rattle.acc_place.specs.declared.judge.Marked.{Marked}
 use Rattle.acc_place.specs.Targets.{has_bad_queue, waits_on_too_many}
 use Rattle.acc_place.specs.Accepting.{first_fault, fault_where, is_deep, is_outside}
-use Rattle.acc_place.specs.Counts.{entered_ranges}
+use Rattle.acc_place.specs.Counters.{entered_ranges}
 use Rattle.acc_place.specs.Regions.{open_region, regions_on}
 use Rattle.acc_place.specs.Standings.{change_by, loop_of}
 use Rattle.acc_place.specs.inner.Trials.{fault_by, held_by, items_by, items_fault, IsKnown}
-use Rattle.acc_place.specs.inner.Walks.{Holding, holding, holding_between, ends_of, all_marked, all_steps, limit_fault, fault_or, first_fault_in, past_fault, run_in, AllEntered, AllHeldFor}
+use Rattle.acc_place.specs.inner.Judging.{Holding, holding, holding_between, ends_of, all_marked, all_steps, limit_fault, fault_or, first_fault_in, past_fault, run_in, AllEntered, AllHeldFor}
 use Rattle.acc_place.proofs.AcceptedDirective.{all_cells, ends_all, is_within}
 use Rattle.acc_place.proofs.EnteredRanges.{entered_ends, held_between}
 use Rattle.acc_place.proofs.LoopItems.{long_taken}

@@ -36,7 +36,7 @@ use Rattle.acc_place.specs.Accepting.{fault_at, first_fault, fault_where, has_op
 use Rattle.acc_place.specs.Batches.{opened_block, opened_blocks, ended_blocks, found_block, holding_blocks, makes, copy_ins, updates_by, updates, copy_outs, releases, grouped, copies_in, copies_out}
 use Rattle.acc_place.specs.inner.Noting.{ended_range}
 use Rattle.acc_place.specs.Standings.{Visit, visits, change_by, marks_with, one_mark, marks_after, all_asked}
-use Rattle.acc_place.specs.inner.Walks.{Holding, holding, mark_by, opens_one, opened_after, holding_after, holding_after_all, fault_in, fault_or, first_fault_in, block_held, block_opened, ended_by, marked_in, all_marked, update_for, group_ops, marked_ops, HasEntered, AllEntered, IsFine, AllFine}
+use Rattle.acc_place.specs.inner.Judging.{Holding, holding, mark_by, opens_one, opened_after, holding_after, holding_after_all, fault_in, fault_or, first_fault_in, block_held, block_opened, ended_by, marked_in, all_marked, update_for, group_ops, marked_ops, HasEntered, AllEntered, IsFine, AllFine}
 use Rattle.acc_place.proofs.FaultIn.{fine_item}
 use Rattle.acc_place.proofs.VisitLives.{ended_uses}
 

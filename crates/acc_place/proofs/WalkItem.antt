@@ -21,7 +21,7 @@ use Rattle.acc_place.specs.declared.directive.DataItem.{DataItem}
 use Rattle.acc_place.specs.declared.directive.Kind.{Kind}
 use Rattle.acc_place.specs.declared.judge.Marked.{Marked}
 use Rattle.acc_place.specs.Standings.{change_by}
-use Rattle.acc_place.specs.inner.Walks.{Holding, holding, mark_by, opens_one, opened_after, presences_by, holding_after, holding_after_all, fault_in, fault_or, first_fault_in, block_opened, marked_in, all_marked, AllLow, HasRoomFor, CanEnter, CanMark, HasEntered, AllEntered, IsFine, AllFine}
+use Rattle.acc_place.specs.inner.Judging.{Holding, holding, mark_by, opens_one, opened_after, presences_by, holding_after, holding_after_all, fault_in, fault_or, first_fault_in, block_opened, marked_in, all_marked, AllLow, HasRoomFor, CanEnter, CanMark, HasEntered, AllEntered, IsFine, AllFine}
 
 -- ## The first item, and the others
 

@@ -86,13 +86,13 @@ abbrev pub use_by : List Mark → Option DataItem → List Use
 use_by marks None = []
 use_by marks (Some i) = map (λ b. (b, i.range)) (holding_blocks marks i.range)
 
-abbrev pub uses_of : Loop → List DataItem → List Mark → List Use
-uses_of k items marks = flat_map (λ array. use_by marks (item_of array items)) (arrays_of k)
+abbrev pub uses_by : Loop → List DataItem → List Mark → List Use
+uses_by k items marks = flat_map (λ array. use_by marks (item_of array items)) (arrays_of k)
 
 -- the loop runs once the items are there
 abbrev pub runs_by : Option Loop → List DataItem → List Mark → List OpLabel
 runs_by None items marks = []
-runs_by (Some k) items marks = Run k (uses_of k items marks) ∷ []
+runs_by (Some k) items marks = Run k (uses_by k items marks) ∷ []
 
 abbrev pub runs : Walk → List Mark → List OpLabel
 runs walk before = runs_by walk.runs (map (λ a. a.item) walk.items) (marks_between before walk)

@@ -2,7 +2,7 @@ pub mod Accepting
 pub mod Batches
 pub mod Clauses
 pub mod Closing
-pub mod Counts
+pub mod Counters
 pub mod Directives
 pub mod Histories
 pub mod Implicit

@@ -1,5 +1,5 @@
 pub mod Devices
+pub mod Judging
 pub mod Noting
 pub mod Places
 pub mod Trials
-pub mod Walks

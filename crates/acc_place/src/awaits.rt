@@ -12,14 +12,14 @@ ghost use Rattle.acc_present.specs.Notes.{Note, HasNotes};
 ghost use Rattle.acc_place.specs.inner.Noting.{awaits_from, ended_range, last_made, last_used, made_at, note_found, used_at, used_ranges, Raises};
 ghost use Rattle.acc_place.specs.Targets.{queues_named};
 ghost use Rattle.acc_place.specs.inner.Trials.{named_count, number_in};
-ghost use Rattle.acc_place.specs.inner.Walks.{group_ops, marked_ops};
+ghost use Rattle.acc_place.specs.inner.Judging.{group_ops, marked_ops};
 
 use crate::directive::Directive;
 use crate::judge::{Known, Marked};
 use crate::labels::Labels;
 use crate::plan::{Group, op_of};
 use crate::targets::names_queue;
-use acc_base::{BlockId, DeviceId, Fault, Few, QueueAt, QueueCounts, QueueId, Range};
+use acc_base::{BlockId, DeviceId, Fault, Few, QUEUES, QueueAt, QueueCounts, QueueId, Range};
 use acc_batch::OpLabel;
 use acc_present::{Look, Table};
 
@@ -212,7 +212,7 @@ fn raise(numbers: &mut QueueCounts, queue: QueueId, number: u64)
     ensures { Raises numbers.old (λ q. if queue == q then number else 0) numbers.new }
 {
     let at = usize::from(queue.number());
-    if at < 8 && numbers[at] < number {
+    if at < usize::from(QUEUES) && numbers[at] < number {
         numbers[at] = number;
     }
 }

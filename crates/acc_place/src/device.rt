@@ -11,7 +11,7 @@ ghost use Rattle.acc_present.specs.declared.table.TheConstants.{COUNTER_LIMIT};
 ghost use Rattle.acc_place.specs.declared.directive.TheConstants.{MAX_ITEMS};
 ghost use Rattle.acc_place.specs.inner.Devices.{held_on, AreFresh, IsEmpty};
 ghost use Rattle.acc_place.specs.inner.Noting.{changed_all, noted_by, noted_ranges};
-ghost use Rattle.acc_place.specs.inner.Walks.{holding_after, holding_after_all, opened_after, CanEnter, CanMark, HasRoomFor, AllEntered, AllFine};
+ghost use Rattle.acc_place.specs.inner.Judging.{holding_after, holding_after_all, opened_after, CanEnter, CanMark, HasRoomFor, AllEntered, AllFine};
 
 use crate::directive::{DataItem, MAX_ITEMS};
 use acc_base::{BlockId, Config, Fault, QueueId, Range};
@@ -116,7 +116,7 @@ impl Device {
     }
 
     // Leaves one mark.
-    #[tactic(auto, unfolding(crate::specs::inner::Walks::holding_after))]
+    #[tactic(auto, unfolding(crate::specs::inner::Judging::holding_after))]
     fn mark(&mut self, change: Option<Change>, range: Range)
         requires can { CanMark change range self.old.table.presences self.old.table.capacity }
         requires room { length self.old.table.presences < self.old.table.room }

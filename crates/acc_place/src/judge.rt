@@ -10,7 +10,7 @@ ghost use Rattle.acc_place.specs.Accepting.{is_deep, is_outside, wants_presence}
 ghost use Rattle.acc_base.specs.Configurations.{has_range};
 ghost use Rattle.acc_place.specs.Regions.{open_region};
 ghost use Rattle.acc_place.specs.Standings.{change_by};
-ghost use Rattle.acc_place.specs.inner.Walks.{holding, holding_after_all, presences_by, can_open_by, fault_in, found_fault, limit_fault, first_fault_in, block_found, block_held, block_opened, block_ended, marked_in, all_marked, opened_after, AllLow, HasEntered, AllEntered, CanEnter, CanMark};
+ghost use Rattle.acc_place.specs.inner.Judging.{holding, holding_after_all, presences_by, can_open_by, fault_in, found_fault, limit_fault, first_fault_in, block_found, block_held, block_opened, block_ended, marked_in, all_marked, opened_after, AllLow, HasEntered, AllEntered, CanEnter, CanMark};
 
 use crate::directive::{
     Clause, DataItem, Directive, Kind, MAX_DIRECTIVES, MAX_ITEMS, MAX_REGIONS, Region,
@@ -47,7 +47,7 @@ pub struct Marked {
 
 /// The first fault of a host's directive on so many items, on a device that is there, that does not depend on their
 /// ranges.
-#[tactic(auto, unfolding(crate::specs::inner::Walks::limit_fault))]
+#[tactic(auto, unfolding(crate::specs::inner::Judging::limit_fault))]
 pub(crate) fn limit_fault(
     known: &Known,
     host: HostId,
@@ -245,7 +245,7 @@ fn block_found(found: &Look) -> Option<u64>
 }
 
 // Leaves the mark of an item, whose range was found so, in the draft.
-#[tactic(auto, using(crate::proofs::FaultIn::block_is), unfolding(crate::specs::inner::Walks::marked_in))]
+#[tactic(auto, using(crate::proofs::FaultIn::block_is), unfolding(crate::specs::inner::Judging::marked_in))]
 fn mark(
     table: &Table,
     draft: &mut Draft,

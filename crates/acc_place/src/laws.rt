@@ -7,7 +7,7 @@ ghost use Rattle.acc_place.specs.worked.Loops.{RunsOnPresent, CopiesImplicitly, 
 ghost use Rattle.acc_place.specs.worked.Refusals.{EarlierItemFirst, ItemBeforeCounts, LimitsFirst, LastDirective, RangesOutside, CapacityReached};
 ghost use Rattle.acc_place.specs.worked.Regions.{AbsentAtEntry, PresentAtEntry, LastExit, NotTheLastExit, Nested, OwnRegion, Depth, Entries, ExitsInside, Updates, Questions, ItemsInTurn};
 ghost use Rattle.acc_place.specs.Sound.{AcceptedAreSound, AcceptedAreThere, AcceptedCloseLast};
-ghost use Rattle.acc_place.specs.Counts.{AcceptedAreCounted, EnteredCanBeLeft};
+ghost use Rattle.acc_place.specs.Counters.{AcceptedAreCounted, EnteredCanBeLeft};
 ghost use Rattle.acc_place.specs.Loops.{ReachIsJudged};
 ghost use Rattle.acc_place.specs.worked.Closes.{LastBatches, RefusedForClosing, RegionsStay, ClosedOnce};
 ghost use Rattle.acc_place.specs.Closing.{KeptByClosing};

@@ -217,13 +217,13 @@ fn reaches_past(kernel: &Kernel, items: &[DataItem], array: u8) -> bool
         None => false,
         Some(reach) => match item_of(items, array) {
             None => true,
-            Some(item) => passes(reach, item),
+            Some(item) => reaches_past_item(reach, item),
         },
     }
 }
 
 // Whether a reach begins before an item's range, or ends behind it.
-fn passes(reach: Reach, item: &DataItem) -> bool
+fn reaches_past_item(reach: Reach, item: &DataItem) -> bool
     ensures { result ≡ reaches_past (Some reach) (Some item.now) }
 {
     let lo = i64::from(item.range.lo);

@@ -35,7 +35,7 @@ use crate::regions::{device_by, enter_or_leave};
 use crate::subject::ends_of;
 use crate::targets::queue_by;
 use crate::trial::Trial;
-use acc_base::{Config, DeviceId, Fault, HostId, QueueAt, QueueCounts, QueueId, Range};
+use acc_base::{Config, DeviceId, Fault, HostId, QUEUES, QueueAt, QueueCounts, QueueId, Range};
 use acc_batch::{Batch, Label};
 use acc_present::{Change, Entry, Table};
 use std::alloc::Global;
@@ -406,16 +406,16 @@ fn is_answered(table: &Table, kind: &Kind, items: &[DataItem]) -> bool
 fn counts_for(labels: &Labels, device: DeviceId, directive: &Directive) -> QueueCounts
     ensures { result ≡ counts_in (counts_queues directive.now.kind (queue_by directive.now.kind directive.now)) labels.now.queues device (queues_named directive.now) }
 {
-    let counts = match directive.kind() {
+    let are_asked = match directive.kind() {
         Kind::Wait => queue_by(directive) == QueueId::SYNC,
         Kind::AsyncTest => true,
         Kind::Data | Kind::EndData | Kind::EnterData | Kind::Loop { .. } => false,
         Kind::ExitData { .. } | Kind::Update { .. } | Kind::IsPresent => false,
     };
-    if counts {
+    if are_asked {
         named_counts(labels, device, directive)
     } else {
-        [0; 8]
+        [0; QUEUES as usize]
     }
 }
 

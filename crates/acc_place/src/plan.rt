@@ -12,7 +12,7 @@ ghost use Rattle.acc_present.specs.Notes.{Note, HasNotes};
 ghost use Rattle.acc_place.specs.inner.Noting.{awaits_from, used_ranges};
 ghost use Rattle.acc_place.specs.inner.Trials.{behind_noted, next_in};
 ghost use Rattle.acc_place.specs.Plans.{Fits, IsPlanOf, label_for, opened_region};
-ghost use Rattle.acc_place.specs.inner.Walks.{block_of, op_of, op_for, update_for, group_ops, marked_ops};
+ghost use Rattle.acc_place.specs.inner.Judging.{block_of, op_of, op_for, update_for, group_ops, marked_ops};
 
 use crate::awaits::{add_awaits, awaited_numbers};
 use crate::directive::{Clause, Directive, Region};
@@ -169,7 +169,7 @@ fn batch_of(alloc: Global, label: &Option<Label>) -> Result<Option<Batch>, Fault
 
 // The operations of a batch, behind the awaits by these numbers; a loop runs behind the copies in. Awaits that nothing stands
 // behind are dropped, but those of a wait.
-#[tactic(auto, unfolding(crate::specs::inner::Walks::marked_ops))]
+#[tactic(auto, unfolding(crate::specs::inner::Judging::marked_ops))]
 fn ops_of(
     alloc: Global,
     own: QueueId,

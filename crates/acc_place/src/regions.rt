@@ -4,7 +4,7 @@ ghost use Rattle.std.specs.Prelude.{◌≡◌, ◌<◌, [], length, remove, slic
 ghost use Rattle.std.specs.Option.{option_and_then};
 ghost use Rattle.acc_place.specs.Plans.{opened_region};
 ghost use Rattle.acc_place.specs.Regions.{regions_of, open_region, without_open, regions_after};
-ghost use Rattle.acc_place.specs.inner.Walks.{device_by, written_by};
+ghost use Rattle.acc_place.specs.inner.Judging.{device_by, written_by};
 
 use crate::directive::{DataItem, Directive, Kind, Region};
 use acc_base::{DeviceId, Fault, HostId};

@@ -9,7 +9,7 @@ ghost use Rattle.acc_present.specs.Presences.{is_present};
 ghost use Rattle.acc_place.specs.declared.directive.TheConstants.{MAX_ITEMS};
 ghost use Rattle.acc_base.specs.Configurations.{lengths_of};
 ghost use Rattle.acc_place.specs.Standings.{loop_of, subject_by};
-ghost use Rattle.acc_place.specs.inner.Walks.{ends_of, past_fault, run_in, AllHeldFor, StaysBy};
+ghost use Rattle.acc_place.specs.inner.Judging.{ends_of, past_fault, run_in, AllHeldFor, StaysBy};
 
 use crate::directive::{DataItem, Directive, Kind, Region};
 use crate::loops::{add_items, fill_items, is_past, uses_in};

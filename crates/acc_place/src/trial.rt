@@ -9,7 +9,7 @@ ghost use Rattle.acc_base.specs.Configurations.{lengths_of};
 ghost use Rattle.acc_place.specs.Plans.{label_for, opened_region};
 ghost use Rattle.acc_place.specs.Standings.{subject_by};
 ghost use Rattle.acc_place.specs.inner.Trials.{behind_noted, fault_by, next_in, ops_by, steps_by, IsKnown, IsTried};
-ghost use Rattle.acc_place.specs.inner.Walks.{device_by};
+ghost use Rattle.acc_place.specs.inner.Judging.{device_by};
 
 use crate::directive::{DataItem, Directive, MAX_ITEMS, Region};
 use crate::judge::{Known, Marked, judge_all, leave_all, limit_fault};

@@ -1,4 +1,4 @@
-//! Entries in places of their own, and places for entries to come.
+//! Entries in slots of their own, and slots for entries to come.
 
 ghost use Rattle.std.specs.Prelude.{◌≡◌, ◌+◌, ◌^◌, ◌<◌, ◌≤◌, [], length, slice_get, slice_set, insert, remove, IfOk, IfErr, OnOk, OnErr, OnSome, vec_len};
 ghost use Rattle.std.specs.Option.{option_map};
@@ -6,28 +6,28 @@ ghost use Rattle.std.proofs.Common.{get_or};
 ghost use Rattle.acc_base.specs.declared.fault.Fault.TheVariants as fault;
 
 use crate::table::Entry;
-use acc_base::{BlockId, Boxed, Fault, QueueId, Range};
+use acc_base::{BlockId, Boxed, Fault, QUEUES, QueueId, Range};
 use std::alloc::Global;
 use std::marker::Model;
 
-/// Entries in their order, each in a place of its own, so that one that comes or goes moves no other; with places for entries
+/// Entries in their order, each in a slot of its own, so that one that comes or goes moves no other; with slots for entries
 /// to come.
 #[derive(Drop)]
 pub struct Entries {
     alloc: Global,
-    places: Vec<Boxed<Entry>>,
+    slots: Vec<Boxed<Entry>>,
     spare: Vec<Boxed<Entry>>,
 }
 
 impl Model for Entries {
     ghost use Rattle.std.specs.Prelude.{◌+◌, vec_len, vec_capacity};
-    ghost use Rattle.acc_present.specs.inner.Invariants.{EntriesView, HasPlaces};
+    ghost use Rattle.acc_present.specs.inner.Invariants.{EntriesView, HasSlots};
 
     ghost Value = { EntriesView };
 
-    ghost view = { λ e. record { items = e.places.items; room = vec_len e.places + vec_len e.spare } };
+    ghost view = { λ e. record { items = e.slots.items; room = vec_len e.slots + vec_len e.spare } };
 
-    ghost invariant = { λ e. HasPlaces (vec_len e.places + vec_len e.spare) (vec_capacity e.places) (vec_capacity e.spare) };
+    ghost invariant = { λ e. HasSlots (vec_len e.slots + vec_len e.spare) (vec_capacity e.slots) (vec_capacity e.spare) };
 }
 
 impl Entries {
@@ -36,7 +36,7 @@ impl Entries {
     {
         Entries {
             alloc,
-            places: Vec::new(alloc),
+            slots: Vec::new(alloc),
             spare: Vec::new(alloc),
         }
     }
@@ -54,9 +54,9 @@ impl Entries {
         if count <= spare {
             return Ok(());
         }
-        let mut more = places(self.alloc, count - spare)?;
-        self.places.reserve(count)?;
-        self.spare.reserve(self.places.len() + (count - spare))?;
+        let mut more = slots(self.alloc, count - spare)?;
+        self.slots.reserve(count)?;
+        self.spare.reserve(self.slots.len() + (count - spare))?;
         let _ = self.spare.append(&mut more);
         Ok(())
     }
@@ -64,14 +64,14 @@ impl Entries {
     pub(crate) fn as_slice(&self) -> &[Boxed<Entry>]
         ensures { result.now ≡ self.now.items }
     {
-        self.places.as_slice()
+        self.slots.as_slice()
     }
 
     pub(crate) fn get(&self, index: usize) -> Option<&Entry>
         ensures entry { option_map (λ e. e.now) result ≡ slice_get self.now.items index }
         ensures next { OnSome result (index + 1 < 2 ^ 64) }
     {
-        match self.places.get(index) {
+        match self.slots.get(index) {
             Some(entry) => Some(entry.get()),
             None => None,
         }
@@ -81,7 +81,7 @@ impl Entries {
         requires { index < length self.now.items }
         ensures { result.now ≡ get_or self.now.items index result.now }
     {
-        self.places[index].get()
+        self.slots[index].get()
     }
 
     pub(crate) fn set(&mut self, index: usize, entry: Entry)
@@ -89,7 +89,7 @@ impl Entries {
         ensures items { self.new.items ≡ slice_set self.old.items index entry }
         ensures room { self.new.room ≡ self.old.room }
     {
-        self.places[index].set(entry);
+        self.slots[index].set(entry);
     }
 
     /// Puts an entry before the one at this index.
@@ -103,7 +103,7 @@ impl Entries {
             Some(mut at) => {
                 at.set(entry);
                 // there is room, so this isn't refused
-                let _ = self.places.insert(index, at);
+                let _ = self.slots.insert(index, at);
             }
             None => {}
         }
@@ -114,24 +114,24 @@ impl Entries {
         ensures items { self.new.items ≡ remove self.old.items index }
         ensures room { self.new.room ≡ self.old.room }
     {
-        let at = self.places.remove(index);
+        let at = self.slots.remove(index);
         self.spare.push_reserved(at);
     }
 }
 
-// So many places without an entry.
-fn places(alloc: Global, count: usize) -> Result<Vec<Boxed<Entry>>, Fault>
-    ensures count { IfOk result (λ places. vec_len places ≡ count) }
+// So many slots without an entry.
+fn slots(alloc: Global, count: usize) -> Result<Vec<Boxed<Entry>>, Fault>
+    ensures count { IfOk result (λ slots. vec_len slots ≡ count) }
     ensures fault { IfErr result (λ f. f ≡ fault.Memory) }
 {
-    let mut places = Vec::with_capacity(alloc, count)?;
+    let mut slots = Vec::with_capacity(alloc, count)?;
     for _ in 0..count {
-        places.push_reserved(Boxed::new(alloc, no_entry())?);
+        slots.push_reserved(Boxed::new(alloc, no_entry())?);
     }
-    Ok(places)
+    Ok(slots)
 }
 
-// What stands in a place that no entry has.
+// What stands in a slot that no entry has.
 fn no_entry() -> Entry {
     let range = Range {
         array: 0,
@@ -144,6 +144,6 @@ fn no_entry() -> Entry {
         s: 0,
         d: 0,
         maker: (QueueId::SYNC, 0),
-        uses: [0; 8],
+        uses: [0; QUEUES as usize],
     }
 }

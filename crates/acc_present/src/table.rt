@@ -16,7 +16,7 @@ ghost use Rattle.acc_present.specs.Notes.{Note, entry_note, entry_noted, HasNote
 
 use crate::change::Change;
 use crate::entries::Entries;
-use acc_base::{BlockId, Boxed, Fault, QueueCounts, QueueId, Range};
+use acc_base::{BlockId, Boxed, Fault, QUEUES, QueueCounts, QueueId, Range};
 use std::alloc::Global;
 use std::marker::Model;
 
@@ -437,7 +437,7 @@ pub(crate) fn new_entry(range: Range, counter: Counter, block: BlockId) -> Entry
         s: 0,
         d: 0,
         maker: (QueueId::SYNC, 0),
-        uses: [0; 8],
+        uses: [0; QUEUES as usize],
     };
     counted_up(&uncounted, counter)
 }

@@ -21,7 +21,8 @@ use crate::item::{Form, Item, Shown};
 use crate::lane::Lane;
 use crate::log::{MAX_HOST_ITEMS, Told, WorkEntry};
 use acc_base::{
-    Config, DeviceId, Fault, HostId, Listed, QUEUES, QueueAt, QueueCounts, QueueId, Range,
+    Config, DeviceId, Fault, HostId, Listed, MAX_HOSTS, QUEUES, QueueAt, QueueCounts, QueueId,
+    Range,
 };
 use acc_batch::{Batch, Label, Op, OpLabel};
 use acc_memory::Memory;
@@ -42,7 +43,8 @@ pub struct Work {
     log: Vec<WorkEntry>,
     // by device, then in queue order
     lanes: Vec<Lane>,
-    items: QueueCounts,
+    // how many items each host has
+    items: [u64; MAX_HOSTS as usize],
     all_items: u64,
 }
 
@@ -86,7 +88,7 @@ impl Work {
             memory,
             log: Vec::new(alloc),
             lanes,
-            items: [0; 8],
+            items: [0; MAX_HOSTS as usize],
             all_items: 0,
         })
     }

@@ -1,3 +1,5 @@
+//! The loops that are timed alone, found by a word, and the job that computes one of them.
+
 ghost use Rattle.std.specs.Prelude.{◌≤◌};
 
 use acc_base::{BlockId, Fault, Listed, Range, Shared};

@@ -1,13 +1,13 @@
+//! A host's statements beside the events that run them, one directive after another, so that no
+//! event is idle.
+
 use acc_base::{DeviceId, Fault, Few, HostId, Listed, QueueAt, QueueId, Range};
 use acc_core::{Act, DataItem, Directive, Event, Kind, Statement, Target, Waits, Written};
 use std::alloc::Global;
 
 /// The queue of the directives without an async clause, on the first device.
 pub(crate) fn sync() -> QueueAt {
-    QueueAt {
-        device: DeviceId::new(0),
-        queue: QueueId::SYNC,
-    }
+    QueueAt::sync(DeviceId::new(0))
 }
 
 /// The queue of an async value from 0 to 5.

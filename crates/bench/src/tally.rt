@@ -1,3 +1,5 @@
+//! One run of a timed world, and what came of it in numbers.
+
 use crate::script::Script;
 use crate::workloads::{ARRAYS, Failure, OTHER_CELLS, Workload};
 use acc_base::{Config, DeviceId, Fault, HostId, Listed, MAX_CAPACITY, QUEUES, QueueAt, QueueId};

@@ -1,3 +1,5 @@
+//! The worlds that are timed: what a host does over two arrays, turn by turn.
+
 use crate::script::{Script, queue_of, waits_for};
 use acc_base::{Fault, Range, Shared};
 use acc_core::{Clause, DataItem, Kind, Waits};

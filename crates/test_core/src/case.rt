@@ -1,3 +1,5 @@
+//! One host's program, run to its end in turns, and a table of all that it has to leave.
+
 use crate::checks::{check_present, check_prints, check_queue, check_states};
 use crate::fixtures::{host, perform, take};
 use crate::lines::{Line, act_of};

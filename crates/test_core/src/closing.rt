@@ -1,3 +1,6 @@
+//! Worlds that close: what is refused then, what goes on, when a full queue is closed, and that
+//! closing needs no memory, of which contracts don't speak.
+
 use crate::checks::{check_present, check_prints, check_queue, check_replies, check_states};
 use crate::fixtures::{BOTH, FINISHED, cells, host, on, refused, value};
 use crate::lines::Line;

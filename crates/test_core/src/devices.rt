@@ -1,3 +1,6 @@
+//! A program over two devices, worked by hand: what each of them holds and performs, where a
+//! contract tells of one event; and queues that don't exist.
+
 use crate::checks::{
     check_idle, check_prints, check_queue, check_replies, check_states, check_steps,
 };

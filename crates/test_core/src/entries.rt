@@ -1,3 +1,6 @@
+//! Entries, exits and data constructs around one another, in programs worked by hand: a contract
+//! knows their counters only by the definitions.
+
 use crate::case::{Case, check};
 use crate::fixtures::{ALL, COUNTED, FINISHED, ZEROS, cells, refused};
 use crate::lines::{END, Line};

@@ -1,3 +1,6 @@
+//! What a host does without a queue; its program copied, though the contract lets that be refused
+//! each time; and a host that its caller refuses.
+
 ghost use Rattle.std.specs.Prelude.{◌≡◌};
 
 use crate::checks::{check_last_print, check_replies, check_states, check_steps};

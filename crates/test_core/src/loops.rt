@@ -1,3 +1,6 @@
+//! Loops in whole programs: their operations and what hosts print behind them, worked by hand from
+//! the rules of the prose, which contracts don't cite.
+
 use crate::case::{Case, check};
 use crate::fixtures::{ALL, BOTH, COUNTED, FINISHED, ZEROS, cells, refused, second_cells};
 use crate::lines::{END, Line};

@@ -1,3 +1,6 @@
+//! Worlds in which memory is refused to one event and not to the next, and worlds that get enough
+//! at last; no clause can tell how much there is.
+
 use crate::checks::{check_last_print, check_present, check_states, check_steps};
 use crate::fixtures::{ALL, FINISHED, cells, host, on, perform, refused, take, value};
 use crate::lines::Line;

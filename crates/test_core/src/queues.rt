@@ -1,3 +1,6 @@
+//! Programs with `async` and `wait` clauses: what each queue has performed at a moment, and what a
+//! full one refuses, worked by hand from the rules of queues.
+
 use crate::checks::{
     check_last_print, check_present, check_queue, check_replies, check_states, check_steps,
 };

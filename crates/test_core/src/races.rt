@@ -1,3 +1,6 @@
+//! Several hosts that share queues and ranges. Two of them race in every order of a small schedule,
+//! where the contract of a step knows one event.
+
 use crate::checks::{
     check_present, check_prints, check_queue, check_replies, check_states, check_steps,
 };

@@ -1,3 +1,6 @@
+//! Data constructs in programs worked by hand: the operations of each clause, one construct inside
+//! another, and thirty-two at once. A contract tells of one directive.
+
 use crate::case::{Case, check};
 use crate::fixtures::{ALL, BOTH, COUNTED, FINISHED, ZEROS, cells, refused};
 use crate::lines::{END, Line};

@@ -1,3 +1,6 @@
+//! Queues that await one another come to an end by themselves. A contract says that some queue is
+//! enabled where something is left, and not that it ends.
+
 use crate::checks::check_steps;
 use crate::fixtures::{BOTH, value};
 use crate::lines::Line;

@@ -1,3 +1,6 @@
+//! Updates of absent, partly present and present ranges, in programs worked by hand, and the order
+//! of both directions in one directive.
+
 use crate::case::{Case, check};
 use crate::fixtures::{ALL, BOTH, COUNTED, FINISHED, cells, refused};
 use crate::lines::Line;

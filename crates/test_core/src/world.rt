@@ -1,3 +1,6 @@
+//! Single events with their replies, and the log and the counters that they leave, in programs
+//! worked by hand; and runs of hundreds of directives.
+
 use crate::case::check_places;
 use crate::checks::{check_idle, check_present, check_queue, check_replies, check_states};
 use crate::fixtures::{ALL, COUNTED, FINISHED, ZEROS, cells, host, other, perform, refused, take};

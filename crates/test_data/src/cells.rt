@@ -1,3 +1,6 @@
+//! A row of cells is written, read and lent as two windows, up to the most cells of an array; and
+//! it is made where memory is ample. Its contract lets each row be refused.
+
 ghost use Rattle.std.specs.Prelude.{◌≡◌};
 ghost use Rattle.acc_raw.specs.Windows.{IsWithin, AreApart};
 

@@ -1,3 +1,5 @@
+//! Configurations at each limit and one beyond it, in numbers, where a contract has names.
+
 use acc_base::{Config, DeviceId, Fault, HostId, QueueAt, QueueId};
 use std::alloc::{AllocError, Global};
 use std::process::Abort;

@@ -1,3 +1,6 @@
+//! What a draft of a present table shows between one mark and the next, in numbers by hand; a
+//! contract tells of one mark, in the words of the definitions.
+
 ghost use Rattle.std.specs.Prelude.{◌≡◌, ◌+◌, ◌<◌, ◌≤◌, length};
 ghost use Rattle.acc_present.specs.Drafts.{IsDraft};
 

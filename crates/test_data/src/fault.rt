@@ -1,3 +1,5 @@
+//! The printed texts of the fourteen faults, of which contracts say nothing.
+
 use acc_base::Fault;
 use std::test::Fail;
 

@@ -1,3 +1,6 @@
+//! Short lists that grow to a thousand items and shrink, and which of their calls take memory: to
+//! the contract a push may be refused at any length.
+
 use acc_base::{Fault, Few};
 use std::alloc::Global;
 use std::process::Abort;

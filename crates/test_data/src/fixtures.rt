@@ -1,3 +1,5 @@
+//! Ranges of one array, and entries into a present table behind all that it requires.
+
 ghost use Rattle.std.specs.Prelude.{◌≡◌, ◌<◌};
 
 use acc_base::{BlockId, Range};

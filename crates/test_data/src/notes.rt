@@ -1,3 +1,6 @@
+//! The batches that are noted at a present range, in numbers by hand, over several calls: counting
+//! keeps them, and a new lifetime has none.
+
 ghost use Rattle.std.specs.Prelude.{◌<◌};
 
 use crate::fixtures::{CELLS, cells, entered_into};

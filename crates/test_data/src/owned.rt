@@ -1,3 +1,6 @@
+//! Shared and boxed values are made where memory is ample, and further owners take none; a contract
+//! allows a refusal each time.
+
 use acc_base::{Boxed, Shared};
 use std::test::Fail;
 use tool_scarce::at_each_amount;

@@ -1,3 +1,6 @@
+//! A present table through long rows of calls, with both counters and a thousand ranges, where a
+//! contract tells of one call; and room that is refused once.
+
 ghost use Rattle.std.specs.Prelude.{◌≡◌, ◌<◌};
 
 use crate::fixtures::{CELLS, cells, entered_by, entered_into};

@@ -1,3 +1,6 @@
+//! The arrays that a loop names, in the order of their first mention, as lists written by hand: the
+//! contract computes them from the loop.
+
 use acc_kernel::Kernel;
 use std::test::Fail;
 use tool_loops::Part::{Choose, Index, Negate, Number, Read};

@@ -1,3 +1,6 @@
+//! Loops that go column by column give what formulas in plain code give, for spans around a
+//! column's length. The contract has the values by its own definitions alone.
+
 use acc_base::{BlockId, Fault, Listed, Range, Shared};
 use acc_kernel::{Job, Kernel};
 use std::alloc::Global;

@@ -1,3 +1,6 @@
+//! Values of expressions and loops that another calculator gave, also where they wrap round:
+//! contracts compare them with definitions, and not with numbers.
+
 use acc_base::{BlockId, Fault, Listed, Range, Shared};
 use acc_kernel::{Job, Kernel};
 use std::alloc::Global;

@@ -1,3 +1,6 @@
+//! What refuses a loop, at both sides of each limit in numbers; the texts of these faults, which no
+//! contract has; and the cells that a loop reaches.
+
 use acc_base::Fault;
 use acc_kernel::{Assign, Expr, Kernel, KernelFault, MAX_DISTANCE, Reach};
 use std::alloc::Global;

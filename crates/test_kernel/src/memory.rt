@@ -1,3 +1,6 @@
+//! Expressions, loops, copies and jobs with each amount of memory from none on. A clause says what
+//! a refusal is, and not that refusals end.
+
 use crate::computed::check;
 use acc_base::{BlockId, Fault, Listed, Range, Shared};
 use acc_kernel::{Assign, Expr, Kernel, KernelFault, Operator};

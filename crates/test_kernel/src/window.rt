@@ -1,3 +1,6 @@
+//! A turn of a loop over a window that a caller brings, of a single cell: the contract is for
+//! windows of any crate, and this is one.
+
 use acc_base::{BlockId, Fault, Range};
 use acc_kernel::{Assign, Kernel, Operator, Window};
 use std::alloc::Global;

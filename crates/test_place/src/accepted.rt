@@ -1,3 +1,6 @@
+//! Directives accepted one behind another, with their batches, the present ranges and the histories
+//! from tables by hand: a contract has these by the definitions.
+
 use crate::fixtures::{
     accept_each, accepted, answer, check_batch, check_label, check_present, counters_of, given,
     is_same_directive, place_of, plan_of, synchronous,

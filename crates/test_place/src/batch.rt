@@ -1,3 +1,6 @@
+//! A batch has the operations of its label, with memory for each of them; it is made where memory
+//! is ample, and a label is copied without any.
+
 use crate::fixtures::{check_labels, check_ops};
 use crate::tables::Cells::{self, A, B};
 use crate::tables::Deed::{self, Await, Close, In, Make, Out, Release, Run};

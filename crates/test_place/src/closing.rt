@@ -1,3 +1,6 @@
+//! Once closing has begun, a place refuses each kind of directive, and hands out a close for each
+//! queue without memory, of which a clause keeps no count.
+
 ghost use Rattle.std.specs.Prelude.{◌≡◌};
 ghost use Rattle.acc_place.specs.Closing.{IsOut};
 
@@ -6,7 +9,7 @@ use crate::fixtures::{
 };
 use crate::tables::Cells::{self, A};
 use crate::tables::{Deed, Named, Word};
-use acc_base::{DeviceId, Fault, HostId, QueueAt, QueueCounts, QueueId};
+use acc_base::{DeviceId, Fault, HostId, QUEUES, QueueAt, QueueCounts, QueueId};
 use acc_batch::Label;
 use acc_place::Clause::{Copyin, Copyout, Create, Delete, Present, UpdateDevice, UpdateSelf};
 use acc_place::{ASYNC_NOVAL, Clause, Place, PlaceEntry, Target};
@@ -272,7 +275,7 @@ fn is_closed(place: &mut Place, device: u8, number: u8) -> bool {
 // How many of a device's queues are closed then.
 fn count_closed(place: &mut Place, device: u8) -> u32 {
     let mut count = 0u32;
-    for number in 0..8 {
+    for number in 0..QUEUES {
         if is_closed(place, device, number) {
             count = count.wrapping_add(1);
         }

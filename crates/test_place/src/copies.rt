@@ -1,3 +1,6 @@
+//! Directives with each form of clauses are copied, without memory, while the contract lets a copy
+//! be refused.
+
 use crate::fixtures::{a, are_same_waits, directive_with, is_same_directive, synchronous};
 use crate::tables::Cells::{self, A, B};
 use crate::tables::Named::{self, All, Nothing, These};

@@ -1,3 +1,6 @@
+//! Three devices of a place in tables by hand: each has ranges, blocks, batches and a capacity of
+//! its own, and constructs end where they were entered.
+
 use crate::fixtures::{accepted, answer, check_present_on, counters_of, place_with, plan_of};
 use crate::tables::Cells::{self, A, B};
 use crate::tables::Word::{self, Data, End, Exit};

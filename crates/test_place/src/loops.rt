@@ -1,3 +1,6 @@
+//! Which ranges a loop uses on a place, by its own clauses, implicitly or by a data construct, and
+//! what refuses it: tables by hand from the rules of loops.
+
 use crate::accepted::check_accepted;
 use crate::fixtures::given;
 use crate::refused::{Refused, check_refused};

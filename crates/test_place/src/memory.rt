@@ -1,3 +1,6 @@
+//! Plans at each amount of memory from none on: to the contract each may be refused, and here one
+//! is made at last; accepting it takes no more.
+
 use crate::fixtures::{
     Shown, accept_each, accepted, answer, check_batch, check_present, place_of, planned, shown_by,
     synchronous,

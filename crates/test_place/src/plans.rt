@@ -1,3 +1,6 @@
+//! A plan that another directive has overtaken, and the same directive planned anew: two plans at
+//! once, where a contract tells of one.
+
 ghost use Rattle.std.specs.Prelude.{IfOk};
 ghost use Rattle.acc_place.specs.Plans.{IsPlanOf};
 

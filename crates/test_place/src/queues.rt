@@ -1,3 +1,6 @@
+//! The queue of each batch, the batches that it awaits, and what waits place and count, from tables
+//! by hand, as the rules of asynchronous queues have them.
+
 ghost use Rattle.std.specs.Prelude.{IfOk};
 ghost use Rattle.acc_place.specs.Plans.{Fits};
 

@@ -1,3 +1,6 @@
+//! Each fault of a directive, and the first of several, behind which a place shows what it showed:
+//! tables by hand, where a contract has definitions.
+
 use crate::fixtures::{Shown, accept_each, given, place_of, plan_of, shown_by};
 use crate::tables::Cells::{self, A, B, C};
 use crate::tables::Word::{self, Ask, Data, End, Enter, Exit, Finalize, Update, UpdateIfPresent};

@@ -1,3 +1,6 @@
+//! Whole inputs for the rules of the language, each with the report or the fault that was worked
+//! out by hand; a contract compares with definitions alone.
+
 use acc_driver::{DriverFault, Ended, Options, ReadFault, ReadKind, replay_one};
 use std::test::Fail;
 

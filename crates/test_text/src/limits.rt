@@ -1,3 +1,6 @@
+//! Inputs with as many arrays, ranges, cells, events and bytes as there may be, and with one more:
+//! contracts have these numbers by name.
+
 use crate::replay::replayed;
 use acc_driver::{DriverFault, Ended, ReadFault, ReadKind};
 use std::alloc::{AllocError, Global};

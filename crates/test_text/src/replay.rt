@@ -1,3 +1,6 @@
+//! A replay whose reader, writer or memory fails at each place in turn: a clause can't say when one
+//! of these fails. Also worked reports, kinds of faults, and their texts.
+
 use crate::streams::{End, Late, Narrow, Trickle};
 use acc_base::Fault;
 use acc_driver::{DriverFault, Ended, Options, ReadFault, ReadKind, replay_one};

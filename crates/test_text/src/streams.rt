@@ -1,3 +1,5 @@
+//! Readers and writers that are slow, interrupted, narrow or broken.
+
 use std::io::{Error, ErrorKind, Read, Result, Write};
 
 /// A reader of bytes that gives one a turn, and at its end stops as it is told.

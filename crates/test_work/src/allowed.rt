@@ -1,3 +1,5 @@
+//! What the memory requires of an operation and of a range, asked while a test runs.
+
 ghost use Rattle.std.specs.Prelude.{◌≡◌, ◌<◌, IsTrue, is_some, length, true};
 ghost use Rattle.acc_memory.specs.Memories.{HasRange, HasRanges, MayPerform, ends_in, find_block, held_blocks, room_on, rows_on};
 ghost use Rattle.acc_base.specs.Configurations.{lengths_of};
@@ -7,7 +9,7 @@ use acc_batch::OpLabel;
 use acc_memory::Memory;
 
 /// Whether a range ends in its array.
-pub fn has_range(config: &Config, range: Range) -> bool
+pub fn ends_in_array(config: &Config, range: Range) -> bool
     ensures { IsTrue result → ends_in (lengths_of config.now.arrays) range ≡ true }
 {
     if usize::from(range.array) >= config.arrays() {
@@ -24,7 +26,8 @@ pub fn is_allowed(config: &Config, memory: &Memory, op: &OpLabel) -> bool
     ensures { IsTrue result → MayPerform memory.now 0 op.now }
 {
     match op {
-        OpLabel::Make { block, range } => !is_there(memory, *block) && has_range(config, *range),
+        OpLabel::Make { block, range } => !is_there(memory, *block)
+            && ends_in_array(config, *range),
         OpLabel::CopyIn { block, range } | OpLabel::CopyOut { block, range } => {
             holds_range(memory, *block, *range)
         }

@@ -1,3 +1,6 @@
+//! Which questions of hosts take memory to record, and that there can be enough of it: the contract
+//! lets any of them be refused.
+
 use acc_base::DeviceId;
 use acc_work::{Item, ItemLabel};
 use std::test::Fail;

@@ -1,7 +1,10 @@
+//! A memory and its room for blocks are had where memory is ample, which no contract promises; and
+//! what a host writes, it reads.
+
 ghost use Rattle.std.specs.Prelude.{◌≡◌};
 ghost use Rattle.acc_base.specs.Configurations.{lengths_of};
 
-use crate::allowed::has_range;
+use crate::allowed::ends_in_array;
 use acc_base::{Config, Fault, Range};
 use acc_memory::Memory;
 use std::alloc::Global;
@@ -48,7 +51,7 @@ fn cell_of(config: &Config, memory: &Memory, array: u8, cell: u32) -> Option<i64
         lo: cell,
         len: 1,
     };
-    if has_range(config, range) {
+    if ends_in_array(config, range) {
         Some(memory.host_get(array, cell))
     } else {
         None
@@ -65,7 +68,7 @@ fn write(rt: &impl Abort, config: &Config, memory: &mut Memory, array: u8, cell:
         lo: cell,
         len: 1,
     };
-    assert!(rt; has_range(config, range));
+    assert!(rt; ends_in_array(config, range));
     memory.host_set(array, cell, value);
 }
 

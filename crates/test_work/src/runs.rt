@@ -1,7 +1,10 @@
+//! A round of operations over parts of two blocks, with the cells that are left, worked by hand: a
+//! contract tells of one operation at a time.
+
 ghost use Rattle.std.specs.Prelude.{◌≡◌, ◌<◌, length};
 ghost use Rattle.acc_base.specs.Configurations.{lengths_of};
 
-use crate::allowed::{has_range, is_allowed};
+use crate::allowed::{ends_in_array, is_allowed};
 use acc_base::{BlockId, Config, DeviceId, Fault, Listed, Range, Shared};
 use acc_batch::{Op, OpLabel};
 use acc_kernel::Kernel;
@@ -56,7 +59,7 @@ fn perform_all(
 fn assert_cells(rt: &impl Abort, config: &Config, memory: &Memory, range: Range, cells: &[i64])
     requires { lengths_of memory.now.arrays ≡ lengths_of config.now.arrays }
 {
-    assert!(rt; has_range(config, range));
+    assert!(rt; ends_in_array(config, range));
     assert!(rt; memory.host_cells(range) == cells);
 }
 

@@ -1,3 +1,6 @@
+//! Whether two kinds of directives are the same, as far as tables tell loops apart: by their
+//! bounds, their arrays and the depths of what they assign.
+
 use acc_kernel::Kernel;
 use acc_place::Kind;
 

@@ -1,3 +1,5 @@
+//! A directive of what a table says of it, where its kind may have such clauses.
+
 use crate::form::{Form, kind_of};
 use acc_base::{Fault, Few};
 use acc_place::{DataItem, Directive, Target, Waits, Written};

@@ -1,3 +1,5 @@
+//! The kinds of directives as a table can write them down, a loop by its bounds and its body.
+
 use acc_base::{Fault, Shared};
 use acc_place::Kind;
 use std::alloc::Global;

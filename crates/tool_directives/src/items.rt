@@ -1,3 +1,5 @@
+//! Short words for clauses with their ranges.
+
 use acc_base::Range;
 use acc_place::{Clause, DataItem};
 

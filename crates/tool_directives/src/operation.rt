@@ -1,3 +1,6 @@
+//! Operations as a table writes them, also read off a label and off what a queue performs, so that
+//! all three can be compared.
+
 use acc_base::{BlockId, QueueId, Range};
 use acc_batch::{Op, OpLabel};
 

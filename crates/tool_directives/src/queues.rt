@@ -1,3 +1,5 @@
+//! A queue by two numbers.
+
 use acc_base::{DeviceId, QueueAt, QueueId};
 
 pub fn queue(device: u8, number: u8) -> QueueAt {
@@ -9,5 +11,5 @@ pub fn queue(device: u8, number: u8) -> QueueAt {
 
 /// The first device's synchronous queue.
 pub fn sync() -> QueueAt {
-    queue(0, 0)
+    QueueAt::sync(DeviceId::new(0))
 }

@@ -1,3 +1,5 @@
+//! What the loops of tables assign, each body by a name, as rows of parts.
+
 use crate::part::Part::{self, Choose, Index, Negate, Number, Read};
 use crate::part::{EQUAL, LESS, MINUS, PLUS, TIMES};
 use crate::row::{Row, statements_of};

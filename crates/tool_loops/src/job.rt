@@ -1,3 +1,5 @@
+//! A job over blocks, once it is tested that these are what its loop needs.
+
 use acc_base::{BlockId, Fault, Listed, Range, Shared};
 use acc_kernel::{Job, Kernel, are_distinct};
 use std::alloc::Global;

@@ -1,3 +1,5 @@
+//! Expressions as flat lists, in which each part stands behind those that it is made of.
+
 use acc_base::Fault;
 use acc_kernel::{Expr, Operator};
 use std::alloc::Global;

@@ -1,3 +1,5 @@
+//! Statements of a loop, each from an array's number and a list of parts.
+
 use crate::part::{Part, expr_of};
 use acc_base::Fault;
 use acc_kernel::Assign;

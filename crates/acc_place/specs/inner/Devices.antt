@@ -4,7 +4,7 @@ use Rattle.acc_base.specs.declared.range.Range.{Range}
 use Rattle.acc_present.specs.Notes.{Note, no_note}
 use Rattle.acc_base.specs.Configurations.{Configuration}
 use Rattle.acc_place.specs.declared.device.Device.{Device}
-use Rattle.acc_place.specs.inner.Walks.{Holding, holding}
+use Rattle.acc_place.specs.inner.Judging.{Holding, holding}
 
 -- what is present there, and how many lifetimes were opened
 abbrev pub held_on : Device → Holding

@@ -17,12 +17,12 @@ use Rattle.acc_place.specs.declared.device.Device.{Device}
 use Rattle.acc_place.specs.declared.directive.PlaceEntry.{PlaceEntry}
 use Rattle.acc_place.specs.declared.directive.Region.{Region}
 use Rattle.acc_place.specs.declared.directive.TheConstants.{MAX_ITEMS, MAX_DIRECTIVES}
-use Rattle.acc_place.specs.Counts.{IsEnteredBy, entered_ranges}
+use Rattle.acc_place.specs.Counters.{IsEnteredBy, entered_ranges}
 use Rattle.acc_place.specs.Histories.{is_closed, standing, AllAccepted, IsQueue}
 use Rattle.acc_place.specs.inner.Noting.{notes_on}
 use Rattle.acc_place.specs.Regions.{regions_on}
 use Rattle.acc_place.specs.Standings.{Standing}
-use Rattle.acc_place.specs.inner.Walks.{AllLow}
+use Rattle.acc_place.specs.inner.Judging.{AllLow}
 
 -- The labels of each queue's batches, by device, then in queue order, and for how many there is room.
 pub record LabelsView : Type 0 where

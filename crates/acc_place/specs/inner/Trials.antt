@@ -17,14 +17,14 @@ use Rattle.acc_place.specs.declared.directive.DataItem.{DataItem}
 use Rattle.acc_place.specs.declared.directive.TheConstants.{MAX_ITEMS}
 use Rattle.acc_place.specs.declared.judge.Known.{Known}
 use Rattle.acc_place.specs.declared.judge.Marked.{Marked}
-use Rattle.acc_place.specs.Counts.{IsEnteredBy, entered_ranges}
+use Rattle.acc_place.specs.Counters.{IsEnteredBy, entered_ranges}
 use Rattle.acc_base.specs.Configurations.{lengths_of}
 use Rattle.acc_place.specs.inner.Noting.{awaits_from, ended_range, last_made, last_used, note_found, used_ranges}
 use Rattle.acc_place.specs.inner.Places.{queue_in}
 use Rattle.acc_place.specs.Regions.{regions_on}
 use Rattle.acc_place.specs.Standings.{change_by, loop_of, subject_by}
 use Rattle.acc_place.specs.Targets.{is_alone, queues_named}
-use Rattle.acc_place.specs.inner.Walks.{Holding, holding, holding_between, limit_fault, fault_or, first_fault_in, past_fault, all_marked, all_steps, run_in, marked_ops, AllLow, StaysBy}
+use Rattle.acc_place.specs.inner.Judging.{Holding, holding, holding_between, limit_fault, fault_or, first_fault_in, past_fault, all_marked, all_steps, run_in, marked_ops, AllLow, StaysBy}
 
 -- The items of a directive, the draft with their marks, and what became of them.
 pub record TrialView : Type 0 where

@@ -14,7 +14,7 @@ pub record EntriesView : Type 0 where
   pub items : List Entry
   pub room : ℕ
 
--- Two vectors each have memory for all places.
-pub record HasPlaces (room taken free : ℕ) : Type 0 where
-  pub places : room ≤ taken
+-- Two vectors each have memory for all slots.
+pub record HasSlots (room taken free : ℕ) : Type 0 where
+  pub slots : room ≤ taken
   pub spare : room ≤ free

@@ -9,7 +9,7 @@ use Rattle.acc_place.specs.declared.plan.Group.TheVariants.{CopyIns, Updates, Co
 use Rattle.acc_place.specs.inner.Noting.{ended_range, last_made, last_used, note_found, used_ranges}
 use Rattle.acc_place.specs.Targets.{queues_named}
 use Rattle.acc_place.specs.inner.Trials.{named_count, number_in}
-use Rattle.acc_place.specs.inner.Walks.{group_ops, marked_ops}
+use Rattle.acc_place.specs.inner.Judging.{group_ops, marked_ops}
 use Rattle.acc_place.proofs.AwaitedNumbers.{made_by_groups, regrouped, same_for}
 use Rattle.acc_place.proofs.awaits.awaited_numbers.Goals as goal
 

@@ -7,7 +7,7 @@ use Rattle.acc_place.specs.declared.directive.DataItem.{DataItem}
 use Rattle.acc_place.specs.declared.judge.Marked.{Marked}
 use Rattle.acc_place.specs.Standings.{change_by}
 use Rattle.acc_present.specs.Presences.{Presence}
-use Rattle.acc_place.specs.inner.Walks.{Holding, holding, holding_after, holding_after_all, first_fault_in, marked_in, all_marked, AllEntered, AllLow}
+use Rattle.acc_place.specs.inner.Judging.{Holding, holding, holding_after, holding_after_all, first_fault_in, marked_in, all_marked, AllEntered, AllLow}
 use Rattle.acc_place.proofs.WalkItem.{rest_of, rest_is, length-rest, holding_is, holding-next, first_fault-next, all_marked-next, entered-next, AllLow-fewer, low_rest, opened-most}
 use Rattle.acc_place.proofs.judge.+judge_all.Goals as goal
 

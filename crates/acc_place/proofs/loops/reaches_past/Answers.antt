@@ -9,4 +9,4 @@ pub returns-in-Some-item_of-clause-held : goal.returns-in-Some-item_of-clause-he
 returns-in-Some-item_of-clause-held c =
     λ inside.
     stays_within c.args.kernel.now c.args.items.now c.args.array c.in-Some.reach c.in-Some-item_of.item.now c.in-Some.ensures.reached c.in-Some-item_of.ensures
-    (sym c.passes.ensures ∙ inside)
+    (sym c.reaches_past_item.ensures ∙ inside)

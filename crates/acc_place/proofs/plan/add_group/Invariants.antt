@@ -1,6 +1,6 @@
 use Rattle.std.proofs.Common.{◌≡◌, ◌++◌, take}
 use Rattle.std.specs.List.{flat_map}
-use Rattle.acc_place.specs.inner.Walks.{group_ops}
+use Rattle.acc_place.specs.inner.Judging.{group_ops}
 use Rattle.acc_place.proofs.plan.add_group.Given as goal
 
 abbrev pub invariant-loop-step : goal.invariant-loop-step

@@ -5,7 +5,7 @@ use Rattle.acc_place.specs.inner.Noting.{awaits_from}
 use Rattle.acc_place.specs.Plans.{label_for}
 use Rattle.acc_place.specs.Targets.{is_alone}
 use Rattle.acc_place.specs.inner.Trials.{behind_noted, next_in}
-use Rattle.acc_place.specs.inner.Walks.{marked_ops}
+use Rattle.acc_place.specs.inner.Judging.{marked_ops}
 use Rattle.acc_place.proofs.PlanOf.{behind_their_awaits, have_their_cells, labelled_cells, listed}
 use Rattle.acc_place.proofs.plan.plan_of.Goals as goal
 

@@ -2,7 +2,7 @@ use Rattle.std.proofs.Common.{length, get_or, rules, arith, ap}
 use Rattle.acc_place.specs.declared.directive.Clause.TheVariants.{Copy}
 use Rattle.acc_place.specs.declared.directive.DataItem.{DataItem}
 use Rattle.acc_place.specs.inner.Devices.{held_on}
-use Rattle.acc_place.specs.inner.Walks.{Holding, AllEntered, AllFine, HasRoomFor}
+use Rattle.acc_place.specs.inner.Judging.{Holding, AllEntered, AllFine, HasRoomFor}
 use Rattle.acc_place.proofs.DeviceNotes.{fresh_later, opened_later}
 use Rattle.acc_place.proofs.WalkItem.{rest_of, rest_is, can_mark, fine-first, fine-next, entered-first, entered-next, room_rest}
 use Rattle.acc_place.proofs.device.Device.+mark_all.Goals as goal

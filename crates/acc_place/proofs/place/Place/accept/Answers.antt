@@ -7,7 +7,7 @@ use Rattle.acc_place.specs.declared.device.Device.{Device}
 use Rattle.acc_place.specs.inner.Devices.{held_on}
 use Rattle.acc_place.specs.Plans.{PlanView, standing_in, Fits}
 use Rattle.acc_place.specs.Standings.{change_by}
-use Rattle.acc_place.specs.inner.Walks.{holding_after_all, holding_between, holding_behind, ends_of}
+use Rattle.acc_place.specs.inner.Judging.{holding_after_all, holding_between, holding_behind, ends_of}
 use Rattle.acc_place.specs.Batches.{counts_queues}
 use Rattle.acc_place.specs.Targets.{queue_by, queues_named}
 use Rattle.acc_place.specs.inner.Trials.{counts_in}

@@ -6,7 +6,7 @@ use Rattle.acc_base.specs.Queues.{seat}
 use Rattle.acc_place.specs.declared.device.Device.{Device}
 use Rattle.acc_place.specs.Histories.{standing, IsQueue}
 use Rattle.acc_place.specs.Plans.{IsRoomy}
-use Rattle.acc_place.specs.inner.Walks.{Holding}
+use Rattle.acc_place.specs.inner.Judging.{Holding}
 use Rattle.acc_place.proofs.KeptCloses.{closes_spared}
 use Rattle.acc_place.proofs.StandingIn.{place_spared, placed_there, present_there, roomier, roomy_by}
 use Rattle.acc_place.proofs.PlaceParts.{seen}

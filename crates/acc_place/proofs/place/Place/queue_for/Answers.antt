@@ -3,7 +3,7 @@ use Rattle.std.specs.Prelude.{nat_lt}
 use Rattle.std.proofs.lemmas.Bool.{ltb-false, ltb-true}
 use Rattle.acc_place.specs.Plans.{standing_in}
 use Rattle.acc_place.specs.Targets.{queue_by}
-use Rattle.acc_place.specs.inner.Walks.{device_by}
+use Rattle.acc_place.specs.inner.Judging.{device_by}
 use Rattle.acc_place.proofs.AcceptedDirective.{refused_closing, refused_device}
 use Rattle.acc_place.proofs.EnteredRanges.{there_device}
 use Rattle.acc_place.proofs.StandingIn.{queue_is}

@@ -5,7 +5,7 @@ use Rattle.acc_present.specs.Drafts.{drafted, IsDraft}
 use Rattle.acc_base.specs.Configurations.{lengths_of}
 use Rattle.acc_place.specs.Standings.{change_by, loop_of}
 use Rattle.acc_place.specs.inner.Trials.{held_by, items_by, items_fault, IsTried}
-use Rattle.acc_place.specs.inner.Walks.{holding, holding_after_all, limit_fault, first_fault_in, past_fault, StaysBy}
+use Rattle.acc_place.specs.inner.Judging.{holding, holding_after_all, limit_fault, first_fault_in, past_fault, StaysBy}
 use Rattle.acc_place.proofs.AcceptedDirective.{is_within}
 use Rattle.acc_place.proofs.EnteredRanges.{entered_subject}
 use Rattle.acc_place.proofs.TriedDirective.{all_put, first_or, given_none, if_none, limit_put, none_first, none_of}

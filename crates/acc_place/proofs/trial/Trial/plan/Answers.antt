@@ -8,7 +8,7 @@ use Rattle.acc_place.specs.Plans.{label_for}
 use Rattle.acc_place.specs.Standings.{change_by, loop_of}
 use Rattle.acc_place.specs.declared.judge.Marked.{Marked}
 use Rattle.acc_place.specs.inner.Trials.{behind_noted, held_by, items_by, next_in, IsTried, TrialView}
-use Rattle.acc_place.specs.inner.Walks.{holding_between, ends_of, marked_ops, all_steps, run_in}
+use Rattle.acc_place.specs.inner.Judging.{holding_between, ends_of, marked_ops, all_steps, run_in}
 use Rattle.acc_place.proofs.AcceptedDirective.{length-ends}
 use Rattle.acc_place.proofs.TrialPlan.{run_cells, steps_cells}
 use Rattle.acc_place.proofs.TriedDirective.{is_clean, run_made, steps_made}
