@@ -10,17 +10,17 @@ use Rattle.acc_base.specs.Configurations.{fault_of, is_outside, has_long_array, 
 use Rattle.acc_script.specs.Arrays.{IsDeclared}
 use Rattle.acc_driver.specs.declared.fault.DriverFault.{DriverFault}
 use Rattle.acc_driver.specs.declared.fault.DriverFault.TheVariants as fault
-use Rattle.acc_script.specs.declared.fault.ReadFault.{ReadFault}
-use Rattle.acc_script.specs.declared.text.TheConstants.{MAX_TEXT}
+use Rattle.acc_token.specs.declared.read_fault.ReadFault.{ReadFault}
+use Rattle.acc_token.specs.declared.text.TheConstants.{MAX_TEXT}
 use Rattle.acc_driver.specs.declared.options.Ended.{Ended}
 use Rattle.acc_driver.specs.declared.options.Options.{Options}
 use Rattle.acc_driver.specs.declared.replay.TheConstants.{INPUT_LIMIT}
 use Rattle.acc_host.specs.declared.event.Event.{Event}
-use Rattle.acc_script.specs.Texts.{within}
+use Rattle.acc_token.specs.Texts.{within}
 use Rattle.acc_driver.specs.Inputs.{Parts, parts}
-use Rattle.acc_driver.specs.Replays.{events_in, configured, IsOpeningFault, Says, RunAnswers, AnswersRun, Answers, AreUsable, IsRun}
+use Rattle.acc_driver.specs.Replays.{events_in, configured, IsWorldFault, Says, RunAnswers, AnswersRun, Answers, AreUsable, IsRun}
 use Rattle.acc_script.specs.Schedules.{events_from, lines, schedule_of}
-use Rattle.acc_script.specs.Scripts.{Program, program_at, script_of}
+use Rattle.acc_script.specs.Scripts.{Program, script_at, script_of}
 use Rattle.acc_driver.proofs.SplitText.{capped, cut_is_enough, capped_is_enough}
 
 -- What is read of a text with a limit, up to a byte more, says what is read of it.
@@ -43,13 +43,13 @@ cut text = take INPUT_LIMIT text
 
 same_script : (text : List ℕ) → script_of (parts (cut text)).script ≡ script_of (parts text).script
 unfolding script_of
-same_script text = within_capped MAX_TEXT (λ (text : List ℕ). program_at (record { line = 1; bytes = text })) (parts (cut text)).script (parts text).script (cut_is_enough MAX_TEXT text).script
+same_script text = within_capped MAX_TEXT (λ (text : List ℕ). script_at (record { line = 1; bytes = text })) (parts (cut text)).script (parts text).script (cut_is_enough MAX_TEXT text).script
 
 same_schedule : (options : Options) (program : Program) (text : List ℕ) → script_of (parts text).script ≡ Ok program
     → events_in options program (parts (cut text)).schedule ≡ events_in options program (parts text).schedule
 unfolding script_of schedule_of
 same_schedule options program text is =
-    let short = within_reads MAX_TEXT (λ (text : List ℕ). program_at (record { line = 1; bytes = text })) (parts text).script program is in
+    let short = within_reads MAX_TEXT (λ (text : List ℕ). script_at (record { line = 1; bytes = text })) (parts text).script program is in
     within_capped MAX_TEXT (λ (text : List ℕ). events_from (length program.programs) options.devices 1 [] (lines text)) (parts (cut text)).schedule (parts text).schedule
     ((cut_is_enough MAX_TEXT text).schedule short)
 
@@ -110,7 +110,7 @@ usable_config options program usable declared few =
 
 -- With usable options the one reason not to open a world is want of memory.
 pub usable_runs : (options : Options) (program : Program) (why : DriverFault) → IsDeclared (record { names = program.names; cells = program.arrays })
-    → length program.programs ≤ MAX_HOSTS → IsOpeningFault (configured options program) why → AreUsable options → IsRun (Err why)
+    → length program.programs ≤ MAX_HOSTS → IsWorldFault (configured options program) why → AreUsable options → IsRun (Err why)
 usable_runs options program (fault.Runtime f) declared few opening usable =
     absurd (let off = sym (usable_config options program usable declared few) ∙ opening in cc)
 usable_runs options program fault.Memory declared few opening usable = tt

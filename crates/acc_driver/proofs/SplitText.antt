@@ -3,10 +3,10 @@ use Rattle.std.proofs.Common.{◌≡◌, ℕ, zero, suc, ◌+◌, ◌-◌, ◌*�
 use Rattle.std.proofs.lemmas.Bool.{and_parts, lt-ltb, ltb-true, ltb-false}
 use Rattle.std.proofs.lemmas.List.{take_all, drop_all, take-take, drop-take, length-take-le}
 use Rattle.std.specs.Prelude.{◌==◌, ◌&&◌, nat_lt, bytes_eq, codes, if◌then◌else◌}
-use Rattle.acc_script.specs.declared.fault.ReadFault.{ReadFault}
-use Rattle.acc_script.specs.declared.fault.ReadKind.TheVariants.{Limit}
-use Rattle.acc_script.specs.Faults.{fails}
-use Rattle.acc_script.specs.Texts.{line_feeds, within}
+use Rattle.acc_token.specs.declared.read_fault.ReadFault.{ReadFault}
+use Rattle.acc_token.specs.declared.read_fault.ReadKind.TheVariants.{Limit}
+use Rattle.acc_token.specs.Faults.{fails}
+use Rattle.acc_token.specs.Texts.{line_feeds, within}
 use Rattle.acc_driver.specs.Inputs.{Parts, line_of, behind_line, is_split_line, with_front, parts_from, parts}
 use Rattle.acc_script.proofs.LinesAndWords.{line_len}
 

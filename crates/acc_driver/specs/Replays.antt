@@ -15,7 +15,7 @@ use Rattle.acc_driver.specs.declared.fault.DriverFault.{DriverFault}
 use Rattle.acc_driver.specs.declared.fault.DriverFault.TheVariants as fault
 use Rattle.acc_driver.specs.declared.fault.ReplayFault.{ReplayFault}
 use Rattle.acc_driver.specs.declared.fault.ReplayFault.TheVariants as replay
-use Rattle.acc_script.specs.declared.fault.ReadFault.{ReadFault}
+use Rattle.acc_token.specs.declared.read_fault.ReadFault.{ReadFault}
 use Rattle.acc_driver.specs.declared.options.Ended.{Ended}
 use Rattle.acc_driver.specs.declared.options.Options.{Options}
 use Rattle.acc_driver.specs.Inputs.{Parts}
@@ -45,13 +45,13 @@ configured options program =
     configuration options.devices (length program.programs) program.arrays options.cells options.room
 
 -- Why there is no world of a configuration.
-abbrev pub IsOpeningFault : Configuration → DriverFault → Type 0
-IsOpeningFault config fault.Memory = Unit {0}
-IsOpeningFault config (fault.Runtime f) = fault_of config ≡ Some f
-IsOpeningFault config fault.Input = ⊥
-IsOpeningFault config fault.Output = ⊥
-IsOpeningFault config (fault.Script f) = ⊥
-IsOpeningFault config (fault.Schedule f) = ⊥
+abbrev pub IsWorldFault : Configuration → DriverFault → Type 0
+IsWorldFault config fault.Memory = Unit {0}
+IsWorldFault config (fault.Runtime f) = fault_of config ≡ Some f
+IsWorldFault config fault.Input = ⊥
+IsWorldFault config fault.Output = ⊥
+IsWorldFault config (fault.Script f) = ⊥
+IsWorldFault config (fault.Schedule f) = ⊥
 
 -- What the two texts say: a program, and the events of the schedule.
 pub record Says (options : Options) (texts : Parts) (program : Program) (events : List Event) : Type 0 where

@@ -9,9 +9,9 @@ ghost use Rattle.acc_script.specs.Arrays.{IsDeclared, texts};
 ghost use Rattle.acc_driver.specs.Inputs.{parts};
 ghost use Rattle.acc_core.specs.Machine.{Runs};
 ghost use Rattle.acc_host.specs.declared.state.Reply.{Reply};
-ghost use Rattle.acc_driver.specs.Replays.{Answers, RunAnswers, AreUsable, IsRun, IsOpeningFault, driver_fault, of_input, some_refused, is_refused};
+ghost use Rattle.acc_driver.specs.Replays.{Answers, RunAnswers, AreUsable, IsRun, IsWorldFault, driver_fault, of_input, some_refused, is_refused};
 ghost use Rattle.acc_script.specs.Schedules.{kept_events};
-ghost use Rattle.acc_script.specs.Scripts.{seen};
+ghost use Rattle.acc_script.specs.Scripts.{program_of};
 
 use crate::fault::{DriverFault, ReplayFault};
 use crate::input::{InputFault, read_text, split};
@@ -110,7 +110,7 @@ fn run<W: Write>(
     requires declared { IsDeclared (record { names = texts script.names.keys; cells = rows script.arrays.items }) }
     requires numbered { AreNumbered 0 script.programs.items }
     requires few { length script.programs.items ≤ MAX_HOSTS }
-    ensures answers { RunAnswers options (seen script.entry) schedule.now (W.contents writer.old) (W.contents writer.new) (of_input result) }
+    ensures answers { RunAnswers options (program_of script.entry) schedule.now (W.contents writer.old) (W.contents writer.new) (of_input result) }
     ensures run { AreUsable options → IsRun (of_input result) }
 {
     let Script {
@@ -170,7 +170,7 @@ fn open(
     requires few { length programs.items ≤ MAX_HOSTS }
     requires numbered { AreNumbered 0 programs.items }
     ensures opened { IfOk result (λ w. w ≡ first_state (configuration options.devices (length programs.items) (rows arrays.items) options.cells options.room) programs.items) }
-    ensures refused { IfErr result (λ f. IsOpeningFault (configuration options.devices (length programs.items) (rows arrays.items) options.cells options.room) (driver_fault f)) }
+    ensures refused { IfErr result (λ f. IsWorldFault (configuration options.devices (length programs.items) (rows arrays.items) options.cells options.room) (driver_fault f)) }
 {
     let hosts = programs.len() as u8;
     let config = match Config::new(options.devices, hosts, arrays, options.cells, options.room) {

@@ -4,11 +4,11 @@ use Rattle.std.proofs.lemmas.Bool.{lt-ltb}
 use Rattle.std.proofs.lemmas.Bool.Decides.{nat_tests}
 use Rattle.std.specs.Prelude.{nat_lt}
 use Rattle.acc_host.specs.declared.event.Event.{Event}
-use Rattle.acc_script.specs.declared.fault.ReadKind.{ReadKind}
-use Rattle.acc_script.specs.declared.fault.ReadKind.TheVariants.{Limit}
+use Rattle.acc_token.specs.declared.read_fault.ReadKind.{ReadKind}
+use Rattle.acc_token.specs.declared.read_fault.ReadKind.TheVariants.{Limit}
 use Rattle.acc_script.specs.declared.schedule.ScheduleLine.{ScheduleLine}
 use Rattle.acc_script.specs.declared.schedule.TheConstants.{MAX_EVENTS}
-use Rattle.acc_script.specs.Faults.{fails}
+use Rattle.acc_token.specs.Faults.{fails}
 use Rattle.acc_script.specs.Schedules.{is_skipped, line_events, events_behind, kept_events, all_events}
 use Rattle.std.proofs.lemmas.Grind.{flat_map-append}
 use Rattle.std.proofs.lemmas.List.{append-nil}

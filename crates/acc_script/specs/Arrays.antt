@@ -3,11 +3,11 @@ use Rattle.std.specs.Borrow.{Bor}
 use Rattle.std.specs.Prelude.{◌≡◌, ◌≤◌, map, All, ℕ, ◌-◌, Bool, true, false, ◌&&◌, ◌||◌, not, ◌==◌, nat_lt, nat_le, List, [], ◌∷◌, ◌++◌, length, replicate, slice_index_or, Option, Some, None, Result, Ok, ℤ, pos, negsuc, zero, suc, codes, bytes_eq, if◌then◌else◌}
 use Rattle.std.specs.List.{list_any, position}
 use Rattle.acc_base.specs.declared.config.TheConstants.{MAX_ARRAYS, MAX_CELLS}
-use Rattle.acc_script.specs.declared.fault.ReadFault.{ReadFault}
-use Rattle.acc_script.specs.declared.fault.ReadKind.TheVariants.{Name, Limit}
-use Rattle.acc_script.specs.Faults.{fails, ◌>>=◌}
-use Rattle.acc_script.specs.Tokens.{Spot, Lexeme, front, is_digit, token_at, unwanted, exactly, expect, number_of, name_of}
-use Rattle.acc_script.specs.Turns.{Turn, turn, all_turns}
+use Rattle.acc_token.specs.declared.read_fault.ReadFault.{ReadFault}
+use Rattle.acc_token.specs.declared.read_fault.ReadKind.TheVariants.{Name, Limit}
+use Rattle.acc_token.specs.Faults.{fails, ◌>>=◌}
+use Rattle.acc_token.specs.Tokens.{Spot, Lexeme, front, is_digit, token_at, unwanted_token, exactly, expect, number_of, name_of}
+use Rattle.acc_token.specs.Turns.{Turn, turn, all_turns}
 
 -- the names of the arrays in the order of declaration, and their initial values
 pub record Declared : Type 0 where
@@ -54,7 +54,7 @@ unfoldable pub value_turn : ℕ → List ℤ → Spot → Result (Turn (List ℤ
 value_turn size cells at =
     token_at false at >>= λ t.
     if bytes_eq t.text (codes "}") && nat_lt 0 (length cells) then Ok (turn false cells t.after)
-    else (if not (begins_value t.text) then unwanted t
+    else (if not (begins_value t.text) then unwanted_token t
     else (if nat_le size (length cells) then fails t.line Limit
     else value_turn_behind cells t))
 
@@ -66,19 +66,19 @@ size_at at =
     if n.0 == 0 then fails t.line Limit else Ok n
 
 -- Missing values are zero.
-abbrev pub padded : ℕ → List ℤ → List ℤ
-padded size cells = cells ++ replicate (size - length cells) (pos 0)
+abbrev pub padded_cells : ℕ → List ℤ → List ℤ
+padded_cells size cells = cells ++ replicate (size - length cells) (pos 0)
 
 -- [ "=" "{" values "}" ] ";"
-unfoldable pub opening_at : ℕ → Spot → Result (List ℤ × Spot) ReadFault
-opening_at size at =
+unfoldable pub initial_values_at : ℕ → Spot → Result (List ℤ × Spot) ReadFault
+initial_values_at size at =
     token_at false at >>= λ t.
     if bytes_eq t.text (codes "=") then
     (expect false (codes "{") t.after >>= λ at.
     all_turns (value_turn size) [] at >>= λ values.
     expect false (codes ";") values.at >>= λ at.
-    Ok (padded size values.so_far, at))
-    else (exactly (codes ";") t >>= λ at. Ok (padded size [], at))
+    Ok (padded_cells size values.so_far, at))
+    else (exactly (codes ";") t >>= λ at. Ok (padded_cells size [], at))
 
 -- A name is declared once.
 unfoldable pub fresh_name : List (List ℕ) → Lexeme → Result (List ℕ × Spot) ReadFault
@@ -94,7 +94,7 @@ array_at arrays at =
     expect false (codes "[") name.1 >>= λ at.
     size_at at >>= λ size.
     expect false (codes "]") size.1 >>= λ at.
-    opening_at size.0 at >>= λ cells.
+    initial_values_at size.0 at >>= λ cells.
     Ok (record { names = arrays.names ++ name.0 ∷ []; cells = arrays.cells ++ cells.0 ∷ [] }, cells.1)
 
 unfoldable pub array_turn : Declared → Spot → Result (Turn Declared) ReadFault
@@ -105,12 +105,12 @@ array_turn arrays at =
     else (array_at arrays t.after >>= λ more. Ok (turn true more.0 more.1)))
 
 -- the array that a name stands for
-abbrev pub known : ℕ → Spot → Option ℕ → Result (ℕ × Spot) ReadFault
-known line at None = fails line Name
-known line at (Some index) = Ok (index, at)
+abbrev pub known_array : ℕ → Spot → Option ℕ → Result (ℕ × Spot) ReadFault
+known_array line at None = fails line Name
+known_array line at (Some index) = Ok (index, at)
 
 unfoldable pub array_of : Declared → Lexeme → Result (ℕ × Spot) ReadFault
-array_of arrays t = name_of t >>= λ name. known t.line name.1 (position (bytes_eq name.0) arrays.names)
+array_of arrays t = name_of t >>= λ name. known_array t.line name.1 (position (bytes_eq name.0) arrays.names)
 
 abbrev pub size_of : Declared → ℕ → ℕ
 size_of arrays array = length (slice_index_or arrays.cells array [])

@@ -12,10 +12,10 @@ use Rattle.acc_place.specs.declared.directive.Waits.TheVariants.{Nothing}
 use Rattle.acc_script.specs.declared.clause.Head.{Head}
 use Rattle.acc_script.specs.declared.clause.Head.TheVariants as head
 use Rattle.acc_script.specs.declared.clause.Clauses.{Clauses}
-use Rattle.acc_script.specs.declared.fault.ReadFault.{ReadFault}
-use Rattle.acc_script.specs.Faults.{◌>>=◌}
-use Rattle.acc_script.specs.Tokens.{Spot, Lexeme, token_at, unwanted, expect}
-use Rattle.acc_script.specs.Turns.{Turn, turn}
+use Rattle.acc_token.specs.declared.read_fault.ReadFault.{ReadFault}
+use Rattle.acc_token.specs.Faults.{◌>>=◌}
+use Rattle.acc_token.specs.Tokens.{Spot, Lexeme, token_at, unwanted_token, expect}
+use Rattle.acc_token.specs.Turns.{Turn, turn}
 use Rattle.acc_script.specs.Arrays.{Declared}
 use Rattle.acc_script.specs.Ranges.{items_at}
 use Rattle.acc_script.specs.Queues.{queue_of, waits_at}
@@ -117,9 +117,9 @@ ranges_at arrays clause clauses at =
 
 -- a data clause, if the directive may have the one that this word names
 abbrev pub data_clause : Declared → Head → Clauses → Lexeme → Option Clause → Result (Clauses × Spot) ReadFault
-data_clause arrays h clauses t None = unwanted t
+data_clause arrays h clauses t None = unwanted_token t
 data_clause arrays h clauses t (Some clause) =
-    if allows h clause then ranges_at arrays clause clauses t.after else unwanted t
+    if allows h clause then ranges_at arrays clause clauses t.after else unwanted_token t
 
 -- clause = word "(" range { "," range } ")" | "async" [ "(" queue ")" ] | "wait" [ "(" queues ")" ] | "finalize" | "if_present"
 -- Each but the data clauses stands once at most.

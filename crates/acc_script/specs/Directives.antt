@@ -13,11 +13,11 @@ use Rattle.acc_script.specs.declared.clause.Head.{Head}
 use Rattle.acc_script.specs.declared.clause.Head.TheVariants as head
 use Rattle.acc_script.specs.declared.clause.Clauses.{Clauses}
 use Rattle.acc_script.specs.declared.directive.TheConstants.{MAX_CONSTRUCTS}
-use Rattle.acc_script.specs.declared.fault.ReadFault.{ReadFault}
-use Rattle.acc_script.specs.declared.fault.ReadKind.TheVariants.{Limit}
-use Rattle.acc_script.specs.Faults.{fails, ◌>>=◌}
-use Rattle.acc_script.specs.Tokens.{Spot, Lexeme, token_at, unwanted, expect}
-use Rattle.acc_script.specs.Turns.{all_turns}
+use Rattle.acc_token.specs.declared.read_fault.ReadFault.{ReadFault}
+use Rattle.acc_token.specs.declared.read_fault.ReadKind.TheVariants.{Limit}
+use Rattle.acc_token.specs.Faults.{fails, ◌>>=◌}
+use Rattle.acc_token.specs.Tokens.{Spot, Lexeme, token_at, unwanted_token, expect}
+use Rattle.acc_token.specs.Turns.{all_turns}
 use Rattle.acc_script.specs.Arrays.{Declared}
 use Rattle.acc_script.specs.Queues.{waits_at}
 use Rattle.acc_script.specs.Clauses.{no_clauses, clause_turn}
@@ -33,7 +33,7 @@ head_of depth t =
     else (if bytes_eq t.text (codes "data") then
     (if nat_le MAX_CONSTRUCTS depth then fails t.line Limit else Ok (head.Data, t.after))
     else (if bytes_eq t.text (codes "parallel") then (expect true (codes "loop") t.after >>= λ at. Ok (head.Loop, at))
-    else unwanted t)))))
+    else unwanted_token t)))))
 
 -- What stands before the clauses: the queues of a `wait`.
 abbrev pub opening_at : Head → Spot → Result (Clauses × Spot) ReadFault

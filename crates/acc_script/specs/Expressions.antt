@@ -8,12 +8,12 @@ use Rattle.acc_script.specs.declared.expression.Level.{Level}
 use Rattle.acc_script.specs.declared.expression.Level.TheVariants.{Product, Sum, Comparison, Equality}
 use Rattle.acc_script.specs.declared.expression.Scope.{Scope}
 use Rattle.acc_script.specs.declared.expression.TheConstants.{MAX_NESTING}
-use Rattle.acc_script.specs.declared.fault.ReadFault.{ReadFault}
-use Rattle.acc_script.specs.declared.fault.ReadKind.TheVariants.{End, Name, Limit}
+use Rattle.acc_token.specs.declared.read_fault.ReadFault.{ReadFault}
+use Rattle.acc_token.specs.declared.read_fault.ReadKind.TheVariants.{End, Name, Limit}
 use Rattle.acc_script.specs.Arrays.{Declared, array_of}
-use Rattle.acc_script.specs.Faults.{fails, ◌>>=◌}
-use Rattle.acc_script.specs.Tokens.{Spot, Lexeme, front, is_digit, token_at, exactly, expect, number_of, name_of}
-use Rattle.acc_script.specs.Turns.{Turn, turn, all_turns}
+use Rattle.acc_token.specs.Faults.{fails, ◌>>=◌}
+use Rattle.acc_token.specs.Tokens.{Spot, Lexeme, front, is_digit, token_at, exactly, expect, number_of, name_of}
+use Rattle.acc_token.specs.Turns.{Turn, turn, all_turns}
 
 -- what a name in a loop can stand for: an array, or the loop's index
 pub record Names : Type 0 where

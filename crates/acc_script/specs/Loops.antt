@@ -5,17 +5,17 @@ use Rattle.acc_kernel.specs.declared.fault.KernelFault.{KernelFault}
 use Rattle.acc_kernel.specs.declared.fault.KernelFault.TheVariants.{ReadsAssigned, NoStatement, TooDeep, TooFar, TooMany, Memory}
 use Rattle.acc_kernel.specs.Faults.{fault_of}
 use Rattle.acc_kernel.specs.Kernels.{Loop, loop}
-use Rattle.acc_script.specs.declared.fault.ReadError.{ReadError}
-use Rattle.acc_script.specs.declared.fault.ReadError.TheVariants as error
-use Rattle.acc_script.specs.declared.fault.ReadFault.{ReadFault}
-use Rattle.acc_script.specs.declared.fault.ReadKind.{ReadKind}
-use Rattle.acc_script.specs.declared.fault.ReadKind.TheVariants.{Limit, Form}
+use Rattle.acc_token.specs.declared.read_fault.ReadError.{ReadError}
+use Rattle.acc_token.specs.declared.read_fault.ReadError.TheVariants as error
+use Rattle.acc_token.specs.declared.read_fault.ReadFault.{ReadFault}
+use Rattle.acc_token.specs.declared.read_fault.ReadKind.{ReadKind}
+use Rattle.acc_token.specs.declared.read_fault.ReadKind.TheVariants.{Limit, Form}
 use Rattle.acc_script.specs.declared.loops.Header.{Header}
 use Rattle.acc_script.specs.Arrays.{Declared, value_of, fresh_name, array_of}
 use Rattle.acc_script.specs.Expressions.{Names, names, index_at, expression_at}
-use Rattle.acc_script.specs.Faults.{fails, ◌>>=◌}
-use Rattle.acc_script.specs.Tokens.{Spot, Lexeme, token_at, exactly, expect}
-use Rattle.acc_script.specs.Turns.{Turn, turn, all_turns}
+use Rattle.acc_token.specs.Faults.{fails, ◌>>=◌}
+use Rattle.acc_token.specs.Tokens.{Spot, Lexeme, token_at, exactly, expect}
+use Rattle.acc_token.specs.Turns.{Turn, turn, all_turns}
 
 -- what stands between the parentheses of a loop
 pub record Opening : Type 0 where
@@ -102,21 +102,21 @@ kind_of TooMany = Limit
 kind_of Memory = Limit
 
 -- the same as a reader answers it, which may want memory
-abbrev pub told : ℕ → KernelFault → ReadError
-told line ReadsAssigned = error.Fault (record { line = line; kind = Form })
-told line NoStatement = error.Fault (record { line = line; kind = Form })
-told line TooDeep = error.Fault (record { line = line; kind = Limit })
-told line TooFar = error.Fault (record { line = line; kind = Limit })
-told line TooMany = error.Fault (record { line = line; kind = Limit })
-told line Memory = error.Memory
+abbrev pub told_fault : ℕ → KernelFault → ReadError
+told_fault line ReadsAssigned = error.Fault (record { line = line; kind = Form })
+told_fault line NoStatement = error.Fault (record { line = line; kind = Form })
+told_fault line TooDeep = error.Fault (record { line = line; kind = Limit })
+told_fault line TooFar = error.Fault (record { line = line; kind = Limit })
+told_fault line TooMany = error.Fault (record { line = line; kind = Limit })
+told_fault line Memory = error.Memory
 
-abbrev pub judged : ℕ → Loop → Option KernelFault → Result Loop ReadFault
-judged line k None = Ok k
-judged line k (Some fault) = fails line (kind_of fault)
+abbrev pub judged_loop : ℕ → Loop → Option KernelFault → Result Loop ReadFault
+judged_loop line k None = Ok k
+judged_loop line k (Some fault) = fails line (kind_of fault)
 
 -- A loop keeps its limits; where it doesn't, its first fault has this line.
-unfoldable pub accepted : ℕ → Loop → Result Loop ReadFault
-accepted line k = judged line k (fault_of k)
+unfoldable pub accepted_loop : ℕ → Loop → Result Loop ReadFault
+accepted_loop line k = judged_loop line k (fault_of k)
 
 -- loop = "for" "(" [ "int" | "long" ] name "=" value ";" name "<" value ";" name "++" ")"
 -- ( assign | "{" assign { assign } "}" ); it is judged behind its last token, with the line of its first
@@ -126,5 +126,5 @@ loop_at arrays at =
     exactly (codes "for") t >>= λ at.
     header_at arrays at >>= λ header.
     body_at (names arrays header.0.index) header.1 >>= λ body.
-    accepted t.line (loop header.0.lo header.0.hi body.0) >>= λ k.
+    accepted_loop t.line (loop header.0.lo header.0.hi body.0) >>= λ k.
     Ok (k, body.1)

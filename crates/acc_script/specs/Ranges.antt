@@ -3,12 +3,12 @@ use Rattle.std.specs.Prelude.{ℕ, ◌-◌, Bool, true, false, nat_le, List, [],
 use Rattle.acc_base.specs.declared.range.Range.{Range}
 use Rattle.acc_place.specs.declared.directive.Clause.{Clause}
 use Rattle.acc_place.specs.declared.directive.DataItem.{DataItem}
-use Rattle.acc_script.specs.declared.fault.ReadFault.{ReadFault}
-use Rattle.acc_script.specs.declared.fault.ReadKind.TheVariants.{Limit}
+use Rattle.acc_token.specs.declared.read_fault.ReadFault.{ReadFault}
+use Rattle.acc_token.specs.declared.read_fault.ReadKind.TheVariants.{Limit}
 use Rattle.acc_script.specs.declared.range.TheConstants.{MAX_INDEX, MAX_RANGES}
-use Rattle.acc_script.specs.Faults.{fails, ◌>>=◌}
-use Rattle.acc_script.specs.Tokens.{Spot, Lexeme, front, is_digit, token_at, exactly, expect, number_of}
-use Rattle.acc_script.specs.Turns.{Turn, turn, all_turns}
+use Rattle.acc_token.specs.Faults.{fails, ◌>>=◌}
+use Rattle.acc_token.specs.Tokens.{Spot, Lexeme, front, is_digit, token_at, exactly, expect, number_of}
+use Rattle.acc_token.specs.Turns.{Turn, turn, all_turns}
 use Rattle.acc_script.specs.Arrays.{Declared, array_of, size_of}
 
 -- a bound of a range, if it is written

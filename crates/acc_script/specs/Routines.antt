@@ -10,11 +10,11 @@ use Rattle.acc_place.specs.declared.directive.Waits.{Waits}
 use Rattle.acc_place.specs.declared.directive.Waits.TheVariants.{Nothing, All, Listed}
 use Rattle.acc_host.specs.declared.program.Act.{Act}
 use Rattle.acc_host.specs.declared.program.Act.TheVariants.{Print, SetDevice, SetAsync, ShowDevice, ShowDevices}
-use Rattle.acc_script.specs.declared.fault.ReadFault.{ReadFault}
+use Rattle.acc_token.specs.declared.read_fault.ReadFault.{ReadFault}
 use Rattle.acc_script.specs.declared.range.TheConstants.{MAX_INDEX}
 use Rattle.acc_script.specs.declared.routine.DataRoutine.{DataRoutine}
-use Rattle.acc_script.specs.Faults.{◌>>=◌}
-use Rattle.acc_script.specs.Tokens.{Spot, Lexeme, token_at, unwanted, expect, number_of}
+use Rattle.acc_token.specs.Faults.{◌>>=◌}
+use Rattle.acc_token.specs.Tokens.{Spot, Lexeme, token_at, unwanted_token, expect, number_of}
 use Rattle.acc_script.specs.Arrays.{Declared}
 use Rattle.acc_script.specs.Ranges.{range_of, range_at, item}
 use Rattle.acc_script.specs.Queues.{queue_of}
@@ -88,8 +88,8 @@ no_argument at = expect false (codes "(") at >>= λ at. expect false (codes ")")
 abbrev pub is_routine : List ℕ → Bool
 is_routine word = bytes_eq (take 4 word) (codes "acc_")
 
-abbrev pub waiting : Kind → Waits → Act
-waiting k waits = placed k [] Plain waits
+abbrev pub waiting_act : Kind → Waits → Act
+waiting_act k waits = placed k [] Plain waits
 
 unfoldable pub data_call : Declared → DataRoutine → Spot → Result (Act × Spot) ReadFault
 data_call arrays r at =
@@ -100,16 +100,16 @@ data_call arrays r at =
 unfoldable pub other_call : Lexeme → Result (Act × Spot) ReadFault
 other_call t =
     if bytes_eq t.text (codes "acc_wait") then
-    (queue_argument t.after >>= λ queue. Ok (waiting kind.Wait (Listed (queue.0 ∷ [])), queue.1))
+    (queue_argument t.after >>= λ queue. Ok (waiting_act kind.Wait (Listed (queue.0 ∷ [])), queue.1))
     else (if bytes_eq t.text (codes "acc_wait_all") then
-    (no_argument t.after >>= λ at. Ok (waiting kind.Wait All, at))
+    (no_argument t.after >>= λ at. Ok (waiting_act kind.Wait All, at))
     else (if bytes_eq t.text (codes "acc_wait_async") then
     (two_queues t.after >>= λ queues. Ok (placed kind.Wait [] (Value queues.0.1) (Listed (queues.0.0 ∷ [])), queues.1))
     else (if bytes_eq t.text (codes "acc_set_device_num") then
     (number_argument t.after >>= λ number. Ok (SetDevice number.0, number.1))
     else (if bytes_eq t.text (codes "acc_set_default_async") then
     (queue_argument t.after >>= λ queue. Ok (SetAsync queue.0, queue.1))
-    else unwanted t))))
+    else unwanted_token t))))
 
 abbrev pub call_or_other : Declared → Lexeme → Option DataRoutine → Result (Act × Spot) ReadFault
 call_or_other arrays t None = other_call t
@@ -124,14 +124,14 @@ question_of arrays t =
     if bytes_eq t.text (codes "acc_is_present") then
     (range_argument arrays t.after >>= λ range. Ok (placed kind.IsPresent (item Present range.0 ∷ []) Plain Nothing, range.1))
     else (if bytes_eq t.text (codes "acc_async_test") then
-    (queue_argument t.after >>= λ queue. Ok (waiting kind.AsyncTest (Listed (queue.0 ∷ [])), queue.1))
+    (queue_argument t.after >>= λ queue. Ok (waiting_act kind.AsyncTest (Listed (queue.0 ∷ [])), queue.1))
     else (if bytes_eq t.text (codes "acc_async_test_all") then
-    (no_argument t.after >>= λ at. Ok (waiting kind.AsyncTest All, at))
+    (no_argument t.after >>= λ at. Ok (waiting_act kind.AsyncTest All, at))
     else (if bytes_eq t.text (codes "acc_get_device_num") then
     (no_argument t.after >>= λ at. Ok (ShowDevice, at))
     else (if bytes_eq t.text (codes "acc_get_num_devices") then
     (no_argument t.after >>= λ at. Ok (ShowDevices, at))
-    else unwanted t))))
+    else unwanted_token t))))
 
 -- shown = range | a question
 unfoldable pub shown_of : Declared → Lexeme → Result (Act × Spot) ReadFault

@@ -5,17 +5,17 @@ use Rattle.acc_base.specs.declared.ids.QueueAt.{QueueAt}
 use Rattle.acc_base.specs.Queues.{every_queue}
 use Rattle.acc_host.specs.declared.event.Event.{Event}
 use Rattle.acc_host.specs.declared.event.Event.TheVariants.{Host, Take, Perform, Close}
-use Rattle.acc_script.specs.declared.fault.ReadFault.{ReadFault}
-use Rattle.acc_script.specs.declared.fault.ReadKind.{ReadKind}
-use Rattle.acc_script.specs.declared.fault.ReadKind.TheVariants.{Text, Name, Limit, Form}
-use Rattle.acc_script.specs.declared.text.TheConstants.{MAX_TEXT}
+use Rattle.acc_token.specs.declared.read_fault.ReadFault.{ReadFault}
+use Rattle.acc_token.specs.declared.read_fault.ReadKind.{ReadKind}
+use Rattle.acc_token.specs.declared.read_fault.ReadKind.TheVariants.{Text, Name, Limit, Form}
+use Rattle.acc_token.specs.declared.text.TheConstants.{MAX_TEXT}
 use Rattle.acc_script.specs.declared.schedule.ScheduleLine.{ScheduleLine}
 use Rattle.acc_script.specs.declared.schedule.Turn.{Turn}
 use Rattle.acc_script.specs.declared.schedule.Turn.TheVariants.{One, Round}
 use Rattle.acc_script.specs.declared.schedule.TheConstants.{MAX_EVENTS, MAX_TIMES}
-use Rattle.acc_script.specs.Faults.{fails, ◌>>=◌}
-use Rattle.acc_script.specs.Texts.{within}
-use Rattle.acc_script.specs.Tokens.{is_digit, value_behind}
+use Rattle.acc_token.specs.Faults.{fails, ◌>>=◌}
+use Rattle.acc_token.specs.Texts.{within}
+use Rattle.acc_token.specs.Tokens.{is_digit, value_behind}
 
 -- ## Lines and words
 
@@ -120,14 +120,14 @@ times_of n =
     else Ok (value_behind 0 n)
 
 -- what a line names has to be there, before its N counts
-abbrev pub named : Option (List Event) → List ℕ → Result (List Event) ReadKind
-named None n = Err Name
-named (Some turn) n = repeats turn (times_of n)
+abbrev pub named_turn : Option (List Event) → List ℕ → Result (List Event) ReadKind
+named_turn None n = Err Name
+named_turn (Some turn) n = repeats turn (times_of n)
 
 -- A line asks for a turn N times. Its words have to be so many, and numbers where numbers stand, before all else.
-abbrev pub asked : Bool → Option (List Event) → Option (List ℕ) → Result (List Event) ReadKind
-asked formed turn None = Err Form
-asked formed turn (Some n) = if formed && is_number n then named turn n else Err Form
+abbrev pub asked_turn : Bool → Option (List Event) → Option (List ℕ) → Result (List Event) ReadKind
+asked_turn formed turn None = Err Form
+asked_turn formed turn (Some n) = if formed && is_number n then named_turn turn n else Err Form
 
 -- N, where it is the last word or is missing
 abbrev pub times_word : List (List ℕ) → Option (List ℕ)
@@ -138,14 +138,14 @@ times_word (n ∷ m ∷ others) = None
 -- `host K [N]`: the host goes on
 unfoldable pub host_events : ℕ → List (List ℕ) → Result (List Event) ReadKind
 host_events hosts [] = Err Form
-host_events hosts (k ∷ others) = asked (is_number k) (one_turn (host_named hosts k)) (times_word others)
+host_events hosts (k ∷ others) = asked_turn (is_number k) (one_turn (host_named hosts k)) (times_word others)
 
 -- `take D Q [N]` and `do D Q [N]`: the queue's event
 unfoldable pub queue_events : ℕ → (QueueAt → Event) → List (List ℕ) → Result (List Event) ReadKind
 queue_events devices event [] = Err Form
 queue_events devices event (d ∷ []) = Err Form
 queue_events devices event (d ∷ q ∷ others) =
-    asked (is_number d) (one_turn (option_map event (queue_named devices d q))) (times_word others)
+    asked_turn (is_number d) (one_turn (option_map event (queue_named devices d q))) (times_word others)
 
 -- `close`
 unfoldable pub close_events : List (List ℕ) → Result (List Event) ReadKind
@@ -155,7 +155,7 @@ close_events (word ∷ others) = Err Form
 -- `round N`: a turn of all hosts and queues
 unfoldable pub round_events : ℕ → ℕ → List (List ℕ) → Result (List Event) ReadKind
 round_events hosts devices [] = Err Form
-round_events hosts devices (n ∷ []) = asked true (Some (turn_of hosts devices)) (Some n)
+round_events hosts devices (n ∷ []) = asked_turn true (Some (turn_of hosts devices)) (Some n)
 round_events hosts devices (n ∷ m ∷ others) = Err Form
 
 -- what the words of a line stand for, by the first of them
@@ -179,14 +179,14 @@ line_events hosts devices line =
 -- ## The whole schedule
 
 -- the events behind a line, whose number is given with the events before it
-abbrev pub joined : ℕ → List Event → Result (List Event) ReadKind → Result (List Event) ReadFault
-joined number events (Ok more) =
+abbrev pub joined_events : ℕ → List Event → Result (List Event) ReadKind → Result (List Event) ReadFault
+joined_events number events (Ok more) =
     if nat_lt MAX_EVENTS (length events + length more) then fails number Limit else Ok (events ++ more)
-joined number events (Err kind) = fails number kind
+joined_events number events (Err kind) = fails number kind
 
 unfoldable pub events_behind : ℕ → ℕ → ℕ → List Event → List ℕ → Result (List Event) ReadFault
 events_behind hosts devices number events line =
-    if is_skipped line then Ok events else joined number events (line_events hosts devices line)
+    if is_skipped line then Ok events else joined_events number events (line_events hosts devices line)
 
 abbrev pub events_from : ℕ → ℕ → ℕ → List Event → List (List ℕ) → Result (List Event) ReadFault
 events_from hosts devices number events [] = Ok events

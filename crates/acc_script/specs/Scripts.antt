@@ -3,14 +3,14 @@ use Rattle.std.specs.Prelude.{ℕ, ◌==◌, nat_le, true, false, List, [], ◌�
 use Rattle.acc_base.specs.declared.config.TheConstants.{MAX_HOSTS}
 use Rattle.acc_base.specs.Configurations.{rows}
 use Rattle.acc_host.specs.declared.program.HostProgram.{HostProgram}
-use Rattle.acc_script.specs.declared.fault.ReadFault.{ReadFault}
-use Rattle.acc_script.specs.declared.fault.ReadKind.TheVariants.{Limit}
+use Rattle.acc_token.specs.declared.read_fault.ReadFault.{ReadFault}
+use Rattle.acc_token.specs.declared.read_fault.ReadKind.TheVariants.{Limit}
 use Rattle.acc_script.specs.declared.script.Script.{Script}
-use Rattle.acc_script.specs.Faults.{fails, ◌>>=◌}
-use Rattle.acc_script.specs.Texts.{within}
-use Rattle.acc_script.specs.declared.text.TheConstants.{MAX_TEXT}
-use Rattle.acc_script.specs.Tokens.{Spot, token_at, exactly, expect}
-use Rattle.acc_script.specs.Turns.{Turn, turn, all_turns}
+use Rattle.acc_token.specs.Faults.{fails, ◌>>=◌}
+use Rattle.acc_token.specs.Texts.{within}
+use Rattle.acc_token.specs.declared.text.TheConstants.{MAX_TEXT}
+use Rattle.acc_token.specs.Tokens.{Spot, token_at, exactly, expect}
+use Rattle.acc_token.specs.Turns.{Turn, turn, all_turns}
 use Rattle.acc_script.specs.Arrays.{Declared, texts, none_declared, array_turn}
 use Rattle.acc_script.specs.Statements.{body, statement_turn}
 
@@ -40,15 +40,15 @@ host_turn arrays programs at =
     else (host_at arrays (length programs) at >>= λ p. Ok (turn true (programs ++ p.0 ∷ []) p.1)))
 
 -- script = { array } { hostpart }
-unfoldable pub program_at : Spot → Result Program ReadFault
-program_at at =
+unfoldable pub script_at : Spot → Result Program ReadFault
+script_at at =
     all_turns array_turn none_declared at >>= λ arrays.
     all_turns (host_turn arrays.so_far) [] arrays.at >>= λ programs.
     Ok (program arrays.so_far programs.so_far)
 
 unfoldable pub script_of : List ℕ → Result Program ReadFault
-script_of text = within MAX_TEXT (λ (text : List ℕ). program_at (record { line = 1; bytes = text })) text
+script_of text = within MAX_TEXT (λ (text : List ℕ). script_at (record { line = 1; bytes = text })) text
 
 -- a script as the reader gives it
-abbrev pub seen : Script → Program
-seen s = record { names = texts s.names.keys; arrays = rows s.arrays.items; programs = s.programs.items }
+abbrev pub program_of : Script → Program
+program_of s = record { names = texts s.names.keys; arrays = rows s.arrays.items; programs = s.programs.items }

@@ -7,11 +7,11 @@ use Rattle.acc_place.specs.declared.directive.Waits.TheVariants.{Nothing}
 use Rattle.acc_host.specs.declared.program.Act.{Act}
 use Rattle.acc_host.specs.declared.program.Act.TheVariants.{Place, Write}
 use Rattle.acc_host.specs.declared.program.Statement.{Statement}
-use Rattle.acc_script.specs.declared.fault.ReadFault.{ReadFault}
+use Rattle.acc_token.specs.declared.read_fault.ReadFault.{ReadFault}
 use Rattle.acc_script.specs.declared.range.TheConstants.{MAX_INDEX}
-use Rattle.acc_script.specs.Faults.{◌>>=◌}
-use Rattle.acc_script.specs.Tokens.{Spot, Lexeme, token_at, expect, number_of}
-use Rattle.acc_script.specs.Turns.{Turn, turn}
+use Rattle.acc_token.specs.Faults.{◌>>=◌}
+use Rattle.acc_token.specs.Tokens.{Spot, Lexeme, token_at, expect, number_of}
+use Rattle.acc_token.specs.Turns.{Turn, turn}
 use Rattle.acc_script.specs.Arrays.{Declared, array_of, value_of}
 use Rattle.acc_script.specs.Directives.{placed, directive_at}
 use Rattle.acc_script.specs.Routines.{is_routine, call_of, print_at}

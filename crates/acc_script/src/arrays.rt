@@ -2,12 +2,12 @@
 
 ghost use Rattle.std.specs.Prelude.{◌≡◌, ◌+◌, ◌≤◌, ◌<◌, ◌∷◌, ◌++◌, [], length, IfErr, OnOk, IfSome, false, bytes_eq};
 ghost use Rattle.std.specs.List.{list_any, position};
-ghost use Rattle.acc_script.specs.declared.fault.ReadError.{ReadError};
+ghost use Rattle.acc_token.specs.declared.read_fault.ReadError.{ReadError};
 ghost use Rattle.acc_base.specs.declared.config.TheConstants.{MAX_ARRAYS, MAX_CELLS};
 ghost use Rattle.acc_base.specs.Configurations.{rows};
 ghost use Rattle.acc_script.specs.Arrays.{none_declared, size_of, texts, IsDeclared};
 
-use crate::fault::ReadError;
+use acc_token::ReadError;
 use indexmap::IndexSet;
 use std::alloc::Global;
 use std::marker::Model;
@@ -67,7 +67,7 @@ impl<'a> Arrays<'a> {
     }
 
     /// How many cells an array has.
-    pub(crate) fn size(&self, array: u8) -> u32
+    pub(crate) fn size_of(&self, array: u8) -> u32
         requires { array < length self.now.cells }
         ensures { result ≡ size_of self.now array }
     {

@@ -2,20 +2,17 @@
 
 ghost use Rattle.std.specs.Prelude.{◌≡◌, ◌+◌, ◌≤◌, ◌<◌, true, false, not, [], ◌∷◌, length, IfOk, OnOk, IfSome, if◌then◌else◌};
 ghost use Rattle.acc_script.specs.Clauses.{is_one_of, clause_named, allows, needs_item, may_be_async, may_wait, is_mark, no_clauses, is_plain, is_nothing, is_bare, is_complete, may_have_comma, target_at, ranges_at, data_clause, clause_of, ends_line, clause_turn};
-ghost use Rattle.acc_script.specs.Faults.{Gives, Reads};
-ghost use Rattle.acc_script.specs.Tokens.{spot, lexeme};
-ghost use Rattle.acc_script.specs.Turns.{turn, all_turns};
+ghost use Rattle.acc_token.specs.Faults.{Gives, Reads};
+ghost use Rattle.acc_token.specs.Tokens.{spot, lexeme};
+ghost use Rattle.acc_token.specs.Turns.{turn, all_turns};
 ghost use Rattle.acc_script.specs.inner.Kept.{IsKept};
 
 use crate::arrays::Arrays;
-use crate::at::At;
-use crate::fault::{ReadError, ReadFault};
 use crate::queue::{queue_of, waits_at};
 use crate::range::items_at;
-use crate::token::{Token, is, token_of};
-use crate::word::{expect, unwanted};
 use acc_base::Few;
 use acc_place::{Clause, DataItem, Kind, Target, Waits};
+use acc_token::{At, ReadError, ReadFault, Token, expect, is, token_at, unwanted_token};
 use std::alloc::Global;
 
 /// What a directive begins with.
@@ -168,9 +165,9 @@ fn target_at<'a>(at: At<'a>) -> Result<(Target, At<'a>), ReadFault>
     ensures found { Reads (λ x. (x.0, spot x.1)) result (target_at (spot at.entry)) }
     ensures shorter { IfOk result (λ x. length x.1.bytes.now ≤ length at.entry.bytes.now) }
 {
-    let t = token_of(at, true)?;
+    let t = token_at(at, true)?;
     if is(t.text, b"(") {
-        let u = token_of(t.after, true)?;
+        let u = token_at(t.after, true)?;
         let (value, at) = queue_of(u, true)?;
         let at = expect(at, true, b")")?;
         Ok((Target::Value { value }, at))
@@ -216,10 +213,10 @@ fn data_clause<'a>(
             if head.allows(clause) {
                 ranges_at(arrays, head, clause, clauses, t.after)
             } else {
-                Err(unwanted(t).into())
+                Err(unwanted_token(t).into())
             }
         }
-        None => Err(unwanted(t).into()),
+        None => Err(unwanted_token(t).into()),
     }
 }
 
@@ -276,11 +273,11 @@ fn clause_turn<'a>(
     ensures complete { IfOk result (λ x. x.0 ≡ false → is_complete head clauses.new ≡ true) }
     ensures shorter { IfOk result (λ x. (if x.0 then 1 else 0) + length x.1.bytes.now ≤ length at.entry.bytes.now) }
 {
-    let t = token_of(at, true)?;
+    let t = token_at(at, true)?;
     if ends_line(t.text) && clauses.is_complete(head) {
         Ok((false, t.after))
     } else if is(t.text, b",") && clauses.may_have_comma(head) {
-        let u = token_of(t.after, true)?;
+        let u = token_at(t.after, true)?;
         Ok((true, clause_of(alloc, arrays, head, clauses, u)?))
     } else {
         Ok((true, clause_of(alloc, arrays, head, clauses, t)?))
@@ -288,7 +285,7 @@ fn clause_turn<'a>(
 }
 
 /// The clauses of a directive, up to the end of its line, behind those that are there.
-#[tactic(auto, using(crate::proofs::Turns::goes_on, crate::proofs::Turns::ends, crate::proofs::Turns::fails_too))]
+#[tactic(auto, using(acc_token::proofs::Turns::goes_on, acc_token::proofs::Turns::ends, acc_token::proofs::Turns::fails_too))]
 pub(crate) fn clauses_at<'a>(
     alloc: Global,
     arrays: &Arrays,

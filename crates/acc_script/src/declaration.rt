@@ -2,17 +2,17 @@
 
 ghost use Rattle.std.specs.Prelude.{◌≡◌, ◌+◌, ◌≤◌, ◌<◌, length, IfOk, OnOk, false, if◌then◌else◌, bytes_eq};
 ghost use Rattle.std.specs.List.{list_any};
-ghost use Rattle.acc_script.specs.Arrays.{negative, value_of, begins_value, value_turn_behind, value_turn, size_at, opening_at, fresh_name, array_at, array_turn, array_of};
-ghost use Rattle.acc_script.specs.Faults.{Gives, Reads};
-ghost use Rattle.acc_script.specs.Tokens.{spot, lexeme};
-ghost use Rattle.acc_script.specs.Turns.{turn, all_turns};
+ghost use Rattle.acc_script.specs.Arrays.{negative, value_of, begins_value, value_turn_behind, value_turn, size_at, initial_values_at, fresh_name, array_at, array_turn, array_of};
+ghost use Rattle.acc_token.specs.Faults.{Gives, Reads};
+ghost use Rattle.acc_token.specs.Tokens.{spot, lexeme};
+ghost use Rattle.acc_token.specs.Turns.{turn, all_turns};
 
 use crate::arrays::Arrays;
-use crate::at::At;
-use crate::fault::{ReadError, ReadFault, ReadKind};
-use crate::token::{Token, fault, front, is, is_digit, token_of};
-use crate::word::{exactly, expect, name_of, number_of, unwanted};
 use acc_base::{MAX_ARRAYS, MAX_CELLS};
+use acc_token::{
+    At, ReadError, ReadFault, ReadKind, Token, exactly, expect, fault, front, is, is_digit,
+    name_of, number_of, token_at, unwanted_token,
+};
 use std::alloc::Global;
 
 /// The negative of a number of at most 2^63.
@@ -32,7 +32,7 @@ pub(crate) fn value_of<'a>(t: Token<'a>) -> Result<(i64, At<'a>), ReadFault>
     ensures shorter { IfOk result (λ x. length x.1.bytes.now ≤ length t.entry.after.bytes.now) }
 {
     if is(t.text, b"-") {
-        let u = token_of(t.after, false)?;
+        let u = token_at(t.after, false)?;
         let n = number_of(u, 9_223_372_036_854_775_808)?;
         Ok((negative(n), u.after))
     } else {
@@ -57,7 +57,7 @@ fn value_turn_behind<'a>(cells: &mut Vec<i64>, t: Token<'a>) -> Result<(bool, At
 {
     let (value, at) = value_of(t)?;
     cells.push(value)?;
-    let u = token_of(at, false)?;
+    let u = token_at(at, false)?;
     if is(u.text, b",") {
         Ok((true, u.after))
     } else {
@@ -77,11 +77,11 @@ fn value_turn<'a>(
     ensures few { OnOk result (length cells.new.items ≤ size) }
     ensures shorter { IfOk result (λ x. (if x.0 then 1 else 0) + length x.1.bytes.now ≤ length at.entry.bytes.now) }
 {
-    let t = token_of(at, false)?;
+    let t = token_at(at, false)?;
     if is(t.text, b"}") && 0 < cells.len() {
         Ok((false, t.after))
     } else if !begins_value(t.text) {
-        Err(unwanted(t).into())
+        Err(unwanted_token(t).into())
     } else if size <= cells.len() {
         Err(fault(t.line, ReadKind::Limit).into())
     } else {
@@ -90,8 +90,8 @@ fn value_turn<'a>(
 }
 
 // The initial values up to the }.
-#[tactic(auto, using(crate::proofs::Turns::goes_on, crate::proofs::Turns::ends, crate::proofs::Turns::fails_too))]
-fn values_of<'a>(size: usize, cells: &mut Vec<i64>, at: At<'a>) -> Result<At<'a>, ReadError>
+#[tactic(auto, using(acc_token::proofs::Turns::goes_on, acc_token::proofs::Turns::ends, acc_token::proofs::Turns::fails_too))]
+fn values_at<'a>(size: usize, cells: &mut Vec<i64>, at: At<'a>) -> Result<At<'a>, ReadError>
     requires { length cells.old.items ≤ size }
     ensures found { Gives (λ a. turn false cells.new.items (spot a)) result (all_turns (value_turn size) cells.old.items (spot at.entry)) }
     ensures few { OnOk result (length cells.new.items ≤ size) }
@@ -111,12 +111,12 @@ fn values_of<'a>(size: usize, cells: &mut Vec<i64>, at: At<'a>) -> Result<At<'a>
 
 // An array's size.
 #[tactic(auto, unfolding(crate::specs::Arrays::size_at))]
-fn size_of<'a>(at: At<'a>) -> Result<(usize, At<'a>), ReadFault>
+fn size_at<'a>(at: At<'a>) -> Result<(usize, At<'a>), ReadFault>
     ensures found { Reads (λ x. (x.0, spot x.1)) result (size_at (spot at.entry)) }
     ensures within { IfOk result (λ x. (1 ≤ x.0) × (x.0 ≤ MAX_CELLS)) }
     ensures shorter { IfOk result (λ x. length x.1.bytes.now ≤ length at.entry.bytes.now) }
 {
-    let t = token_of(at, false)?;
+    let t = token_at(at, false)?;
     let n = number_of(t, MAX_CELLS as u64)?;
     if n == 0 {
         Err(fault(t.line, ReadKind::Limit))
@@ -126,21 +126,21 @@ fn size_of<'a>(at: At<'a>) -> Result<(usize, At<'a>), ReadFault>
 }
 
 // The initial values, those that are missing too, and the semicolon.
-#[tactic(auto, unfolding(crate::specs::Arrays::opening_at))]
-fn initial_values<'a>(
+#[tactic(auto, unfolding(crate::specs::Arrays::initial_values_at))]
+fn initial_values_at<'a>(
     alloc: Global,
     size: usize,
     at: At<'a>,
 ) -> Result<(Vec<i64>, At<'a>), ReadError>
-    ensures found { Gives (λ x. (x.0.items, spot x.1)) result (opening_at size (spot at.entry)) }
+    ensures found { Gives (λ x. (x.0.items, spot x.1)) result (initial_values_at size (spot at.entry)) }
     ensures size { IfOk result (λ x. length x.0.items ≡ size) }
     ensures shorter { IfOk result (λ x. length x.1.bytes.now ≤ length at.entry.bytes.now) }
 {
     let mut cells = Vec::new(alloc);
-    let t = token_of(at, false)?;
+    let t = token_at(at, false)?;
     let after = if is(t.text, b"=") {
         let at = expect(t.after, false, b"{")?;
-        let at = values_of(size, &mut cells, at)?;
+        let at = values_at(size, &mut cells, at)?;
         expect(at, false, b";")?
     } else {
         exactly(t, b";")?
@@ -165,17 +165,17 @@ pub(crate) fn fresh_name<'a>(arrays: &Arrays, t: Token<'a>) -> Result<&'a [u8], 
 
 // An array's declaration behind `long`.
 #[tactic(auto, unfolding(crate::specs::Arrays::array_at))]
-fn declare<'a>(alloc: Global, arrays: &mut Arrays<'a>, at: At<'a>) -> Result<At<'a>, ReadError>
+fn array_at<'a>(alloc: Global, arrays: &mut Arrays<'a>, at: At<'a>) -> Result<At<'a>, ReadError>
     requires { length arrays.old.names < MAX_ARRAYS }
     ensures found { Gives (λ a. (arrays.new, spot a)) result (array_at arrays.old (spot at.entry)) }
     ensures shorter { IfOk result (λ a. length a.bytes.now ≤ length at.entry.bytes.now) }
 {
-    let t = token_of(at, false)?;
+    let t = token_at(at, false)?;
     let name = fresh_name(arrays, t)?;
     let at = expect(t.after, false, b"[")?;
-    let (size, at) = size_of(at)?;
+    let (size, at) = size_at(at)?;
     let at = expect(at, false, b"]")?;
-    let (cells, at) = initial_values(alloc, size, at)?;
+    let (cells, at) = initial_values_at(alloc, size, at)?;
     arrays.declare(name, cells)?;
     Ok(at)
 }
@@ -190,20 +190,20 @@ fn array_turn<'a>(
     ensures found { Gives (λ x. turn x.0 arrays.new (spot x.1)) result (array_turn arrays.old (spot at.entry)) }
     ensures shorter { IfOk result (λ x. (if x.0 then 1 else 0) + length x.1.bytes.now ≤ length at.entry.bytes.now) }
 {
-    let t = token_of(at, false)?;
+    let t = token_at(at, false)?;
     if !is(t.text, b"long") {
         Ok((false, at))
     } else if MAX_ARRAYS <= arrays.count() {
         Err(fault(t.line, ReadKind::Limit).into())
     } else {
-        let after = declare(alloc, arrays, t.after)?;
+        let after = array_at(alloc, arrays, t.after)?;
         Ok((true, after))
     }
 }
 
 /// The arrays that are declared here, one after another.
-#[tactic(auto, using(crate::proofs::Turns::goes_on, crate::proofs::Turns::ends, crate::proofs::Turns::fails_too))]
-pub(crate) fn arrays_of<'a>(
+#[tactic(auto, using(acc_token::proofs::Turns::goes_on, acc_token::proofs::Turns::ends, acc_token::proofs::Turns::fails_too))]
+pub(crate) fn arrays_at<'a>(
     alloc: Global,
     arrays: &mut Arrays<'a>,
     at: At<'a>,

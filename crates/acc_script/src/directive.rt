@@ -4,25 +4,24 @@ ghost use Rattle.std.specs.Prelude.{◌≡◌, ◌+◌, ◌≤◌, ◌<◌, true
 ghost use Rattle.acc_place.specs.Clauses.{is_well_formed};
 ghost use Rattle.acc_place.specs.Directives.{written_first};
 ghost use Rattle.acc_host.specs.declared.program.Act.TheVariants.{Place};
-ghost use Rattle.acc_script.specs.declared.fault.ReadError.TheVariants.{Memory};
+ghost use Rattle.acc_token.specs.declared.read_fault.ReadError.TheVariants.{Memory};
 ghost use Rattle.acc_script.specs.Clauses.{is_complete, clause_turn};
 ghost use Rattle.acc_script.specs.Directives.{head_of, opening_at, placed_with, act_behind, directive_at};
-ghost use Rattle.acc_script.specs.Faults.{Gives, Reads};
-ghost use Rattle.acc_script.specs.Tokens.{spot, lexeme};
+ghost use Rattle.acc_token.specs.Faults.{Gives, Reads};
+ghost use Rattle.acc_token.specs.Tokens.{spot, lexeme};
 ghost use Rattle.acc_script.specs.inner.Kept.{IsKept};
 
 use crate::arrays::Arrays;
-use crate::at::At;
 use crate::clause::{Clauses, Head, clauses_at};
-use crate::fault::{ReadError, ReadFault, ReadKind};
 use crate::loops::loop_at;
 use crate::queue::waits_at;
-use crate::token::{Token, fault, is, token_of};
-use crate::word::{expect, unwanted};
 use acc_base::Shared;
 use acc_host::Act;
 use acc_kernel::Kernel;
 use acc_place::{Directive, Kind, Waits, Written};
+use acc_token::{
+    At, ReadError, ReadFault, ReadKind, Token, expect, fault, is, token_at, unwanted_token,
+};
 use std::alloc::Global;
 
 /// The most data constructs inside one another in a text.
@@ -65,7 +64,7 @@ fn head_of<'a>(depth: u32, t: Token<'a>) -> Result<(Head, At<'a>), ReadFault>
     } else if is(t.text, b"parallel") {
         Ok((Head::Loop, expect(t.after, true, b"loop")?))
     } else {
-        Err(unwanted(t))
+        Err(unwanted_token(t))
     }
 }
 
@@ -164,7 +163,7 @@ pub(crate) fn directive_at<'a>(
 {
     let at = expect(at, true, b"pragma")?;
     let at = expect(at, true, b"acc")?;
-    let t = token_of(at, true)?;
+    let t = token_at(at, true)?;
     let (head, at) = head_of(depth, t)?;
     let (mut clauses, at) = opening_at(alloc, head, at)?;
     let at = clauses_at(alloc, arrays, head, &mut clauses, at)?;

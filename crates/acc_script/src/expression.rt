@@ -2,17 +2,17 @@
 
 ghost use Rattle.std.specs.Prelude.{◌≡◌, ◌+◌, ◌≤◌, ◌<◌, false, length, IfOk, IfSome, if◌then◌else◌};
 ghost use Rattle.acc_script.specs.Expressions.{names, names_in, below, inside, one_deeper, index_at, number_at, offset_at, read_behind, leaf_of, group_of, negated_of, unary_at, operator_of, part_at, chain_turn, chain_at, choice_of, expr_at, expression_at};
-ghost use Rattle.acc_script.specs.Faults.{Gives, Reads};
-ghost use Rattle.acc_script.specs.Tokens.{spot, lexeme};
-ghost use Rattle.acc_script.specs.Turns.{turn, all_turns};
+ghost use Rattle.acc_token.specs.Faults.{Gives, Reads};
+ghost use Rattle.acc_token.specs.Tokens.{spot, lexeme};
+ghost use Rattle.acc_token.specs.Turns.{turn, all_turns};
 
 use crate::arrays::Arrays;
-use crate::at::At;
 use crate::declaration::array_of;
-use crate::fault::{ReadError, ReadFault, ReadKind};
-use crate::token::{Token, fault, front, is, is_digit, token_of};
-use crate::word::{exactly, expect, name_of, number_of};
 use acc_kernel::{Expr, Operator};
+use acc_token::{
+    At, ReadError, ReadFault, ReadKind, Token, exactly, expect, fault, front, is, is_digit,
+    name_of, number_of, token_at,
+};
 use std::alloc::Global;
 
 /// How deep parentheses, unary signs and `?:` can stand together.
@@ -62,7 +62,7 @@ pub(crate) fn index_at<'a>(at: At<'a>, index: &[u8]) -> Result<At<'a>, ReadFault
     ensures found { Reads spot result (index_at index.now (spot at.entry)) }
     ensures shorter { IfOk result (λ a. length a.bytes.now ≤ length at.entry.bytes.now) }
 {
-    let t = token_of(at, false)?;
+    let t = token_at(at, false)?;
     let _ = name_of(t)?;
     exactly(t, index)
 }
@@ -73,7 +73,7 @@ fn number_at<'a>(at: At<'a>) -> Result<(u64, At<'a>), ReadFault>
     ensures within { IfOk result (λ x. x.0 ≤ 9223372036854775807) }
     ensures shorter { IfOk result (λ x. length x.1.bytes.now ≤ length at.entry.bytes.now) }
 {
-    let t = token_of(at, false)?;
+    let t = token_at(at, false)?;
     let n = number_of(t, LARGEST)?;
     Ok((n, t.after))
 }
@@ -84,7 +84,7 @@ fn offset_at<'a>(at: At<'a>) -> Result<(i64, At<'a>), ReadFault>
     ensures found { Reads (λ x. (x.0, spot x.1)) result (offset_at (spot at.entry)) }
     ensures shorter { IfOk result (λ x. length x.1.bytes.now ≤ length at.entry.bytes.now) }
 {
-    let t = token_of(at, false)?;
+    let t = token_at(at, false)?;
     if is(t.text, b"+") {
         let (n, at) = number_at(t.after)?;
         Ok((n as i64, at))
@@ -108,7 +108,7 @@ fn read_behind<'a>(
     ensures found { Gives (λ x. (x.0, spot x.1)) result (read_behind (names_in scope.entry) line array (spot at.entry)) }
     ensures shorter { IfOk result (λ x. length x.1.bytes.now ≤ length at.entry.bytes.now) }
 {
-    let t = token_of(at, false)?;
+    let t = token_at(at, false)?;
     if is(t.text, b"[") {
         let at = index_at(t.after, scope.index)?;
         let (offset, at) = offset_at(at)?;
@@ -173,7 +173,7 @@ fn unary_at<'a>(alloc: Global, scope: Scope, at: At<'a>) -> Result<(Expr, At<'a>
     ensures found { Gives (λ x. (x.0, spot x.1)) result (unary_at (names_in scope.entry) (below scope.entry) (spot at.entry)) }
     ensures shorter { IfOk result (λ x. length x.1.bytes.now ≤ length at.entry.bytes.now) }
 {
-    let t = token_of(at, false)?;
+    let t = token_at(at, false)?;
     if is(t.text, b"-") {
         negated_of(alloc, scope, t)
     } else if is(t.text, b"(") {
@@ -262,7 +262,7 @@ fn chain_turn<'a>(
     ensures found { Gives (λ x. turn x.0 left.new (spot x.1)) result (chain_turn level (part_at level (unary_at (names_in scope.entry) (below scope.entry))) left.old (spot at.entry)) }
     ensures shorter { IfOk result (λ x. (if x.0 then 1 else 0) + length x.1.bytes.now ≤ length at.entry.bytes.now) }
 {
-    let t = token_of(at, false)?;
+    let t = token_at(at, false)?;
     match operator_of(level, t.text) {
         None => Ok((false, at)),
         Some(operator) => {
@@ -275,7 +275,7 @@ fn chain_turn<'a>(
 
 // The operators of the level and the parts behind them.
 #[cycle(expression)]
-#[tactic(auto, using(crate::proofs::Turns::goes_on, crate::proofs::Turns::ends, crate::proofs::Turns::fails_too))]
+#[tactic(auto, using(acc_token::proofs::Turns::goes_on, acc_token::proofs::Turns::ends, acc_token::proofs::Turns::fails_too))]
 fn parts_at<'a>(
     alloc: Global,
     scope: Scope,
@@ -342,7 +342,7 @@ fn expr_at<'a>(alloc: Global, scope: Scope, at: At<'a>) -> Result<(Expr, At<'a>)
     ensures shorter { IfOk result (λ x. length x.1.bytes.now ≤ length at.entry.bytes.now) }
 {
     let (test, after) = chain_at(alloc, scope, Level::Equality, at)?;
-    let t = token_of(after, false)?;
+    let t = token_at(after, false)?;
     if is(t.text, b"?") {
         choice_of(alloc, scope, test, t)
     } else {

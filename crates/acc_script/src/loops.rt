@@ -3,19 +3,16 @@
 ghost use Rattle.std.specs.Prelude.{◌≡◌, ◌+◌, ◌≤◌, ◌<◌, false, length, IfOk, OnOk, if◌then◌else◌};
 ghost use Rattle.acc_kernel.specs.Kernels.{loop};
 ghost use Rattle.acc_script.specs.Expressions.{names};
-ghost use Rattle.acc_script.specs.Faults.{Gives, Reads};
-ghost use Rattle.acc_script.specs.Loops.{type_at, first_at, bound_at, header_at, opening, assign_of, assign_turn, body_at, told, accepted, loop_at};
-ghost use Rattle.acc_script.specs.Tokens.{spot, lexeme};
-ghost use Rattle.acc_script.specs.Turns.{turn, all_turns};
+ghost use Rattle.acc_token.specs.Faults.{Gives, Reads};
+ghost use Rattle.acc_script.specs.Loops.{type_at, first_at, bound_at, header_at, opening, assign_of, assign_turn, body_at, told_fault, accepted_loop, loop_at};
+ghost use Rattle.acc_token.specs.Tokens.{spot, lexeme};
+ghost use Rattle.acc_token.specs.Turns.{turn, all_turns};
 
 use crate::arrays::Arrays;
-use crate::at::At;
 use crate::declaration::{array_of, fresh_name, value_of};
 use crate::expression::{expression_at, index_at};
-use crate::fault::{ReadError, ReadFault, ReadKind};
-use crate::token::{Token, fault, is, token_of};
-use crate::word::{exactly, expect};
 use acc_kernel::{Assign, Kernel, KernelFault};
+use acc_token::{At, ReadError, ReadFault, ReadKind, Token, exactly, expect, fault, is, token_at};
 use std::alloc::Global;
 
 /// What stands between the parentheses of a loop: its name, the first index, and the one behind the last.
@@ -32,7 +29,7 @@ fn type_at<'a>(at: At<'a>) -> Result<At<'a>, ReadFault>
     ensures found { Reads spot result (type_at (spot at.entry)) }
     ensures shorter { IfOk result (λ a. length a.bytes.now ≤ length at.entry.bytes.now) }
 {
-    let t = token_of(at, false)?;
+    let t = token_at(at, false)?;
     if is(t.text, b"int") || is(t.text, b"long") {
         Ok(t.after)
     } else {
@@ -47,10 +44,10 @@ fn first_at<'a>(arrays: &Arrays, at: At<'a>) -> Result<(&'a [u8], i64, At<'a>), 
     ensures shorter { IfOk result (λ x. length x.2.bytes.now ≤ length at.entry.bytes.now) }
 {
     let at = type_at(at)?;
-    let t = token_of(at, false)?;
+    let t = token_at(at, false)?;
     let name = fresh_name(arrays, t)?;
     let at = expect(t.after, false, b"=")?;
-    let (lo, at) = value_of(token_of(at, false)?)?;
+    let (lo, at) = value_of(token_at(at, false)?)?;
     let at = expect(at, false, b";")?;
     Ok((name, lo, at))
 }
@@ -63,7 +60,7 @@ fn bound_at<'a>(at: At<'a>, index: &[u8]) -> Result<(i64, At<'a>), ReadFault>
 {
     let at = index_at(at, index)?;
     let at = expect(at, false, b"<")?;
-    let (hi, at) = value_of(token_of(at, false)?)?;
+    let (hi, at) = value_of(token_at(at, false)?)?;
     let at = expect(at, false, b";")?;
     Ok((hi, at))
 }
@@ -117,7 +114,7 @@ fn assign_turn<'a>(
     ensures found { Gives (λ x. turn x.0 assigns.new.items (spot x.1)) result (assign_turn (names arrays.now index.now) assigns.old.items (spot at.entry)) }
     ensures shorter { IfOk result (λ x. (if x.0 then 1 else 0) + length x.1.bytes.now ≤ length at.entry.bytes.now) }
 {
-    let t = token_of(at, false)?;
+    let t = token_at(at, false)?;
     if is(t.text, b"}") && 0 < assigns.len() {
         Ok((false, t.after))
     } else {
@@ -128,7 +125,7 @@ fn assign_turn<'a>(
 }
 
 // The assignments up to the }.
-#[tactic(auto, using(crate::proofs::Turns::goes_on, crate::proofs::Turns::ends, crate::proofs::Turns::fails_too))]
+#[tactic(auto, using(acc_token::proofs::Turns::goes_on, acc_token::proofs::Turns::ends, acc_token::proofs::Turns::fails_too))]
 fn assigns_at<'a>(
     alloc: Global,
     arrays: &Arrays,
@@ -163,7 +160,7 @@ fn body_at<'a>(
     ensures shorter { IfOk result (λ x. length x.1.bytes.now ≤ length at.entry.bytes.now) }
 {
     let mut assigns = Vec::new(alloc);
-    let t = token_of(at, false)?;
+    let t = token_at(at, false)?;
     if is(t.text, b"{") {
         let at = assigns_at(alloc, arrays, index, &mut assigns, t.after)?;
         Ok((assigns, at))
@@ -175,8 +172,8 @@ fn body_at<'a>(
 }
 
 // How a loop's fault is told, whose `for` stands in this line.
-fn told(line: u32, refused: KernelFault) -> ReadError
-    ensures { result ≡ told line refused }
+fn told_fault(line: u32, refused: KernelFault) -> ReadError
+    ensures { result ≡ told_fault line refused }
 {
     match refused {
         KernelFault::ReadsAssigned | KernelFault::NoStatement => {
@@ -190,18 +187,18 @@ fn told(line: u32, refused: KernelFault) -> ReadError
 }
 
 // The loop, whose `for` stands in this line.
-#[tactic(auto, unfolding(crate::specs::Loops::accepted))]
-fn accepted(
+#[tactic(auto, unfolding(crate::specs::Loops::accepted_loop))]
+fn accepted_loop(
     alloc: Global,
     line: u32,
     header: Header,
     assigns: Vec<Assign>,
 ) -> Result<Kernel, ReadError>
-    ensures { Gives (λ k. k) result (accepted line (loop header.entry.lo header.entry.hi assigns.items)) }
+    ensures { Gives (λ k. k) result (accepted_loop line (loop header.entry.lo header.entry.hi assigns.items)) }
 {
     match Kernel::new(alloc, header.lo, header.hi, assigns) {
         Ok(kernel) => Ok(kernel),
-        Err(refused) => Err(told(line, refused)),
+        Err(refused) => Err(told_fault(line, refused)),
     }
 }
 
@@ -220,10 +217,10 @@ pub(crate) fn loop_at<'a>(
     ensures found { Gives (λ x. (x.0, spot x.1)) result (loop_at arrays.now (spot at.entry)) }
     ensures shorter { IfOk result (λ x. length x.1.bytes.now ≤ length at.entry.bytes.now) }
 {
-    let t = token_of(at, false)?;
+    let t = token_at(at, false)?;
     let at = exactly(t, b"for")?;
     let (header, at) = header_at(arrays, at)?;
     let (assigns, at) = body_at(alloc, arrays, header.index, at)?;
-    let kernel = accepted(alloc, t.line, header, assigns)?;
+    let kernel = accepted_loop(alloc, t.line, header, assigns)?;
     Ok((kernel, at))
 }

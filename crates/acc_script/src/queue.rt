@@ -1,19 +1,18 @@
 //! Async values, and the queues of a wait.
 
 ghost use Rattle.std.specs.Prelude.{◌≡◌, ◌+◌, ◌≤◌, ◌<◌, [], false, length, IfOk, OnOk, if◌then◌else◌};
-ghost use Rattle.acc_script.specs.Faults.{Gives, Reads};
+ghost use Rattle.acc_token.specs.Faults.{Gives, Reads};
 ghost use Rattle.acc_script.specs.Clauses.{is_nothing};
 ghost use Rattle.acc_script.specs.Queues.{queue_of, begins_queue, queue_behind, queue_turn, waits_at};
-ghost use Rattle.acc_script.specs.Tokens.{spot, lexeme};
-ghost use Rattle.acc_script.specs.Turns.{turn, all_turns};
+ghost use Rattle.acc_token.specs.Tokens.{spot, lexeme};
+ghost use Rattle.acc_token.specs.Turns.{turn, all_turns};
 
-use crate::at::At;
 use crate::declaration::{begins_value, negative};
-use crate::fault::{ReadError, ReadFault, ReadKind};
-use crate::token::{Token, fault, is, token_of};
-use crate::word::{exactly, number_of};
 use acc_base::Listed;
 use acc_place::{ASYNC_NOVAL, ASYNC_SYNC, Waits};
+use acc_token::{
+    At, ReadError, ReadFault, ReadKind, Token, exactly, fault, is, number_of, token_at,
+};
 use std::alloc::Global;
 
 /// The most queues of one list in a text.
@@ -27,7 +26,7 @@ pub(crate) fn queue_of<'a>(t: Token<'a>, in_directive: bool) -> Result<(i64, At<
     ensures shorter { IfOk result (λ x. length x.1.bytes.now ≤ length t.entry.after.bytes.now) }
 {
     if is(t.text, b"-") {
-        let u = token_of(t.after, in_directive)?;
+        let u = token_at(t.after, in_directive)?;
         let n = number_of(u, 9_223_372_036_854_775_807)?;
         Ok((negative(n), u.after))
     } else if is(t.text, b"acc_async_sync") {
@@ -55,7 +54,7 @@ fn queue_behind<'a>(values: &mut Vec<i64>, t: Token<'a>) -> Result<(bool, At<'a>
 {
     let (value, at) = queue_of(t, true)?;
     values.push(value)?;
-    let u = token_of(at, true)?;
+    let u = token_at(at, true)?;
     if is(u.text, b",") {
         Ok((true, u.after))
     } else {
@@ -69,7 +68,7 @@ fn queue_turn<'a>(values: &mut Vec<i64>, at: At<'a>) -> Result<(bool, At<'a>), R
     ensures found { Gives (λ x. turn x.0 values.new.items (spot x.1)) result (queue_turn values.old.items (spot at.entry)) }
     ensures shorter { IfOk result (λ x. length x.1.bytes.now < length at.entry.bytes.now) }
 {
-    let t = token_of(at, true)?;
+    let t = token_at(at, true)?;
     if MAX_QUEUES <= values.len() && begins_queue(t.text) {
         Err(fault(t.line, ReadKind::Limit).into())
     } else {
@@ -78,7 +77,7 @@ fn queue_turn<'a>(values: &mut Vec<i64>, at: At<'a>) -> Result<(bool, At<'a>), R
 }
 
 // The queues of a list up to the ).
-#[tactic(auto, using(crate::proofs::Turns::goes_on, crate::proofs::Turns::ends, crate::proofs::Turns::fails_too))]
+#[tactic(auto, using(acc_token::proofs::Turns::goes_on, acc_token::proofs::Turns::ends, acc_token::proofs::Turns::fails_too))]
 fn queues_at<'a>(values: &mut Vec<i64>, at: At<'a>) -> Result<At<'a>, ReadError>
     ensures found { Gives (λ a. turn false values.new.items (spot a)) result (all_turns queue_turn values.old.items (spot at.entry)) }
     ensures shorter { IfOk result (λ a. length a.bytes.now ≤ length at.entry.bytes.now) }
@@ -102,7 +101,7 @@ pub(crate) fn waits_at<'a>(alloc: Global, at: At<'a>) -> Result<(Waits, At<'a>),
     ensures some { IfOk result (λ x. is_nothing x.0 ≡ false) }
     ensures shorter { IfOk result (λ x. length x.1.bytes.now ≤ length at.entry.bytes.now) }
 {
-    let t = token_of(at, true)?;
+    let t = token_at(at, true)?;
     if is(t.text, b"(") {
         let mut queues = Vec::new(alloc);
         let at = queues_at(&mut queues, t.after)?;

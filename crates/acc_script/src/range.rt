@@ -2,21 +2,21 @@
 
 ghost use Rattle.std.specs.Prelude.{◌≡◌, ◌+◌, ◌≤◌, ◌<◌, true, false, length, IfOk, OnOk};
 ghost use Rattle.acc_script.specs.Clauses.{allows};
-ghost use Rattle.acc_script.specs.Faults.{Gives, Reads};
+ghost use Rattle.acc_token.specs.Faults.{Gives, Reads};
 ghost use Rattle.acc_script.specs.Ranges.{bound_at, range_in, bounds_at, range_behind, range_of, range_at, item_behind, item_turn, items_at};
-ghost use Rattle.acc_script.specs.Tokens.{spot, lexeme};
-ghost use Rattle.acc_script.specs.Turns.{turn};
+ghost use Rattle.acc_token.specs.Tokens.{spot, lexeme};
+ghost use Rattle.acc_token.specs.Turns.{turn};
 ghost use Rattle.acc_script.specs.inner.Kept.{AreAllowed};
 
 use crate::arrays::Arrays;
-use crate::at::At;
 use crate::clause::Head;
 use crate::declaration::array_of;
-use crate::fault::{ReadError, ReadFault, ReadKind};
-use crate::token::{Token, fault, front, is, is_digit, token_of};
-use crate::word::{exactly, expect, number_of};
 use acc_base::{Few, Range};
 use acc_place::{Clause, DataItem};
+use acc_token::{
+    At, ReadError, ReadFault, ReadKind, Token, exactly, expect, fault, front, is, is_digit,
+    number_of, token_at,
+};
 
 /// The greatest number in a range, of a cell that a host writes, and of a device that it sets.
 pub const MAX_INDEX: u32 = 4_294_967_295;
@@ -31,7 +31,7 @@ fn bound_at<'a>(at: At<'a>, in_directive: bool) -> Result<(Option<u32>, At<'a>),
     ensures found { Reads (λ x. (x.0, spot x.1)) result (bound_at in_directive (spot at.entry)) }
     ensures shorter { IfOk result (λ x. length x.1.bytes.now ≤ length at.entry.bytes.now) }
 {
-    let t = token_of(at, in_directive)?;
+    let t = token_at(at, in_directive)?;
     if is_digit(front(t.text)) {
         let n = number_of(t, u64::from(MAX_INDEX))?;
         Ok((Some(n as u32), t.after))
@@ -78,7 +78,7 @@ fn range_behind<'a>(
     ensures found { Reads (λ x. (x.0, spot x.1)) result (range_behind in_directive array size (spot at.entry)) }
     ensures shorter { IfOk result (λ x. length x.1.bytes.now ≤ length at.entry.bytes.now) }
 {
-    let t = token_of(at, in_directive)?;
+    let t = token_at(at, in_directive)?;
     if is(t.text, b"[") {
         bounds_at(array, size, t.after, in_directive)
     } else {
@@ -97,7 +97,7 @@ pub(crate) fn range_of<'a>(
     ensures shorter { IfOk result (λ x. length x.1.bytes.now ≤ length t.entry.after.bytes.now) }
 {
     let array = array_of(arrays, t)?;
-    range_behind(array, arrays.size(array), t.after, in_directive)
+    range_behind(array, arrays.size_of(array), t.after, in_directive)
 }
 
 /// A range.
@@ -110,7 +110,7 @@ pub(crate) fn range_at<'a>(
     ensures found { Reads (λ x. (x.0, spot x.1)) result (range_at in_directive arrays.now (spot at.entry)) }
     ensures shorter { IfOk result (λ x. length x.1.bytes.now ≤ length at.entry.bytes.now) }
 {
-    let t = token_of(at, in_directive)?;
+    let t = token_at(at, in_directive)?;
     range_of(arrays, t, in_directive)
 }
 
@@ -132,7 +132,7 @@ fn item_behind<'a>(
 {
     let (range, at) = range_behind(array, size, at, true)?;
     items.push(DataItem { clause, range })?;
-    let t = token_of(at, true)?;
+    let t = token_at(at, true)?;
     if is(t.text, b",") {
         Ok((true, t.after))
     } else {
@@ -155,17 +155,17 @@ fn item_turn<'a>(
     ensures allowed { OnOk result (AreAllowed head items.new) }
     ensures shorter { IfOk result (λ x. length x.1.bytes.now < length at.entry.bytes.now) }
 {
-    let t = token_of(at, true)?;
+    let t = token_at(at, true)?;
     let array = array_of(arrays, t)?;
     if MAX_RANGES <= items.as_slice().len() {
         Err(fault(t.line, ReadKind::Limit).into())
     } else {
-        item_behind(head, clause, items, array, arrays.size(array), t.after)
+        item_behind(head, clause, items, array, arrays.size_of(array), t.after)
     }
 }
 
 /// The ranges of a clause that a directive may have, up to the ).
-#[tactic(auto, using(crate::proofs::Turns::goes_on, crate::proofs::Turns::ends, crate::proofs::Turns::fails_too))]
+#[tactic(auto, using(acc_token::proofs::Turns::goes_on, acc_token::proofs::Turns::ends, acc_token::proofs::Turns::fails_too))]
 pub(crate) fn items_at<'a>(
     arrays: &Arrays,
     head: Head,

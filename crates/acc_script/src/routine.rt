@@ -2,28 +2,25 @@
 
 ghost use Rattle.std.specs.Prelude.{◌≡◌, ◌+◌, ◌≤◌, ◌<◌, [], ◌∷◌, true, false, length, IfOk, IfErr, IfSome, OnOk};
 ghost use Rattle.acc_place.specs.Clauses.{allows_clause};
-ghost use Rattle.acc_script.specs.declared.fault.ReadError.TheVariants.{Memory};
+ghost use Rattle.acc_token.specs.declared.read_fault.ReadError.TheVariants.{Memory};
 ghost use Rattle.acc_script.specs.Clauses.{is_nothing};
-ghost use Rattle.acc_script.specs.Faults.{Gives, Reads};
+ghost use Rattle.acc_token.specs.Faults.{Gives, Reads};
 ghost use Rattle.acc_script.specs.Ranges.{item};
-ghost use Rattle.acc_script.specs.Routines.{routine, routine_named, range_argument, queue_argument, two_queues, number_argument, no_argument, is_routine, waiting, data_call, other_call, call_of, question_of, shown_of, print_at};
+ghost use Rattle.acc_script.specs.Routines.{routine, routine_named, range_argument, queue_argument, two_queues, number_argument, no_argument, is_routine, waiting_act, data_call, other_call, call_of, question_of, shown_of, print_at};
 ghost use Rattle.acc_script.specs.Directives as directives;
-ghost use Rattle.acc_script.specs.Tokens.{spot, lexeme};
+ghost use Rattle.acc_token.specs.Tokens.{spot, lexeme};
 ghost use Rattle.acc_place.specs.declared.directive.Kind.TheVariants as kind;
 ghost use Rattle.acc_place.specs.declared.directive.Target.TheVariants as target;
 ghost use Rattle.acc_place.specs.declared.directive.Waits.TheVariants as waits;
 
 use crate::arrays::Arrays;
-use crate::at::At;
 use crate::directive::placed;
-use crate::fault::{ReadError, ReadFault};
 use crate::queue::queue_of;
 use crate::range::{MAX_INDEX, range_at, range_of};
-use crate::token::{Token, is, token_of};
-use crate::word::{expect, number_of, unwanted};
 use acc_base::{Few, Listed, Range};
 use acc_host::Act;
 use acc_place::{Clause, DataItem, Kind, Target, Waits, Written};
+use acc_token::{At, ReadError, ReadFault, Token, expect, is, number_of, token_at, unwanted_token};
 use std::alloc::Global;
 
 /// What a routine acts as: a directive of this kind with one range in this clause.
@@ -82,7 +79,7 @@ fn queue_argument<'a>(at: At<'a>) -> Result<(i64, At<'a>), ReadFault>
     ensures shorter { IfOk result (λ x. length x.1.bytes.now ≤ length at.entry.bytes.now) }
 {
     let at = expect(at, false, b"(")?;
-    let t = token_of(at, false)?;
+    let t = token_at(at, false)?;
     let (queue, at) = queue_of(t, false)?;
     let at = expect(at, false, b")")?;
     Ok((queue, at))
@@ -94,10 +91,10 @@ fn two_queues<'a>(at: At<'a>) -> Result<((i64, i64), At<'a>), ReadFault>
     ensures shorter { IfOk result (λ x. length x.1.bytes.now ≤ length at.entry.bytes.now) }
 {
     let at = expect(at, false, b"(")?;
-    let t = token_of(at, false)?;
+    let t = token_at(at, false)?;
     let (first, at) = queue_of(t, false)?;
     let at = expect(at, false, b",")?;
-    let u = token_of(at, false)?;
+    let u = token_at(at, false)?;
     let (second, at) = queue_of(u, false)?;
     let at = expect(at, false, b")")?;
     Ok(((first, second), at))
@@ -109,7 +106,7 @@ fn number_argument<'a>(at: At<'a>) -> Result<(u32, At<'a>), ReadFault>
     ensures shorter { IfOk result (λ x. length x.1.bytes.now ≤ length at.entry.bytes.now) }
 {
     let at = expect(at, false, b"(")?;
-    let t = token_of(at, false)?;
+    let t = token_at(at, false)?;
     let n = number_of(t, u64::from(MAX_INDEX))?;
     let at = expect(t.after, false, b")")?;
     Ok((n as u32, at))
@@ -150,7 +147,7 @@ fn with_range(alloc: Global, kind: Kind, clause: Clause, range: Range) -> Result
 }
 
 // A list of one queue.
-fn listed(alloc: Global, queue: i64) -> Result<Waits, ReadError>
+fn listed_queue(alloc: Global, queue: i64) -> Result<Waits, ReadError>
     ensures waits { IfOk result (λ w. w ≡ waits.Listed (queue ∷ [])) }
     ensures fault { IfErr result (λ error. error ≡ Memory) }
 {
@@ -178,7 +175,7 @@ fn wait(alloc: Global, target: Target, waits: Waits) -> Result<Act, ReadError>
 // A question about queues.
 fn async_test(alloc: Global, waits: Waits) -> Result<Act, ReadError>
     requires { is_nothing waits ≡ false }
-    ensures act { IfOk result (λ act. act ≡ waiting kind.AsyncTest waits) }
+    ensures act { IfOk result (λ act. act ≡ waiting_act kind.AsyncTest waits) }
     ensures fault { IfErr result (λ error. error ≡ Memory) }
 {
     let written = Written {
@@ -214,14 +211,14 @@ fn other_call<'a>(alloc: Global, t: Token<'a>) -> Result<(Act, At<'a>), ReadErro
 {
     if is(t.text, b"acc_wait") {
         let (queue, at) = queue_argument(t.after)?;
-        let waits = listed(alloc, queue)?;
+        let waits = listed_queue(alloc, queue)?;
         Ok((wait(alloc, Target::Plain, waits)?, at))
     } else if is(t.text, b"acc_wait_all") {
         let at = no_argument(t.after)?;
         Ok((wait(alloc, Target::Plain, Waits::All)?, at))
     } else if is(t.text, b"acc_wait_async") {
         let ((queue, value), at) = two_queues(t.after)?;
-        let waits = listed(alloc, queue)?;
+        let waits = listed_queue(alloc, queue)?;
         Ok((wait(alloc, Target::Value { value }, waits)?, at))
     } else if is(t.text, b"acc_set_device_num") {
         let (device, at) = number_argument(t.after)?;
@@ -230,7 +227,7 @@ fn other_call<'a>(alloc: Global, t: Token<'a>) -> Result<(Act, At<'a>), ReadErro
         let (value, at) = queue_argument(t.after)?;
         Ok((Act::SetAsync { value }, at))
     } else {
-        Err(unwanted(t).into())
+        Err(unwanted_token(t).into())
     }
 }
 
@@ -264,7 +261,7 @@ fn question_of<'a>(alloc: Global, arrays: &Arrays, t: Token<'a>) -> Result<(Act,
         ))
     } else if is(t.text, b"acc_async_test") {
         let (queue, at) = queue_argument(t.after)?;
-        let waits = listed(alloc, queue)?;
+        let waits = listed_queue(alloc, queue)?;
         Ok((async_test(alloc, waits)?, at))
     } else if is(t.text, b"acc_async_test_all") {
         let at = no_argument(t.after)?;
@@ -274,7 +271,7 @@ fn question_of<'a>(alloc: Global, arrays: &Arrays, t: Token<'a>) -> Result<(Act,
     } else if is(t.text, b"acc_get_num_devices") {
         Ok((Act::ShowDevices, no_argument(t.after)?))
     } else {
-        Err(unwanted(t).into())
+        Err(unwanted_token(t).into())
     }
 }
 
@@ -303,7 +300,7 @@ pub(crate) fn print_at<'a>(
     ensures shorter { IfOk result (λ x. length x.1.bytes.now ≤ length at.entry.bytes.now) }
 {
     let at = expect(at, false, b"(")?;
-    let t = token_of(at, false)?;
+    let t = token_at(at, false)?;
     let (act, at) = shown_of(alloc, arrays, t)?;
     let at = expect(at, false, b")")?;
     Ok((act, at))

@@ -4,16 +4,13 @@ ghost use Rattle.std.specs.Prelude.{◌≡◌, ℕ, ◌+◌, ◌^◌, ◌<◌, �
 ghost use Rattle.std.specs.List.{flat_map, list_all, prefix_len, range_with_len};
 ghost use Rattle.acc_host.specs.declared.event.Event.{Event};
 ghost use Rattle.acc_host.specs.declared.event.Event.TheVariants.{Host, Take, Perform};
-ghost use Rattle.acc_script.specs.Faults.{Gives};
-ghost use Rattle.acc_script.specs.Schedules.{lines, is_space, words, with_first, is_skipped, is_plain, is_number, number_below, host_named, async_queue, queue_of, queue_named, repeated, queue_turn, device_turn, turn_of, one_turn, times_of, asked, times_word, host_events, queue_events, close_events, round_events, events_by, line_events, joined, events_behind, schedule_of, turn_events, kept_events, all_events, turn_read, line_read};
-ghost use Rattle.acc_script.specs.Tokens.{is_digit};
+ghost use Rattle.acc_token.specs.Faults.{Gives};
+ghost use Rattle.acc_script.specs.Schedules.{lines, is_space, words, with_first, is_skipped, is_plain, is_number, number_below, host_named, async_queue, queue_of, queue_named, repeated, queue_turn, device_turn, turn_of, one_turn, times_of, asked_turn, times_word, host_events, queue_events, close_events, round_events, events_by, line_events, joined_events, events_behind, schedule_of, turn_events, kept_events, all_events, turn_read, line_read};
+ghost use Rattle.acc_token.specs.Tokens.{is_digit};
 
-use crate::fault::{ReadError, ReadFault, ReadKind};
-use crate::text::{check_length, line_len};
-use crate::token::is;
-use crate::word::value_of;
 use acc_base::{DeviceId, HostId, QUEUES, QueueAt, QueueId};
 use acc_host::Event;
+use acc_token::{ReadError, ReadFault, ReadKind, check_length, is, line_len, value_of};
 use std::alloc::Global;
 use std::marker::Model;
 use std::slice;
@@ -255,8 +252,8 @@ fn times_of(word: &[u8]) -> Result<u32, ReadKind>
 }
 
 // A turn, if the words before the last one name what is there, so often as that says.
-fn asked(formed: bool, turn: Option<Turn>, times: &[u8]) -> Result<ScheduleLine, ReadKind>
-    ensures { (round : List Event) → asked formed (turn_read round turn) (Some times.now) ≡ line_read round result }
+fn asked_turn(formed: bool, turn: Option<Turn>, times: &[u8]) -> Result<ScheduleLine, ReadKind>
+    ensures { (round : List Event) → asked_turn formed (turn_read round turn) (Some times.now) ≡ line_read round result }
 {
     if !formed || !is_number(times) {
         return Err(ReadKind::Form);
@@ -299,7 +296,7 @@ fn host_line(others: &[u8], hosts: u8) -> Result<ScheduleLine, ReadKind>
     let Some(times) = times_word(behind) else {
         return Err(ReadKind::Form);
     };
-    asked(is_number(host), one_turn(host_named(host, hosts)), times)
+    asked_turn(is_number(host), one_turn(host_named(host, hosts)), times)
 }
 
 // The same of a `take` line, or a `do` line.
@@ -316,7 +313,7 @@ fn queue_line(others: &[u8], devices: u8, takes: bool) -> Result<ScheduleLine, R
         return Err(ReadKind::Form);
     };
     let event = queue_event(queue_named(device, queue, devices), takes);
-    asked(is_number(device), one_turn(event), times)
+    asked_turn(is_number(device), one_turn(event), times)
 }
 
 // The same of a `close` line.
@@ -342,7 +339,7 @@ fn round_line(others: &[u8]) -> Result<ScheduleLine, ReadKind>
     if times.is_empty() || !more.is_empty() {
         return Err(ReadKind::Form);
     }
-    asked(true, Some(Turn::Round), times)
+    asked_turn(true, Some(Turn::Round), times)
 }
 
 // What the words of a line say, by the first of them.
@@ -462,7 +459,7 @@ fn keep_line(
 ) -> Result<u64, ReadError>
     requires counted { before ≡ length (all_events (turn_of hosts devices) kept.old.items) }
     requires few { before ≤ MAX_EVENTS }
-    ensures found { Gives (λ _. all_events (turn_of hosts devices) kept.new.items) result (joined number (all_events (turn_of hosts devices) kept.old.items) (Ok (kept_events (turn_of hosts devices) line.now))) }
+    ensures found { Gives (λ _. all_events (turn_of hosts devices) kept.new.items) result (joined_events number (all_events (turn_of hosts devices) kept.old.items) (Ok (kept_events (turn_of hosts devices) line.now))) }
     ensures counted { IfOk result (λ count. count ≡ length (all_events (turn_of hosts devices) kept.new.items)) }
     ensures few { IfOk result (λ count. count ≤ MAX_EVENTS) }
 {

@@ -5,21 +5,17 @@ ghost use Rattle.acc_base.specs.Configurations.{rows};
 ghost use Rattle.acc_base.specs.declared.config.TheConstants.{MAX_HOSTS};
 ghost use Rattle.acc_host.specs.Hosts.{AreNumbered};
 ghost use Rattle.acc_script.specs.Arrays.{texts, IsDeclared};
-ghost use Rattle.acc_script.specs.Faults.{Gives};
-ghost use Rattle.acc_script.specs.Scripts.{program, host_at, host_turn, program_at, script_of, seen};
-ghost use Rattle.acc_script.specs.Tokens.{spot};
-ghost use Rattle.acc_script.specs.Turns.{turn, all_turns};
+ghost use Rattle.acc_token.specs.Faults.{Gives};
+ghost use Rattle.acc_script.specs.Scripts.{program, host_at, host_turn, script_at, script_of, program_of};
+ghost use Rattle.acc_token.specs.Tokens.{spot};
+ghost use Rattle.acc_token.specs.Turns.{turn, all_turns};
 
 use crate::arrays::Arrays;
-use crate::at::At;
-use crate::declaration::arrays_of;
-use crate::fault::{ReadError, ReadKind};
+use crate::declaration::arrays_at;
 use crate::statement::statements_at;
-use crate::text::check_length;
-use crate::token::{fault, token_of};
-use crate::word::{exactly, expect};
 use acc_base::{HostId, Listed, MAX_HOSTS};
 use acc_host::HostProgram;
+use acc_token::{At, ReadError, ReadKind, check_length, exactly, expect, fault, token_at};
 use indexmap::IndexSet;
 use std::alloc::Global;
 
@@ -69,7 +65,7 @@ fn host_turn<'a>(
     ensures few { OnOk result (length programs.new.items ≤ MAX_HOSTS) }
     ensures shorter { IfOk result (λ x. (if x.0 then 1 else 0) + length x.1.bytes.now ≤ length at.entry.bytes.now) }
 {
-    let t = token_of(at, false)?;
+    let t = token_at(at, false)?;
     if t.text.is_empty() {
         return Ok((false, t.after));
     }
@@ -84,7 +80,7 @@ fn host_turn<'a>(
 }
 
 // The parts of all hosts, up to the end of the text.
-#[tactic(auto, using(crate::proofs::Turns::goes_on, crate::proofs::Turns::ends, crate::proofs::Turns::fails_too))]
+#[tactic(auto, using(acc_token::proofs::Turns::goes_on, acc_token::proofs::Turns::ends, acc_token::proofs::Turns::fails_too))]
 fn hosts_at<'a>(
     alloc: Global,
     arrays: &Arrays,
@@ -110,15 +106,15 @@ fn hosts_at<'a>(
 }
 
 // The arrays and the parts of the hosts, from here on.
-#[tactic(auto, unfolding(crate::specs::Scripts::program_at))]
+#[tactic(auto, unfolding(crate::specs::Scripts::script_at))]
 fn script_at<'a>(alloc: Global, at: At<'a>) -> Result<Script<'a>, ReadError>
-    ensures found { Gives seen result (program_at (spot at.entry)) }
+    ensures found { Gives program_of result (script_at (spot at.entry)) }
     ensures declared { IfOk result (λ s. IsDeclared (record { names = texts s.names.keys; cells = rows s.arrays.items })) }
     ensures numbered { IfOk result (λ s. AreNumbered 0 s.programs.items) }
     ensures few { IfOk result (λ s. length s.programs.items ≤ MAX_HOSTS) }
 {
     let mut arrays = Arrays::new(alloc);
-    let at = arrays_of(alloc, &mut arrays, at)?;
+    let at = arrays_at(alloc, &mut arrays, at)?;
     let mut programs = Vec::new(alloc);
     hosts_at(alloc, &arrays, &mut programs, at)?;
     let (names, arrays) = arrays.into_parts();
@@ -136,7 +132,7 @@ fn script_at<'a>(alloc: Global, at: At<'a>) -> Result<Script<'a>, ReadError>
 /// The first fault of the text; `Memory` for want of memory.
 #[tactic(auto, unfolding(crate::specs::Scripts::script_of))]
 pub fn read<'a>(alloc: Global, text: &'a [u8]) -> Result<Script<'a>, ReadError>
-    ensures found { Gives seen result (script_of text.now) }
+    ensures found { Gives program_of result (script_of text.now) }
     ensures declared { IfOk result (λ s. IsDeclared (record { names = texts s.names.keys; cells = rows s.arrays.items })) }
     ensures numbered { IfOk result (λ s. AreNumbered 0 s.programs.items) }
     ensures few { IfOk result (λ s. length s.programs.items ≤ MAX_HOSTS) }

@@ -1,24 +1,21 @@
 //! The statements of a host.
 
 ghost use Rattle.std.specs.Prelude.{◌≡◌, ◌+◌, ◌≤◌, ◌<◌, ◌^◌, false, length, IfOk, OnOk, if◌then◌else◌};
-ghost use Rattle.acc_script.specs.Faults.{Gives, Reads};
+ghost use Rattle.acc_token.specs.Faults.{Gives, Reads};
 ghost use Rattle.acc_script.specs.Directives as directives;
 ghost use Rattle.acc_script.specs.Statements.{value_at, cell_at, write_at, simple_of, act_of, body, depth_behind, with_statement, end_of_construct, statement_turn};
-ghost use Rattle.acc_script.specs.Tokens.{spot, lexeme};
-ghost use Rattle.acc_script.specs.Turns.{turn, all_turns};
+ghost use Rattle.acc_token.specs.Tokens.{spot, lexeme};
+ghost use Rattle.acc_token.specs.Turns.{turn, all_turns};
 
 use crate::arrays::Arrays;
-use crate::at::At;
 use crate::declaration::{array_of, value_of};
 use crate::directive::{directive_at, placed};
-use crate::fault::{ReadError, ReadFault};
 use crate::range::MAX_INDEX;
 use crate::routine::{call_of, is_routine, print_at};
-use crate::token::{Token, is, token_of};
-use crate::word::{expect, number_of};
 use acc_base::Few;
 use acc_host::{Act, Statement};
 use acc_place::{Kind, Target, Waits, Written};
+use acc_token::{At, ReadError, ReadFault, Token, expect, is, number_of, token_at};
 use std::alloc::Global;
 
 #[tactic(auto, unfolding(crate::specs::Statements::value_at))]
@@ -26,7 +23,7 @@ fn value_at<'a>(at: At<'a>) -> Result<(i64, At<'a>), ReadFault>
     ensures found { Reads (λ x. (x.0, spot x.1)) result (value_at (spot at.entry)) }
     ensures shorter { IfOk result (λ x. length x.1.bytes.now ≤ length at.entry.bytes.now) }
 {
-    let t = token_of(at, false)?;
+    let t = token_at(at, false)?;
     value_of(t)
 }
 
@@ -35,7 +32,7 @@ fn cell_at<'a>(at: At<'a>) -> Result<(u32, At<'a>), ReadFault>
     ensures found { Reads (λ x. (x.0, spot x.1)) result (cell_at (spot at.entry)) }
     ensures shorter { IfOk result (λ x. length x.1.bytes.now ≤ length at.entry.bytes.now) }
 {
-    let t = token_of(at, false)?;
+    let t = token_at(at, false)?;
     let n = number_of(t, u64::from(MAX_INDEX))?;
     Ok((n as u32, t.after))
 }
@@ -150,7 +147,7 @@ fn statement_turn<'a>(
     ensures depth { OnOk result (depth.new ≤ depth.old + 1) }
     ensures closed { IfOk result (λ x. x.0 ≡ false → depth.new ≡ 0) }
 {
-    let t = token_of(at, false)?;
+    let t = token_at(at, false)?;
     if is(t.text, b"}") {
         if *depth == 0 {
             return Ok((false, t.after));
@@ -166,7 +163,7 @@ fn statement_turn<'a>(
 }
 
 /// The statements of a host up to the }.
-#[tactic(auto, using(crate::proofs::Turns::goes_on, crate::proofs::Turns::ends, crate::proofs::Turns::fails_too))]
+#[tactic(auto, using(acc_token::proofs::Turns::goes_on, acc_token::proofs::Turns::ends, acc_token::proofs::Turns::fails_too))]
 pub(crate) fn statements_at<'a>(
     alloc: Global,
     arrays: &Arrays,

@@ -4,8 +4,8 @@ use Rattle.acc_host.specs.declared.event.Event.{Event}
 use Rattle.acc_core.specs.worked.Programs.{all_from}
 use Rattle.acc_core.specs.Machine.{State}
 use Rattle.acc_core.specs.Worlds.{first_state}
-use Rattle.acc_script.specs.declared.fault.ReadFault.{ReadFault}
-use Rattle.acc_script.specs.Faults.{◌>>=◌}
+use Rattle.acc_token.specs.declared.read_fault.ReadFault.{ReadFault}
+use Rattle.acc_token.specs.Faults.{◌>>=◌}
 use Rattle.acc_driver.specs.Inputs.{parts}
 use Rattle.acc_driver.specs.Replays.{configured, defaults, events_in}
 use Rattle.acc_driver.specs.Reports.{report}

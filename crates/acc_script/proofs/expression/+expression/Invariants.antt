@@ -1,10 +1,10 @@
 use Rattle.std.specs.Prelude.{ℕ, ◌+◌, ◌*◌, ◌≤◌, length}
 use Rattle.acc_script.specs.declared.expression.Level.{Level}
 use Rattle.acc_script.specs.declared.expression.Level.TheVariants.{Product, Sum, Comparison, Equality}
-use Rattle.acc_script.proofs.Turns.{TurnsLeft}
+use Rattle.acc_token.proofs.Turns.{TurnsLeft}
 use Rattle.acc_script.specs.Expressions.{names_in, below, unary_at, part_at, chain_turn}
-use Rattle.acc_script.specs.Tokens.{spot}
-use Rattle.acc_script.specs.Turns.{all_turns}
+use Rattle.acc_token.specs.Tokens.{spot}
+use Rattle.acc_token.specs.Turns.{all_turns}
 use Rattle.acc_script.proofs.expression.+expression.Given as goal
 
 abbrev rank : Level → ℕ

@@ -1,9 +1,9 @@
 use Rattle.std.specs.Prelude.{◌≤◌, length}
-use Rattle.acc_script.proofs.Turns.{TurnsLeft}
+use Rattle.acc_token.proofs.Turns.{TurnsLeft}
 use Rattle.acc_script.specs.Expressions.{names}
 use Rattle.acc_script.specs.Loops.{assign_turn}
-use Rattle.acc_script.specs.Tokens.{spot}
-use Rattle.acc_script.specs.Turns.{all_turns}
+use Rattle.acc_token.specs.Tokens.{spot}
+use Rattle.acc_token.specs.Turns.{all_turns}
 use Rattle.acc_script.proofs.loops.assigns_at.Given as goal
 
 abbrev pub invariant-loop : goal.invariant-loop

@@ -1,8 +1,8 @@
 use Rattle.std.specs.Prelude.{◌≤◌, length}
-use Rattle.acc_script.proofs.Turns.{TurnsLeft}
+use Rattle.acc_token.proofs.Turns.{TurnsLeft}
 use Rattle.acc_script.specs.Queues.{queue_turn}
-use Rattle.acc_script.specs.Tokens.{spot}
-use Rattle.acc_script.specs.Turns.{all_turns}
+use Rattle.acc_token.specs.Tokens.{spot}
+use Rattle.acc_token.specs.Turns.{all_turns}
 use Rattle.acc_script.proofs.queue.queues_at.Given as goal
 
 abbrev pub invariant-loop : goal.invariant-loop

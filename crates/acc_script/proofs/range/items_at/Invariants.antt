@@ -1,7 +1,7 @@
 use Rattle.std.specs.Prelude.{◌≤◌, length}
-use Rattle.acc_script.proofs.Turns.{TurnsLeft}
+use Rattle.acc_token.proofs.Turns.{TurnsLeft}
 use Rattle.acc_script.specs.Ranges.{item_turn, items_at}
-use Rattle.acc_script.specs.Tokens.{spot}
+use Rattle.acc_token.specs.Tokens.{spot}
 use Rattle.acc_script.specs.inner.Kept.{AreAllowed}
 use Rattle.acc_script.proofs.range.items_at.Given as goal
 

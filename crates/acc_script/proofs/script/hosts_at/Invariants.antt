@@ -1,10 +1,10 @@
 use Rattle.std.specs.Prelude.{◌≤◌, length}
 use Rattle.acc_base.specs.declared.config.TheConstants.{MAX_HOSTS}
 use Rattle.acc_host.specs.Hosts.{AreNumbered}
-use Rattle.acc_script.proofs.Turns.{TurnsLeft}
+use Rattle.acc_token.proofs.Turns.{TurnsLeft}
 use Rattle.acc_script.specs.Scripts.{host_turn}
-use Rattle.acc_script.specs.Tokens.{spot}
-use Rattle.acc_script.specs.Turns.{all_turns}
+use Rattle.acc_token.specs.Tokens.{spot}
+use Rattle.acc_token.specs.Turns.{all_turns}
 use Rattle.acc_script.proofs.script.hosts_at.Given as goal
 
 abbrev pub invariant-loop : goal.invariant-loop

@@ -1,0 +1,4 @@
+pub mod GapAt
+pub mod TokenSpelling
+pub mod Turns
+mod ValueBehind

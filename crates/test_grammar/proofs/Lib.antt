@@ -1,0 +1,15 @@
+mod ActSpelling
+mod ArraySpelling
+mod ClauseSpelling
+mod ExpressionSpelling
+mod FullSchedules
+mod ListSpelling
+mod LoopSpelling
+mod ProgramSpelling
+mod RangeSpelling
+mod ScriptSpelling
+mod WorkedLoops
+mod WorkedPrograms
+mod WorkedSchedules
+mod TurnsSpelling
+mod ValueSpelling

@@ -1,0 +1,4 @@
+pub mod Loops
+pub mod Programs
+pub mod Schedules
+pub mod Scripts
