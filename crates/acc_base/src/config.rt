@@ -2,11 +2,13 @@
 
 ghost use Rattle.std.specs.Prelude.{◌≡◌, ◌<◌, ◌&&◌, ◌==◌, nat_lt, IfOk, OnOk, IfErr, length, None, Some, slice_get};
 ghost use Rattle.std.specs.List.{list_any};
+ghost use Rattle.acc_base.specs.declared.fault.Fault.TheVariants.{Memory};
 ghost use Rattle.acc_base.specs.Configurations.{configuration, rows, fault_of, passes_a_limit, is_outside, has_long_array, has_empty_array, has_range, IsWithinLimits};
 
 use crate::fault::Fault;
 use crate::ids::{DeviceId, HostId, QUEUES, QueueAt};
 use crate::range::Range;
+use std::alloc::Global;
 use std::marker::Model;
 
 /// The most devices of a configuration; it has at least one.
@@ -87,6 +89,25 @@ impl Config {
         ensures limits { IsWithinLimits self.now }
     {
         let _ = &self.devices;
+    }
+
+    /// An equal configuration.
+    ///
+    /// # Errors
+    ///
+    /// `Memory` where memory is refused.
+    pub fn try_clone(&self, alloc: Global) -> Result<Self, Fault>
+        ensures equal { IfOk result (λ c. c ≡ self.now) }
+        ensures fault { IfErr result (λ f. f ≡ Memory) }
+    {
+        let arrays = copies_of(alloc, self.arrays.as_slice())?;
+        Ok(Config {
+            devices: self.devices,
+            hosts: self.hosts,
+            arrays,
+            capacity: self.capacity,
+            room: self.room,
+        })
     }
 
     /// How many devices there are.
@@ -233,4 +254,16 @@ fn finds_empty(arrays: &[Vec<i64>]) -> bool
     ensures { result ≡ list_any (λ cells. length cells.items == 0) arrays.now }
 {
     arrays.iter().any(|cells| cells.as_slice().is_empty())
+}
+
+// Rows of the same cells.
+fn copies_of(alloc: Global, arrays: &[Vec<i64>]) -> Result<Vec<Vec<i64>>, Fault>
+    ensures equal { IfOk result (λ copies. rows copies.items ≡ rows arrays.now) }
+    ensures fault { IfErr result (λ f. f ≡ Memory) }
+{
+    let mut copies = Vec::new(alloc);
+    for cells in arrays {
+        copies.push(Vec::from_slice(alloc, cells.as_slice())?)?;
+    }
+    Ok(copies)
 }

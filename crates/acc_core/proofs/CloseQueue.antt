@@ -1,8 +1,8 @@
 -- A queue is closed: its last batch joins the queue, for which there is room.
-use Rattle.std.proofs.Common.{inl, inr, ◌≡◌, ℕ, zero, suc, ◌+◌, ◌<◌, ◌≤◌, Bool, true, false, cond, List, [], ◌∷◌, ◌++◌, length, Some, None, refl, sym, ap, subst, ◌∙◌, arith}
+use Rattle.std.proofs.Common.{inl, inr, ◌≡◌, ℕ, ◌+◌, ◌<◌, Bool, true, false, cond, List, [], ◌∷◌, ◌++◌, length, Some, None, refl, sym, ap, subst, ◌∙◌, arith}
 use Rattle.std.specs.Prelude.{not, nat_lt, ◌&&◌, ◌||◌, slice_index_or, slice_set}
-use Rattle.std.proofs.lemmas.Bool.{and_parts, cases_Bool, lt-ltb, le-ltb}
-use Rattle.std.proofs.lemmas.List.{append_assoc, append-nil, get_or-set_other, get_or-set_same, length-append, length-set}
+use Rattle.std.proofs.lemmas.Bool.{cases_Bool, lt-ltb}
+use Rattle.std.proofs.lemmas.List.{append_assoc, append-nil, get_or-set_other, length-append, length-set}
 use Rattle.std.proofs.lemmas.List.Elements.{All-push}
 use Rattle.acc_base.specs.declared.config.TheConstants.{MAX_HOSTS}
 use Rattle.acc_base.specs.declared.ids.QueueAt.{QueueAt}
@@ -15,7 +15,7 @@ use Rattle.acc_batch.specs.Labels.{on_queue, ops_of}
 use Rattle.acc_batch.proofs.Labels.{on_queue-append, ops_of-append}
 use Rattle.acc_batch.proofs.Seats.{each_seat, one_seat}
 use Rattle.acc_place.specs.declared.directive.PlaceEntry.TheVariants as noted
-use Rattle.acc_place.specs.Closing.{place_after_begin, close_of, place_after_close, handed_back, handed_out, is_at_hand, IsOut}
+use Rattle.acc_place.specs.Closing.{place_after_begin, close_of, place_after_close, handed_out, is_at_hand, IsOut}
 use Rattle.acc_place.specs.Histories.{is_closed, standing, CanClose, IsQueue}
 use Rattle.acc_place.specs.Directives.{Directive}
 use Rattle.acc_place.specs.Plans.{PlaceView, standing_in}

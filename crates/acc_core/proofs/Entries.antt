@@ -8,7 +8,8 @@ use Rattle.acc_place.specs.Directives.{Directive}
 use Rattle.acc_place.specs.Standings.{walk_of}
 use Rattle.acc_work.specs.declared.log.Told.{Told}
 use Rattle.acc_work.specs.Logs.{one_more, items_of}
-use Rattle.acc_core.specs.Legality.{Own, own_of, own_after, items_shown, Rise, AllRise, entries_merged, entries_of}
+use Rattle.acc_core.specs.Legality.{Rise, AllRise, entries_of}
+use Rattle.acc_host.specs.Entries.{Own, own_of, own_after, items_shown, entries_merged}
 use Rattle.acc_core.specs.Machine.{State, standing_of, with_directive, with_item}
 use Rattle.acc_core.proofs.Merged.{rise_more, rise_push, merged_item, merged_directive, items_length}
 

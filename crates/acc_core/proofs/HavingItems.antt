@@ -16,7 +16,8 @@ use Rattle.acc_place.specs.declared.directive.PlaceEntry.TheVariants as noted
 use Rattle.acc_work.specs.declared.log.WorkEntry.{WorkEntry}
 use Rattle.acc_work.specs.Enabled.{HaveItems}
 use Rattle.acc_work.specs.Logs.{one_more, items_of}
-use Rattle.acc_core.specs.Legality.{Own, own_of, own_after, AllRise, Rise}
+use Rattle.acc_core.specs.Legality.{AllRise, Rise}
+use Rattle.acc_host.specs.Entries.{Own, own_of, own_after}
 use Rattle.acc_core.specs.Machine.{State, labels_of}
 use Rattle.acc_core.proofs.Merged.{items_length}
 

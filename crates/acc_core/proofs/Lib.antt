@@ -21,7 +21,6 @@ mod LegalSteps
 mod Merged
 mod NextOfQueue
 mod PerformOp
-mod PlainOps
 mod QueueTotals
 mod RemembersLog
 mod RunParts

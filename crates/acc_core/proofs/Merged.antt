@@ -6,7 +6,8 @@ use Rattle.acc_host.specs.Engines.{HostEntry, Gave, Had}
 use Rattle.acc_work.specs.declared.log.WorkEntry.{WorkEntry}
 use Rattle.acc_work.specs.declared.log.WorkEntry.TheVariants as entry
 use Rattle.acc_work.specs.Logs.{one_more, items_of, if_one}
-use Rattle.acc_core.specs.Legality.{Own, items_shown, Rise, entries_merged}
+use Rattle.acc_core.specs.Legality.{Rise}
+use Rattle.acc_host.specs.Entries.{Own, items_shown, entries_merged}
 
 -- more items leave room for the same directives
 pub rise_more : (low : ℕ) (os : List Own) (high : ℕ) → Rise low os high → Rise low os (high + 1)

@@ -1,50 +1,20 @@
 -- What holds of the histories after any list of events (OpenACC API 3.0, 2.16, Asynchronous Behavior).
-use Rattle.std.specs.Prelude.{◌≡◌, ℕ, ◌+◌, ◌-◌, ◌≤◌, ◌==◌, false, All, List, [], ◌∷◌, ◌++◌, length, take, drop, slice_index_or}
-use Rattle.acc_base.specs.Configurations.{Configuration}
-use Rattle.acc_place.specs.Directives.{Directive}
-use Rattle.acc_place.specs.declared.directive.Placed.{Placed}
-use Rattle.acc_place.specs.declared.directive.PlaceEntry.{PlaceEntry}
-use Rattle.acc_place.specs.declared.directive.PlaceEntry.TheVariants as noted
+use Rattle.std.specs.Prelude.{◌≡◌, ℕ, ◌+◌, ◌≤◌, false, All, List, [], ◌∷◌, length, take, drop}
 use Rattle.acc_host.specs.declared.event.Event.{Event}
 use Rattle.acc_host.specs.declared.state.Reply.{Reply}
-use Rattle.acc_host.specs.Engines.{HostEntry, Gave, Had}
+use Rattle.acc_host.specs.Engines.{HostEntry}
+use Rattle.acc_host.specs.Entries.{Own, entries_merged, items_shown, own_of}
 use Rattle.acc_host.specs.Following.{Follows}
 use Rattle.acc_host.specs.Hosts.{HostView, state_of}
 use Rattle.acc_work.specs.declared.log.WorkEntry.{WorkEntry}
 use Rattle.acc_work.specs.declared.log.WorkEntry.TheVariants as entry
-use Rattle.acc_place.specs.Batches.{answer_of}
 use Rattle.acc_batch.specs.declared.label.OpLabel.{OpLabel}
-use Rattle.acc_place.specs.Histories.{AllAccepted, standing}
+use Rattle.acc_place.specs.Histories.{AllAccepted}
 use Rattle.acc_place.specs.Sound.{is_close}
 use Rattle.acc_work.specs.Lives.{AllLive}
-use Rattle.acc_work.specs.Logs.{one_more, performed}
+use Rattle.acc_work.specs.Logs.{performed}
 use Rattle.acc_work.specs.Orders.{InOrder, InHostOrder, AllAwaited}
 use Rattle.acc_core.specs.Machine.{State, standing_of, Runs}
-use Rattle.acc_place.specs.Standings.{Standing, walk_of}
-
--- A host's items, and its directives with their answers and how many of its items came before each.
-abbrev pub items_shown : ℕ → List WorkEntry → List HostEntry
-items_shown host [] = []
-items_shown host (entry.Op at op ∷ before) = items_shown host before
-items_shown host (entry.Item h shown ∷ before) = one_more (h == host) (items_shown host before) (Had shown)
-
-pub record Own : Type 0 where
-  pub items_before : ℕ
-  pub directive : Directive
-  pub placed : Placed
-
-abbrev pub own_after : Standing → ℕ → ℕ → Directive → Own
-own_after st host items_done d =
-    record { items_before = items_done; directive = d; placed = answer_of st d (walk_of st host d) }
-
-abbrev pub own_of : Configuration → ℕ → List PlaceEntry → List ℕ → List Own
-own_of config host [] counts = []
-own_of config host (noted.Accepted h d ∷ before) counts =
-    one_more (h == host)
-    (own_of config host before (drop 1 counts))
-    (own_after (standing config before (drop 1 counts)) h (slice_index_or counts 0 0) d)
-own_of config host (noted.Closing ∷ before) counts = own_of config host before counts
-own_of config host (noted.Closed at ∷ before) counts = own_of config host before counts
 
 -- The counts of items never fall, from `low` on, and none is above `high`.
 abbrev pub Rise : ℕ → List Own → ℕ → Type 0
@@ -70,13 +40,7 @@ pub record Legal (w : State) : Type 0 where
   pub live_blocks : AllLive w.config.arrays w.work
   pub behind : NothingBehind w.work
 
--- the directives in their order, each behind as many items as its count says; `gone` items stand already
-abbrev pub entries_merged : ℕ → List Own → List HostEntry → List HostEntry
-entries_merged gone [] items = items
-entries_merged gone (o ∷ os) items =
-    take (o.items_before - gone) items
-    ++ Gave o.directive o.placed ∷ entries_merged o.items_before os (drop (o.items_before - gone) items)
-
+-- a host's own list: its directives with their answers, and its items
 abbrev pub entries_of : State → ℕ → List HostEntry
 entries_of w host = entries_merged 0 (own_of w.config host w.history w.counts) (items_shown host w.work)
 

@@ -2,7 +2,6 @@ pub mod Enabled
 pub mod Following
 pub mod Legality
 pub mod Machine
-pub mod Totals
 pub mod Worlds
 pub mod inner
 pub mod worked

@@ -1,5 +1,5 @@
 -- The hosts with the accelerator that they share: how a run begins, what it gives, and what it leaves.
-use Rattle.std.specs.Prelude.{◌≡◌, ℕ, ◌+◌, ◌≤◌, List, [], ◌∷◌, ◌++◌, length, map}
+use Rattle.std.specs.Prelude.{◌≡◌, ℕ, ◌≤◌, List, [], ◌++◌, length, map}
 use Rattle.acc_base.specs.declared.config.TheConstants.{MAX_HOSTS}
 use Rattle.acc_base.specs.Configurations.{Configuration}
 use Rattle.acc_host.specs.declared.event.Event.{Event}

@@ -7,11 +7,9 @@ ghost use Rattle.acc_core.specs.inner.Answers.{Makes, Places};
 ghost use Rattle.acc_core.specs.Enabled.{is_enabled, is_left, SomeEnabled};
 ghost use Rattle.acc_core.specs.Legality.{AllRise};
 ghost use Rattle.acc_core.specs.inner.Ties.{has_cells, HasRoom};
-ghost use Rattle.acc_core.specs.Totals.{plain_batches, plain_ops};
 ghost use Rattle.acc_place.specs.Histories.{is_closed, IsQueue};
 ghost use Rattle.acc_base.specs.Queues.{queue_count};
 ghost use Rattle.acc_work.specs.Works.{HasMadeRoom};
-ghost use Rattle.acc_batch.specs.Labels.{on_queue, ops_of};
 ghost use Rattle.acc_work.specs.Logs.{all_done, performed};
 ghost use Rattle.acc_core.specs.inner.Closing.{closing_begun, closes_one};
 ghost use Rattle.acc_core.specs.Machine.{state_at_first, step, standing_of, labels_of};
@@ -19,8 +17,7 @@ ghost use Rattle.std.specs.Option.{option_map};
 ghost use Rattle.acc_present.specs.Presences.{presences, holder};
 ghost use Rattle.acc_present.specs.Tables.{entry_presence};
 
-use crate::queue::{Queue, queues_of, waiting_in};
-use crate::totals::Totals;
+use crate::queue::{Queue, queues_of};
 use acc_base::{Config, DeviceId, Fault, HostId, QUEUES, QueueAt, QueueCounts, Range};
 use acc_host::{Engine, Reply};
 use acc_place::{Directive, Place, PlaceEntry, Placed};
@@ -191,36 +188,6 @@ impl Accelerator {
         self.work.log()
     }
 
-    /// How many batches of directives were placed on a queue, how many operations they have, and how many of these are
-    /// performed.
-    pub(crate) fn totals(&self, at: QueueAt) -> Totals
-        ensures batches { result.batches ≡ length (plain_batches (on_queue at (labels_of self.now))) }
-        ensures operations { result.operations ≡ length (plain_ops (ops_of (on_queue at (labels_of self.now)))) }
-        ensures performed { result.performed ≡ length (plain_ops (performed at self.now.work)) }
-    {
-        self.work.keeps();
-        let QueueAt { device, queue } = at;
-        let performed = self.work.ops_performed(QueueAt { device, queue });
-        let waiting = self.waiting_on(QueueAt { device, queue });
-        let close = u64::from(self.place.is_closed(QueueAt { device, queue }));
-        // the close is the last that its queue performs
-        let closed = if waiting == 0 { close } else { 0 };
-        Totals {
-            batches: self.place.placed_count(QueueAt { device, queue }) - close,
-            operations: performed + waiting as u64 - close,
-            performed: performed - closed,
-        }
-    }
-
-    // How many operations of a queue were placed and aren't performed.
-    fn waiting_on(&self, at: QueueAt) -> usize
-        ensures count { length (performed at self.now.work) + result ≡ length (ops_of (on_queue at (labels_of self.now))) }
-        ensures room { length (performed at self.now.work) + result < 2 ^ 64 }
-    {
-        self.work.keeps();
-        waiting_in(self.queues.as_slice(), at)
-    }
-
     /// Whether each queue of a device has performed its count of batches.
     pub(crate) fn reached(&self, device: DeviceId, counts: &QueueCounts) -> bool
         ensures { result ≡ all_done (labels_of self.now) self.now.work device 0 counts.now }
@@ -347,6 +314,7 @@ impl Accelerator {
         ensures config { result.0 ≡ self.config }
         ensures history { result.1.items ≡ reverse self.history }
         ensures counts { result.2.items ≡ reverse self.counts }
+        ensures counted { length self.counts ≡ (standing_of self).accepted }
         ensures work { result.3.items ≡ reverse self.work }
     {
         let Accelerator { place, work, .. } = self;

@@ -4,7 +4,6 @@
 mod accelerator;
 mod laws;
 mod queue;
-mod totals;
 mod world;
 
 pub use acc_batch::{Label, OpLabel};
@@ -18,5 +17,4 @@ pub use acc_work::{Counts, MAX_HOST_ITEMS, Told, WorkEntry};
 pub use laws::{
     each_queue_is_counted, worked_closes, worked_hosts, worked_programs, worked_queues,
 };
-pub use totals::Totals;
 pub use world::World;

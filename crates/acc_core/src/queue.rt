@@ -58,13 +58,6 @@ impl Queue {
         self.batches.len()
     }
 
-    /// How many operations wait.
-    pub(crate) fn ops_waiting(&self) -> usize
-        ensures { result ≡ self.now.waiting }
-    {
-        self.waiting
-    }
-
     /// Puts a batch of so many operations behind the others.
     pub(crate) fn push(&mut self, batch: Batch, count: usize)
         requires room { length self.old.held < self.old.room }
@@ -107,17 +100,4 @@ pub(crate) fn queues_of(alloc: Global, config: &Config) -> Result<Vec<Queue>, Fa
         queues.push(Queue::new(alloc, config.room() as usize)?)?;
     }
     Ok(queues)
-}
-
-/// How many operations of a queue wait; none of one that isn't there.
-pub(crate) fn waiting_in(queues: &[Queue], at: QueueAt) -> usize
-    ensures { result ≡ (queue_in queues.now at).waiting }
-{
-    if at.queue.number() >= QUEUES {
-        return 0;
-    }
-    match queues.get(at.seat()) {
-        Some(queue) => queue.ops_waiting(),
-        None => 0,
-    }
 }

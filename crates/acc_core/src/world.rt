@@ -7,16 +7,13 @@ ghost use Rattle.acc_present.specs.Tables.{entry_presence};
 ghost use Rattle.acc_base.specs.declared.config.TheConstants.{MAX_HOSTS};
 ghost use Rattle.acc_core.specs.Enabled.{is_enabled, is_left, SomeEnabled};
 ghost use Rattle.acc_core.specs.Legality.{AllFollow, Legal};
-ghost use Rattle.acc_core.specs.Machine.{Step, standing_of, labels_of};
+ghost use Rattle.acc_core.specs.Machine.{Step, standing_of};
 ghost use Rattle.acc_host.specs.declared.state.Reply.{Reply};
 ghost use Rattle.acc_host.specs.Hosts.{ready, state_of};
-ghost use Rattle.acc_batch.specs.Labels.{on_queue, ops_of};
 ghost use Rattle.acc_work.specs.Logs.{performed};
-ghost use Rattle.acc_core.specs.Totals.{plain_batches, plain_ops};
 ghost use Rattle.acc_core.specs.Worlds.{OnePerHost, first_state, Ran};
 
 use crate::accelerator::Accelerator;
-use crate::totals::Totals;
 use acc_base::{Config, DeviceId, Fault, HostId, QueueAt, Range};
 use acc_host::{Event, Host, HostProgram, HostState, Outcome, Reply, hosts_follow};
 use acc_present::Entry;
@@ -192,16 +189,6 @@ impl World {
         Some(host.state())
     }
 
-    /// How many batches of directives were placed on a queue, how many operations they have, and how many of these are
-    /// performed; a close is no batch of a directive.
-    pub fn totals(&self, at: QueueAt) -> Totals
-        ensures batches { result.batches ≡ length (plain_batches (on_queue at (labels_of self.now))) }
-        ensures operations { result.operations ≡ length (plain_ops (ops_of (on_queue at (labels_of self.now)))) }
-        ensures performed { result.performed ≡ length (plain_ops (performed at self.now.work)) }
-    {
-        self.accelerator.totals(at)
-    }
-
     /// What the run so far leaves. A host that was refused has the line of the statement that it stands at.
     /// Takes no memory.
     pub fn outcome(self) -> Outcome
@@ -210,6 +197,8 @@ impl World {
         ensures counts { result.counts.items ≡ reverse self.counts }
         ensures works { result.works.items ≡ reverse self.work }
         ensures hosts { result.hosts.items ≡ map state_of self.hosts }
+        ensures few { length self.hosts ≤ MAX_HOSTS }
+        ensures counted { length self.counts ≡ (standing_of self).accepted }
         ensures legal { Legal self }
         ensures follow { AllFollow self 0 self.hosts }
     {

@@ -1,3 +1,4 @@
+mod LeftByRun
 mod ReplayAnswers
 mod RunSchedule
 mod WorkedSplits

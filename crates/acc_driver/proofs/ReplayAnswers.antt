@@ -14,12 +14,16 @@ use Rattle.acc_token.specs.declared.read_fault.ReadFault.{ReadFault}
 use Rattle.acc_token.specs.declared.text.TheConstants.{MAX_TEXT}
 use Rattle.acc_driver.specs.declared.options.Ended.{Ended}
 use Rattle.acc_driver.specs.declared.options.Options.{Options}
-use Rattle.acc_driver.specs.declared.replay.TheConstants.{INPUT_LIMIT}
+use Rattle.acc_driver.specs.declared.replays.TheConstants.{INPUT_LIMIT, TEXT_LIMIT}
 use Rattle.acc_host.specs.declared.event.Event.{Event}
 use Rattle.acc_token.specs.Texts.{within}
 use Rattle.acc_driver.specs.Inputs.{Parts, parts}
-use Rattle.acc_driver.specs.Replays.{events_in, configured, IsWorldFault, Says, RunAnswers, AnswersRun, Answers, AreUsable, IsRun}
-use Rattle.acc_script.specs.Schedules.{events_from, lines, schedule_of}
+use Rattle.acc_driver.specs.Replays.{driver_fault, events_in, configured, IsWorldFault, IsReaderFault, RunAnswers, AnswersRun, Answers, AreUsable, IsRun}
+use Rattle.acc_driver.specs.inner.Scripts.{AnswersEvents, IsScriptFault, ScheduleAnswers}
+use Rattle.acc_driver.specs.declared.fault.ReplayFault.{ReplayFault}
+use Rattle.acc_driver.specs.declared.fault.ReplayFault.TheVariants as replay
+use Rattle.std.specs.Io.KnownBytes.{Appends}
+use Rattle.acc_schedule.specs.Schedules.{events_from, lines, schedule_of}
 use Rattle.acc_script.specs.Scripts.{Program, script_at, script_of}
 use Rattle.acc_driver.proofs.SplitText.{capped, cut_is_enough, capped_is_enough}
 
@@ -53,26 +57,83 @@ same_schedule options program text is =
     within_capped MAX_TEXT (λ (text : List ℕ). events_from (length program.programs) options.devices 1 [] (lines text)) (parts (cut text)).schedule (parts text).schedule
     ((cut_is_enough MAX_TEXT text).schedule short)
 
--- What is answered to a text that is cut is the answer to the whole text.
-run_whole : (options : Options) (text : List ℕ) (old new : Option (List ℕ)) (result : Result Ended DriverFault)
-    → AnswersRun options (parts (cut text)) old new result → AnswersRun options (parts text) old new result
-run_whole options text old new result (program, events, says, run) =
-    let script : script_of (parts text).script ≡ Ok program = sym (same_script text) ∙ says.script in
-    (program, events, record { script = script; schedule = sym (same_schedule options program text script) ∙ says.schedule }, run)
+-- what is answered where the script says no program
+pub script_answered : (options : Options) (script schedule : List ℕ) (old new : Option (List ℕ)) (f : ReplayFault)
+    → IsScriptFault script f → Appends old new [] → Answers options (record { script = script; schedule = schedule }) old new (Err (driver_fault f))
+script_answered options script schedule old new (replay.Script f) is written = (is, written)
+script_answered options script schedule old new replay.Memory is written = written
+script_answered options script schedule old new (replay.Schedule f) is written = absurd is
+script_answered options script schedule old new replay.Output is written = absurd is
+script_answered options script schedule old new (replay.Runtime f) is written = absurd is
 
-pub answers_whole : (options : Options) (text : List ℕ) (old new : Option (List ℕ)) (result : Result Ended DriverFault)
-    → Answers options (parts (cut text)) old new result → Answers options (parts text) old new result
-answers_whole options text old new (Ok ended) answers = run_whole options text old new (Ok ended) answers
-answers_whole options text old new (Err fault.Output) answers = run_whole options text old new (Err fault.Output) answers
-answers_whole options text old new (Err (fault.Runtime f)) answers = run_whole options text old new (Err (fault.Runtime f)) answers
-answers_whole options text old new (Err (fault.Script f)) answers = (sym (same_script text) ∙ answers.0, answers.1)
-answers_whole options text old new (Err (fault.Schedule f)) answers =
+-- Two pairs of texts that say the same have the same answer.
+run_same : (options : Options) (a b : Parts) (old new : Option (List ℕ)) (result : Result Ended DriverFault) → script_of a.script ≡ script_of b.script
+    → ((program : Program) → script_of b.script ≡ Ok program → events_in options program a.schedule ≡ events_in options program b.schedule)
+    → AnswersRun options a old new result → AnswersRun options b old new result
+run_same options a b old new result scripts schedules (program, events, says, run) =
+    let script : script_of b.script ≡ Ok program = sym scripts ∙ says.script in
+    (program, events, record { script = script; schedule = sym (schedules program script) ∙ says.schedule }, run)
+
+answers_same : (options : Options) (a b : Parts) (old new : Option (List ℕ)) (result : Result Ended DriverFault) → script_of a.script ≡ script_of b.script
+    → ((program : Program) → script_of b.script ≡ Ok program → events_in options program a.schedule ≡ events_in options program b.schedule)
+    → Answers options a old new result → Answers options b old new result
+answers_same options a b old new (Ok ended) scripts schedules answers = run_same options a b old new (Ok ended) scripts schedules answers
+answers_same options a b old new (Err fault.Output) scripts schedules answers = run_same options a b old new (Err fault.Output) scripts schedules answers
+answers_same options a b old new (Err (fault.Runtime f)) scripts schedules answers = run_same options a b old new (Err (fault.Runtime f)) scripts schedules answers
+answers_same options a b old new (Err (fault.Script f)) scripts schedules answers = (sym scripts ∙ answers.0, answers.1)
+answers_same options a b old new (Err (fault.Schedule f)) scripts schedules answers =
     let program = answers.0.0 in
     let says = answers.0.1 in
-    let script : script_of (parts text).script ≡ Ok program = sym (same_script text) ∙ says.script in
-    ((program, record { script = script; schedule = sym (same_schedule options program text script) ∙ says.schedule }), answers.1)
-answers_whole options text old new (Err fault.Input) answers = answers
-answers_whole options text old new (Err fault.Memory) answers = answers
+    let script : script_of b.script ≡ Ok program = sym scripts ∙ says.script in
+    ((program, record { script = script; schedule = sym (schedules program script) ∙ says.schedule }), answers.1)
+answers_same options a b old new (Err fault.Input) scripts schedules answers = answers
+answers_same options a b old new (Err fault.Memory) scripts schedules answers = answers
+
+-- What is answered to a text that is cut is the answer to the whole text.
+answers_whole : (options : Options) (text : List ℕ) (old new : Option (List ℕ)) (result : Result Ended DriverFault)
+    → Answers options (parts (cut text)) old new result → Answers options (parts text) old new result
+answers_whole options text old new result answers =
+    answers_same options (parts (cut text)) (parts text) old new result (same_script text) (λ program is. same_schedule options program text is) answers
+
+-- So it is of two texts, of which each is cut a byte behind its most.
+text_limit : TEXT_LIMIT ≡ MAX_TEXT + 1
+text_limit = refl
+
+capped_script : (text : List ℕ) → script_of (take TEXT_LIMIT text) ≡ script_of text
+unfolding script_of
+capped_script text =
+    ap (λ (limit : ℕ). script_of (take limit text)) text_limit
+    ∙ capped_is_enough MAX_TEXT (λ (text : List ℕ). script_at (record { line = 1; bytes = text })) text
+
+capped_schedule : (options : Options) (program : Program) (text : List ℕ) → events_in options program (take TEXT_LIMIT text) ≡ events_in options program text
+unfolding schedule_of
+capped_schedule options program text =
+    ap (λ (limit : ℕ). events_in options program (take limit text)) text_limit
+    ∙ capped_is_enough MAX_TEXT (λ (text : List ℕ). events_from (length program.programs) options.devices 1 [] (lines text)) text
+
+answers_both : (options : Options) (script schedule : List ℕ) (old new : Option (List ℕ)) (result : Result Ended DriverFault)
+    → Answers options (record { script = take TEXT_LIMIT script; schedule = take TEXT_LIMIT schedule }) old new result
+    → Answers options (record { script = script; schedule = schedule }) old new result
+answers_both options script schedule old new result answers =
+    answers_same options _ _ old new result (capped_script script) (λ program is. capped_schedule options program schedule) answers
+
+pub whole_texts : (of_script of_schedule : Option (List ℕ)) (script schedule : List ℕ) (options : Options) (old new : Option (List ℕ)) (result : Result Ended DriverFault)
+    → IfSome of_script (λ bytes. script ≡ take TEXT_LIMIT bytes) → IfSome of_schedule (λ bytes. schedule ≡ take TEXT_LIMIT bytes)
+    → Answers options (record { script = script; schedule = schedule }) old new result
+    → IfSome of_script (λ script. IfSome of_schedule (λ schedule. Answers options (record { script = script; schedule = schedule }) old new result))
+whole_texts None of_schedule script schedule options old new result is_script is_schedule answers = tt
+whole_texts (Some s) None script schedule options old new result is_script is_schedule answers = tt
+whole_texts (Some s) (Some e) script schedule options old new result is_script is_schedule answers =
+    answers_both options s e old new result (rw (is_script, is_schedule) at answers)
+
+-- where the script says no program
+pub whole_script : (of_script of_schedule : Option (List ℕ)) (script : List ℕ) (options : Options) (old new : Option (List ℕ)) (f : ReplayFault)
+    → IfSome of_script (λ bytes. script ≡ take TEXT_LIMIT bytes) → IsScriptFault script f → Appends old new []
+    → IfSome of_script (λ script. IfSome of_schedule (λ schedule. Answers options (record { script = script; schedule = schedule }) old new (Err (driver_fault f))))
+whole_script None of_schedule script options old new f is fault written = tt
+whole_script (Some s) None script options old new f is fault written = tt
+whole_script (Some s) (Some e) script options old new f is fault written =
+    answers_both options s e old new (Err (driver_fault f)) (script_answered options (take TEXT_LIMIT s) (take TEXT_LIMIT e) old new f (rw is at fault) written)
 
 -- What is read of an input is a front of it, and the answer to that is the answer to the whole.
 pub whole_input : (remaining : Option (List ℕ)) (read : List ℕ) (options : Options) (old new : Option (List ℕ)) (result : Result Ended DriverFault)
@@ -119,13 +180,25 @@ usable_runs options program fault.Output declared few opening usable = tt
 usable_runs options program (fault.Script f) declared few opening usable = tt
 usable_runs options program (fault.Schedule f) declared few opening usable = tt
 
--- what is answered to a program and events that the texts say
-pub run_answered : (options : Options) (texts : Parts) (program : Program) (events : List Event) (old new : Option (List ℕ)) (result : Result Ended DriverFault)
-    → Says options texts program events → RunAnswers options program events old new result → Answers options texts old new result
-run_answered options texts program events old new (Ok ended) says run = (program, events, says, run)
-run_answered options texts program events old new (Err fault.Output) says run = (program, events, says, run)
-run_answered options texts program events old new (Err (fault.Runtime f)) says run = (program, events, says, run)
-run_answered options texts program events old new (Err (fault.Script f)) says run = absurd run
-run_answered options texts program events old new (Err (fault.Schedule f)) says run = absurd run
-run_answered options texts program events old new (Err fault.Input) says run = absurd run
-run_answered options texts program events old new (Err fault.Memory) says run = run
+-- what is answered to a program and events that the schedule says
+pub events_answered : (options : Options) (program : Program) (schedule : List ℕ) (events : List Event) (old new : Option (List ℕ)) (result : Result Ended DriverFault)
+    → events_in options program schedule ≡ Ok events → RunAnswers options program events old new result → ScheduleAnswers options program schedule old new result
+events_answered options program schedule events old new (Ok ended) says run = (events, says, run)
+events_answered options program schedule events old new (Err fault.Output) says run = (events, says, run)
+events_answered options program schedule events old new (Err (fault.Runtime f)) says run = (events, says, run)
+events_answered options program schedule events old new (Err (fault.Script f)) says run = absurd run
+events_answered options program schedule events old new (Err (fault.Schedule f)) says run = absurd run
+events_answered options program schedule events old new (Err fault.Input) says run = absurd run
+events_answered options program schedule events old new (Err fault.Memory) says run = run
+
+-- what is answered to a program that the script says, and to the schedule
+pub schedule_answered : (options : Options) (script schedule : List ℕ) (program : Program) (old new : Option (List ℕ)) (result : Result Ended DriverFault)
+    → script_of script ≡ Ok program → ScheduleAnswers options program schedule old new result
+    → Answers options (record { script = script; schedule = schedule }) old new result
+schedule_answered options script schedule program old new (Ok ended) is (events, says, run) = (program, events, record { script = is; schedule = says }, run)
+schedule_answered options script schedule program old new (Err fault.Output) is (events, says, run) = (program, events, record { script = is; schedule = says }, run)
+schedule_answered options script schedule program old new (Err (fault.Runtime f)) is (events, says, run) = (program, events, record { script = is; schedule = says }, run)
+schedule_answered options script schedule program old new (Err (fault.Schedule f)) is (says, written) = ((program, record { script = is; schedule = says }), written)
+schedule_answered options script schedule program old new (Err fault.Memory) is written = written
+schedule_answered options script schedule program old new (Err (fault.Script f)) is answers = absurd answers
+schedule_answered options script schedule program old new (Err fault.Input) is answers = absurd answers

@@ -8,7 +8,7 @@ use Rattle.acc_token.specs.declared.read_fault.ReadKind.TheVariants.{Limit}
 use Rattle.acc_token.specs.Faults.{fails}
 use Rattle.acc_token.specs.Texts.{line_feeds, within}
 use Rattle.acc_driver.specs.Inputs.{Parts, line_of, behind_line, is_split_line, with_front, parts_from, parts}
-use Rattle.acc_script.proofs.LinesAndWords.{line_len}
+use Rattle.acc_schedule.proofs.LinesAndWords.{line_len}
 
 -- ## The line `%%`
 

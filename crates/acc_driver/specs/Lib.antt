@@ -1,4 +1,4 @@
 pub mod Inputs
 pub mod Replays
-pub mod Reports
+pub mod inner
 pub mod worked

@@ -1,7 +1,7 @@
 -- From bytes to bytes: the texts are read, the machine runs, and the report of what it leaves is written.
-use Rattle.std.specs.Prelude.{◌≡◌, ◌≤◌, ℕ, zero, suc, Bool, true, false, ◌||◌, List, [], length, slice_get, Option, Some, None, Result, Ok, Err}
+use Rattle.std.specs.Prelude.{◌≡◌, ◌≤◌, ℕ, zero, suc, Bool, true, false, List, [], length, map, Option, Some, None, Result, Ok, Err}
 use Rattle.std.specs.Io.KnownBytes.{Appends}
-use Rattle.std.specs.Option.{option_map}
+use Rattle.std.specs.List.{list_any}
 use Rattle.acc_base.specs.declared.config.TheConstants.{MAX_CAPACITY, MAX_DEVICES, MAX_ROOM}
 use Rattle.acc_base.specs.Configurations.{Configuration, configuration, fault_of}
 use Rattle.acc_host.specs.declared.event.Event.{Event}
@@ -20,8 +20,8 @@ use Rattle.acc_driver.specs.declared.options.Ended.{Ended}
 use Rattle.acc_driver.specs.declared.options.Options.{Options}
 use Rattle.acc_driver.specs.Inputs.{Parts}
 use Rattle.acc_report.specs.Puts.{AppendsFront}
-use Rattle.acc_driver.specs.Reports.{report}
-use Rattle.acc_script.specs.Schedules.{schedule_of}
+use Rattle.acc_report.specs.Reports.{Left, report}
+use Rattle.acc_schedule.specs.Schedules.{schedule_of}
 use Rattle.acc_script.specs.Scripts.{Program, script_of}
 
 -- a fault of two texts as one of the input that they were read from
@@ -43,6 +43,15 @@ events_in options program schedule = schedule_of (length program.programs) optio
 abbrev pub configured : Options → Program → Configuration
 configured options program =
     configuration options.devices (length program.programs) program.arrays options.cells options.room
+
+-- Why a text was not read to its end.
+abbrev pub IsReaderFault : DriverFault → Type 0
+IsReaderFault fault.Input = Unit {0}
+IsReaderFault fault.Memory = Unit {0}
+IsReaderFault fault.Output = ⊥
+IsReaderFault (fault.Script f) = ⊥
+IsReaderFault (fault.Schedule f) = ⊥
+IsReaderFault (fault.Runtime f) = ⊥
 
 -- Why there is no world of a configuration.
 abbrev pub IsWorldFault : Configuration → DriverFault → Type 0
@@ -68,29 +77,27 @@ pub record EndsIn (options : Options) (program : Program) (events : List Event) 
   pub replies : List Reply
   pub runs : Runs (first_state (configured options program) program.programs) events replies final
 
-abbrev pub is_refused : Option HostState → Bool
-is_refused None = false
-is_refused (Some state.Finished) = false
-is_refused (Some (state.Running ended)) = false
-is_refused (Some (state.Refused ended line f)) = true
+abbrev pub is_refused : HostState → Bool
+is_refused state.Finished = false
+is_refused (state.Running ended) = false
+is_refused (state.Refused ended line f) = true
 
--- whether one of the first n hosts was refused
-abbrev pub some_refused : State → ℕ → Bool
-some_refused w zero = false
-some_refused w (suc h) = some_refused w h || is_refused (option_map state_of (slice_get w.hosts h))
+-- what is left of the machine: both histories, and where each host stands
+abbrev pub left_in : State → Left
+left_in w = record { config = w.config; history = w.history; counts = w.counts; work = w.work; hosts = map state_of w.hosts }
 
 -- the whole report of a run, and whether a host was refused
 pub record Reported (options : Options) (program : Program) (events : List Event) (old new : Option (List ℕ)) (refused : Bool) : Type 0 where
   pub final : State
   pub ends : EndsIn options program events final
-  pub written : Appends old new (report program.names final)
-  pub status : refused ≡ some_refused final (length final.hosts)
+  pub written : Appends old new (report program.names program.programs (left_in final))
+  pub status : refused ≡ list_any is_refused (left_in final).hosts
 
 -- the report of a run, up to where the writer failed
 pub record CutOff (options : Options) (program : Program) (events : List Event) (old new : Option (List ℕ)) : Type 0 where
   pub final : State
   pub ends : EndsIn options program events final
-  pub written : AppendsFront old new (report program.names final)
+  pub written : AppendsFront old new (report program.names program.programs (left_in final))
 
 -- What is answered to a program and events, and what the writer then holds.
 abbrev pub RunAnswers : Options → Program → List Event → Option (List ℕ) → Option (List ℕ) → Result Ended DriverFault → Type 0

@@ -3,8 +3,10 @@
 ghost use Rattle.std.specs.Prelude.{◌≡◌, ◌+◌, ◌≤◌, ◌<◌, ◌==◌, not, length, take, OnOk, IfOk, IfErr, IfSome, IsTrue, vec_len};
 ghost use Rattle.std.specs.List.{prefix_len};
 ghost use Rattle.acc_driver.specs.Inputs.{ReadsTurn, is_split_line, behind_line, parts};
+ghost use Rattle.acc_driver.specs.Replays.{IsReaderFault};
 
-use acc_script::line_len;
+use crate::fault::DriverFault;
+use acc_token::line_len;
 use std::alloc::Global;
 use std::io::{ErrorKind, Read};
 
@@ -14,6 +16,18 @@ pub enum InputFault {
     /// The reader failed, or its turns ended.
     Read,
     Memory,
+}
+
+impl InputFault {
+    /// The same fault, of a run.
+    pub(crate) fn of_reader(self) -> DriverFault
+        ensures { IsReaderFault result }
+    {
+        match self {
+            InputFault::Read => DriverFault::Input,
+            InputFault::Memory => DriverFault::Memory,
+        }
+    }
 }
 
 // How many bytes one turn asks for.

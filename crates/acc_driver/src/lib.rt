@@ -5,11 +5,12 @@ mod fault;
 mod input;
 mod laws;
 mod options;
-mod replay;
-mod report;
+mod replays;
 
 pub use acc_script::{ReadFault, ReadKind};
 pub use fault::{DriverFault, ReplayFault};
 pub use laws::{worked_replays, worked_splits};
 pub use options::{Ended, Options};
-pub use replay::{INPUT_LIMIT, INPUT_TURNS, replay_one, replay_texts};
+pub use replays::{
+    INPUT_LIMIT, INPUT_TURNS, TEXT_LIMIT, TEXT_TURNS, replay, replay_one, replay_texts,
+};

@@ -1,4 +1,5 @@
 pub mod Engines
+pub mod Entries
 pub mod Following
 pub mod Hosts
 pub mod Steps

@@ -16,4 +16,5 @@ pub use host::Host;
 pub use laws::{hosts_follow, worked_hosts};
 pub use outcome::Outcome;
 pub use program::{Act, HostProgram, Statement};
-pub use state::{HostState, Reply};
+pub use state::{After, Awaited, HostState, Ids, Reply};
+pub use turn::owed_by;

@@ -43,8 +43,8 @@ fn is_nothing(counts: &QueueCounts) -> bool
     counts.iter().all(|count| *count == 0)
 }
 
-// What a host owes after a directive.
-fn owed_by(directive: &Directive, placed: Placed) -> After
+/// What a host owes after a directive that was answered so: nothing more, or that it waits, or asks.
+pub fn owed_by(directive: &Directive, placed: Placed) -> After
     ensures { result ≡ owing (owed_by directive.now placed) }
 {
     match directive.kind() {

@@ -380,6 +380,7 @@ impl Place {
         ensures config { result.0 ≡ self.config }
         ensures history { result.1.items ≡ reverse self.history }
         ensures counts { result.2.items ≡ reverse self.counts }
+        ensures counted { length self.counts ≡ (standing_in self).accepted }
     {
         let Place {
             config,

@@ -7,7 +7,6 @@ use Rattle.std.proofs.lemmas.List.{append_assoc, append-nil, take-append-drop, t
 use Rattle.std.proofs.lemmas.Option.{slice_get_cases, slice_get_within, get_or_from_slice_get}
 use Rattle.std.specs.List.{flat_map}
 use Rattle.std.specs.Io.KnownBytes.{Appends, Keeps}
-use Rattle.acc_report.specs.declared.bytes.ReportFault.{ReportFault}
 use Rattle.acc_report.specs.Puts.{AppendsFront, Writes, Sink, sink, PutsBy, Puts}
 use Rattle.acc_report.specs.Lines.{each_below}
 
@@ -43,19 +42,19 @@ appends_then_front : (a b c : Option (List ℕ)) (x y : List ℕ) → Appends a 
 appends_then_front a b c x y first second =
     (length x + second.0, rw (take-append-add x y second.0) (appends_then a b c x (take second.0 y) first second.1))
 
-written_then : {A : Type 0} (a b c : Option (List ℕ)) (result : Result A ReportFault) (x y : List ℕ)
+written_then : {A E : Type 0} (a b c : Option (List ℕ)) (result : Result A E) (x y : List ℕ)
     → Appends a b x → Writes b c result y → Writes a c result (x ++ y)
 written_then a b c (Ok value) x y first second = appends_then a b c x y first second
 written_then a b c (Err fault) x y first second = appends_then_front a b c x y first second
 
 -- Who wrote the front of a text, and then the rest, wrote all of it.
-pub written_front : {A : Type 0} (n : ℕ) (a b c : Option (List ℕ)) (result : Result A ReportFault) (x rest : List ℕ)
+pub written_front : {A E : Type 0} (n : ℕ) (a b c : Option (List ℕ)) (result : Result A E) (x rest : List ℕ)
     → rest ≡ drop n x → Appends a b (take n x) → Writes b c result rest → Writes a c result x
 written_front n a b c result x rest is first second =
     let whole : take n x ++ rest ≡ x = ap (λ l. take n x ++ l) is ∙ take-append-drop n x in
     subst (λ l. Writes a c result l) whole (written_then a b c result (take n x) rest first second)
 
-pub kept_then : {A : Type 0} (a b c : Option (List ℕ)) (result : Result A ReportFault) (y : List ℕ)
+pub kept_then : {A E : Type 0} (a b c : Option (List ℕ)) (result : Result A E) (y : List ℕ)
     → Keeps a b → Writes b c result y → Writes a c result y
 kept_then a b c result y kept second = written_then a b c result [] y (appends_kept a b kept) second
 
@@ -105,12 +104,10 @@ pub puts_below : {a b c : Sink} (text : ℕ → List ℕ) (n : ℕ) → Puts a b
 puts_below text n first second = rw (add-one n) (puts_then first second)
 
 -- What was put to a writer that had not failed was written, or a beginning of it.
-pub written : {A : Type 0} (old new : Option (List ℕ)) (failed : Bool) (x : A) (text : List ℕ) → failed ≡ false
-    → Puts (sink old false) (sink new failed) text → Writes old new (Ok x) text
-written old new true x text is puts = absurd cc
-written old new false x text is puts = puts.bytes
+pub written : (old new : Option (List ℕ)) (failed : Bool) (text : List ℕ) → failed ≡ false → Puts (sink old false) (sink new failed) text → Appends old new text
+written old new true text is puts = absurd cc
+written old new false text is puts = puts.bytes
 
-pub front_written : (old new : Option (List ℕ)) (failed : Bool) (fault : ReportFault) (text : List ℕ) → failed ≡ true
-    → Puts (sink old false) (sink new failed) text → Writes {A = Unit {0}} old new (Err fault) text
-front_written old new true fault text is puts = puts.bytes
-front_written old new false fault text is puts = absurd cc
+pub front_written : (old new : Option (List ℕ)) (failed : Bool) (text : List ℕ) → failed ≡ true → Puts (sink old false) (sink new failed) text → AppendsFront old new text
+front_written old new true text is puts = puts.bytes
+front_written old new false text is puts = absurd cc

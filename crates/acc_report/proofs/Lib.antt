@@ -1,1 +1,10 @@
-pub mod JoinedPuts
+mod JoinedPuts
+mod LeftEntries
+mod LinesFound
+mod OwnEntries
+mod PerformedCounts
+mod PlacedTotals
+mod PrintedLines
+mod PutPages
+mod RetoldHistory
+mod WholeReport

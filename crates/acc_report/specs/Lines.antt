@@ -1,5 +1,5 @@
 -- The lines of a report: what a host printed and where it stands, a range that is present, and what a queue has performed.
-use Rattle.std.specs.Prelude.{ℕ, zero, suc, ◌==◌, List, [], ◌∷◌, ◌++◌, slice_index_or, Option, Some, None, ℤ, codes, decimal, if◌then◌else◌}
+use Rattle.std.specs.Prelude.{ℕ, zero, suc, ◌==◌, List, [], ◌∷◌, ◌++◌, slice_index_or, ℤ, codes, decimal, if◌then◌else◌}
 use Rattle.std.specs.Fmt.{signed_decimal}
 use Rattle.std.specs.List.{flat_map}
 use Rattle.acc_base.specs.declared.fault.Fault.{Fault}
@@ -8,11 +8,6 @@ use Rattle.acc_base.specs.Faults.{number_of, name_of}
 use Rattle.acc_present.specs.Presences.{Presence}
 use Rattle.acc_host.specs.declared.state.HostState.{HostState}
 use Rattle.acc_host.specs.declared.state.HostState.TheVariants.{Running, Finished, Refused}
-use Rattle.acc_work.specs.declared.log.Told.{Told}
-use Rattle.acc_work.specs.declared.log.Told.TheVariants.{Write, Print, Seen, Test}
-use Rattle.acc_work.specs.declared.log.WorkEntry.{WorkEntry}
-use Rattle.acc_work.specs.declared.log.WorkEntry.TheVariants.{Op, Item}
-use Rattle.acc_work.specs.Logs.{performed}
 
 -- the texts of 0 to n - 1, in order
 abbrev pub each_below : ℕ → (ℕ → List ℕ) → List ℕ
@@ -24,17 +19,9 @@ abbrev pub values_text : List ℤ → List ℕ
 values_text [] = []
 values_text (value ∷ values) = signed_decimal value ++ flat_map (λ v. codes " " ++ signed_decimal v) values
 
--- what an item prints; answers of questions are not reported yet
-unfoldable pub shown_text : Told → List ℕ
-shown_text (Write array cell value) = []
-shown_text (Seen device counts) = []
-shown_text (Test device counts answer) = []
-shown_text (Print range values) = values_text values ++ codes "\n"
-
--- what an entry of the work log prints for a host
-unfoldable pub printed_text : ℕ → WorkEntry → List ℕ
-printed_text host (Op at op) = []
-printed_text host (Item h shown) = if h == host then shown_text shown else []
+-- a line of values
+unfoldable pub line_text : List ℤ → List ℕ
+line_text values = values_text values ++ codes "\n"
 
 -- refused LINE Fn NAME
 unfoldable pub refusal_text : ℕ → Fault → List ℕ
@@ -46,10 +33,6 @@ unfoldable pub state_text : HostState → List ℕ
 state_text (Running ended) = codes "unfinished\n"
 state_text Finished = codes "done\n"
 state_text (Refused ended line fault) = refusal_text line fault
-
-abbrev pub host_state_text : Option HostState → List ℕ
-host_state_text None = []
-host_state_text (Some state) = state_text state
 
 -- present D NAME[LO:LEN] s S d N
 unfoldable pub presence_text : List (List ℕ) → ℕ → Presence → List ℕ

@@ -2,15 +2,22 @@
 use Rattle.std.specs.Prelude.{◌≡◌, ℕ, Bool, true, false, List, [], take, Option, Result, Ok, Err}
 use Rattle.std.specs.Io.KnownBytes.{Appends}
 use Rattle.acc_report.specs.declared.bytes.ReportFault.{ReportFault}
+use Rattle.acc_report.specs.declared.bytes.ReportFault.TheVariants as fault
 
 -- What the writer holds, where that is known, grew by a beginning of the text.
 abbrev pub AppendsFront : Option (List ℕ) → Option (List ℕ) → List ℕ → Type 0
 AppendsFront old new text = (n : ℕ) × Appends old new (take n text)
 
 -- The whole text was written, or the writer failed behind a beginning of it.
-abbrev pub Writes : {A : Type 0} → Option (List ℕ) → Option (List ℕ) → Result A ReportFault → List ℕ → Type 0
+abbrev pub Writes : {A E : Type 0} → Option (List ℕ) → Option (List ℕ) → Result A E → List ℕ → Type 0
 Writes old new (Ok x) text = Appends old new text
 Writes old new (Err fault) text = AppendsFront old new text
+
+-- A report was written, or a beginning of it where the writer failed, or nothing where memory was refused.
+abbrev pub Answers : {A : Type 0} → Option (List ℕ) → Option (List ℕ) → Result A ReportFault → List ℕ → Type 0
+Answers old new (Ok x) text = Appends old new text
+Answers old new (Err fault.Write) text = AppendsFront old new text
+Answers old new (Err fault.Memory) text = Appends old new []
 
 -- what a writer holds, where that is known, and whether it has failed
 pub record Sink : Type 0 where

@@ -13,6 +13,9 @@ pub enum ReportFault {
     /// The writer failed, or took nothing.
     #[error("cannot write")]
     Write,
+    /// Memory was refused.
+    #[error("out of memory")]
+    Memory,
 }
 
 // Writes the bytes, or a beginning of them; a write that is interrupted is tried again.
@@ -38,7 +41,7 @@ fn write_all<W: Write>(out: &mut W, bytes: &[u8]) -> Result<(), ReportFault>
 }
 
 /// Writes the bytes, unless a write has failed; `failed` tells afterwards whether one has.
-pub fn put<W: Write>(out: &mut W, failed: &mut bool, bytes: &[u8])
+pub(crate) fn put<W: Write>(out: &mut W, failed: &mut bool, bytes: &[u8])
     ensures { Puts (sink (W.contents out.old) failed.old) (sink (W.contents out.new) failed.new) bytes.now }
 {
     if !*failed && write_all(out, bytes).is_err() {
@@ -47,7 +50,7 @@ pub fn put<W: Write>(out: &mut W, failed: &mut bool, bytes: &[u8])
 }
 
 /// Puts a number without a sign.
-pub fn put_number<W: Write, I: Integer>(out: &mut W, failed: &mut bool, number: I)
+pub(crate) fn put_number<W: Write, I: Integer>(out: &mut W, failed: &mut bool, number: I)
     ensures { Puts (sink (W.contents out.old) failed.old) (sink (W.contents out.new) failed.new) (I.text number) }
 {
     put(out, failed, Buffer::new().format(number).as_bytes());

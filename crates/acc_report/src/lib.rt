@@ -1,9 +1,17 @@
-//! The report: bytes and numbers as text, and the lines that say what hosts printed, what is present and what queues have
+//! The report of a run, read off what it leaves: what hosts printed and where they stand, what is present, and what queues have
 //! performed.
 #![tactic(auto)]
 
 mod bytes;
+mod laws;
 mod line;
+mod page;
+mod performed;
+mod prints;
+mod retold;
+mod run;
+mod unread;
 
-pub use bytes::{ReportFault, put, put_number};
-pub use line::{put_host_state, put_presence, put_prints, put_totals};
+pub use bytes::ReportFault;
+pub use laws::lines_are_found;
+pub use run::report;

@@ -5,51 +5,18 @@ ghost use Rattle.std.specs.Fmt.{signed_decimal};
 ghost use Rattle.std.specs.List.{flat_map};
 ghost use Rattle.acc_present.specs.Tables.{entry_presence};
 ghost use Rattle.acc_script.specs.Arrays.{texts};
-ghost use Rattle.acc_report.specs.Lines.{values_text, printed_text, shown_text, refusal_text, state_text, host_state_text, presence_text, queue_name, totals_text};
+ghost use Rattle.acc_report.specs.Lines.{values_text, refusal_text, state_text, presence_text, queue_name, totals_text};
 ghost use Rattle.acc_report.specs.Puts.{Puts, sink};
 
 use crate::bytes::{put, put_number, put_signed};
-use acc_base::{DeviceId, Fault, HostId, QueueAt, QueueId};
+use crate::page::{PAGE, add_spaced, hand_on};
+use acc_base::{DeviceId, Fault, QueueAt, QueueId};
 use acc_host::HostState;
 use acc_present::Entry;
-use acc_work::{Told, WorkEntry};
 use std::io::Write;
 
-/// What a host printed.
-pub fn put_prints<W: Write>(out: &mut W, failed: &mut bool, log: &[WorkEntry], host: HostId)
-    ensures { Puts (sink (W.contents out.old) failed.old) (sink (W.contents out.new) failed.new) (flat_map (printed_text host) log.now) }
-{
-    for entry in log {
-        put_printed(out, failed, entry, host);
-    }
-}
-
-// What an entry prints for a host.
-#[tactic(auto, using(crate::proofs::JoinedPuts::puts_nothing), unfolding(crate::specs::Lines::printed_text))]
-fn put_printed<W: Write>(out: &mut W, failed: &mut bool, entry: &WorkEntry, host: HostId)
-    ensures { Puts (sink (W.contents out.old) failed.old) (sink (W.contents out.new) failed.new) (printed_text host entry.now) }
-{
-    match entry {
-        WorkEntry::Item {
-            host: printer,
-            what,
-        } if *printer == host => put_shown(out, failed, what),
-        _ => {}
-    }
-}
-
-#[tactic(auto, using(crate::proofs::JoinedPuts::puts_nothing), unfolding(crate::specs::Lines::shown_text))]
-fn put_shown<W: Write>(out: &mut W, failed: &mut bool, what: &Told)
-    ensures { Puts (sink (W.contents out.old) failed.old) (sink (W.contents out.new) failed.new) (shown_text what.now) }
-{
-    if let Told::Print { range: _, values } = what {
-        put_values(out, failed, values.as_slice());
-        put(out, failed, b"\n");
-    }
-}
-
-// Values, separated by one space.
-fn put_values<W: Write>(out: &mut W, failed: &mut bool, values: &[i64])
+/// Values, separated by one space.
+pub(crate) fn put_values<W: Write>(out: &mut W, failed: &mut bool, values: &[i64])
     ensures { Puts (sink (W.contents out.old) failed.old) (sink (W.contents out.new) failed.new) (values_text values.now) }
 {
     if let Some((first, rest)) = values.split_first() {
@@ -58,28 +25,23 @@ fn put_values<W: Write>(out: &mut W, failed: &mut bool, values: &[i64])
     }
 }
 
-// Values, each with a space before it.
+// Values, each with a space before it. They wait on a page, which is handed on where it is full.
 fn put_spaced<W: Write>(out: &mut W, failed: &mut bool, values: &[i64])
     ensures { Puts (sink (W.contents out.old) failed.old) (sink (W.contents out.new) failed.new) (flat_map (λ v. codes " " ++ signed_decimal v) values.now) }
 {
+    let mut page = [0u8; PAGE];
+    let mut waiting = 0;
     for value in values {
-        put(out, failed, b" ");
-        put_signed(out, failed, value);
+        waiting = hand_on(out, failed, &page, waiting);
+        waiting = add_spaced(&mut page, waiting, value);
     }
+    let (text, _) = page.split_at(waiting);
+    put(out, failed, text);
 }
 
 /// Where a host stands.
-#[tactic(auto, using(crate::proofs::JoinedPuts::puts_nothing))]
-pub fn put_host_state<W: Write>(out: &mut W, failed: &mut bool, state: Option<HostState>)
-    ensures { Puts (sink (W.contents out.old) failed.old) (sink (W.contents out.new) failed.new) (host_state_text state) }
-{
-    if let Some(state) = state {
-        put_state(out, failed, state);
-    }
-}
-
 #[tactic(auto, unfolding(crate::specs::Lines::state_text))]
-fn put_state<W: Write>(out: &mut W, failed: &mut bool, state: HostState)
+pub(crate) fn put_state<W: Write>(out: &mut W, failed: &mut bool, state: HostState)
     ensures { Puts (sink (W.contents out.old) failed.old) (sink (W.contents out.new) failed.new) (state_text state) }
 {
     match state {
@@ -107,7 +69,7 @@ fn put_refusal<W: Write>(out: &mut W, failed: &mut bool, line: u32, fault: Fault
 }
 
 /// A range that is present on a device, with its counters.
-pub fn put_presence<W: Write>(
+pub(crate) fn put_presence<W: Write>(
     out: &mut W,
     failed: &mut bool,
     names: &[&[u8]],
@@ -142,13 +104,13 @@ fn name_at<'a>(names: &[&'a [u8]], array: u8) -> &'a [u8]
 }
 
 /// What a queue has performed; one that has no batch has no line.
-pub fn put_totals<W: Write>(
+pub(crate) fn put_totals<W: Write>(
     out: &mut W,
     failed: &mut bool,
     at: &QueueAt,
     batches: u64,
     performed: u64,
-    operations: u64,
+    operations: u128,
 )
     ensures { Puts (sink (W.contents out.old) failed.old) (sink (W.contents out.new) failed.new) (totals_text at.now batches performed operations) }
 {

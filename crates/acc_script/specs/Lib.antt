@@ -6,7 +6,6 @@ pub mod Loops
 pub mod Queues
 pub mod Ranges
 pub mod Routines
-pub mod Schedules
 pub mod Scripts
 pub mod Statements
 pub mod inner

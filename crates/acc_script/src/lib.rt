@@ -1,4 +1,4 @@
-//! Scripts and schedules: their texts are read, and faults of them told with their lines.
+//! Scripts: their texts are read, and faults of them told with their lines.
 #![tactic(auto)]
 
 mod arrays;
@@ -10,10 +10,8 @@ mod loops;
 mod queue;
 mod range;
 mod routine;
-mod schedule;
 mod script;
 mod statement;
 
-pub use acc_token::{MAX_TEXT, ReadError, ReadFault, ReadKind, line_len};
-pub use schedule::{Schedule, ScheduleLine, Turn, read_schedule};
+pub use acc_token::{MAX_TEXT, ReadError, ReadFault, ReadKind};
 pub use script::{Script, read};

@@ -1,9 +1,7 @@
 -- What a work side keeps where one of its lanes changes.
-use Rattle.std.proofs.Common.{inl, inr, ◌≡◌, ℕ, ◌<◌, ◌≤◌, true, false, List, [], ◌∷◌, ◌++◌, length, map, refl, sym, ap, ◌∙◌, arith}
-use Rattle.std.specs.Prelude.{slice_index_or}
+use Rattle.std.proofs.Common.{◌≡◌, ℕ, ◌<◌, ◌≤◌, false, List, [], ◌∷◌, ◌++◌, length, map, refl, sym, ap, ◌∙◌, arith}
 use Rattle.std.proofs.Math.Seq.{map-set_same}
-use Rattle.std.proofs.lemmas.Bool.{cases_Bool}
-use Rattle.std.proofs.lemmas.List.{append_assoc, get_or_default, length-append}
+use Rattle.std.proofs.lemmas.List.{append_assoc}
 use Rattle.acc_base.specs.declared.config.TheConstants.{MAX_HOSTS}
 use Rattle.acc_base.specs.declared.ids.QueueAt.{QueueAt}
 use Rattle.acc_base.specs.declared.ids.TheConstants.{QUEUES}
@@ -16,7 +14,7 @@ use Rattle.acc_work.specs.declared.log.WorkEntry.{WorkEntry}
 use Rattle.acc_work.specs.declared.log.WorkEntry.TheVariants as entry
 use Rattle.acc_work.specs.Lanes.{LaneView, no_lane, lane_in, lanes_with, lane_with_batch, lane_with_left}
 use Rattle.acc_work.specs.Logs.{performed}
-use Rattle.acc_work.specs.Works.{WorkView, HasMadeRoom, IsRoomier, IsInOrder, NextMayFollow, goes_on, lane_at}
+use Rattle.acc_work.specs.Works.{WorkView, HasMadeRoom, IsRoomier, IsInOrder, lane_at}
 use Rattle.acc_work.proofs.Lanes.{lane_there, each_lane, taken_with}
 use Rattle.acc_work.proofs.TakenLabels.{all_at_more, lane_filled, order_filled}
 
@@ -52,7 +50,6 @@ order_offered work lanes at l low there all here some host none =
     each_lane (IsInOrder work) (IsInOrder work) lanes at (lane_with_batch lane l) low there all (record {
       in_order = order_filled lane l (performed at work) o.in_order none;
       on_queue = all_at_more at lane.taken l o.on_queue here;
-      counted = o.counted;
       batches = lane_filled lane l o.batches some host;
     })
     (λ other differ x h. h)
@@ -67,7 +64,6 @@ order_performed work lanes at op ops low there all next =
     each_lane (IsInOrder work) (IsInOrder (entry.Op at op ∷ work)) lanes at (lane_with_left lane ops) low there all (record {
       in_order = rw more (append_assoc (performed at work) (op ∷ []) ops ∙ (ap (λ r. performed at work ++ r) (sym next) ∙ o.in_order));
       on_queue = o.on_queue;
-      counted = omega (arith, o.counted, ap length more, length-append (performed at work) (op ∷ []));
       batches = record { filled = o.batches.filled; hosts = o.batches.hosts; begun = (let b = o.batches.begun in omega (arith, b, ap length next)) };
     })
     (λ other differ x h. stays other differ x h)
@@ -75,17 +71,4 @@ order_performed work lanes at op ops low there all next =
     stays : (other : QueueAt) → same_queue at other ≡ false → (x : LaneView) → IsInOrder work other x → IsInOrder (entry.Op at op ∷ work) other x
     stays other differ x h =
         let same : performed other (entry.Op at op ∷ work) ≡ performed other work = rw differ refl in
-        record { in_order = rw same h.in_order; on_queue = h.on_queue; counted = rw same h.counted; batches = h.batches }
-
--- a queue has performed no more operations than the log has entries
-pub performed-le-length : (at : QueueAt) (work : List WorkEntry) → length (performed at work) ≤ length work
-performed-le-length at [] = omega arith
-performed-le-length at (entry.Op q op ∷ before) =
-    let ih = performed-le-length at before in
-    elim (cases_Bool (same_queue q at)) [ inl same ↦ rw same (omega (arith, ih, length-append (performed at before) (op ∷ []))) | inr differ ↦ rw differ (omega (arith, ih)) ]
-performed-le-length at (entry.Item host what ∷ before) = omega (arith, performed-le-length at before)
-
--- where a queue goes on there is room in the log
-pub goes_room : (w : WorkView) (at : QueueAt) (left : List OpLabel) → goes_on w at left ≡ true → NextMayFollow w at left → length w.work < w.room
-goes_room w at [] goes may = absurd (let no : false ≡ true = goes in cc)
-goes_room w at (op ∷ ops) goes may = may.room
+        record { in_order = rw same h.in_order; on_queue = h.on_queue; batches = h.batches }

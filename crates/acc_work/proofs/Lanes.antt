@@ -1,8 +1,8 @@
 -- The lanes of all queues, of which one changes, and the batches that they took.
 use Rattle.std.proofs.Common.{inl, inr, ◌≡◌, ℕ, zero, suc, ◌+◌, ◌-◌, ◌*◌, ◌<◌, ◌≤◌, true, false, cond, List, [], ◌∷◌, ◌++◌, length, refl, sym, ap, subst, ◌∙◌, arith}
 use Rattle.std.specs.Prelude.{All, nat_lt, slice_index_or, slice_set}
-use Rattle.std.proofs.lemmas.Bool.{cases_Bool, cases_lt, ltb-true, lt-ltb, le-ltb}
-use Rattle.std.proofs.lemmas.List.{append-nil, get_or-set_same, get_or-set_other}
+use Rattle.std.proofs.lemmas.Bool.{cases_Bool, cases_lt}
+use Rattle.std.proofs.lemmas.List.{append-nil}
 use Rattle.std.proofs.lemmas.List.Elements.{All-head, All-tail}
 use Rattle.acc_base.specs.declared.ids.QueueAt.{QueueAt}
 use Rattle.acc_base.specs.declared.ids.TheConstants.{QUEUES}
@@ -37,7 +37,7 @@ pub fresh_lane : (lanes : List LaneView) (at : QueueAt) → All IsFresh lanes �
 fresh_lane lanes at h = elim (nat_lt at.queue QUEUES) as (λ v. IsFresh (cond v (slice_index_or lanes (seat at) no_lane) no_lane)) [ true ↦ each lanes (seat at) h | false ↦ none ]
   where
     none : IsFresh no_lane
-    none = record { taken = refl; performed = refl; left = refl }
+    none = record { taken = refl; left = refl }
 
     each : (ls : List LaneView) (n : ℕ) → All IsFresh ls → IsFresh (slice_index_or ls n no_lane)
     each [] n all = none

@@ -1,13 +1,12 @@
 -- As long as an operation is left, some queue can go on: that of the first label that isn't performed.
 use Rattle.std.proofs.Common.{inl, inr, ◌≡◌, ◌⊎◌, ℕ, zero, suc, ◌+◌, ◌-◌, ◌<◌, ◌≤◌, Bool, true, false, List, [], ◌∷◌, ◌++◌, length, take, drop, Some, refl, sym, ap, subst, ◌∙◌, arith}
-use Rattle.std.specs.Prelude.{All, Contains, nat_lt, ◌&&◌}
+use Rattle.std.specs.Prelude.{Contains, nat_lt}
 use Rattle.std.specs.List.{list_any}
 use Rattle.std.proofs.lemmas.Bool.{and_from, cases_Bool, cases_lt, le-leb, lt-ltb, ltb-true}
 use Rattle.std.proofs.lemmas.List.{length-append, take-append-le}
 use Rattle.std.proofs.Math.ListN.{drop_of_length-le}
 use Rattle.std.proofs.lemmas.List.Elements.{All-contains}
 use Rattle.acc_base.specs.declared.ids.QueueAt.{QueueAt}
-use Rattle.acc_base.specs.Queues.{same_queue}
 use Rattle.acc_base.proofs.Members.{no_member, member_first, member_rest, member_cases}
 use Rattle.acc_base.proofs.SameQueue.{same_queue_itself}
 use Rattle.acc_batch.specs.declared.label.Label.{Label}

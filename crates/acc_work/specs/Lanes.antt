@@ -1,5 +1,5 @@
 -- The batches that queues took, and what is left of the last one of each (OpenACC API 3.0, 2.16, Asynchronous Behavior).
-use Rattle.std.specs.Prelude.{◌≡◌, ℕ, zero, suc, ◌+◌, ◌-◌, ◌<◌, ◌≤◌, nat_lt, List, [], ◌∷◌, ◌++◌, length, All, slice_get, slice_index_or, slice_set, Option, Some, None, if◌then◌else◌}
+use Rattle.std.specs.Prelude.{◌≡◌, ℕ, zero, suc, ◌-◌, ◌<◌, ◌≤◌, nat_lt, List, [], ◌∷◌, ◌++◌, length, All, slice_get, slice_index_or, slice_set, Option, Some, None, if◌then◌else◌}
 use Rattle.std.specs.List.{flat_map}
 use Rattle.acc_base.specs.declared.config.TheConstants.{MAX_HOSTS}
 use Rattle.acc_base.specs.declared.ids.QueueAt.{QueueAt}
@@ -8,16 +8,15 @@ use Rattle.acc_base.specs.Queues.{seat}
 use Rattle.acc_batch.specs.declared.label.OpLabel.{OpLabel}
 use Rattle.acc_batch.specs.declared.label.Label.{Label}
 
--- Of a queue: the labels of the batches that it took, in order, and for how many there is room; how many operations it has
--- performed; and those that aren't performed, of the last batch.
+-- Of a queue: the labels of the batches that it took, in order, and for how many there is room; and the operations of the last
+-- batch that aren't performed.
 pub record LaneView : Type 0 where
   pub taken : List Label
   pub room : ℕ
-  pub performed : ℕ
   pub left : List OpLabel
 
 abbrev pub no_lane : LaneView
-no_lane = record { taken = []; room = 0; performed = 0; left = [] }
+no_lane = record { taken = []; room = 0; left = [] }
 
 -- The lane of a queue among those of all, which stand by device, then in queue order. A queue that isn't there takes no batch.
 abbrev pub lane_in : List LaneView → QueueAt → LaneView
@@ -34,9 +33,9 @@ all_taken lanes = flat_map (λ lane. lane.taken) lanes
 abbrev pub lane_with_batch : LaneView → Label → LaneView
 lane_with_batch lane label = record lane { taken = lane.taken ++ label ∷ []; left = label.ops }
 
--- one more operation is performed, and these are left
+-- with these operations left
 abbrev pub lane_with_left : LaneView → List OpLabel → LaneView
-lane_with_left lane ops = record lane { performed = lane.performed + 1; left = ops }
+lane_with_left lane ops = record lane { left = ops }
 
 abbrev pub last_of : List Label → Option Label
 last_of labels = slice_get labels (length labels - 1)
@@ -63,5 +62,4 @@ pub record IsLane (lane : LaneView) : Type 0 where
 -- A lane that took no batch yet.
 pub record IsFresh (lane : LaneView) : Type 0 where
   pub taken : lane.taken ≡ []
-  pub performed : lane.performed ≡ 0
   pub left : lane.left ≡ []

@@ -141,7 +141,6 @@ AreCounted items work = (h : ℕ) → h < length items → slice_index_or items 
 pub record IsInOrder (work : List WorkEntry) (at : QueueAt) (lane : LaneView) : Type 0 where
   pub in_order : performed at work ++ lane.left ≡ ops_of lane.taken
   pub on_queue : AllAt at lane.taken
-  pub counted : lane.performed ≡ length (performed at work)
   pub batches : IsLane lane
 
 -- So it is of every queue, and its batches are those among all that were taken.

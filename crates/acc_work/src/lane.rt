@@ -16,7 +16,6 @@ use std::marker::Model;
 #[derive(Drop)]
 pub struct Lane {
     taken: Vec<Label>,
-    performed: u64,
     left: Ops,
 }
 
@@ -31,7 +30,7 @@ impl Model for Lane {
 
     ghost coded = { Prim.hlevel (codes, expr.the_row.coded) };
 
-    ghost view = { λ l. record { taken = l.taken.items; room = vec_capacity l.taken; performed = l.performed; left = op_labels l.left } };
+    ghost view = { λ l. record { taken = l.taken.items; room = vec_capacity l.taken; left = op_labels l.left } };
 
     ghost invariant = { λ l. AllReady l.left };
 }
@@ -42,7 +41,6 @@ impl Lane {
     {
         Lane {
             taken: Vec::new(alloc),
-            performed: 0,
             left: Ops::none(alloc),
         }
     }
@@ -71,13 +69,6 @@ impl Lane {
         ensures { option_map (λ t. op_label t.now) result ≡ slice_get self.now.left 0 }
     {
         self.left.first()
-    }
-
-    /// How many operations are performed.
-    pub(crate) fn ops_performed(&self) -> u64
-        ensures { result ≡ self.now.performed }
-    {
-        self.performed
     }
 
     /// The batches that were taken, by their labels, in order.
@@ -118,17 +109,10 @@ impl Lane {
 
     /// Takes the next operation out, to be performed.
     pub(crate) fn next(&mut self) -> Option<Op>
-        requires { self.old.performed + 1 < 2 ^ 64 }
         ensures next { IfSome result (λ t. (ops : List OpLabel) × (self.old.left ≡ op_label t ∷ ops) × (self.new ≡ lane_with_left self.old ops)) }
         ensures ready { IfSome result IsReady }
         ensures none { IfNone result ((self.old.left ≡ []) × (self.new ≡ self.old)) }
     {
-        match self.left.take_next() {
-            None => None,
-            Some(op) => {
-                self.performed += 1;
-                Some(op)
-            }
-        }
+        self.left.take_next()
     }
 }

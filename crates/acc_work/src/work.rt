@@ -239,17 +239,6 @@ impl Work {
         self.items[usize::from(host.number())]
     }
 
-    /// How many operations a queue has performed.
-    pub fn ops_performed(&self, at: QueueAt) -> u64
-        ensures { result ≡ length (performed at self.now.work) }
-    {
-        self.keeps();
-        match self.lane(at) {
-            None => 0,
-            Some(lane) => lane.ops_performed(),
-        }
-    }
-
     /// The log, the first entry first.
     pub fn log(&self) -> &[WorkEntry]
         ensures { result.now ≡ reverse self.now.work }

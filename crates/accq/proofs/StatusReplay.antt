@@ -1,28 +1,78 @@
--- A report that was written whole, and that doesn't go out, is one whose writer failed.
-use Rattle.std.proofs.Common.{ℕ, List, length, ◌++◌, arith, Option, Some, None, IfSome, Ok, Err, ap, sym, ◌∙◌}
+-- A report that was written whole has gone out, or, where it doesn't go out, its writer failed.
+use Rattle.std.proofs.Common.{◌≡◌, ℕ, List, length, ◌++◌, arith, Option, Some, None, IfSome, Result, Ok, Err, ap, sym, ◌∙◌}
+use Rattle.std.specs.Prelude.{IfOk, IfErr}
 use Rattle.std.proofs.lemmas.List.{take_all}
 use Rattle.std.specs.Io.KnownBytes.{Appends, Keeps}
+use Rattle.acc_driver.specs.declared.fault.DriverFault.{DriverFault}
 use Rattle.acc_driver.specs.declared.fault.DriverFault.TheVariants as fault
 use Rattle.acc_driver.specs.declared.options.Ended.{Ended}
 use Rattle.acc_driver.specs.declared.options.Options.{Options}
 use Rattle.acc_driver.specs.Inputs.{Parts, parts}
 use Rattle.acc_report.specs.Puts.{AppendsFront}
-use Rattle.acc_driver.specs.Replays.{Answers}
+use Rattle.acc_driver.specs.Replays.{Answers, defaults}
+use Rattle.accq.specs.Statuses.{FilesAnswer}
+use Rattle.accq.specs.declared.command.Replay.{Replay}
 
-appends_kept : (a b c : Option (List ℕ)) (text : List ℕ) → Appends a b text → Keeps b c → AppendsFront a c text
-appends_kept None b c text first kept = (length text, tt)
+appends_kept : (a b c : Option (List ℕ)) (text : List ℕ) → Appends a b text → Keeps b c → Appends a c text
+appends_kept None b c text first kept = tt
 appends_kept (Some xs) None c text first kept = absurd first
 appends_kept (Some xs) (Some ys) None text first kept = absurd kept
-appends_kept (Some xs) (Some ys) (Some zs) text first kept =
-    (length text, kept ∙ first ∙ ap (λ t. xs ++ t) (sym (take_all (length text) text (omega arith))))
+appends_kept (Some xs) (Some ys) (Some zs) text first kept = kept ∙ first
 
-not_flushed : (options : Options) (texts : Parts) (old whole new : Option (List ℕ)) (ended : Ended)
-    → Answers options texts old whole (Ok ended) → Keeps whole new → Answers options texts old new (Err fault.Output)
-not_flushed options texts old whole new ended (program, events, says, run) kept =
-    (program, events, says, record { final = run.final; ends = run.ends; written = appends_kept old whole new _ run.written kept })
+appends_front : (a b : Option (List ℕ)) (text : List ℕ) → Appends a b text → AppendsFront a b text
+appends_front None b text first = (length text, tt)
+appends_front (Some xs) None text first = absurd first
+appends_front (Some xs) (Some ys) text first = (length text, first ∙ ap (λ t. xs ++ t) (sym (take_all (length text) text (omega arith))))
 
-pub not_out : (input : Option (List ℕ)) (options : Options) (old whole new : Option (List ℕ)) (ended : Ended)
-    → IfSome input (λ text. Answers options (parts text) old whole (Ok ended)) → Keeps whole new
-    → IfSome input (λ text. Answers options (parts text) old new (Err fault.Output))
-not_out None options old whole new ended answers kept = tt
-not_out (Some text) options old whole new ended answers kept = not_flushed options (parts text) old whole new ended answers kept
+-- The report of this end was written, and then it was sent on, or not.
+pub record IsSent (ended : Ended) (whole new : Option (List ℕ)) (result : Result Ended DriverFault) : Type 0 where
+  pub same : IfOk result (λ e. e ≡ ended)
+  pub fault : IfErr result (λ f. f ≡ fault.Output)
+  pub kept : Keeps whole new
+
+answers_sent : (options : Options) (texts : Parts) (old whole new : Option (List ℕ)) (ended : Ended) (result : Result Ended DriverFault)
+    → Answers options texts old whole (Ok ended) → IsSent ended whole new result → Answers options texts old new result
+answers_sent options texts old whole new ended (Ok e) (program, events, says, run) sent =
+    rw sent.same
+    (program, events, says, record { final = run.final; ends = run.ends; written = appends_kept old whole new _ run.written sent.kept; status = run.status })
+answers_sent options texts old whole new ended (Err f) (program, events, says, run) sent =
+    rw sent.fault
+    (program, events, says, record { final = run.final; ends = run.ends; written = appends_front old new _ (appends_kept old whole new _ run.written sent.kept) })
+
+pub input_sent : (input : Option (List ℕ)) (old whole new : Option (List ℕ)) (ended : Ended) (result : Result Ended DriverFault)
+    → IfSome input (λ text. Answers defaults (parts text) old whole (Ok ended)) → IsSent ended whole new result
+    → IfSome input (λ text. Answers defaults (parts text) old new result)
+input_sent None old whole new ended result answers sent = tt
+input_sent (Some text) old whole new ended result answers sent = answers_sent defaults (parts text) old whole new ended result answers sent
+
+-- what two files answer, by what they hold
+abbrev TextsAnswer : Options → Option (List ℕ) → Option (List ℕ) → Option (List ℕ) → Option (List ℕ) → Result Ended DriverFault → Type 0
+TextsAnswer options script schedule old new answer =
+    IfSome script (λ script. IfSome schedule (λ schedule. Answers options (record { script = script; schedule = schedule }) old new answer))
+
+texts_sent : (options : Options) (script schedule : Option (List ℕ)) (old whole new : Option (List ℕ)) (ended : Ended) (result : Result Ended DriverFault)
+    → TextsAnswer options script schedule old whole (Ok ended) → IsSent ended whole new result → TextsAnswer options script schedule old new result
+texts_sent options None schedule old whole new ended result answers sent = tt
+texts_sent options (Some s) None old whole new ended result answers sent = tt
+texts_sent options (Some s) (Some e) old whole new ended result answers sent =
+    answers_sent options (record { script = s; schedule = e }) old whole new ended result answers sent
+
+-- what the opened files give is what they hold
+texts_held : (options : Options) (script schedule of_script of_schedule : Option (List ℕ)) (old new : Option (List ℕ)) (answer : Result Ended DriverFault)
+    → IfSome script (λ bytes. of_script ≡ Some bytes) → IfSome schedule (λ bytes. of_schedule ≡ Some bytes)
+    → TextsAnswer options of_script of_schedule old new answer → TextsAnswer options script schedule old new answer
+texts_held options None schedule of_script of_schedule old new answer is_script is_schedule answers = tt
+texts_held options (Some s) None of_script of_schedule old new answer is_script is_schedule answers = tt
+texts_held options (Some s) (Some e) of_script of_schedule old new answer is_script is_schedule answers = rw (is_script, is_schedule) at answers
+
+pub files_answered : (holds : List ℕ → Option (List ℕ)) (asked : Replay) (of_script of_schedule : Option (List ℕ)) (old new : Option (List ℕ)) (answer : Result Ended DriverFault)
+    → IfSome (holds asked.script.now) (λ bytes. of_script ≡ Some bytes) → IfSome (holds asked.schedule.now) (λ bytes. of_schedule ≡ Some bytes)
+    → IfSome of_script (λ script. IfSome of_schedule (λ schedule. Answers asked.options (record { script = script; schedule = schedule }) old new answer))
+    → FilesAnswer holds asked old new answer
+files_answered holds asked of_script of_schedule old new answer is_script is_schedule answers =
+    texts_held asked.options (holds asked.script.now) (holds asked.schedule.now) of_script of_schedule old new answer is_script is_schedule answers
+
+pub files_sent : (holds : List ℕ → Option (List ℕ)) (asked : Replay) (old whole new : Option (List ℕ)) (ended : Ended) (result : Result Ended DriverFault)
+    → FilesAnswer holds asked old whole (Ok ended) → IsSent ended whole new result → FilesAnswer holds asked old new result
+files_sent holds asked old whole new ended result answers sent =
+    texts_sent asked.options (holds asked.script.now) (holds asked.schedule.now) old whole new ended result answers sent

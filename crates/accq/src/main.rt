@@ -1,25 +1,30 @@
 //! `accq`: replays a script of hosts and OpenACC directives under a schedule, and reports what it means.
 #![tactic(auto)]
 
+mod command;
 mod status;
+mod store;
 #[cfg(test)]
 mod tests;
 
 use acc_driver::DriverFault;
-use status::{status_of, told};
+use status::{status_of, told, told_no_text};
 use std::env;
 use std::io::{self, BufWriter, ErrorKind};
 use std::process::ExitCode;
+use store::Disk;
 
 fn main(rt: HostRuntime) -> ExitCode {
     let mut errors = rt.stderr();
-    let has_words = match env::args(&rt) {
-        Ok(args) => 1 < args.count(),
+    let words = match env::args(&rt) {
+        Ok(args) => match args.collect::<Vec<String>>(rt.alloc()) {
+            Ok(words) => words,
+            Err(_) => return ExitCode::from(told(DriverFault::Memory, &mut errors)),
+        },
         Err(error) if error.kind() == ErrorKind::OutOfMemory => {
             return ExitCode::from(told(DriverFault::Memory, &mut errors));
         }
-        // A word that is no text is a word.
-        Err(_) => true,
+        Err(_) => return ExitCode::from(told_no_text(&mut errors)),
     };
     let mut output = match BufWriter::new(rt.alloc(), io::writer(&rt)) {
         Ok(output) => output,
@@ -27,7 +32,8 @@ fn main(rt: HostRuntime) -> ExitCode {
     };
     let status = status_of(
         rt.alloc(),
-        has_words,
+        words.as_slice(),
+        &Disk { rt: &rt },
         &mut rt.stdin(),
         &mut output,
         &mut errors,

@@ -1,43 +1,57 @@
-//! The program between its streams, and the status that it ends with.
+//! The program between its words, its files and its streams, and the status that it ends with.
 
-ghost use Rattle.std.specs.Prelude.{◌≡◌, true, false, [], IfSome};
-ghost use Rattle.std.specs.Io.KnownBytes.{Appends};
+ghost use Rattle.std.specs.Prelude.{◌≡◌, ◌≤◌, ◌<◌, ◌⊎◌, [], IfOk, IfErr, IfSome, length};
+ghost use Rattle.std.specs.Io.KnownBytes.{Keeps};
 ghost use Rattle.acc_driver.specs.Inputs.{parts};
 ghost use Rattle.acc_driver.specs.Replays.{Answers, defaults};
-ghost use Rattle.accq.specs.Statuses.{Replayed, status_for};
+ghost use Rattle.acc_driver.specs.declared.fault.DriverFault.TheVariants.{Output};
+ghost use Rattle.accq.specs.Statuses.{AsksForOpen, FilesAnswer, Replayed, TellsWords, status_after, status_for};
 
-use acc_driver::{DriverFault, Ended, Options, replay_one};
+use crate::command::{Replay, replay_of};
+use crate::store::Store;
+use acc_driver::{DriverFault, Ended, Options, replay, replay_one};
+use clap::Error;
+use clap::error::ErrorKind;
 use std::alloc::Global;
+use std::convert::AsStr;
 use std::io::{Read, Write};
 
-const USAGE: &[u8] =
-    b"accq: takes no words; it replays standard input: a script, a line %%, and a schedule\n";
-
-/// What the program does: without words it replays the input with the default options, writes the report to
-/// the output, and answers 0, or 1 where a host was refused. A fault of a text, and words, are answered by 2, all
-/// else by 3, with one line to the errors.
-pub(crate) fn status_of<R: Read, W: Write, E: Write>(
+/// What the program does, for its words behind its own name. Without words it replays the input with the default
+/// options; the words `replay SCRIPT SCHEDULE`, with options, replay two files. The report goes to the output, and the
+/// answer is 0, or 1 where a host was refused. A fault of a text or of the words is answered by 2, all else by 3, and
+/// told to the errors: by one line, or for the words by the parser's own text.
+pub fn status_of<F: Read + Drop, S: Store<F>, N: AsStr, R: Read, W: Write, E: Write>(
     alloc: Global,
-    has_words: bool,
+    words: &[N],
+    files: &S,
     input: &mut R,
     output: &mut W,
     errors: &mut E,
 ) -> u8
-    ensures replayed { has_words ≡ false → IfSome (R.remaining input.old) (λ text. Replayed (parts text) (W.contents output.old) (W.contents output.new) result) }
-    ensures usage { has_words ≡ true → (result ≡ 2) × Appends (W.contents output.old) (W.contents output.new) [] }
+    ensures input { length words.now ≤ 1 → IfSome (R.remaining input.old) (λ text. Replayed defaults (parts text) (W.contents output.old) (W.contents output.new) result) }
+    ensures words { 1 < length words.now → TellsWords (S.holds files.now) (S.opens files.now) (W.contents output.old) (W.contents output.new) result }
 {
-    if has_words {
-        let _ = errors.write_all(USAGE);
-        return 2;
+    if words.len() <= 1 {
+        return status_after(replay_input(alloc, input, output), errors);
     }
-    match replay(alloc, input, output) {
+    match replay_of(alloc, words) {
+        Ok(asked) => status_after(replay_files(alloc, &asked, files, output), errors),
+        Err(error) => told_words(&error, errors),
+    }
+}
+
+// The status of an answer, whose fault is told.
+fn status_after<E: Write>(answer: Result<Ended, DriverFault>, errors: &mut E) -> u8
+    ensures { result ≡ status_after answer }
+{
+    match answer {
         Ok(ended) => u8::from(ended.refused),
         Err(fault) => told(fault, errors),
     }
 }
 
-// Replays the input, and sees to it that the whole report has gone out.
-fn replay<R: Read, W: Write>(
+// Replays the input.
+fn replay_input<R: Read, W: Write>(
     alloc: Global,
     input: &mut R,
     output: &mut W,
@@ -45,6 +59,36 @@ fn replay<R: Read, W: Write>(
     ensures { IfSome (R.remaining input.old) (λ text. Answers defaults (parts text) (W.contents output.old) (W.contents output.new) result) }
 {
     let ended = replay_one(alloc, input, Options::DEFAULT, output)?;
+    sent(ended, output)
+}
+
+// Replays two files. Both are opened, in the order of the words, before one is read.
+fn replay_files<F: Read + Drop, S: Store<F>, W: Write>(
+    alloc: Global,
+    asked: &Replay,
+    files: &S,
+    output: &mut W,
+) -> Result<Ended, DriverFault>
+    ensures answers { FilesAnswer (S.holds files.now) asked.now (W.contents output.old) (W.contents output.new) result }
+    ensures script { AsksForOpen (S.opens files.now asked.now.script.now) result }
+    ensures schedule { AsksForOpen (S.opens files.now asked.now.schedule.now) result }
+{
+    let Some(mut script) = files.open(asked.script) else {
+        return Err(DriverFault::Input);
+    };
+    let Some(mut schedule) = files.open(asked.schedule) else {
+        return Err(DriverFault::Input);
+    };
+    let ended = replay(alloc, &mut script, &mut schedule, asked.options, output)?;
+    sent(ended, output)
+}
+
+// Sees to it that the whole report has gone out.
+fn sent<W: Write>(ended: Ended, output: &mut W) -> Result<Ended, DriverFault>
+    ensures same { IfOk result (λ e. e ≡ ended) }
+    ensures fault { IfErr result (λ f. f ≡ Output) }
+    ensures kept { Keeps (W.contents output.old) (W.contents output.new) }
+{
     match output.flush() {
         Ok(()) => Ok(ended),
         Err(_) => Err(DriverFault::Output),
@@ -61,4 +105,23 @@ pub(crate) fn told<E: Write>(fault: DriverFault, errors: &mut E) -> u8
         DriverFault::Input | DriverFault::Output | DriverFault::Memory | DriverFault::Runtime(_) =>
             3,
     }
+}
+
+/// Tells the parser's error by its own text, and answers its status.
+fn told_words<E: Write>(error: &Error, errors: &mut E) -> u8
+    ensures { (result ≡ 2) ⊎ (result ≡ 3) }
+{
+    if error.kind() == ErrorKind::OutOfMemory {
+        return told(DriverFault::Memory, errors);
+    }
+    let _ = write!(errors, "{error}");
+    2
+}
+
+/// Tells that a word is no text, and answers the status of a fault of the words.
+pub(crate) fn told_no_text<E: Write>(errors: &mut E) -> u8
+    ensures { result ≡ 2 }
+{
+    let _ = errors.write_all(b"error: invalid UTF-8 was detected in one or more arguments\n");
+    2
 }

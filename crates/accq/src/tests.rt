@@ -1,7 +1,11 @@
-//! Tests over readers and writers that fail.
+//! Tests over words, files, and readers and writers that fail.
 
-use crate::status::{status_of, told};
+ghost use Rattle.std.specs.Prelude.{None};
+
+use crate::status::{status_of, told, told_no_text};
+use crate::store::Store;
 use acc_driver::DriverFault;
+use std::alloc::Global;
 use std::io::{Error, ErrorKind, Read, Result, Write};
 use std::test::Fail;
 
@@ -39,106 +43,373 @@ impl Write for Stuck {
     }
 }
 
-/// An input, with the status and what is written to the output and to the errors.
+/// A writer that takes so many bytes, and then fails.
+#[derive(Drop)]
+struct Narrow {
+    room: usize,
+    taken: usize,
+}
+
+impl Write for Narrow {
+    fn write(&mut self, bytes: &[u8]) -> Result<usize> {
+        let left = self.room.saturating_sub(self.taken);
+        if left == 0 {
+            return Err(Error::from(ErrorKind::Other));
+        }
+        let count = left.min(bytes.len());
+        self.taken = self.taken.saturating_add(count);
+        Ok(count)
+    }
+
+    fn flush(&mut self) -> Result<()> {
+        Ok(())
+    }
+}
+
+/// A file of bytes, or one that can be opened and not read, as a folder.
+#[derive(Drop)]
+enum Sheet {
+    Bytes(&'static [u8]),
+    Unreadable,
+}
+
+impl Read for Sheet {
+    fn read(&mut self, buffer: &mut [u8]) -> Result<usize> {
+        match self {
+            Sheet::Bytes(left) => left.read(buffer),
+            Sheet::Unreadable => Err(Error::from(ErrorKind::Other)),
+        }
+    }
+}
+
+const SCRIPT: &[u8] =
+    b"long a[2];\nhost {\n#pragma acc enter data create(a) async(1)\n#pragma acc update device(a) async(1)\nacc_set_device_num(1);\nprint(acc_get_num_devices());\n}\n";
+
+const SCHEDULE: &[u8] = b"host 0 4\nround 5\n";
+
+/// A few files.
+#[derive(Drop)]
+struct Shelf;
+
+impl Store<Sheet> for Shelf {
+    ghost holds = { λ _ _. None };
+
+    ghost opens = { λ _ _. None };
+
+    fn open(&self, name: &str) -> Option<Sheet> {
+        match name {
+            "script" => Some(Sheet::Bytes(SCRIPT)),
+            "schedule" => Some(Sheet::Bytes(SCHEDULE)),
+            "faulty" => Some(Sheet::Bytes(b"long a[01];\n")),
+            "empty" => Some(Sheet::Bytes(b"")),
+            "folder" => Some(Sheet::Unreadable),
+            _ => None,
+        }
+    }
+}
+
+/// Words, an input for where there are none, with the status and what is written to the output and to the errors.
 #[derive(Clone, Copy)]
 struct Told {
+    words: &'static [&'static str],
     input: &'static [u8],
     status: u8,
     output: &'static [u8],
     errors: &'static [u8],
 }
 
+const INPUTS: &[Told] = &[
+    Told {
+        words: &["accq"],
+        input: b"",
+        status: 0,
+        output: b"end\n",
+        errors: b"",
+    },
+    Told {
+        words: &[],
+        input: b"long a[1];\nhost {\nprint(a[1:1]);\n}\n%%\nround 1\n",
+        status: 1,
+        output: b"host 0\nrefused 3 F4 BadRange\nend\n",
+        errors: b"",
+    },
+    Told {
+        words: &["accq"],
+        input: b"long a[01];\n%%\nround 0\n",
+        status: 2,
+        output: b"",
+        errors: b"accq: script line 1: Form\n",
+    },
+    Told {
+        words: &["accq"],
+        input: b"%%\n\nround 0\n",
+        status: 2,
+        output: b"",
+        errors: b"accq: schedule line 2: Limit\n",
+    },
+];
+
+const ON_ONE: &[u8] =
+    b"host 0\nrefused 5 F2 BadDevice\npresent 0 a[0:2] s 0 d 1\nqueue 0 1 batches 2 operations 2 of 2\nend\n";
+
+const ON_TWO: &[u8] =
+    b"host 0\n2\ndone\npresent 0 a[0:2] s 0 d 1\nqueue 0 1 batches 2 operations 2 of 2\nend\n";
+
+const IN_ONE_PLACE: &[u8] =
+    b"host 0\nrefused 4 F12 QueueFull\npresent 0 a[0:2] s 0 d 1\nqueue 0 1 batches 1 operations 1 of 1\nend\n";
+
+const IN_ONE_CELL: &[u8] = b"host 0\nrefused 3 F8 DeviceFull\nend\n";
+
+const FILES: &[Told] = &[
+    Told {
+        words: &["accq", "replay", "script", "schedule"],
+        input: b"",
+        status: 1,
+        output: ON_ONE,
+        errors: b"",
+    },
+    Told {
+        words: &["accq", "replay", "script", "schedule", "--devices", "2"],
+        input: b"",
+        status: 0,
+        output: ON_TWO,
+        errors: b"",
+    },
+    Told {
+        words: &["accq", "replay", "--room=1", "script", "schedule"],
+        input: b"",
+        status: 1,
+        output: IN_ONE_PLACE,
+        errors: b"",
+    },
+    Told {
+        words: &["accq", "replay", "script", "--cells", "01", "schedule"],
+        input: b"",
+        status: 1,
+        output: IN_ONE_CELL,
+        errors: b"",
+    },
+    Told {
+        words: &[
+            "accq",
+            "replay",
+            "script",
+            "empty",
+            "--devices",
+            "2",
+            "--room=1",
+        ],
+        input: b"",
+        status: 0,
+        output: b"host 0\nunfinished\nend\n",
+        errors: b"",
+    },
+    Told {
+        words: &["accq", "replay", "empty", "faulty"],
+        input: b"",
+        status: 2,
+        output: b"",
+        errors: b"accq: schedule line 1: Form\n",
+    },
+    Told {
+        words: &["accq", "replay", "faulty", "folder"],
+        input: b"",
+        status: 2,
+        output: b"",
+        errors: b"accq: script line 1: Form\n",
+    },
+    // both are opened before one is read
+    Told {
+        words: &["accq", "replay", "faulty", "missing"],
+        input: b"",
+        status: 3,
+        output: b"",
+        errors: b"accq: cannot read\n",
+    },
+    Told {
+        words: &["accq", "replay", "missing", "schedule"],
+        input: b"",
+        status: 3,
+        output: b"",
+        errors: b"accq: cannot read\n",
+    },
+    Told {
+        words: &["accq", "replay", "folder", "schedule"],
+        input: b"",
+        status: 3,
+        output: b"",
+        errors: b"accq: cannot read\n",
+    },
+    Told {
+        words: &["accq", "replay", "script", "folder"],
+        input: b"",
+        status: 3,
+        output: b"",
+        errors: b"accq: cannot read\n",
+    },
+];
+
+/// Words that are refused with the parser's text, which begins so.
+const FAULTY_WORDS: &[(&[&str], &[u8])] = &[
+    (
+        &["accq", "replay", "script", "schedule", "--room", "0"],
+        b"error: invalid value '0' for '--room <N>'",
+    ),
+    (
+        &["accq", "replay", "script", "schedule", "--room=1025"],
+        b"error: invalid value '1025' for '--room <N>'",
+    ),
+    (
+        &["accq", "replay", "script", "schedule", "--devices", "5"],
+        b"error: invalid value '5' for '--devices <N>'",
+    ),
+    (
+        &["accq", "replay", "script", "schedule", "--cells=4294967297"],
+        b"error: invalid value '4294967297' for '--cells <N>'",
+    ),
+    (
+        &["accq", "replay", "script", "schedule", "--cells", "x"],
+        b"error: invalid value 'x' for '--cells <N>'",
+    ),
+    (
+        &["accq", "replay", "script", "schedule", "--cells", "+3"],
+        b"error: a number is written in digits alone",
+    ),
+    (
+        &[
+            "accq", "replay", "script", "schedule", "--room", "1", "--room", "1",
+        ],
+        b"error: the argument '--room <N>' cannot be used multiple times",
+    ),
+    (
+        &["accq", "replay", "script", "schedule", "--room"],
+        b"error: a value is required for '--room <N>'",
+    ),
+    (
+        &["accq", "replay", "script", "schedule", "--rooms", "3"],
+        b"error: unexpected argument '--rooms' found",
+    ),
+    (
+        &["accq", "replay", "script", "schedule", "more"],
+        b"error: unexpected argument 'more' found",
+    ),
+    (
+        &["accq", "replay", "script"],
+        b"error: the following required arguments were not provided:\n  <SCHEDULE>",
+    ),
+    (
+        &["accq", "replay"],
+        b"error: the following required arguments were not provided:\n  <SCRIPT>\n  <SCHEDULE>",
+    ),
+    (
+        &["accq", "--room", "3", "replay", "script", "schedule"],
+        b"error: unexpected argument '--room' found",
+    ),
+    (
+        &["accq", "script", "schedule"],
+        b"error: unrecognized subcommand 'script'",
+    ),
+    (&["accq", ""], b"error: unrecognized subcommand ''"),
+    (
+        &["accq", "--help"],
+        b"accq replays a script of hosts and OpenACC directives",
+    ),
+    (
+        &["accq", "replay", "-h"],
+        b"Replays a script under a schedule",
+    ),
+    (&["accq", "--version"], b"accq 0.1.0"),
+];
+
+// What the program answers and writes.
+fn answered(alloc: Global, case: &Told) -> (u8, Vec<u8>, Vec<u8>) {
+    let mut input = case.input;
+    let mut output = Vec::new(alloc);
+    let mut errors = Vec::new(alloc);
+    let status = status_of(
+        alloc,
+        case.words,
+        &Shelf,
+        &mut input,
+        &mut output,
+        &mut errors,
+    );
+    (status, output, errors)
+}
+
 #[test]
-fn inputs_have_their_status(rt: HostRuntime) -> std::result::Result<(), Fail> {
-    let inputs = [
-        Told {
-            input: b"",
-            status: 0,
-            output: b"end\n",
-            errors: b"",
-        },
-        Told {
-            input: b"long a[1];\nhost {\nprint(a[1:1]);\n}\n%%\nround 1\n",
-            status: 1,
-            output: b"host 0\nrefused 3 F4 BadRange\nend\n",
-            errors: b"",
-        },
-        Told {
-            input: b"long a[01];\n%%\nround 0\n",
-            status: 2,
-            output: b"",
-            errors: b"accq: script line 1: Form\n",
-        },
-        Told {
-            input: b"%%\n\nround 0\n",
-            status: 2,
-            output: b"",
-            errors: b"accq: schedule line 2: Limit\n",
-        },
-    ];
-    for case in &inputs {
-        let alloc = rt.alloc();
-        let mut input = case.input;
-        let mut output = Vec::new(alloc);
-        let mut errors = Vec::new(alloc);
-        let status = status_of(alloc, false, &mut input, &mut output, &mut errors);
-        assert_eq!(rt; status, case.status);
-        assert_eq!(rt; output.as_slice(), case.output);
-        assert_eq!(rt; errors.as_slice(), case.errors);
+fn words_and_inputs_have_their_status(rt: HostRuntime) -> std::result::Result<(), Fail> {
+    for cases in [INPUTS, FILES] {
+        for case in cases {
+            let (status, output, errors) = answered(rt.alloc(), case);
+            assert_eq!(rt; status, case.status);
+            assert_eq!(rt; output.as_slice(), case.output);
+            assert_eq!(rt; errors.as_slice(), case.errors);
+        }
     }
     Ok(())
 }
 
 #[test]
-fn words_are_refused(rt: HostRuntime) -> std::result::Result<(), Fail> {
-    let alloc = rt.alloc();
-    let mut input: &'static [u8] = b"";
-    let mut output = Vec::new(alloc);
-    let mut errors = Vec::new(alloc);
-    let status = status_of(alloc, true, &mut input, &mut output, &mut errors);
-    assert_eq!(rt; status, 2);
-    assert!(rt; output.is_empty());
-    let line: &'static [u8] =
-        b"accq: takes no words; it replays standard input: a script, a line %%, and a schedule\n";
-    assert_eq!(rt; errors.as_slice(), line);
+fn faulty_words_are_told_by_the_parser(rt: HostRuntime) -> std::result::Result<(), Fail> {
+    for (words, begin) in FAULTY_WORDS {
+        let case = Told {
+            words,
+            input: b"",
+            status: 2,
+            output: b"",
+            errors: b"",
+        };
+        let (status, output, errors) = answered(rt.alloc(), &case);
+        assert_eq!(rt; status, 2);
+        assert!(rt; output.is_empty());
+        assert!(rt; errors.starts_with(*begin));
+    }
     Ok(())
 }
 
+/// A writer that fails at the first byte of the report, in its middle and at its last byte, and one that can't send on.
 #[test]
 fn streams_that_fail_have_status_three(rt: HostRuntime) -> std::result::Result<(), Fail> {
     let alloc = rt.alloc();
+    let words: [&str; 4] = ["accq", "replay", "script", "schedule"];
+    let mut input: &'static [u8] = b"";
     let mut errors = Vec::new(alloc);
+    for room in [0, 40, ON_ONE.len().saturating_sub(1)] {
+        let mut output = Narrow { room, taken: 0 };
+        errors.clear();
+        let status = status_of(alloc, &words, &Shelf, &mut input, &mut output, &mut errors);
+        assert_eq!(rt; status, 3);
+        assert_eq!(rt; output.taken, room);
+        assert_eq!(rt; errors.as_slice(), b"accq: cannot write\n".as_slice());
+    }
+    for named in [true, false] {
+        let asked: &[&str] = if named { &words } else { &[] };
+        errors.clear();
+        let status = status_of(alloc, asked, &Shelf, &mut input, &mut Stuck, &mut errors);
+        assert_eq!(rt; status, 3);
+        assert_eq!(rt; errors.as_slice(), b"accq: cannot write\n".as_slice());
+    }
+    let none: &[&str] = &[];
     let mut output = Vec::new(alloc);
-    let status = status_of(alloc, false, &mut Broken, &mut output, &mut errors);
+    errors.clear();
+    let status = status_of(alloc, none, &Shelf, &mut Broken, &mut output, &mut errors);
     assert_eq!(rt; status, 3);
     assert!(rt; output.is_empty());
     assert_eq!(rt; errors.as_slice(), b"accq: cannot read\n".as_slice());
-    let mut input: &'static [u8] = b"";
-    errors.clear();
-    assert_eq!(rt;
-        status_of(alloc, false, &mut input, &mut Broken, &mut errors),
-        3
-    );
-    assert_eq!(rt; errors.as_slice(), b"accq: cannot write\n".as_slice());
-    let mut input: &'static [u8] = b"";
-    errors.clear();
-    assert_eq!(rt;
-        status_of(alloc, false, &mut input, &mut Stuck, &mut errors),
-        3
-    );
-    assert_eq!(rt; errors.as_slice(), b"accq: cannot write\n".as_slice());
-    let mut input: &'static [u8] = b"";
-    assert_eq!(rt;
-        status_of(alloc, false, &mut input, &mut output, &mut Broken),
-        0
-    );
+    // what can't be told to the errors changes no status
+    let status = status_of(alloc, none, &Shelf, &mut input, &mut output, &mut Broken);
+    assert_eq!(rt; status, 0);
     Ok(())
 }
 
 #[test]
-fn want_of_memory_is_told(rt: HostRuntime) -> std::result::Result<(), Fail> {
+fn what_never_came_so_far_is_told(rt: HostRuntime) -> std::result::Result<(), Fail> {
     let mut errors = Vec::new(rt.alloc());
     assert_eq!(rt; told(DriverFault::Memory, &mut errors), 3);
     assert_eq!(rt; errors.as_slice(), b"accq: out of memory\n".as_slice());
+    errors.clear();
+    assert_eq!(rt; told_no_text(&mut errors), 2);
+    assert!(rt; errors.starts_with(b"error: invalid UTF-8"));
     Ok(())
 }

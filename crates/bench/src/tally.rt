@@ -2,7 +2,7 @@
 
 use crate::script::Script;
 use crate::workloads::{ARRAYS, Failure, OTHER_CELLS, Workload};
-use acc_base::{Config, DeviceId, Fault, HostId, Listed, MAX_CAPACITY, QUEUES, QueueAt, QueueId};
+use acc_base::{Config, Fault, HostId, Listed, MAX_CAPACITY};
 use acc_core::{HostProgram, Reply, Statement, Told, WorkEntry, World};
 use std::alloc::{AllocError, Global};
 use std::fmt::{self, Display, Formatter, Write};
@@ -14,8 +14,6 @@ pub struct Tally {
     pub events: usize,
     /// How many of them did something.
     pub did: u64,
-    /// How many batches were placed on all queues.
-    pub batches: u64,
     /// How many operations all queues performed.
     pub operations: u64,
     /// What the last print showed, as one number.
@@ -26,8 +24,8 @@ impl Display for Tally {
     fn fmt<W: Write>(&self, f: &mut Formatter<W>) -> fmt::Result {
         write!(
             f,
-            "did {} of {} batches {} operations {} sum {}",
-            self.did, self.events, self.batches, self.operations, self.sum
+            "did {} of {} operations {} sum {}",
+            self.did, self.events, self.operations, self.sum
         )
     }
 }
@@ -53,12 +51,10 @@ pub(crate) fn tally_of(
         opening.min(events.len())
     };
     let replies = world.run(&events[..count])?;
-    let (batches, operations) = totals_of(&world);
     Ok(Tally {
         events: count,
         did: did_in(replies.as_slice()),
-        batches,
-        operations,
+        operations: operations_in(world.log()),
         sum: sum_of(world.log()),
     })
 }
@@ -103,21 +99,15 @@ fn cells_of(alloc: Global, factor: u32, count: u32) -> Result<Vec<i64>, AllocErr
     Ok(cells)
 }
 
-// How many batches were placed on all queues, and how many operations they performed.
-fn totals_of(world: &World) -> (u64, u64) {
-    let mut batches = 0u64;
+// How many of a log's entries are operations.
+fn operations_in(log: &[WorkEntry]) -> u64 {
     let mut operations = 0u64;
-    for device in 0..world.devices() {
-        for queue in 0..QUEUES {
-            let totals = world.totals(QueueAt {
-                device: DeviceId::new(device),
-                queue: QueueId::new(queue),
-            });
-            batches = batches.wrapping_add(totals.batches);
-            operations = operations.wrapping_add(totals.performed);
+    for entry in log {
+        if let WorkEntry::Op { .. } = entry {
+            operations = operations.wrapping_add(1);
         }
     }
-    (batches, operations)
+    operations
 }
 
 fn did_in(replies: &[Reply]) -> u64 {

@@ -2,13 +2,17 @@
 
 ghost use Rattle.std.specs.Prelude.{◌<◌};
 
-use crate::fixtures::host;
-use crate::log::printed;
-use crate::worlds::reply_to;
-use acc_base::{DeviceId, HostId, QueueAt, Range};
-use acc_core::{Event, HostState, Reply, Totals, WorkEntry, World};
+use crate::worlds::{host, queue, reply_to};
+use acc_base::{DeviceId, Fault, HostId, Range};
+use acc_core::{Event, HostState, Reply, Told, WorkEntry, World};
 use std::process::Abort;
-use tool_directives::queue;
+
+pub const FINISHED: HostState = HostState::Finished;
+
+// The host was refused at its statement of this number, from 0, which has this line.
+pub fn refused(ended: usize, line: u32, fault: Fault) -> HostState {
+    HostState::Refused { ended, line, fault }
+}
 
 // The reply to each of these events.
 pub fn check_replies(rt: &impl Abort, world: &mut World, events: &[(Event, Reply)]) {
@@ -26,10 +30,10 @@ pub fn check_idle(rt: &impl Abort, world: &mut World, queues: &[(u8, u8)]) {
     }
 }
 
-// So many steps of the first host, each of which does something.
-pub fn check_steps(rt: &impl Abort, world: &mut World, count: u32) {
+// So many steps of a host, each of which does something.
+pub fn check_steps(rt: &impl Abort, world: &mut World, number: u8, count: u32) {
     for step in 0..count {
-        assert_eq!(rt; reply_to(world, host()), Reply::Did, "step {step}");
+        assert_eq!(rt; reply_to(world, host(number)), Reply::Did, "step {step}");
     }
 }
 
@@ -44,43 +48,30 @@ pub fn check_states(rt: &impl Abort, world: &World, states: &[HostState]) {
     }
 }
 
-// The ranges that are present on a device, with their counters.
-pub fn check_present(rt: &impl Abort, world: &World, device: u8, ranges: &[(Range, u64, u64)]) {
-    assert!(rt; device < world.devices());
-    for (place, wanted) in ranges.iter().enumerate() {
-        let entry = world.nth(DeviceId::new(device), place);
-        assert_eq!(rt; entry.map(|e| (e.range, e.s, e.d)), Some(*wanted));
+// Nothing is present on the first device but this range, if there is one, with its counters.
+pub fn check_present(rt: &impl Abort, world: &World, wanted: Option<(Range, u64, u64)>) {
+    assert!(rt; 0 < world.devices());
+    let device = DeviceId::new(0);
+    let entry = world.nth(device, 0);
+    assert_eq!(rt; entry.map(|e| (e.range, e.s, e.d)), wanted);
+    assert!(rt; world.nth(device, 1).is_none());
+    if let Some((range, s, d)) = wanted {
+        assert!(rt; 0 < range.len);
+        assert_eq!(rt; world.counters(device, range), Some((s, d)));
     }
-    assert!(rt; world.nth(DeviceId::new(device), ranges.len()).is_none());
 }
 
-// Of a queue: how many batches were placed, their operations, and how many of these are performed.
-pub fn check_queue(
-    rt: &impl Abort,
-    world: &World,
-    at: QueueAt,
-    batches: u64,
-    operations: u64,
-    performed: u64,
-) {
-    let totals = Totals {
-        batches,
-        operations,
-        performed,
-    };
-    assert_eq!(rt; world.totals(at), totals);
-}
-
-// What the prints of a log showed, in their order.
-pub fn check_prints(rt: &impl Abort, log: &[WorkEntry], shown: &[&[i64]]) {
-    let mut count = 0usize;
-    for entry in log {
-        if let Some(values) = printed(Some(entry)) {
-            assert_eq!(rt; Some(values), shown.get(count).copied());
-            count = count.wrapping_add(1);
-        }
+// What a host's print showed.
+pub fn printed(entry: Option<&WorkEntry>) -> Option<&[i64]> {
+    match entry {
+        Some(
+            WorkEntry::Item {
+                what: Told::Print { values, .. },
+                ..
+            },
+        ) => Some(values.as_slice()),
+        _ => None,
     }
-    assert_eq!(rt; count, shown.len());
 }
 
 // The last entry of a log is a print that showed these values.

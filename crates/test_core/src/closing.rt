@@ -1,144 +1,41 @@
-//! Worlds that close: what is refused then, what goes on, when a full queue is closed, and that
-//! closing needs no memory, of which contracts don't speak.
+//! Worlds that close: when a full queue is closed, and that closing needs no memory, of which
+//! contracts don't speak.
 
-use crate::checks::{check_present, check_prints, check_queue, check_replies, check_states};
-use crate::fixtures::{BOTH, FINISHED, cells, host, on, refused, value};
-use crate::lines::Line;
-use crate::queues::SMALL;
-use crate::worlds::{Setting, reply_to, turns, world_of};
-use acc_base::{Fault, HostId, QUEUES};
-use acc_core::{Clause, Event, Reply, Target, World};
+use crate::checks::{FINISHED, check_replies, check_states, check_steps};
+use crate::worlds::{ONE, Setting, queue, reply_to, turns, world_of};
+use acc_base::{Fault, QUEUES};
+use acc_core::{Event, Reply, World};
 use std::alloc::{AllocError, Global};
 use std::process::Abort;
 use std::test::Fail;
-use tool_directives::{Form, UPDATE, queue};
 use tool_scarce::Hoard;
 
-const ENTER: Line = Line::Async(
-    Form::EnterData,
-    Clause::Create,
-    BOTH,
-    Target::Value { value: 1 },
-);
+/// Each queue of a host's device gets a batch, queue sync the last one.
+const FILLING: &[u8] =
+    b"#pragma acc enter data create(a[0:1]) async\n#pragma acc enter data create(a[1:1]) async(0)\n#pragma acc enter data create(a[2:1]) async(1)\n#pragma acc enter data create(a[3:1]) async(2)\n#pragma acc enter data create(a[4:1]) async(3)\n#pragma acc enter data create(a[5:1]) async(4)\n#pragma acc enter data create(a[6:1]) async(5)\n#pragma acc enter data create(a[7:1])\n}\n";
 
-const LATE: Line = Line::Async(UPDATE, Clause::UpdateSelf, BOTH, Target::Value { value: 1 });
-
-fn left(count: u32) -> (Event, Reply) {
-    (Event::Close, Reply::Remaining(count))
+// A host for each of four devices, which fills its queues.
+fn filling(alloc: Global) -> Result<Vec<u8>, AllocError> {
+    let mut text = Vec::from_slice(alloc, b"long a[8];\n")?;
+    for device in b"0123" {
+        text.extend_from_slice(b"host {\nacc_set_device_num(")?;
+        text.push(*device)?;
+        text.extend_from_slice(b");\n")?;
+        text.extend_from_slice(FILLING)?;
+    }
+    Ok(text)
 }
 
-/// What was accepted before is performed, and each queue performs its close; to close again changes nothing.
-#[test]
-fn a_late_directive_is_refused(rt: HostRuntime) -> Result<(), Fail> {
-    let mut world = world_of(rt.alloc(), &SMALL, &[&[ENTER, LATE]])?;
-    let events = [
-        (host(), Reply::Did),
-        left(0),
-        (host(), Reply::Refused(Fault::Closed)),
-        left(0),
-    ];
-    check_replies(&rt, &mut world, &events);
-    turns(&mut world, 5);
-    assert!(rt; !world.any_left());
-    check_states(&rt, &world, &[refused(1, Fault::Closed)]);
-    check_present(&rt, &world, 0, &[(BOTH, 0, 1)]);
-    check_queue(&rt, &world, on(1), 1, 1, 1);
-    check_queue(&rt, &world, on(2), 0, 0, 0);
-    // eight closes and the make
-    assert_eq!(rt; world.log().len(), 9);
-    Ok(())
-}
-
-/// A queue that holds its room is closed once it has taken a batch.
-#[test]
-fn a_full_queue_is_closed_later(rt: HostRuntime) -> Result<(), Fail> {
-    let setting = Setting { room: 1, ..SMALL };
-    let mut world = world_of(rt.alloc(), &setting, &[&[ENTER, LATE]])?;
-    let events = [
-        (host(), Reply::Did),
-        left(1),
-        left(1),
-        (Event::Take(on(1)), Reply::Did),
-        left(0),
-        // the close is taken and performed behind the batch
-        (Event::Take(on(1)), Reply::Idle),
-        (Event::Perform(on(1)), Reply::Did),
-        (Event::Take(on(1)), Reply::Did),
-        (Event::Perform(on(1)), Reply::Did),
-        (Event::Take(on(1)), Reply::Idle),
-        (Event::Perform(on(1)), Reply::Idle),
-    ];
-    check_replies(&rt, &mut world, &events);
-    check_queue(&rt, &world, on(1), 1, 1, 1);
-    Ok(())
-}
-
-/// Writes, prints and a host's own statements go on behind closing, and so does a wait that has begun.
-#[test]
-fn hosts_go_on_behind_closing(rt: HostRuntime) -> Result<(), Fail> {
-    let lines = [
-        ENTER,
-        Line::Wait(&[1], Target::Plain),
-        Line::Write(0, 7),
-        Line::SetAsync(3),
-        Line::Print(BOTH),
-        Line::One(Form::IsPresent, Clause::Present, BOTH),
-        Line::Print(BOTH),
-    ];
-    let mut world = world_of(rt.alloc(), &SMALL, &[&lines])?;
-    let events = [
-        (host(), Reply::Did),
-        (host(), Reply::Did),
-        left(0),
-        (host(), Reply::Idle),
-    ];
-    check_replies(&rt, &mut world, &events);
-    turns(&mut world, 20);
-    check_states(&rt, &world, &[refused(5, Fault::Closed)]);
-    check_prints(&rt, world.log(), &[&[7, 6]]);
-    Ok(())
-}
-
-// A host's program that gives each queue of a device a batch, the last one on queue sync.
-fn filling(device: u32) -> [Line; 9] {
-    let create = |cell, target| Line::Async(
-        Form::EnterData,
-        Clause::Create,
-        cells(cell, 1),
-        target,
-    );
-    [
-        Line::SetDevice(device),
-        create(0, Target::Unvalued),
-        create(1, value(0)),
-        create(2, value(1)),
-        create(3, value(2)),
-        create(4, value(3)),
-        create(5, value(4)),
-        create(6, value(5)),
-        create(7, Target::Plain),
-    ]
-}
-
-// A world of four devices with a host each, whose queues are full.
+// A world of four devices whose queues are full.
 fn full_world(rt: &impl Abort, alloc: Global) -> Result<World, Fault> {
+    let text = filling(alloc)?;
     let setting = Setting {
         devices: 4,
-        arrays: &[&[0; 8]],
-        capacity: 8,
         room: 1,
     };
-    let programs = [filling(0), filling(1), filling(2), filling(3)];
-    let mut world = world_of(
-        alloc,
-        &setting,
-        &[&programs[0], &programs[1], &programs[2], &programs[3]],
-    )?;
+    let mut world = world_of(alloc, text.as_slice(), setting)?;
     for number in 0..4u8 {
-        for _ in 0..9u32 {
-            let reply = reply_to(&mut world, Event::Host(HostId::new(number)));
-            assert!(rt; reply == Reply::Did);
-        }
+        check_steps(rt, &mut world, number, 9);
     }
     Ok(world)
 }
@@ -159,15 +56,14 @@ fn check_closes(rt: &impl Abort, world: &mut World, device: u8, open: u32) {
 #[test]
 fn full_queues_are_closed_one_by_one(rt: HostRuntime) -> Result<(), Fail> {
     let mut world = full_world(&rt, rt.alloc())?;
-    check_replies(&rt, &mut world, &[left(32), left(32)]);
+    check_replies(&rt, &mut world, &[(Event::Close, Reply::Remaining(32)); 2]);
     for device in 0..4u8 {
-        let before = u32::from(device).wrapping_mul(8);
-        check_closes(&rt, &mut world, device, 32u32.wrapping_sub(before));
+        check_closes(&rt, &mut world, device, 32 - 8 * u32::from(device));
     }
     turns(&mut world, 10);
     assert!(rt; !world.any_left());
     check_states(&rt, &world, &[FINISHED; 4]);
-    check_replies(&rt, &mut world, &[left(0)]);
+    check_replies(&rt, &mut world, &[(Event::Close, Reply::Remaining(0))]);
     Ok(())
 }
 
@@ -191,20 +87,29 @@ fn scarce_closes(alloc: Global, world: &mut World) -> Result<[Reply; 2], AllocEr
     Ok([first, second])
 }
 
+// A host that gives one queue 64 batches.
+fn updates(alloc: Global) -> Result<Vec<u8>, AllocError> {
+    let enter = b"long a[2];\nhost {\n#pragma acc enter data create(a) async(1)\n";
+    let mut text = Vec::from_slice(alloc, enter)?;
+    for _ in 1..64u32 {
+        text.extend_from_slice(b"#pragma acc update self(a) async(1)\n")?;
+    }
+    text.push(b'}')?;
+    Ok(text)
+}
+
 /// Neither closing nor performing the closes takes memory, in a new world and behind many batches.
 #[test]
 fn closing_takes_no_memory(rt: HostRuntime) -> Result<(), Fail> {
-    let mut world = world_of(rt.alloc(), &SMALL, &[&[]])?;
-    let replies = scarce_closes(rt.alloc(), &mut world)?;
+    let alloc = rt.alloc();
+    let mut world = world_of(alloc, b"host { }\n", ONE)?;
+    let replies = scarce_closes(alloc, &mut world)?;
     assert!(rt; replies == [Reply::Remaining(0); 2]);
-    let mut lines = [LATE; 64];
-    lines[0] = ENTER;
-    let mut world = world_of(rt.alloc(), &SMALL, &[&lines])?;
-    for _ in 0..64u32 {
-        let _ = reply_to(&mut world, host());
-    }
+    let text = updates(alloc)?;
+    let mut world = world_of(alloc, text.as_slice(), ONE)?;
+    check_steps(&rt, &mut world, 0, 64);
     turns(&mut world, 70);
-    let replies = scarce_closes(rt.alloc(), &mut world)?;
+    let replies = scarce_closes(alloc, &mut world)?;
     assert!(rt; replies == [Reply::Remaining(0); 2]);
     Ok(())
 }

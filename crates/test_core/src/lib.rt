@@ -1,39 +1,19 @@
-//! Tests of worlds of events: what no contract says.
+//! Tests of worlds of events: what neither a contract nor a report says.
 #![tactic(auto)]
 
-#[cfg(test)]
-mod case;
 #[cfg(test)]
 mod checks;
 #[cfg(test)]
 mod closing;
 #[cfg(test)]
-mod devices;
-#[cfg(test)]
-mod entries;
-#[cfg(test)]
-mod fixtures;
-#[cfg(test)]
 mod hosts;
 #[cfg(test)]
-mod lines;
-#[cfg(test)]
-mod log;
-#[cfg(test)]
-mod loops;
+mod idle;
 #[cfg(test)]
 mod memory;
 #[cfg(test)]
-mod queues;
-#[cfg(test)]
 mod races;
 #[cfg(test)]
-mod regions;
-#[cfg(test)]
 mod stuck;
-#[cfg(test)]
-mod updates;
-#[cfg(test)]
-mod world;
 #[cfg(test)]
 mod worlds;

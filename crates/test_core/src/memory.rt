@@ -1,28 +1,43 @@
 //! Worlds in which memory is refused to one event and not to the next, and worlds that get enough
 //! at last; no clause can tell how much there is.
 
-use crate::checks::{check_last_print, check_present, check_states, check_steps};
-use crate::fixtures::{ALL, FINISHED, cells, host, on, perform, refused, take, value};
-use crate::lines::Line;
-use crate::worlds::{FOUR, Setting, reply_to, turns, world_of};
-use acc_base::{Config, Fault};
-use acc_core::{Clause, Counts, Event, Outcome, Reply, Target, World};
+use crate::checks::{
+    FINISHED, check_last_print, check_present, check_states, check_steps, refused,
+};
+use crate::worlds::{ONE, Setting, host, on, queue, reply_to, turns, world_of};
+use acc_base::{Config, Fault, Range};
+use acc_core::{Counts, Event, Outcome, Reply, World};
 use std::alloc::{AllocError, Global};
 use std::process::Abort;
 use std::test::Fail;
-use tool_directives::{EXIT, Form};
-use tool_loops::{Body, Loop};
 use tool_scarce::{Hoard, at_each_amount};
 
-/// The array is entered.
-const ENTER: Line = Line::One(Form::EnterData, Clause::Copyin, ALL);
+/// The array is entered, and left.
+const ENTER: &[u8] =
+    b"long a[4];\nhost {\n#pragma acc enter data copyin(a)\n#pragma acc exit data copyout(a)\n}\n";
 
-/// The array's cells are doubled.
-const DOUBLE: Line = Line::Bare(Form::Loop(Loop {
+/// The array's cells are doubled, and printed.
+const DOUBLE: &[u8] =
+    b"long a[4] = {1,2,3,4};\nhost {\n#pragma acc parallel loop\nfor (i = 0; i < 4; i++) a[i] = a[i] * 2;\nprint(a);\n}\n";
+
+/// The same, and they are doubled again.
+const DOUBLE_TWICE: &[u8] =
+    b"long a[4] = {1,2,3,4};\nhost {\n#pragma acc parallel loop\nfor (i = 0; i < 4; i++) a[i] = a[i] * 2;\nprint(a);\n#pragma acc parallel loop\nfor (i = 0; i < 4; i++) a[i] = a[i] * 2;\n}\n";
+
+// The array's cells.
+const ALL: Range = Range {
+    array: 0,
     lo: 0,
-    hi: 4,
-    body: Body::Doubled,
-}));
+    len: 4,
+};
+
+fn take() -> Event {
+    Event::Take(queue(0, 0))
+}
+
+fn perform() -> Event {
+    Event::Perform(queue(0, 0))
+}
 
 /// Whether there is memory for an event, the event, and its reply.
 type Tried = (bool, Event, Reply);
@@ -62,7 +77,7 @@ fn check_replies(
 
 // A run of so many events that there is no memory for the list of their replies.
 fn scarce_run(alloc: Global, world: &mut World) -> Result<Option<Fault>, AllocError> {
-    let many = vec![in alloc; host(); 100_000]?;
+    let many = vec![in alloc; host(0); 100_000]?;
     let mut hoard = Hoard::new(alloc)?;
     hoard.fill(alloc);
     let replies = world.run(many.as_slice());
@@ -78,37 +93,36 @@ fn scarce_outcome(alloc: Global, world: World) -> Result<Outcome, AllocError> {
     Ok(outcome)
 }
 
-fn check_scarce_run(rt: &impl Abort, alloc: Global, line: Line) -> Result<(), Fail> {
-    let mut world = world_of(alloc, &FOUR, &[&[line]])?;
+fn check_scarce_run(rt: &impl Abort, alloc: Global, text: &[u8]) -> Result<(), Fail> {
+    let mut world = world_of(alloc, text, ONE)?;
     let refused = scarce_run(alloc, &mut world)?;
     assert_eq!(rt; refused, Some(Fault::Memory));
-    check_present(rt, &world, 0, &[]);
-    check_steps(rt, &mut world, 1);
+    check_present(rt, &world, None);
+    check_steps(rt, &mut world, 0, 1);
     Ok(())
 }
 
 /// A run that can't have its list of replies changes nothing.
 #[test]
 fn memory_is_refused_to_a_run(rt: HostRuntime) -> Result<(), Fail> {
-    for line in [ENTER, DOUBLE] {
-        check_scarce_run(&rt, rt.alloc(), line)?;
-    }
-    Ok(())
+    check_scarce_run(&rt, rt.alloc(), ENTER)?;
+    check_scarce_run(&rt, rt.alloc(), DOUBLE)
 }
 
-// So many directives were accepted, and the host was refused memory at its statement of this number.
+// So many directives were accepted, and the host was refused memory at its statement of this number, which has this line.
 fn check_outcome(
     rt: &impl Abort,
     alloc: Global,
     world: World,
     accepted: usize,
-    ended: u32,
+    ended: usize,
+    line: u32,
 ) -> Result<(), AllocError> {
     let outcome = scarce_outcome(alloc, world)?;
     assert_eq!(rt; outcome.places.len(), accepted);
     assert_eq!(rt;
         outcome.hosts.as_slice(),
-        [refused(ended, Fault::Memory)].as_slice()
+        [refused(ended, line, Fault::Memory)].as_slice()
     );
     Ok(())
 }
@@ -119,40 +133,40 @@ fn check_outcome(
 fn memory_is_refused_to_a_step(rt: HostRuntime) -> Result<(), Fail> {
     let alloc = rt.alloc();
     let events = [
-        (true, host(), Reply::Did),
+        (true, host(0), Reply::Did),
         (false, take(), Reply::Did),
         (false, perform(), Reply::Did),
         (false, perform(), Reply::Did),
-        (true, host(), Reply::Did),
-        (false, host(), Reply::Refused(Fault::Memory)),
-        (true, host(), Reply::Idle),
+        (true, host(0), Reply::Did),
+        (false, host(0), Reply::Refused(Fault::Memory)),
+        (true, host(0), Reply::Idle),
     ];
-    let exit = Line::One(EXIT, Clause::Copyout, ALL);
-    let mut world = world_of(alloc, &FOUR, &[&[ENTER, exit]])?;
+    let mut world = world_of(alloc, ENTER, ONE)?;
     check_replies(&rt, alloc, &mut world, &events)?;
-    check_present(&rt, &world, 0, &[(ALL, 0, 1)]);
-    check_outcome(&rt, alloc, world, 1, 1)?;
+    check_present(&rt, &world, Some((ALL, 0, 1)));
+    check_outcome(&rt, alloc, world, 1, 1, 4)?;
     Ok(())
 }
 
 // A statement for which there is no memory leaves no entry.
-fn check_scarce_statement(rt: &impl Abort, alloc: Global, line: Line) -> Result<(), Fail> {
+fn check_scarce_statement(rt: &impl Abort, alloc: Global, text: &[u8]) -> Result<(), Fail> {
     let events = [
-        (false, host(), Reply::Refused(Fault::Memory)),
-        (true, host(), Reply::Idle),
+        (false, host(0), Reply::Refused(Fault::Memory)),
+        (true, host(0), Reply::Idle),
     ];
-    let mut world = world_of(alloc, &FOUR, &[&[line]])?;
+    let mut world = world_of(alloc, text, ONE)?;
     check_replies(rt, alloc, &mut world, &events)?;
     assert_eq!(rt; world.log().len(), 0);
-    check_states(rt, &world, &[refused(0, Fault::Memory)]);
+    check_states(rt, &world, &[refused(0, 3, Fault::Memory)]);
     Ok(())
 }
 
 /// A write and a print leave no entry then.
 #[test]
 fn memory_is_refused_to_a_write_and_a_print(rt: HostRuntime) -> Result<(), Fail> {
-    check_scarce_statement(&rt, rt.alloc(), Line::Write(0, 9))?;
-    check_scarce_statement(&rt, rt.alloc(), Line::Print(ALL))
+    let alloc = rt.alloc();
+    check_scarce_statement(&rt, alloc, b"long a[4];\nhost {\na[0] = 9;\n}\n")?;
+    check_scarce_statement(&rt, alloc, b"long a[4];\nhost {\nprint(a);\n}\n")
 }
 
 /// A wait whose host can't note what is performed stays accepted, and all that it waited for performed.
@@ -160,25 +174,22 @@ fn memory_is_refused_to_a_write_and_a_print(rt: HostRuntime) -> Result<(), Fail>
 fn memory_is_refused_to_a_host_that_waited(rt: HostRuntime) -> Result<(), Fail> {
     let alloc = rt.alloc();
     let events = [
-        (true, host(), Reply::Did),
-        (true, host(), Reply::Did),
-        (true, host(), Reply::Did),
+        (true, host(0), Reply::Did),
+        (true, host(0), Reply::Did),
+        (true, host(0), Reply::Did),
         (true, Event::Take(on(1)), Reply::Did),
         (true, Event::Perform(on(1)), Reply::Did),
         (true, Event::Take(on(2)), Reply::Did),
         (true, Event::Perform(on(2)), Reply::Did),
-        (false, host(), Reply::Refused(Fault::Memory)),
-        (true, host(), Reply::Idle),
+        (false, host(0), Reply::Refused(Fault::Memory)),
+        (true, host(0), Reply::Idle),
     ];
-    let lines = [
-        Line::Async(Form::EnterData, Clause::Create, cells(0, 1), value(1)),
-        Line::Async(Form::EnterData, Clause::Create, cells(1, 1), value(2)),
-        Line::WaitAll(Target::Plain),
-    ];
-    let mut world = world_of(alloc, &FOUR, &[&lines])?;
+    let text =
+        b"long a[4];\nhost {\n#pragma acc enter data create(a[0:1]) async(1)\n#pragma acc enter data create(a[1:1]) async(2)\n#pragma acc wait\n}\n";
+    let mut world = world_of(alloc, text, ONE)?;
     check_replies(&rt, alloc, &mut world, &events)?;
     assert_eq!(rt; world.log().len(), 2);
-    check_outcome(&rt, alloc, world, 3, 2)?;
+    check_outcome(&rt, alloc, world, 3, 2, 5)?;
     Ok(())
 }
 
@@ -187,7 +198,7 @@ fn memory_is_refused_to_a_host_that_waited(rt: HostRuntime) -> Result<(), Fail> 
 fn memory_is_refused_to_a_loop(rt: HostRuntime) -> Result<(), Fail> {
     let alloc = rt.alloc();
     let events = [
-        (true, host(), Reply::Did),
+        (true, host(0), Reply::Did),
         (false, take(), Reply::Did),
         (false, perform(), Reply::Did),
         (false, perform(), Reply::Did),
@@ -195,16 +206,16 @@ fn memory_is_refused_to_a_loop(rt: HostRuntime) -> Result<(), Fail> {
         (false, perform(), Reply::Did),
         (false, perform(), Reply::Did),
         (false, perform(), Reply::Idle),
-        (true, host(), Reply::Did),
-        (true, host(), Reply::Did),
-        (false, host(), Reply::Refused(Fault::Memory)),
-        (true, host(), Reply::Idle),
+        (true, host(0), Reply::Did),
+        (true, host(0), Reply::Did),
+        (false, host(0), Reply::Refused(Fault::Memory)),
+        (true, host(0), Reply::Idle),
     ];
-    let mut world = world_of(alloc, &FOUR, &[&[DOUBLE, Line::Print(ALL), DOUBLE]])?;
+    let mut world = world_of(alloc, DOUBLE_TWICE, ONE)?;
     check_replies(&rt, alloc, &mut world, &events)?;
     check_last_print(&rt, world.log(), &[2, 4, 6, 8]);
-    check_present(&rt, &world, 0, &[]);
-    check_outcome(&rt, alloc, world, 1, 2)?;
+    check_present(&rt, &world, None);
+    check_outcome(&rt, alloc, world, 1, 2, 6)?;
     Ok(())
 }
 
@@ -241,12 +252,12 @@ fn counts_are_refused_until_there_is_memory(rt: HostRuntime) -> Result<(), Fail>
     Ok(())
 }
 
-// A world of these lines, with short queues, whose host has placed the first one; the worlds that were made are counted.
-fn placed_world(alloc: Global, lines: &[Line], worlds: &mut u32) -> Result<World, Fault> {
-    let setting = Setting { room: 4, ..FOUR };
-    let mut world = world_of(alloc, &setting, &[lines])?;
+// A world of short queues, whose host has placed its loop; the worlds that were made are counted.
+fn placed_world(alloc: Global, worlds: &mut u32) -> Result<World, Fault> {
+    let short = Setting { room: 4, ..ONE };
+    let mut world = world_of(alloc, DOUBLE, short)?;
     *worlds = worlds.wrapping_add(1);
-    match reply_to(&mut world, host()) {
+    match reply_to(&mut world, host(0)) {
         Reply::Did => Ok(world),
         Reply::Refused(fault) => Err(fault),
         Reply::Idle | Reply::Remaining(_) => Err(Fault::Unfinished),
@@ -257,9 +268,8 @@ fn placed_world(alloc: Global, lines: &[Line], worlds: &mut u32) -> Result<World
 #[test]
 fn a_world_and_its_loop_are_refused_until_there_is_memory(rt: HostRuntime) -> Result<(), Fail> {
     let alloc = rt.alloc();
-    let lines = [DOUBLE, Line::Print(ALL)];
     let mut worlds = 0u32;
-    let (refusals, mut world) = at_each_amount(alloc, || placed_world(alloc, &lines, &mut worlds))?;
+    let (refusals, mut world) = at_each_amount(alloc, || placed_world(alloc, &mut worlds))?;
     assert!(rt;
         1 < worlds && worlds < refusals,
         "{worlds} worlds, {refusals} refusals"

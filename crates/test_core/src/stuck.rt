@@ -2,16 +2,11 @@
 //! enabled where something is left, and not that it ends.
 
 use crate::checks::check_steps;
-use crate::fixtures::{BOTH, value};
-use crate::lines::Line;
-use crate::queues::SMALL;
-use crate::worlds::{reply_to, world_of};
-use acc_base::{HostId, QueueAt};
-use acc_core::{Clause, Event, Reply, World};
+use crate::worlds::{ONE, queue, reply_to, world_of};
+use acc_base::QueueAt;
+use acc_core::{Event, Reply, World};
 use std::process::Abort;
 use std::test::Fail;
-use tool_directives::{EXIT, Form, UPDATE, over, queue};
-use tool_loops::Body;
 
 // A queue of the first device that is enabled.
 fn enabled_queue(world: &World) -> Option<QueueAt> {
@@ -50,53 +45,43 @@ fn drain(rt: &impl Abort, world: &mut World) -> u32 {
     panic!(rt; "some queue is enabled for ever")
 }
 
+/// The loop awaits the block's maker, and the copy out and the release await the loop.
+const CHAIN: &[u8] =
+    b"long a[2];\nhost {\n#pragma acc enter data create(a) async(1)\n#pragma acc parallel loop present(a) async(2)\nfor (i = 0; i < 2; i++) a[i] = i + 7;\n#pragma acc exit data copyout(a) async(1)\n}\n";
+
 /// Steps of the enabled queues alone perform all, whatever awaits what: behind each step of the host, and behind its last.
 #[test]
 fn enabled_queues_perform_all(rt: HostRuntime) -> Result<(), Fail> {
-    let lines = [
-        Line::Async(Form::EnterData, Clause::Create, BOTH, value(1)),
-        Line::Async(over(0, 2, Body::Indices), Clause::Present, BOTH, value(2)),
-        Line::Async(EXIT, Clause::Copyout, BOTH, value(1)),
-    ];
-    let mut world = world_of(rt.alloc(), &SMALL, &[&lines])?;
+    let mut world = world_of(rt.alloc(), CHAIN, ONE)?;
     assert_eq!(rt; drain(&rt, &mut world), 0);
-    // a batch is taken each time; the loop awaits the block's maker, and the copy out and the release await the loop
+    // a batch is taken each time
     for steps in [2u32, 3, 4] {
-        check_steps(&rt, &mut world, 1);
+        check_steps(&rt, &mut world, 0, 1);
         assert_eq!(rt; drain(&rt, &mut world), steps);
     }
-    let mut world = world_of(rt.alloc(), &SMALL, &[&lines])?;
-    check_steps(&rt, &mut world, 3);
+    let mut world = world_of(rt.alloc(), CHAIN, ONE)?;
+    check_steps(&rt, &mut world, 0, 3);
     assert!(rt; !world.enabled(queue(0, 0)) && !world.enabled(queue(3, 0)));
     assert_eq!(rt; drain(&rt, &mut world), 9);
     Ok(())
 }
 
+const CREATE: &[u8] = b"long a[2];\nhost {\n#pragma acc enter data create(a) async(0)\n}\n";
+
+/// Each of six queues awaits the one before it.
+const ROUND: &[u8] =
+    b"host {\n#pragma acc wait(0) async(1)\n#pragma acc update device(a) async(1)\n#pragma acc wait(1) async(2)\n#pragma acc update device(a) async(2)\n#pragma acc wait(2) async(3)\n#pragma acc update device(a) async(3)\n#pragma acc wait(3) async(4)\n#pragma acc update device(a) async(4)\n#pragma acc wait(4) async(5)\n#pragma acc update device(a) async(5)\n#pragma acc wait(5) async(0)\n#pragma acc update device(a) async(0)\n}\n";
+
 /// Six queues, each of which awaits the one before it, twice round.
 #[test]
 fn a_ring_of_queues_goes_on(rt: HostRuntime) -> Result<(), Fail> {
-    let update = |number| Line::Async(UPDATE, Clause::UpdateDevice, BOTH, value(number));
-    let round = [
-        Line::Wait(&[0], value(1)),
-        update(1),
-        Line::Wait(&[1], value(2)),
-        update(2),
-        Line::Wait(&[2], value(3)),
-        update(3),
-        Line::Wait(&[3], value(4)),
-        update(4),
-        Line::Wait(&[4], value(5)),
-        update(5),
-        Line::Wait(&[5], value(0)),
-        update(0),
-    ];
-    let create = [Line::Async(Form::EnterData, Clause::Create, BOTH, value(0))];
-    let mut world = world_of(rt.alloc(), &SMALL, &[&create, &round, &round])?;
-    for number in 0..3u8 {
-        for _ in 0..12u32 {
-            let _ = reply_to(&mut world, Event::Host(HostId::new(number)));
-        }
-    }
+    let mut text = Vec::from_slice(rt.alloc(), CREATE)?;
+    text.extend_from_slice(ROUND)?;
+    text.extend_from_slice(ROUND)?;
+    let mut world = world_of(rt.alloc(), text.as_slice(), ONE)?;
+    check_steps(&rt, &mut world, 0, 1);
+    check_steps(&rt, &mut world, 1, 12);
+    check_steps(&rt, &mut world, 2, 12);
     // 25 batches are taken, and 35 operations performed: each wait is one await, and an update on another queue than its
     // block's maker has one, too
     assert_eq!(rt; drain(&rt, &mut world), 60);

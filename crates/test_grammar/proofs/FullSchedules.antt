@@ -6,10 +6,10 @@ use Rattle.acc_host.specs.declared.event.Event.TheVariants.{Close}
 use Rattle.acc_token.specs.declared.read_fault.ReadKind.{ReadKind}
 use Rattle.acc_token.specs.declared.read_fault.ReadKind.TheVariants.{Name, Limit}
 use Rattle.acc_token.specs.Faults.{fails, ◌>>=◌}
-use Rattle.acc_script.specs.Schedules.{turn_of, repeated, repeats, times_of, host_events, close_events, round_events, events_of, line_events, events_behind, events_from, schedule_of}
+use Rattle.acc_schedule.specs.Schedules.{turn_of, repeated, repeats, times_of, host_events, close_events, round_events, events_of, line_events, events_behind, events_from, schedule_of}
 use Rattle.test_grammar.specs.worked.Schedules.{FullSchedule}
-use Rattle.acc_script.proofs.LineEvents.{few_behind, too_many_behind, faulty_behind}
-use Rattle.acc_script.proofs.RepeatedTurns.{round_length, repeated_length}
+use Rattle.acc_schedule.proofs.LineEvents.{few_behind, too_many_behind, faulty_behind}
+use Rattle.acc_schedule.proofs.RepeatedTurns.{round_length, repeated_length}
 
 step : (hosts devices number : ℕ) (events more : List Event) (line : List ℕ) (others : List (List ℕ))
     → events_behind hosts devices number events line ≡ Ok more

@@ -1,6 +1,6 @@
 -- The examples, computed.
 use Rattle.std.proofs.Common.{refl}
-use Rattle.acc_script.specs.Schedules.{times_of, host_events, queue_events, close_events, round_events, events_of, line_events, events_behind, schedule_of}
+use Rattle.acc_schedule.specs.Schedules.{times_of, host_events, queue_events, close_events, round_events, events_of, line_events, events_behind, schedule_of}
 use Rattle.test_grammar.specs.worked.Schedules.{TwentyRounds, OneRound, WiderRound, EachLine, EachQueue, FaultyLines, FaultyHosts, FaultyQueues, FaultyCloses}
 
 pub twenty_rounds : TwentyRounds

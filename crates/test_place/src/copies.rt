@@ -12,7 +12,7 @@ use acc_place::{ASYNC_NOVAL, DataItem, Directive, Target, Waits};
 use std::alloc::Global;
 use std::process::Abort;
 use std::test::Fail;
-use tool_directives::{Form, copyin, directive_of};
+use tool_directives::{Form, directive_of};
 use tool_loops::Body;
 use tool_scarce::at_each_amount;
 
@@ -120,7 +120,11 @@ fn copies_have_devices_of_their_own(rt: HostRuntime) -> Result<(), Fail> {
 }
 
 fn check_scarce(rt: &impl Abort, alloc: Global) -> Result<(), Fault> {
-    let two = [copyin(a(1, 2)); 2];
+    let entered = DataItem {
+        clause: Copyin,
+        range: a(1, 2),
+    };
+    let two = [entered; 2];
     let (refusals, directive) = at_each_amount(alloc, || {
         directive_of(alloc, Form::EnterData, &two, Target::Plain, Waits::Nothing)
     })?;

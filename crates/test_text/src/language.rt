@@ -13,13 +13,6 @@ struct Case {
 }
 
 const CASES: &[Case] = &[
-    // a loop over what is present
-    Case {
-        options: Options::DEFAULT,
-        input: b"long a[4] = {1,2,3,4};\nhost {\n#pragma acc enter data copyin(a)\n#pragma acc parallel loop present(a)\nfor (i = 0; i < 4; i++) a[i] = a[i] * 2;\n#pragma acc exit data copyout(a)\nprint(a);\n}\n%%\nround 20\n",
-        report: b"host 0\n2 4 6 8\ndone\nqueue 0 sync batches 3 operations 5 of 5\nend\n",
-        refused: false,
-    },
     // a finalized exit
     Case {
         options: Options::DEFAULT,
@@ -34,12 +27,217 @@ const CASES: &[Case] = &[
         report: b"host 0\ndone\npresent 0 a[0:4] s 0 d 1\nqueue 0 sync batches 1 operations 2 of 2\nend\n",
         refused: false,
     },
+    // an exit inside a construct takes no action
+    Case {
+        options: Options::DEFAULT,
+        input: b"long a[4];\nhost {\n#pragma acc data create(a)\n{\n#pragma acc exit data delete(a)\nprint(acc_is_present(a));\n}\nprint(acc_is_present(a));\n}\n%%\nround 20\n",
+        report: b"host 0\n1\n0\ndone\nqueue 0 sync batches 2 operations 2 of 2\nend\n",
+        refused: false,
+    },
+    // a finalized exit inside a construct ends nothing, and the construct's end copies out its own range
+    Case {
+        options: Options::DEFAULT,
+        input: b"long a[4] = {1,2,3,4};\nhost {\n#pragma acc enter data create(a)\n#pragma acc data copy(a[1:2])\n{\n#pragma acc exit data copyout(a) finalize\n}\nprint(a);\n}\n%%\nround 20\n",
+        report: b"host 0\n1 0 0 4\ndone\nqueue 0 sync batches 2 operations 3 of 3\nend\n",
+        refused: false,
+    },
+    // entries inside and outside of constructs
+    Case {
+        options: Options::DEFAULT,
+        input: b"long a[4] = {1,2,3,4};\nhost {\n#pragma acc enter data copyin(a)\n#pragma acc data copy(a)\n{\n#pragma acc enter data create(a[1:1])\n#pragma acc data copyout(a[0:2])\n{\n}\n}\n#pragma acc exit data delete(a[3:1])\na[0] = 9;\na[1] = 9;\n#pragma acc exit data copyout(a[1:2])\nprint(a);\n}\n%%\nround 20\n",
+        report: b"host 0\n9 2 3 4\ndone\nqueue 0 sync batches 2 operations 4 of 4\nend\n",
+        refused: false,
+    },
+    // constructs inside one another
+    Case {
+        options: Options::DEFAULT,
+        input: b"long a[2] = {1,2};\nhost {\n#pragma acc data copy(a)\n{\n#pragma acc data copyout(a[0:1])\n{\n}\na[0] = 5;\n}\nprint(a);\n}\n%%\nround 20\n",
+        report: b"host 0\n1 2\ndone\nqueue 0 sync batches 2 operations 4 of 4\nend\n",
+        refused: false,
+    },
+    // a construct with each clause
+    Case {
+        options: Options::DEFAULT,
+        input: b"long a[4] = {1,2,3,4};\nlong b[4] = {1,2,3,4};\nlong c[4] = {1,2,3,4};\nlong d[4] = {1,2,3,4};\nhost {\n#pragma acc data copy(a)\n{\na[0] = 9;\n}\nprint(a);\n#pragma acc data copyin(b)\n{\nb[0] = 9;\n}\nprint(b);\n#pragma acc data copyout(c)\n{\nc[0] = 9;\n}\nprint(c);\n#pragma acc data create(d)\n{\nd[0] = 9;\n}\nprint(d);\n}\n%%\nround 30\n",
+        report: b"host 0\n1 2 3 4\n9 2 3 4\n0 0 0 0\n9 2 3 4\ndone\nqueue 0 sync batches 8 operations 12 of 12\nend\n",
+        refused: false,
+    },
+    // a last exit from present deletes
+    Case {
+        options: Options::DEFAULT,
+        input: b"long a[4] = {1,2,3,4};\nhost {\n#pragma acc enter data create(a)\n#pragma acc data present(a[2:2])\n{\n#pragma acc exit data copyout(a)\n}\nprint(a);\n#pragma acc data present(a)\n{\n}\n}\n%%\nround 20\n",
+        report: b"host 0\n1 2 3 4\nrefused 9 F7 NotPresent\nqueue 0 sync batches 2 operations 2 of 2\nend\n",
+        refused: true,
+    },
     // an overlap is refused
     Case {
         options: Options::DEFAULT,
         input: b"long a[8];\nhost {\n#pragma acc enter data create(a[0:4])\n#pragma acc enter data copyin(a[1:2])\n#pragma acc enter data copyin(a[2:4])\nprint(a);\n}\n%%\nround 20\n",
         report: b"host 0\nrefused 5 F6 PartlyPresent\npresent 0 a[0:4] s 0 d 2\nqueue 0 sync batches 1 operations 1 of 1\nend\n",
         refused: true,
+    },
+    // cells are free behind a construct
+    Case {
+        options: Options {
+            cells: 4,
+            ..Options::DEFAULT
+        },
+        input: b"long a[4];\nhost {\n#pragma acc data create(a[0:2],a[2:2])\n{\n}\n#pragma acc data create(a)\n{\n}\n#pragma acc data create(a[0:3],a[2:2])\n{\n}\n}\n%%\nround 20\n",
+        report: b"host 0\nrefused 9 F6 PartlyPresent\nqueue 0 sync batches 4 operations 6 of 6\nend\n",
+        refused: true,
+    },
+    // seventeen ranges are too many, and sixteen of a construct are not
+    Case {
+        options: Options::DEFAULT,
+        input: b"long a[4];\nhost {\n#pragma acc data create(a,a,a,a,a,a,a,a,a,a,a,a,a,a,a,a)\n{\n#pragma acc enter data copyin(a,a,a,a,a,a,a,a,a,a,a,a,a,a,a,a,a)\n}\n}\n%%\nround 20\n",
+        report: b"host 0\nrefused 5 F5 TooMany\npresent 0 a[0:4] s 16 d 0\nqueue 0 sync batches 1 operations 1 of 1\nend\n",
+        refused: true,
+    },
+    // a loop over what is present
+    Case {
+        options: Options::DEFAULT,
+        input: b"long a[4] = {1,2,3,4};\nhost {\n#pragma acc enter data copyin(a)\n#pragma acc parallel loop present(a)\nfor (i = 0; i < 4; i++) a[i] = a[i] * 2;\n#pragma acc exit data copyout(a)\nprint(a);\n}\n%%\nround 20\n",
+        report: b"host 0\n2 4 6 8\ndone\nqueue 0 sync batches 3 operations 5 of 5\nend\n",
+        refused: false,
+    },
+    // a sum wraps round
+    Case {
+        options: Options::DEFAULT,
+        input: b"long a[1] = {9223372036854775807};\nhost {\n#pragma acc parallel loop\nfor (i = 0; i < 1; i++) a[i] = a[i] + 1;\nprint(a);\n}\n%%\nround 20\n",
+        report: b"host 0\n-9223372036854775808\ndone\nqueue 0 sync batches 1 operations 5 of 5\nend\n",
+        refused: false,
+    },
+    // precedence
+    Case {
+        options: Options::DEFAULT,
+        input: b"long a[2] = {3,-3};\nlong b[2];\nhost {\n#pragma acc parallel loop\nfor (i = 0; i < 2; i++) b[i] = 1 + 2 * -a[i] < 0 == 1 ? 5 : 6;\nprint(b);\n}\n%%\nround 20\n",
+        report: b"host 0\n5 6\ndone\nqueue 0 sync batches 1 operations 9 of 9\nend\n",
+        refused: false,
+    },
+    // reads beside the index
+    Case {
+        options: Options::DEFAULT,
+        input: b"long a[4] = {1,2,3,4};\nlong b[4];\nhost {\n#pragma acc parallel loop copyin(a) copyout(b)\nfor (i = 0; i < 3; i++) b[i] = a[i + 1];\nprint(b);\n#pragma acc parallel loop copyin(a) copyout(b)\nfor (i = 0; i < 4; i++) b[i] = a[i + 1];\n}\n%%\nround 20\n",
+        report: b"host 0\n2 3 4 0\nrefused 7 F9 OutsideRange\nqueue 0 sync batches 1 operations 7 of 7\nend\n",
+        refused: true,
+    },
+    // the second statement of a turn reads what the first assigned
+    Case {
+        options: Options::DEFAULT,
+        input: b"long a[2] = {3,4};\nlong b[2];\nhost {\n#pragma acc parallel loop copy(a)\nfor (i = 0; i < 2; i++) { b[i] = a[i] * 10; a[i] = b[i] + i; }\nprint(a);\nprint(b);\n}\n%%\nround 20\n",
+        report: b"host 0\n30 41\n30 40\ndone\nqueue 0 sync batches 1 operations 9 of 9\nend\n",
+        refused: false,
+    },
+    // a loop without clauses, before its last operation
+    Case {
+        options: Options::DEFAULT,
+        input: b"long a[4] = {1,2,3,4};\nhost {\n#pragma acc parallel loop\nfor (i = 1; i < 4; i++) a[i] = a[i] * 2;\nprint(a);\n}\n%%\nhost 0 2\ntake 0 sync\ndo 0 sync 4\nhost 0\n",
+        report: b"host 0\nunfinished\nqueue 0 sync batches 1 operations 4 of 5\nend\n",
+        refused: false,
+    },
+    // the same loop to its end, with events of which nothing comes
+    Case {
+        options: Options::DEFAULT,
+        input: b"long a[4] = {1,2,3,4};\nhost {\n#pragma acc parallel loop\nfor (i = 1; i < 4; i++) a[i] = a[i] * 2;\nprint(a);\n}\n%%\nhost 0 2\ntake 0 sync\ndo 0 sync 4\nhost 0\ndo 0 sync 2\ntake 0 sync\nhost 0 3\n",
+        report: b"host 0\n1 4 6 8\ndone\nqueue 0 sync batches 1 operations 5 of 5\nend\n",
+        refused: false,
+    },
+    // a loop in a part
+    Case {
+        options: Options::DEFAULT,
+        input: b"long a[4] = {1,2,3,4};\nhost {\n#pragma acc data copy(a[1:2])\n{\n#pragma acc parallel loop\nfor (i = 1; i < 3; i++) a[i] = -a[i];\n}\nprint(a);\n}\n%%\nround 20\n",
+        report: b"host 0\n1 -2 -3 4\ndone\nqueue 0 sync batches 3 operations 5 of 5\nend\n",
+        refused: false,
+    },
+    // what a host writes between two loops of a construct stays away from the device
+    Case {
+        options: Options::DEFAULT,
+        input: b"long a[4] = {1,2,3,4};\nhost {\n#pragma acc data copy(a)\n{\n#pragma acc parallel loop\nfor (i = 0; i < 4; i++) a[i] = a[i] * 2;\na[0] = 9;\nprint(a);\n#pragma acc parallel loop\nfor (i = 0; i < 4; i++) a[i] = a[i] + 1;\n}\nprint(a);\n}\n%%\nround 30\n",
+        report: b"host 0\n9 2 3 4\n3 5 7 9\ndone\nqueue 0 sync batches 4 operations 6 of 6\nend\n",
+        refused: false,
+    },
+    // a loop in two constructs uses the inner one's range
+    Case {
+        options: Options::DEFAULT,
+        input: b"long a[4] = {1,2,3,4};\nhost {\n#pragma acc data copy(a)\n{\n#pragma acc data copyin(a[2:1])\n{\n#pragma acc parallel loop\nfor (i = 2; i < 3; i++) a[i] = a[i] * 2;\n}\n#pragma acc parallel loop\nfor (i = 0; i < 4; i++) a[i] = a[i] + 1;\n#pragma acc update self(a)\nprint(a);\n#pragma acc data copyin(a[2:1])\n{\n#pragma acc parallel loop\nfor (i = 2; i < 4; i++) a[i] = a[i] * 2;\n}\n}\n}\n%%\nround 20\n",
+        report: b"host 0\n2 3 7 5\nrefused 16 F9 OutsideRange\npresent 0 a[0:4] s 2 d 0\nqueue 0 sync batches 4 operations 5 of 5\nend\n",
+        refused: true,
+    },
+    // a loop stays in the range of its array's first item, though more is present
+    Case {
+        options: Options::DEFAULT,
+        input: b"long a[4] = {1,2,3,4};\nhost {\n#pragma acc enter data copyin(a)\n#pragma acc parallel loop present(a,a[0:2])\nfor (i = 0; i < 4; i++) a[i] = a[i] * 2;\n#pragma acc parallel loop present(a[0:2]) present(a)\nfor (i = 0; i < 2; i++) a[i] = a[i] * 2;\n#pragma acc update self(a)\nprint(a);\n#pragma acc parallel loop present(a[0:2],a)\nfor (i = 0; i < 3; i++) a[i] = a[i] * 2;\n}\n%%\nround 20\n",
+        report: b"host 0\n4 8 6 8\nrefused 10 F9 OutsideRange\npresent 0 a[0:4] s 0 d 1\nqueue 0 sync batches 4 operations 5 of 5\nend\n",
+        refused: true,
+    },
+    // an implicit item is partly present
+    Case {
+        options: Options::DEFAULT,
+        input: b"long a[4];\nhost {\n#pragma acc enter data create(a[:2])\n#pragma acc exit data copyout(a[2:])\n#pragma acc parallel loop\nfor (i = 0; i < 2; i++) a[i] = 1;\n}\n%%\nround 20\n",
+        report: b"host 0\nrefused 5 F6 PartlyPresent\npresent 0 a[0:2] s 0 d 1\nqueue 0 sync batches 1 operations 1 of 1\nend\n",
+        refused: true,
+    },
+    // a loop's implicit array fills the device
+    Case {
+        options: Options {
+            cells: 8,
+            ..Options::DEFAULT
+        },
+        input: b"long a[4] = {1,2,3,4};\nlong b[4] = {5,6,7,8};\nhost {\n#pragma acc enter data create(a)\n#pragma acc parallel loop\nfor (i = 0; i < 4; i++) b[i] = a[i] + 1;\nprint(b);\n}\n%%\nround 20\n",
+        report: b"host 0\n1 1 1 1\ndone\npresent 0 a[0:4] s 0 d 1\nqueue 0 sync batches 2 operations 6 of 6\nend\n",
+        refused: false,
+    },
+    // the device lacks one cell for it
+    Case {
+        options: Options {
+            cells: 7,
+            ..Options::DEFAULT
+        },
+        input: b"long a[4] = {1,2,3,4};\nlong b[4] = {5,6,7,8};\nhost {\n#pragma acc enter data create(a)\n#pragma acc parallel loop\nfor (i = 0; i < 4; i++) b[i] = a[i] + 1;\nprint(b);\n}\n%%\nround 20\n",
+        report: b"host 0\nrefused 5 F8 DeviceFull\npresent 0 a[0:4] s 0 d 1\nqueue 0 sync batches 1 operations 1 of 1\nend\n",
+        refused: true,
+    },
+    // a loop without a turn places its whole batch, and reaches no cell
+    Case {
+        options: Options::DEFAULT,
+        input: b"long a[4] = {1,2,3,4};\nhost {\n#pragma acc parallel loop\nfor (i = 2; i < 2; i++) a[i] = a[i] * 2;\n#pragma acc parallel loop copyout(a[3:1])\nfor (i = 9; i < -9; i++) a[i] = a[i] * 2;\nprint(a);\n}\n%%\nround 20\n",
+        report: b"host 0\n1 2 3 0\ndone\nqueue 0 sync batches 2 operations 9 of 9\nend\n",
+        refused: false,
+    },
+    // a loop of sixteen copies
+    Case {
+        options: Options::DEFAULT,
+        input: b"long a[16] = {5,5,5,5,5,5,5,5,5,5,5,5,5,5,5,5};\nhost {\n#pragma acc parallel loop copy(a[0:1],a[1:1],a[2:1],a[3:1],a[4:1],a[5:1],a[6:1],a[7:1],a[8:1],a[9:1],a[10:1],a[11:1],a[12:1],a[13:1],a[14:1],a[15:1])\nfor (i = 0; i < 1; i++) a[i] = a[i] + 1;\nprint(a);\n}\n%%\nround 70\n",
+        report: b"host 0\n6 5 5 5 5 5 5 5 5 5 5 5 5 5 5 5\ndone\nqueue 0 sync batches 1 operations 65 of 65\nend\n",
+        refused: false,
+    },
+    // a loop's implicit array is one of its sixteen
+    Case {
+        options: Options::DEFAULT,
+        input: b"long a[4] = {1,2,3,4};\nlong b[4] = {5,6,7,8};\nhost {\n#pragma acc parallel loop create(a,a,a,a,a,a,a,a,a,a,a,a,a,a,a)\nfor (i = 0; i < 4; i++) b[i] = a[i] + 1;\nprint(b);\n#pragma acc parallel loop create(a,a,a,a,a,a,a,a,a,a,a,a,a,a,a,a)\nfor (i = 0; i < 4; i++) a[i] = 1;\n#pragma acc parallel loop create(a,a,a,a,a,a,a,a,a,a,a,a,a,a,a,a)\nfor (i = 0; i < 4; i++) b[i] = a[i] + 1;\n}\n%%\nround 30\n",
+        report: b"host 0\n1 1 1 1\nrefused 9 F5 TooMany\nqueue 0 sync batches 2 operations 10 of 10\nend\n",
+        refused: true,
+    },
+    // an absent range is no exit and no update
+    Case {
+        options: Options::DEFAULT,
+        input: b"long a[2] = {3,4};\nhost {\n#pragma acc exit data copyout(a)\n#pragma acc update self(a) if_present\n#pragma acc update self(a)\n}\n%%\nhost 0 3\n",
+        report: b"host 0\nrefused 5 F7 NotPresent\nend\n",
+        refused: true,
+    },
+    // an update of a partly present range
+    Case {
+        options: Options::DEFAULT,
+        input: b"long a[4] = {1,2,3,4};\nhost {\n#pragma acc enter data create(a[0:2])\n#pragma acc update device(a[1:2]) if_present\n}\n%%\nround 20\n",
+        report: b"host 0\nrefused 4 F6 PartlyPresent\npresent 0 a[0:2] s 0 d 1\nqueue 0 sync batches 1 operations 1 of 1\nend\n",
+        refused: true,
+    },
+    // an update from the device and then to it, and one to it and then from it
+    Case {
+        options: Options::DEFAULT,
+        input: b"long a[4] = {1,2,3,4};\nlong b[4] = {1,2,3,4};\nhost {\n#pragma acc enter data copyin(a,b)\na[0] = 9;\na[1] = 8;\nb[0] = 9;\nb[1] = 8;\n#pragma acc update self(a[1:2]) device(a[0:2])\n#pragma acc update device(b[0:2]) self(b[1:2])\n#pragma acc update self(a,b)\nprint(a);\nprint(b);\n}\n%%\nround 30\n",
+        report: b"host 0\n9 2 3 4\n9 8 3 4\ndone\npresent 0 a[0:4] s 0 d 1\npresent 0 b[0:4] s 0 d 1\nqueue 0 sync batches 4 operations 10 of 10\nend\n",
+        refused: false,
     },
     // awaits hold back
     Case {
@@ -65,62 +263,18 @@ const CASES: &[Case] = &[
     // cells of what has left are free
     Case {
         options: Options {
-            devices: 1,
             cells: 8,
-            room: 64,
+            ..Options::DEFAULT
         },
         input: b"long a[8];\nlong b[1];\nhost {\n#pragma acc enter data create(a)\n#pragma acc exit data delete(a) async(1)\n#pragma acc enter data create(b) async(2)\n#pragma acc enter data create(a) async(2)\n}\n%%\nround 2\nhost 0 3\n",
         report: b"host 0\nrefused 7 F8 DeviceFull\npresent 0 b[0:1] s 0 d 1\nqueue 0 sync batches 1 operations 1 of 1\nqueue 0 1 batches 1 operations 0 of 2\nqueue 0 2 batches 1 operations 0 of 1\nend\n",
         refused: true,
-    },
-    // a full queue refuses
-    Case {
-        options: Options {
-            devices: 1,
-            cells: 4_194_304,
-            room: 1,
-        },
-        input: b"long a[2];\nhost {\n#pragma acc enter data create(a) async(1)\n#pragma acc update device(a) async(1)\n}\nhost {\n#pragma acc update device(a) async(1)\n}\n%%\nhost 0\nhost 1\ntake 0 1\nhost 0\nround 5\n",
-        report: b"host 0\ndone\nhost 1\nrefused 7 F12 QueueFull\npresent 0 a[0:2] s 0 d 1\nqueue 0 1 batches 2 operations 2 of 2\nend\n",
-        refused: true,
-    },
-    // a sum wraps round
-    Case {
-        options: Options::DEFAULT,
-        input: b"long a[1] = {9223372036854775807};\nhost {\n#pragma acc parallel loop\nfor (i = 0; i < 1; i++) a[i] = a[i] + 1;\nprint(a);\n}\n%%\nround 20\n",
-        report: b"host 0\n-9223372036854775808\ndone\nqueue 0 sync batches 1 operations 5 of 5\nend\n",
-        refused: false,
     },
     // unvalued async
     Case {
         options: Options::DEFAULT,
         input: b"long a[1];\nhost {\na[0] = 7;\n#pragma acc enter data copyin(a) async\n#pragma acc parallel loop present(a) async\nfor (i = 0; i < 1; i++) a[i] = a[i] * 6;\n#pragma acc exit data copyout(a) async\n#pragma acc wait\nprint(a);\n}\n%%\nround 20\n",
         report: b"host 0\n42\ndone\nqueue 0 noval batches 3 operations 5 of 5\nend\n",
-        refused: false,
-    },
-    // reads beside the index
-    Case {
-        options: Options::DEFAULT,
-        input: b"long a[4] = {1,2,3,4};\nlong b[4];\nhost {\n#pragma acc parallel loop copyin(a) copyout(b)\nfor (i = 0; i < 3; i++) b[i] = a[i + 1];\nprint(b);\n#pragma acc parallel loop copyin(a) copyout(b)\nfor (i = 0; i < 4; i++) b[i] = a[i + 1];\n}\n%%\nround 20\n",
-        report: b"host 0\n2 3 4 0\nrefused 7 F9 OutsideRange\nqueue 0 sync batches 1 operations 7 of 7\nend\n",
-        refused: true,
-    },
-    // closing
-    Case {
-        options: Options::DEFAULT,
-        input: b"long a[2];\nhost {\n#pragma acc enter data create(a) async(1)\n#pragma acc update self(a) async(1)\n}\n%%\nhost 0\nclose\nhost 0\nclose\nround 5\n",
-        report: b"host 0\nrefused 4 F1 Closed\npresent 0 a[0:2] s 0 d 1\nqueue 0 1 batches 1 operations 1 of 1\nend\n",
-        refused: true,
-    },
-    // closing a full queue
-    Case {
-        options: Options {
-            devices: 1,
-            cells: 4_194_304,
-            room: 1,
-        },
-        input: b"long a[2];\nhost {\n#pragma acc enter data create(a) async(1)\n#pragma acc update self(a) async(1)\n}\n%%\nhost 0\nclose\ntake 0 1\nclose\n",
-        report: b"host 0\nunfinished\npresent 0 a[0:2] s 0 d 1\nqueue 0 1 batches 1 operations 0 of 1\nend\n",
         refused: false,
     },
     // async values
@@ -137,44 +291,252 @@ const CASES: &[Case] = &[
         report: b"host 0\ndone\npresent 0 a[0:1] s 0 d 1\nqueue 0 1 batches 1 operations 0 of 1\nqueue 0 2 batches 2 operations 0 of 2\nend\n",
         refused: false,
     },
-    // precedence
+    // a loop counts where its host comes to it, and is seen behind its wait
     Case {
         options: Options::DEFAULT,
-        input: b"long a[2] = {3,-3};\nlong b[2];\nhost {\n#pragma acc parallel loop\nfor (i = 0; i < 2; i++) b[i] = 1 + 2 * -a[i] < 0 == 1 ? 5 : 6;\nprint(b);\n}\n%%\nround 20\n",
-        report: b"host 0\n5 6\ndone\nqueue 0 sync batches 1 operations 9 of 9\nend\n",
+        input: b"long a[2] = {1,2};\nhost {\n#pragma acc parallel loop copy(a) async(1)\nfor (i = 0; i < 2; i++) a[i] = a[i] * 2;\nprint(acc_is_present(a));\nprint(a);\n#pragma acc wait(1)\nprint(a);\n}\nhost { }\n%%\nhost 0 3\nround 20\n",
+        report: b"host 0\n0\n1 2\n2 4\ndone\nhost 1\ndone\nqueue 0 1 batches 1 operations 5 of 5\nend\n",
         refused: false,
     },
-    // a loop in a part
+    // a full queue refuses
     Case {
-        options: Options::DEFAULT,
-        input: b"long a[4] = {1,2,3,4};\nhost {\n#pragma acc data copy(a[1:2])\n{\n#pragma acc parallel loop\nfor (i = 1; i < 3; i++) a[i] = -a[i];\n}\nprint(a);\n}\n%%\nround 20\n",
-        report: b"host 0\n1 -2 -3 4\ndone\nqueue 0 sync batches 3 operations 5 of 5\nend\n",
-        refused: false,
-    },
-    // an implicit item is partly present
-    Case {
-        options: Options::DEFAULT,
-        input: b"long a[4];\nhost {\n#pragma acc enter data create(a[:2])\n#pragma acc exit data copyout(a[2:])\n#pragma acc parallel loop\nfor (i = 0; i < 2; i++) a[i] = 1;\n}\n%%\nround 20\n",
-        report: b"host 0\nrefused 5 F6 PartlyPresent\npresent 0 a[0:2] s 0 d 1\nqueue 0 sync batches 1 operations 1 of 1\nend\n",
+        options: Options {
+            room: 1,
+            ..Options::DEFAULT
+        },
+        input: b"long a[2];\nhost {\n#pragma acc enter data create(a) async(1)\n#pragma acc update device(a) async(1)\n}\nhost {\n#pragma acc update device(a) async(1)\n}\n%%\nhost 0\nhost 1\ntake 0 1\nhost 0\nround 5\n",
+        report: b"host 0\ndone\nhost 1\nrefused 7 F12 QueueFull\npresent 0 a[0:2] s 0 d 1\nqueue 0 1 batches 2 operations 2 of 2\nend\n",
         refused: true,
-    },
-    // constructs inside one another
-    Case {
-        options: Options::DEFAULT,
-        input: b"long a[2] = {1,2};\nhost {\n#pragma acc data copy(a)\n{\n#pragma acc data copyout(a[0:1])\n{\n}\na[0] = 5;\n}\nprint(a);\n}\n%%\nround 20\n",
-        report: b"host 0\n1 2\ndone\nqueue 0 sync batches 2 operations 4 of 4\nend\n",
-        refused: false,
     },
     // two hosts at a full queue
     Case {
         options: Options {
-            devices: 1,
-            cells: 4_194_304,
             room: 1,
+            ..Options::DEFAULT
         },
         input: b"long a[1];\nhost {\n#pragma acc enter data create(a) async(1)\n}\nhost {\n#pragma acc update device(a) async(1)\n}\nhost {\n#pragma acc enter data copyin(a) async(1)\n#pragma acc update device(a) async(1)\n}\n%%\nhost 0\nhost 1\nhost 2 2\nround 5\n",
         report: b"host 0\ndone\nhost 1\nrefused 6 F12 QueueFull\nhost 2\nrefused 10 F12 QueueFull\npresent 0 a[0:1] s 0 d 2\nqueue 0 1 batches 1 operations 1 of 1\nend\n",
         refused: true,
+    },
+    // questions are answered at once, of each device apart
+    Case {
+        options: Options {
+            devices: 2,
+            ..Options::DEFAULT
+        },
+        input: b"long a[2] = {5,6};\nhost {\n#pragma acc enter data create(a) async(1)\nprint(acc_async_test(1));\nprint(acc_async_test(2));\n#pragma acc wait(1)\nprint(acc_async_test_all());\nprint(acc_is_present(a));\nacc_set_device_num(1);\nprint(acc_get_device_num());\nprint(acc_get_num_devices());\nprint(acc_is_present(a));\nacc_set_device_num(2);\n}\nhost { }\n%%\nhost 0 4\nround 20\n",
+        report: b"host 0\n0\n1\n1\n1\n1\n2\n0\nrefused 13 F2 BadDevice\nhost 1\ndone\npresent 0 a[0:2] s 0 d 1\nqueue 0 1 batches 1 operations 1 of 1\nend\n",
+        refused: true,
+    },
+    // a test tells the moment of its second step
+    Case {
+        options: Options::DEFAULT,
+        input: b"long a[2] = {5,6};\nhost {\n#pragma acc enter data create(a) async(1)\nprint(acc_async_test(1));\n}\n%%\nhost 0 2\ntake 0 1\ndo 0 1\nhost 0\n",
+        report: b"host 0\n1\ndone\npresent 0 a[0:2] s 0 d 1\nqueue 0 1 batches 1 operations 1 of 1\nend\n",
+        refused: false,
+    },
+    // statements of a host's own end at once
+    Case {
+        options: Options::DEFAULT,
+        input: b"host {\nacc_set_device_num(0);\nacc_set_default_async(4);\nacc_set_default_async(-1);\nacc_set_default_async(-2);\nprint(acc_get_device_num());\nprint(acc_get_num_devices());\nacc_set_device_num(1);\nprint(acc_get_device_num());\n}\n%%\nhost 0 7\n",
+        report: b"host 0\n0\n1\nrefused 8 F2 BadDevice\nend\n",
+        refused: true,
+    },
+    // a default that is no async value
+    Case {
+        options: Options::DEFAULT,
+        input: b"host {\nacc_set_default_async(9223372036854775807);\nacc_set_default_async(-3);\n}\n%%\nhost 0 2\n",
+        report: b"host 0\nrefused 3 F3 BadAsync\nend\n",
+        refused: true,
+    },
+    // one of eight hosts is refused, and the others go on
+    Case {
+        options: Options::DEFAULT,
+        input: b"long a[8] = {1,2,3,4,5,6,7,8};\nhost {\n#pragma acc enter data create(a[0:1]) async(0)\n#pragma acc wait\nprint(a[0:1]);\n}\nhost {\n#pragma acc enter data create(a[1:1]) async(1)\n#pragma acc wait\nprint(a[1:1]);\n}\nhost {\n#pragma acc enter data create(a[2:1]) async(2)\n#pragma acc wait\nprint(a[2:1]);\n}\nhost {\n#pragma acc enter data create(a[3:1]) async(-5)\n#pragma acc wait\nprint(a[3:1]);\n}\nhost {\n#pragma acc enter data create(a[4:1]) async(3)\n#pragma acc wait\nprint(a[4:1]);\n}\nhost {\n#pragma acc enter data create(a[5:1]) async(4)\n#pragma acc wait\nprint(a[5:1]);\n}\nhost {\n#pragma acc enter data create(a[6:1]) async(5)\n#pragma acc wait\nprint(a[6:1]);\n}\nhost {\n#pragma acc enter data create(a[7:1]) async(6)\n#pragma acc wait\nprint(a[7:1]);\n}\n%%\nround 20\n",
+        report: b"host 0\n1\ndone\nhost 1\n2\ndone\nhost 2\n3\ndone\nhost 3\nrefused 18 F3 BadAsync\nhost 4\n5\ndone\nhost 5\n6\ndone\nhost 6\n7\ndone\nhost 7\n8\ndone\npresent 0 a[0:1] s 0 d 1\npresent 0 a[1:1] s 0 d 1\npresent 0 a[2:1] s 0 d 1\npresent 0 a[4:1] s 0 d 1\npresent 0 a[5:1] s 0 d 1\npresent 0 a[6:1] s 0 d 1\npresent 0 a[7:1] s 0 d 1\nqueue 0 0 batches 2 operations 2 of 2\nqueue 0 1 batches 1 operations 1 of 1\nqueue 0 2 batches 1 operations 1 of 1\nqueue 0 3 batches 1 operations 1 of 1\nqueue 0 4 batches 1 operations 1 of 1\nqueue 0 5 batches 1 operations 1 of 1\nend\n",
+        refused: true,
+    },
+    // devices are apart
+    Case {
+        options: Options {
+            devices: 2,
+            ..Options::DEFAULT
+        },
+        input: b"long a[2] = {5,6};\nhost {\n#pragma acc enter data create(a) async(1)\nacc_set_device_num(1);\n#pragma acc enter data copyin(a) async(1)\n#pragma acc parallel loop present(a) async(1)\nfor (i = 0; i < 2; i++) a[i] = a[i] + 1;\n#pragma acc exit data copyout(a) async(1)\n#pragma acc wait(1)\nprint(a);\n}\n%%\nround 20\n",
+        report: b"host 0\n6 7\ndone\npresent 0 a[0:2] s 0 d 1\nqueue 0 1 batches 1 operations 1 of 1\nqueue 1 1 batches 3 operations 5 of 5\nend\n",
+        refused: false,
+    },
+    // a range is present on two full devices, with other values
+    Case {
+        options: Options {
+            devices: 2,
+            cells: 4,
+            ..Options::DEFAULT
+        },
+        input: b"long a[4] = {1,2,3,4};\nhost {\n#pragma acc enter data copyin(a)\nacc_set_device_num(1);\na[0] = 9;\n#pragma acc enter data copyin(a)\na[0] = 5;\n#pragma acc exit data copyout(a)\nprint(a);\nacc_set_device_num(0);\n#pragma acc exit data copyout(a)\nprint(a);\n}\n%%\nround 30\n",
+        report: b"host 0\n9 2 3 4\n1 2 3 4\ndone\nqueue 0 sync batches 2 operations 4 of 4\nqueue 1 sync batches 2 operations 4 of 4\nend\n",
+        refused: false,
+    },
+    // closing
+    Case {
+        options: Options::DEFAULT,
+        input: b"long a[2];\nhost {\n#pragma acc enter data create(a) async(1)\n#pragma acc update self(a) async(1)\n}\n%%\nhost 0\nclose\nhost 0\nclose\nround 5\n",
+        report: b"host 0\nrefused 4 F1 Closed\npresent 0 a[0:2] s 0 d 1\nqueue 0 1 batches 1 operations 1 of 1\nend\n",
+        refused: true,
+    },
+    // closing a full queue
+    Case {
+        options: Options {
+            room: 1,
+            ..Options::DEFAULT
+        },
+        input: b"long a[2];\nhost {\n#pragma acc enter data create(a) async(1)\n#pragma acc update self(a) async(1)\n}\n%%\nhost 0\nclose\ntake 0 1\nclose\n",
+        report: b"host 0\nunfinished\npresent 0 a[0:2] s 0 d 1\nqueue 0 1 batches 1 operations 0 of 1\nend\n",
+        refused: false,
+    },
+    // what was placed before a full queue is closed is performed, and nothing behind it
+    Case {
+        options: Options {
+            room: 1,
+            ..Options::DEFAULT
+        },
+        input: b"long a[2];\nhost {\n#pragma acc enter data create(a) async(1)\n#pragma acc update self(a) async(1)\n}\n%%\nhost 0\nclose\nhost 0\ntake 0 1\nclose\nround 5\n",
+        report: b"host 0\nrefused 4 F1 Closed\npresent 0 a[0:2] s 0 d 1\nqueue 0 1 batches 1 operations 1 of 1\nend\n",
+        refused: true,
+    },
+    // a wait that has begun and a host's own statements go on behind closing
+    Case {
+        options: Options::DEFAULT,
+        input: b"long a[2] = {5,6};\nhost {\n#pragma acc enter data create(a) async(1)\n#pragma acc wait(1)\na[0] = 7;\nacc_set_default_async(3);\nprint(a);\nprint(acc_is_present(a));\nprint(a);\n}\n%%\nhost 0 2\nclose\nhost 0\nround 20\n",
+        report: b"host 0\n7 6\nrefused 8 F1 Closed\npresent 0 a[0:2] s 0 d 1\nqueue 0 1 batches 1 operations 1 of 1\nend\n",
+        refused: true,
+    },
+    // a wait means what was placed up to its own step
+    Case {
+        options: Options::DEFAULT,
+        input: b"long a[1];\nhost {\n#pragma acc enter data create(a) async(1)\n#pragma acc wait(1)\nprint(acc_async_test(1));\n}\nhost {\n#pragma acc update self(a) async(1)\n}\n%%\nhost 0 2\nhost 1\ntake 0 1\ndo 0 1\nhost 0 3\n",
+        report: b"host 0\n0\ndone\nhost 1\ndone\npresent 0 a[0:1] s 0 d 1\nqueue 0 1 batches 2 operations 1 of 2\nend\n",
+        refused: false,
+    },
+    // a question asks for what was placed at its first step
+    Case {
+        options: Options::DEFAULT,
+        input: b"long a[1];\nhost {\n#pragma acc enter data create(a) async(1)\nprint(acc_async_test(1));\n}\nhost {\n#pragma acc update self(a) async(1)\n}\n%%\nhost 0 2\nhost 1\ntake 0 1\ndo 0 1\nhost 0\n",
+        report: b"host 0\n1\ndone\nhost 1\ndone\npresent 0 a[0:1] s 0 d 1\nqueue 0 1 batches 2 operations 1 of 2\nend\n",
+        refused: false,
+    },
+    // a synchronous directive awaits its own batch alone
+    Case {
+        options: Options::DEFAULT,
+        input: b"long a[1];\nlong b[1];\nhost {\n#pragma acc enter data create(a)\nprint(a);\n}\nhost {\n#pragma acc enter data create(b)\nprint(b);\n}\n%%\nhost 0\nhost 1\ntake 0 sync\ndo 0 sync\nhost 1\nhost 0 2\n",
+        report: b"host 0\n0\ndone\nhost 1\nunfinished\npresent 0 a[0:1] s 0 d 1\npresent 0 b[0:1] s 0 d 1\nqueue 0 sync batches 2 operations 1 of 2\nend\n",
+        refused: false,
+    },
+    // a construct's end that finds no room takes back its counter, and leaves the construct counted
+    Case {
+        options: Options {
+            room: 1,
+            ..Options::DEFAULT
+        },
+        input: b"long a[1];\nlong b[1];\nhost {\n#pragma acc data create(a)\n{\n}\n}\nhost {\n#pragma acc enter data create(b)\n}\n%%\nhost 0\ntake 0 sync\ndo 0 sync\nhost 0\nhost 1\nhost 0\nround 5\n",
+        report: b"host 0\nrefused 6 F12 QueueFull\nhost 1\ndone\npresent 0 a[0:1] s 1 d 0\npresent 0 b[0:1] s 0 d 1\nqueue 0 sync batches 2 operations 2 of 2\nend\n",
+        refused: true,
+    },
+    // where a queue is full, other faults are told first; an empty batch, a question and a wait need no room
+    Case {
+        options: Options {
+            room: 1,
+            ..Options::DEFAULT
+        },
+        input: b"long a[2];\nlong b[2];\nhost {\n#pragma acc enter data create(a) async(1)\n#pragma acc enter data copyin(a) async(1)\n#pragma acc update self(b) if_present async(1)\nprint(acc_async_test(1));\n#pragma acc wait(1)\n}\nhost {\n#pragma acc update self(a,b) async(1)\n}\nhost {\n#pragma acc parallel loop present(a) async(1)\nfor (i = 0; i < 3; i++) a[i] = 1;\n}\nhost {\n#pragma acc update self(a) async(1)\n}\n%%\nhost 0 6\nhost 1\nhost 2\nhost 3\n",
+        report: b"host 0\n0\nunfinished\nhost 1\nrefused 11 F7 NotPresent\nhost 2\nrefused 14 F9 OutsideRange\nhost 3\nrefused 18 F12 QueueFull\npresent 0 a[0:2] s 0 d 2\nqueue 0 1 batches 1 operations 0 of 1\nend\n",
+        refused: true,
+    },
+    // a wait with async needs room where it awaits something
+    Case {
+        options: Options {
+            room: 1,
+            ..Options::DEFAULT
+        },
+        input: b"long a[1];\nhost {\n#pragma acc enter data create(a) async(1)\n#pragma acc wait(1) async(2)\n#pragma acc wait(3) async(2)\n#pragma acc wait(1) async(2)\n}\n%%\nhost 0 4\n",
+        report: b"host 0\nrefused 6 F12 QueueFull\npresent 0 a[0:1] s 0 d 1\nqueue 0 1 batches 1 operations 0 of 1\nqueue 0 2 batches 1 operations 0 of 1\nend\n",
+        refused: true,
+    },
+    // a default of acc_async_sync makes async without a value synchronous
+    Case {
+        options: Options::DEFAULT,
+        input: b"long a[1];\nhost {\nacc_set_default_async(acc_async_sync);\n#pragma acc enter data create(a) async\nprint(acc_async_test(acc_async_noval));\n#pragma acc wait(1) async\n}\n%%\nhost 0 3\n",
+        report: b"host 0\nunfinished\npresent 0 a[0:1] s 0 d 1\nqueue 0 sync batches 1 operations 0 of 1\nend\n",
+        refused: false,
+    },
+    // the same, with its batch performed
+    Case {
+        options: Options::DEFAULT,
+        input: b"long a[1];\nhost {\nacc_set_default_async(acc_async_sync);\n#pragma acc enter data create(a) async\nprint(acc_async_test(acc_async_noval));\n#pragma acc wait(1) async\n}\n%%\nhost 0 3\ntake 0 sync\ndo 0 sync\nhost 0 4\n",
+        report: b"host 0\n1\ndone\npresent 0 a[0:1] s 0 d 1\nqueue 0 sync batches 1 operations 1 of 1\nend\n",
+        refused: false,
+    },
+    // a wait with async(acc_async_sync) holds its host
+    Case {
+        options: Options::DEFAULT,
+        input: b"long a[1];\nhost {\n#pragma acc enter data create(a) async(1)\n#pragma acc wait(1) async(acc_async_sync)\nprint(a);\n}\n%%\nhost 0 4\n",
+        report: b"host 0\nunfinished\npresent 0 a[0:1] s 0 d 1\nqueue 0 1 batches 1 operations 0 of 1\nend\n",
+        refused: false,
+    },
+    // a construct's end awaits its own device, whichever is current
+    Case {
+        options: Options {
+            devices: 2,
+            ..Options::DEFAULT
+        },
+        input: b"long a[1];\nlong b[1];\nhost {\n#pragma acc data create(a)\n{\nacc_set_device_num(1);\n}\nprint(b);\n}\n%%\nhost 0\ntake 0 sync\ndo 0 sync\nhost 0 3\ntake 1 sync\ndo 1 sync\nhost 0 2\n",
+        report: b"host 0\nunfinished\nqueue 0 sync batches 2 operations 1 of 2\nend\n",
+        refused: false,
+    },
+    // a loop skips a construct of another device, and finds one of its own around that
+    Case {
+        options: Options {
+            devices: 2,
+            ..Options::DEFAULT
+        },
+        input: b"long a[4] = {1,2,3,4};\nhost {\n#pragma acc data copy(a[0:2])\n{\nacc_set_device_num(1);\n#pragma acc data copy(a[1:3])\n{\nacc_set_device_num(0);\n#pragma acc parallel loop\nfor (i = 0; i < 2; i++) a[i] = a[i] * 10;\nacc_set_device_num(1);\n#pragma acc parallel loop\nfor (i = 1; i < 4; i++) a[i] = a[i] * 100;\nacc_set_device_num(0);\n}\n}\nprint(a);\n}\n%%\nround 40\n",
+        report: b"host 0\n10 20 300 400\ndone\nqueue 0 sync batches 3 operations 5 of 5\nqueue 1 sync batches 3 operations 5 of 5\nend\n",
+        refused: false,
+    },
+    // two exits of one range in one directive: the one that ends it decides what is copied out
+    Case {
+        options: Options::DEFAULT,
+        input: b"long a[2] = {1,2};\nhost {\n#pragma acc enter data copyin(a)\na[0] = 5;\n#pragma acc exit data delete(a) copyout(a)\nprint(a);\n#pragma acc enter data copyin(a, a)\na[0] = 6;\n#pragma acc exit data delete(a) copyout(a)\nprint(a);\n}\n%%\nround 20\n",
+        report: b"host 0\n5 2\n5 2\ndone\nqueue 0 sync batches 4 operations 7 of 7\nend\n",
+        refused: false,
+    },
+    // two neighbours hold a range together, which is partly present
+    Case {
+        options: Options::DEFAULT,
+        input: b"long a[4];\nhost {\n#pragma acc enter data create(a[0:2], a[2:2])\nprint(acc_is_present(a));\n#pragma acc update self(a) if_present\n}\n%%\nround 9\n",
+        report: b"host 0\n0\nrefused 5 F6 PartlyPresent\npresent 0 a[0:2] s 0 d 1\npresent 0 a[2:2] s 0 d 1\nqueue 0 sync batches 1 operations 2 of 2\nend\n",
+        refused: true,
+    },
+    // sixty-four queues are read, and refused where the wait runs
+    Case {
+        options: Options::DEFAULT,
+        input: b"host {\n#pragma acc wait(1,1,1,1,1,1,1,1,1,1,1,1,1,1,1,1,1,1,1,1,1,1,1,1,1,1,1,1,1,1,1,1,1,1,1,1,1,1,1,1,1,1,1,1,1,1,1,1,1,1,1,1,1,1,1,1,1,1,1,1,1,1,1,1)\n}\n%%\nhost 0\n",
+        report: b"host 0\nrefused 2 F5 TooMany\nend\n",
+        refused: true,
+    },
+    // comments of stars and slashes
+    Case {
+        options: Options::DEFAULT,
+        input: b"/*/ long b[1]; /**/ long a[1];\nhost { print(a); /***/ }\n%%\nround 1\n",
+        report: b"host 0\n0\ndone\nend\n",
+        refused: false,
+    },
+    // carriage returns separate tokens
+    Case {
+        options: Options::DEFAULT,
+        input: b"long a[1];\r\nhost {\r\n#pragma acc enter data create(a)\r\nprint(a);\r\n}\r\n%%\nround 4\n",
+        report: b"host 0\n0\ndone\npresent 0 a[0:1] s 0 d 1\nqueue 0 sync batches 1 operations 1 of 1\nend\n",
+        refused: false,
     },
 ];
 
@@ -242,6 +604,41 @@ const FAULTY: &[Faulty] = &[
         in_schedule: true,
         line: 1,
         kind: ReadKind::Form,
+    },
+    // a comment that is opened and not closed
+    Faulty {
+        input: b"/*/",
+        in_schedule: false,
+        line: 1,
+        kind: ReadKind::End,
+    },
+    // a slash behind which the text ends
+    Faulty {
+        input: b"long a[1];\n/",
+        in_schedule: false,
+        line: 2,
+        kind: ReadKind::Text,
+    },
+    // a reserved name of more than thirty-two bytes
+    Faulty {
+        input: b"long\nacc_bbbbbbbbbbbbbbbbbbbbbbbbbbbbbbbbb[1];",
+        in_schedule: false,
+        line: 2,
+        kind: ReadKind::Form,
+    },
+    // a line in a comment that parts the text
+    Faulty {
+        input: b"long a[1]; /*\n%%\n*/ host { }",
+        in_schedule: false,
+        line: 2,
+        kind: ReadKind::End,
+    },
+    // a number above the largest, behind a bare array
+    Faulty {
+        input: b"long a[2];\nlong b[2];\nhost {\n#pragma acc parallel loop\nfor (i = 0; i < 2; i++) b[i] = a\n9223372036854775808;\n}\n",
+        in_schedule: false,
+        line: 5,
+        kind: ReadKind::Name,
     },
 ];
 

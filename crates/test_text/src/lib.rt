@@ -8,4 +8,6 @@ mod limits;
 #[cfg(test)]
 mod replay;
 #[cfg(test)]
+mod runs;
+#[cfg(test)]
 mod streams;

@@ -1,4 +1,4 @@
-//! Inputs with as many arrays, ranges, cells, events and bytes as there may be, and with one more:
+//! Inputs with as many arrays, ranges, data constructs, cells, events and bytes as there may be, and with one more:
 //! contracts have these numbers by name.
 
 use crate::replay::replayed;
@@ -41,6 +41,20 @@ fn ranges(alloc: Global, count: u32) -> Result<Vec<u8>, AllocError> {
         input.extend_from_slice(b",a")?;
     }
     input.extend_from_slice(b")\n}\n%%\nround 20\n")?;
+    Ok(input)
+}
+
+// So many data constructs inside one another, and enough rounds for 32.
+fn constructs(alloc: Global, count: u32) -> Result<Vec<u8>, AllocError> {
+    let mut input = Vec::new(alloc);
+    input.extend_from_slice(b"long a[4] = {1,2,3,4};\nhost {\n")?;
+    for _ in 0..count {
+        input.extend_from_slice(b"#pragma acc data copyout(a)\n{\n")?;
+    }
+    for _ in 0..count {
+        input.extend_from_slice(b"}\n")?;
+    }
+    input.extend_from_slice(b"print(a);\n}\n%%\nround 80\n")?;
     Ok(input)
 }
 
@@ -94,6 +108,103 @@ fn limits_of_scripts(rt: HostRuntime) -> Result<(), Fail> {
             )?,
             REFUSED,
             b"host 0\nrefused 3 F4 BadRange\nend\n",
+        ),
+    ];
+    check(&rt, alloc, &cases);
+    Ok(())
+}
+
+/// What stands behind sixty-four of a list's parts, in the line below, and the kind of its fault.
+type Behind = (&'static [u8], ReadKind);
+
+/// Behind queues: one more is too many only where one can begin so.
+const BEHIND_QUEUES: [Behind; 7] = [
+    (b"1", ReadKind::Limit),
+    (b"-", ReadKind::Limit),
+    (b"acc_async_sync", ReadKind::Limit),
+    (b")", ReadKind::Form),
+    (b"01", ReadKind::Form),
+    (b"x", ReadKind::Form),
+    (b"$", ReadKind::Text),
+];
+
+/// Behind ranges: one more is too many only where it names an array.
+const BEHIND_RANGES: [Behind; 3] = [
+    (b"a", ReadKind::Limit),
+    (b"b", ReadKind::Name),
+    (b"host", ReadKind::Form),
+];
+
+// A directive in the third line, with sixty-four parts, and what stands behind them.
+fn crowded(
+    alloc: Global,
+    directive: &[u8],
+    part: &[u8],
+    tail: &[u8],
+) -> Result<Vec<u8>, AllocError> {
+    let mut input = Vec::from_slice(alloc, b"long a[1];\nhost {\n")?;
+    input.extend_from_slice(directive)?;
+    for _ in 0..64u32 {
+        input.extend_from_slice(part)?;
+    }
+    input.extend_from_slice(b"/*\n*/")?;
+    input.extend_from_slice(tail)?;
+    Ok(input)
+}
+
+fn check_crowded(
+    rt: &impl Abort,
+    alloc: Global,
+    directive: &[u8],
+    part: &[u8],
+    tails: &[Behind],
+) -> Result<(), AllocError> {
+    for (tail, kind) in tails {
+        let input = crowded(alloc, directive, part, tail)?;
+        let (answer, written) = replayed(alloc, &mut input.as_slice());
+        let fault = ReadFault {
+            line: 4,
+            kind: *kind,
+        };
+        assert_eq!(rt; answer, Err(DriverFault::Script(fault)));
+        assert!(rt; written.is_empty());
+    }
+    Ok(())
+}
+
+/// A queue of a list, or a range of a directive, is judged behind sixty-four at its first token.
+#[test]
+fn one_more_than_sixty_four(rt: HostRuntime) -> Result<(), Fail> {
+    let alloc = rt.alloc();
+    check_crowded(&rt, alloc, b"#pragma acc wait(", b"1,", &BEHIND_QUEUES)?;
+    check_crowded(
+        &rt,
+        alloc,
+        b"#pragma acc enter data create(",
+        b"a,",
+        &BEHIND_RANGES,
+    )?;
+    Ok(())
+}
+
+/// Data constructs inside one another: the first makes the range, and the end of the first copies it out.
+#[test]
+fn limits_of_constructs(rt: HostRuntime) -> Result<(), Fail> {
+    let alloc = rt.alloc();
+    let refused: &'static [u8] =
+        b"host 0\nrefused 67 F5 TooMany\npresent 0 a[0:4] s 32 d 0\nqueue 0 sync batches 1 operations 1 of 1\nend\n";
+    let cases: [Told; 4] = [
+        (
+            constructs(alloc, 32)?,
+            ENDED,
+            b"host 0\n0 0 0 0\ndone\nqueue 0 sync batches 2 operations 3 of 3\nend\n",
+        ),
+        (constructs(alloc, 33)?, REFUSED, refused),
+        (constructs(alloc, 64)?, REFUSED, refused),
+        (
+            constructs(alloc, 65)?,
+            Err(DriverFault::Script(limit(131))),
+            b"",
         ),
     ];
     check(&rt, alloc, &cases);

@@ -34,45 +34,13 @@ pub enum Operation {
     Close,
 }
 
-pub fn make(block: u64, range: Range) -> Operation {
-    Operation::Make {
-        block: BlockId::new(block),
-        range,
-    }
-}
-
-pub fn copy_in(block: u64, range: Range) -> Operation {
-    Operation::CopyIn {
-        block: BlockId::new(block),
-        range,
-    }
-}
-
-pub fn copy_out(block: u64, range: Range) -> Operation {
-    Operation::CopyOut {
-        block: BlockId::new(block),
-        range,
-    }
-}
-
-pub fn release(block: u64) -> Operation {
-    Operation::Release {
-        block: BlockId::new(block),
-    }
-}
-
-/// A loop that uses these ranges.
-pub fn run(uses: &[(BlockId, Range)]) -> Operation {
+// A loop that uses these ranges.
+fn run(uses: &[(BlockId, Range)]) -> Operation {
     Operation::Run {
         count: uses.len(),
         first: uses.first().copied(),
         second: uses.get(1).copied(),
     }
-}
-
-/// A range that a loop uses, and its block.
-pub fn used(block: u64, range: Range) -> (BlockId, Range) {
-    (BlockId::new(block), range)
 }
 
 /// What a table says of it.

@@ -10,8 +10,6 @@ use std::alloc::Global;
 /// What a loop assigns at each index, where a, b and c are the arrays 0, 1 and 2.
 #[derive(Clone, Copy, Debug)]
 pub enum Body {
-    /// `a[i] = 1`
-    Ones,
     /// `a[i] = i + 7`
     Indices,
     /// `a[i] = a[i] + 1`
@@ -24,8 +22,6 @@ pub enum Body {
     Sevens,
     /// `b[i] = a[i]`
     Copied,
-    /// `b[i] = a[i] + 1`
-    CountedAcross,
     /// `b[i] = a[i + 1]`
     Next,
     /// `a[i] = b[i + 1]`
@@ -38,8 +34,6 @@ pub enum Body {
     Chosen,
     /// `a[i] = c[i]`
     Third,
-    /// `b[i] = a[i] * 10; a[i] = b[i] + i;`
-    Two,
     /// `a[i] = a[i] + 1; b[i] = 2 * a[i]; a[i] = b[i] - 5;`
     Three,
 }
@@ -70,24 +64,18 @@ const CHOSEN: [Part; 13] = [
 
 fn rows_of(body: Body) -> &'static [Row] {
     match body {
-        Body::Ones => &[(0, &[Number(1)])],
         Body::Indices => &[(0, &[Index, Number(7), PLUS])],
         Body::Counted => &[(0, &[Read(0, 0), Number(1), PLUS])],
         Body::Doubled => &[(0, &[Read(0, 0), Number(2), TIMES])],
         Body::Negated => &[(0, &[Read(0, 0), Negate])],
         Body::Sevens => &[(0, &[Number(0), Read(0, 0), Number(7), Choose])],
         Body::Copied => &[(1, &[Read(0, 0)])],
-        Body::CountedAcross => &[(1, &[Read(0, 0), Number(1), PLUS])],
         Body::Next => &[(1, &[Read(0, 1)])],
         Body::NextBack => &[(0, &[Read(1, 1)])],
         Body::Before => &[(1, &[Read(0, -1)])],
         Body::Either => &[(1, &[Number(1), Read(0, 0), Read(0, 1), Choose])],
         Body::Chosen => &[(1, &CHOSEN)],
         Body::Third => &[(0, &[Read(2, 0)])],
-        Body::Two => &[
-            (1, &[Read(0, 0), Number(10), TIMES]),
-            (0, &[Read(1, 0), Index, PLUS]),
-        ],
         Body::Three => &[
             (0, &[Read(0, 0), Number(1), PLUS]),
             (1, &[Number(2), Read(0, 0), TIMES]),

@@ -1,23 +1,11 @@
-use Rattle.std.proofs.Common.{◌*◌, reverse, sym, ap, ◌∙◌, arith}
-use Rattle.std.proofs.lemmas.List.{length-reverse, length-set, reverse-append}
+use Rattle.std.proofs.Common.{◌*◌, reverse, sym, ap, ◌∙◌}
+use Rattle.std.proofs.lemmas.List.{length-set, reverse-append}
 use Rattle.acc_work.specs.contracts.work.Work.{the_view}
 use Rattle.acc_base.specs.declared.ids.TheConstants.{QUEUES}
 use Rattle.acc_work.specs.Lanes.{lane_with_left}
 use Rattle.acc_work.proofs.Lanes.{found}
-use Rattle.acc_work.proofs.LaneChanges.{goes_room, order_performed, performed-le-length}
+use Rattle.acc_work.proofs.LaneChanges.{order_performed}
 use Rattle.acc_work.proofs.work.Work.perform.Goals as goal
-
-pub next-requires : goal.next-requires
-next-requires c =
-    let w = the_view c.self.inside in
-    let at = c.args.at in
-    let log = c.self.inside.log in
-    let goes = rw (← c.self.view_is) at (sym c.goes_on.ensures.goes ∙ c.if-not-goes_on.false) in
-    let may = rw (← c.self.view_is) at c.requires in
-    let room = goes_room w at _ goes may in
-    let there = rw (← c.self.view_is) at (c.goes_on.ensures.there c.if-not-goes_on.false) in
-    let lane = found w.lanes at c.index_mut.result.now there.1.1 there.0 (rw c.seat-seat.ensures at c.index_mut.ensures.value) in
-    omega (arith, room, ap (λ l. l.performed) lane, (c.self.invariant.order at).counted, performed-le-length at w.work, length-reverse log.items, log.ok.0)
 
 pub invariant_of-self-in-Some : goal.invariant_of-self-in-Some
 invariant_of-self-in-Some c =

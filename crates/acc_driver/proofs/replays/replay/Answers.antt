@@ -1,0 +1,20 @@
+use Rattle.std.proofs.Common.{rules}
+use Rattle.acc_script.specs.Scripts.{program_of}
+use Rattle.acc_driver.specs.Replays.{of_input}
+use Rattle.acc_driver.proofs.ReplayAnswers.{schedule_answered, whole_script, whole_texts}
+use Rattle.acc_driver.proofs.replays.replay.Goals as goal
+
+pub returns-in-Err-read_script-clause-answers : goal.returns-in-Err-read_script-clause-answers
+returns-in-Err-read_script-clause-answers g c =
+    rw c.of_input.ensures
+    (whole_script (g.R.Read.remaining c.args.script.now) (g.S.Read.remaining c.args.schedule.now) c.in-Ok.text.items c.args.options _ _ c.in-Err-read_script.fault
+    c.in-Ok.ensures.bytes (rw c.as_slice.ensures.value at c.in-Err-read_script.ensures.refused) (search rules))
+
+pub returns-clause-answers : goal.returns-clause-answers
+returns-clause-answers g c =
+    let found = rw c.as_slice.ensures.value at c.in-Ok-read_script.ensures.found in
+    let answers = rw c.as_slice-2.ensures.value at c.replay_script.ensures.answers in
+    let both = schedule_answered c.args.options c.in-Ok.text.items c.in-Ok-read_text.schedule.items (program_of c.in-Ok-read_script.script) _ _ (of_input c.replay_script.result) found answers in
+    rw c.of_input-2.ensures
+    (whole_texts (g.R.Read.remaining c.args.script.now) (g.S.Read.remaining c.args.schedule.now) c.in-Ok.text.items c.in-Ok-read_text.schedule.items c.args.options _ _ _
+    c.in-Ok.ensures.bytes c.in-Ok-read_text.ensures.bytes both)

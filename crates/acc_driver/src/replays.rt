@@ -1,0 +1,288 @@
+//! The path from bytes to bytes, with the faults in their order.
+
+ghost use Rattle.std.specs.Prelude.{◌≡◌, ◌≤◌, IfOk, IfErr, IfSome, List, Ok, length};
+ghost use Rattle.acc_base.specs.Configurations.{rows, configuration};
+ghost use Rattle.acc_base.specs.declared.config.TheConstants.{MAX_HOSTS};
+ghost use Rattle.acc_host.specs.Hosts.{AreNumbered};
+ghost use Rattle.acc_core.specs.Worlds.{first_state};
+ghost use Rattle.acc_script.specs.Arrays.{IsDeclared, texts};
+ghost use Rattle.acc_driver.specs.Inputs.{parts};
+ghost use Rattle.acc_core.specs.Machine.{Runs};
+ghost use Rattle.acc_host.specs.declared.state.Reply.{Reply};
+ghost use Rattle.acc_driver.specs.Replays.{Answers, RunAnswers, AreUsable, IsRun, IsWorldFault, driver_fault, of_input, is_refused};
+ghost use Rattle.acc_driver.specs.inner.Scripts.{IsScriptFault, ScheduleAnswers};
+ghost use Rattle.std.specs.List.{list_any};
+ghost use Rattle.acc_base.specs.declared.fault.Fault.TheVariants.{Memory};
+ghost use Rattle.acc_schedule.specs.Schedules.{kept_events};
+ghost use Rattle.acc_script.specs.Scripts.{program_of, script_of};
+
+use crate::fault::{DriverFault, ReplayFault};
+use crate::input::{read_text, split};
+use crate::options::{Ended, Options};
+use acc_base::{Config, Fault};
+use acc_core::World;
+use acc_host::{Event, HostProgram, HostState};
+use acc_report::{ReportFault, report};
+use acc_schedule::{Schedule, ScheduleLine};
+use acc_script::{ReadError, Script, read};
+use std::alloc::Global;
+use std::io::{Read, Write};
+
+/// The most bytes that are read of a script or a schedule: as many as it may have, and one more.
+pub const TEXT_LIMIT: usize = 1_048_577;
+
+/// The most calls of `read` in which it is read.
+pub const TEXT_TURNS: u32 = 2_097_152;
+
+/// The most bytes that are read of a text that holds a script and a schedule: both at their most, the line
+/// between them, and one more.
+pub const INPUT_LIMIT: usize = 2_097_156;
+
+/// The most calls of `read` in which it is read.
+pub const INPUT_TURNS: u32 = 4_194_304;
+
+/// Reads a script and a schedule, each from a reader of its own, runs the schedule, and writes the report. The
+/// schedule is read once the script is understood.
+///
+/// # Errors
+///
+/// The first of: `Input` where the script's reader failed or gave its bytes in too many turns, `Script`, `Input` for the
+/// schedule's reader, `Schedule`, `Runtime` where the options are refused, `Output` where the writer failed or took
+/// nothing, which may have taken a beginning of the report; and `Memory` for want of memory. Nothing is written but for
+/// `Output`.
+pub fn replay<R: Read, S: Read, W: Write>(
+    alloc: Global,
+    script: &mut R,
+    schedule: &mut S,
+    options: Options,
+    writer: &mut W,
+) -> Result<Ended, DriverFault>
+    ensures answers { IfSome (R.remaining script.old) (λ script. IfSome (S.remaining schedule.old) (λ schedule. Answers options (record { script = script; schedule = schedule }) (W.contents writer.old) (W.contents writer.new) result)) }
+    ensures run { AreUsable options → IsRun result }
+{
+    let text = match read_text(alloc, script, TEXT_LIMIT, TEXT_TURNS) {
+        Ok(text) => text,
+        Err(fault) => return Err(fault.of_reader()),
+    };
+    let script = match read_script(alloc, text.as_slice()) {
+        Ok(script) => script,
+        Err(fault) => return Err(fault.of_input()),
+    };
+    let schedule = match read_text(alloc, schedule, TEXT_LIMIT, TEXT_TURNS) {
+        Ok(schedule) => schedule,
+        Err(fault) => return Err(fault.of_reader()),
+    };
+    of_input(replay_script(alloc, script, schedule.as_slice(), options, writer))
+}
+
+/// Reads a script and a schedule from one text, which is split at its first line that is exactly `%%`, runs
+/// the schedule, and writes the report.
+///
+/// # Errors
+///
+/// The first of: `Input` where the reader failed or gave its bytes in too many turns, `Script`, `Schedule`,
+/// `Runtime` where the options are refused, `Output` where the writer failed or took nothing, which may have
+/// taken a beginning of the report; and `Memory` for want of memory. Nothing is written but for `Output`.
+pub fn replay_one<R: Read, W: Write>(
+    alloc: Global,
+    reader: &mut R,
+    options: Options,
+    writer: &mut W,
+) -> Result<Ended, DriverFault>
+    ensures answers { IfSome (R.remaining reader.old) (λ text. Answers options (parts text) (W.contents writer.old) (W.contents writer.new) result) }
+    ensures run { AreUsable options → IsRun result }
+{
+    match read_text(alloc, reader, INPUT_LIMIT, INPUT_TURNS) {
+        Ok(text) => {
+            let (script, schedule) = split(text.as_slice());
+            of_input(replay_texts(alloc, script, schedule, options, writer))
+        }
+        Err(fault) => Err(fault.of_reader()),
+    }
+}
+
+// The same answer, to the input that the texts were read from.
+fn of_input(answer: Result<Ended, ReplayFault>) -> Result<Ended, DriverFault>
+    ensures { result ≡ of_input answer }
+{
+    match answer {
+        Ok(ended) => Ok(ended),
+        Err(fault) => Err(fault.of_input()),
+    }
+}
+
+/// Runs a schedule on a script, and writes the report: the same for the two texts, already read.
+///
+/// # Errors
+///
+/// The first of: `Script`, `Schedule`, `Runtime` where the options are refused, `Output` where the writer failed or took
+/// nothing, which may have taken a beginning of the report; and `Memory` for want of memory. Nothing is written but for
+/// `Output`.
+pub fn replay_texts<W: Write>(
+    alloc: Global,
+    script: &[u8],
+    schedule: &[u8],
+    options: Options,
+    writer: &mut W,
+) -> Result<Ended, ReplayFault>
+    ensures answers { Answers options (record { script = script.now; schedule = schedule.now }) (W.contents writer.old) (W.contents writer.new) (of_input result) }
+    ensures run { AreUsable options → IsRun (of_input result) }
+{
+    match read_script(alloc, script) {
+        Ok(script) => replay_script(alloc, script, schedule, options, writer),
+        Err(fault) => Err(fault),
+    }
+}
+
+// What a script says.
+fn read_script<'a>(alloc: Global, text: &'a [u8]) -> Result<Script<'a>, ReplayFault>
+    ensures found { IfOk result (λ s. script_of text.now ≡ Ok (program_of s)) }
+    ensures declared { IfOk result (λ s. IsDeclared (record { names = texts s.names.keys; cells = rows s.arrays.items })) }
+    ensures numbered { IfOk result (λ s. AreNumbered 0 s.programs.items) }
+    ensures few { IfOk result (λ s. length s.programs.items ≤ MAX_HOSTS) }
+    ensures refused { IfErr result (IsScriptFault text.now) }
+{
+    match read(alloc, text) {
+        Ok(script) => Ok(script),
+        Err(ReadError::Memory) => Err(ReplayFault::Memory),
+        Err(ReadError::Fault(fault)) => Err(ReplayFault::Script(fault)),
+    }
+}
+
+// Runs a schedule on what a script says, and writes the report.
+fn replay_script<W: Write>(
+    alloc: Global,
+    script: Script,
+    schedule: &[u8],
+    options: Options,
+    writer: &mut W,
+) -> Result<Ended, ReplayFault>
+    requires declared { IsDeclared (record { names = texts script.names.keys; cells = rows script.arrays.items }) }
+    requires numbered { AreNumbered 0 script.programs.items }
+    requires few { length script.programs.items ≤ MAX_HOSTS }
+    ensures answers { ScheduleAnswers options (program_of script.entry) schedule.now (W.contents writer.old) (W.contents writer.new) (of_input result) }
+    ensures run { AreUsable options → IsRun (of_input result) }
+{
+    let hosts = hosts_of(&script.programs);
+    match Schedule::read(alloc, schedule, hosts, options.devices) {
+        Ok(schedule) => run(alloc, script, &schedule, options, writer),
+        Err(ReadError::Memory) => Err(ReplayFault::Memory),
+        Err(ReadError::Fault(fault)) => Err(ReplayFault::Schedule(fault)),
+    }
+}
+
+// Runs events on what a script says, and writes the report.
+fn run<W: Write>(
+    alloc: Global,
+    script: Script,
+    schedule: &Schedule,
+    options: Options,
+    writer: &mut W,
+) -> Result<Ended, ReplayFault>
+    requires declared { IsDeclared (record { names = texts script.names.keys; cells = rows script.arrays.items }) }
+    requires numbered { AreNumbered 0 script.programs.items }
+    requires few { length script.programs.items ≤ MAX_HOSTS }
+    ensures answers { RunAnswers options (program_of script.entry) schedule.now (W.contents writer.old) (W.contents writer.new) (of_input result) }
+    ensures run { AreUsable options → IsRun (of_input result) }
+{
+    let Script {
+        names,
+        arrays,
+        programs,
+    } = script;
+    let copies = match copies_of(alloc, programs.as_slice()) {
+        Ok(copies) => copies,
+        Err(_) => return Err(ReplayFault::Memory),
+    };
+    let mut world = match open(alloc, arrays, programs, options) {
+        Ok(world) => world,
+        Err(fault) => return Err(fault),
+    };
+    run_schedule(schedule, &mut world);
+    let outcome = world.outcome();
+    let script = Script {
+        names,
+        arrays: Vec::new(alloc),
+        programs: copies,
+    };
+    match report(alloc, &outcome, &script, writer) {
+        Ok(()) => {
+            let refused = has_refused(outcome.hosts.as_slice());
+            Ok(Ended { refused })
+        }
+        Err(ReportFault::Write) => Err(ReplayFault::Output),
+        Err(ReportFault::Memory) => Err(ReplayFault::Memory),
+    }
+}
+
+// Equal programs.
+fn copies_of(alloc: Global, programs: &[HostProgram]) -> Result<Vec<HostProgram>, Fault>
+    ensures equal { IfOk result (λ copies. copies.items ≡ programs.now) }
+    ensures fault { IfErr result (λ f. f ≡ Memory) }
+{
+    let mut copies = Vec::new(alloc);
+    for program in programs {
+        copies.push(program.try_clone(alloc)?)?;
+    }
+    Ok(copies)
+}
+
+// A world takes a step for each event of a schedule, in order.
+fn run_schedule(schedule: &Schedule, world: &mut World)
+    ensures { (replies : List Reply) × Runs world.old schedule.now replies world.new }
+{
+    let (round, lines) = schedule.lines();
+    for line in lines {
+        run_line(round, line, world);
+    }
+}
+
+// The same for the events of one line.
+fn run_line(round: &[Event], line: &ScheduleLine, world: &mut World)
+    ensures { (replies : List Reply) × Runs world.old (kept_events round.now line.now) replies world.new }
+{
+    let turn = line.turn.events(round);
+    for _ in 0..line.times {
+        world.advance(turn);
+    }
+}
+
+// How many hosts there are.
+fn hosts_of(programs: &Vec<HostProgram>) -> u8
+    requires few { length programs.now.items ≤ MAX_HOSTS }
+    ensures { result ≡ length programs.now.items }
+{
+    programs.len() as u8
+}
+
+// The world of these arrays and programs, before the first event.
+fn open(
+    alloc: Global,
+    arrays: Vec<Vec<i64>>,
+    programs: Vec<HostProgram>,
+    options: Options,
+) -> Result<World, ReplayFault>
+    requires few { length programs.items ≤ MAX_HOSTS }
+    requires numbered { AreNumbered 0 programs.items }
+    ensures opened { IfOk result (λ w. w ≡ first_state (configuration options.devices (length programs.items) (rows arrays.items) options.cells options.room) programs.items) }
+    ensures refused { IfErr result (λ f. IsWorldFault (configuration options.devices (length programs.items) (rows arrays.items) options.cells options.room) (driver_fault f)) }
+{
+    let hosts = programs.len() as u8;
+    let config = match Config::new(options.devices, hosts, arrays, options.cells, options.room) {
+        Ok(config) => config,
+        Err(fault) => return Err(ReplayFault::Runtime(fault)),
+    };
+    match World::new(alloc, config, programs) {
+        Ok(world) => Ok(world),
+        Err(_) => Err(ReplayFault::Memory),
+    }
+}
+
+// Whether a host was refused.
+fn has_refused(hosts: &[HostState]) -> bool
+    ensures { result ≡ list_any is_refused hosts.now }
+{
+    hosts
+        .iter()
+        .any(|host| matches!(host, HostState::Refused { .. }))
+}

@@ -1,0 +1,5 @@
+pub mod Counting
+pub mod Pages
+pub mod Retelling
+pub mod Standing
+pub mod Unread

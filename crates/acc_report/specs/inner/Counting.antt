@@ -1,0 +1,39 @@
+-- How many operations each queue has performed, its close apart. Only private contracts and proofs cite it.
+use Rattle.std.specs.Prelude.{◌≡◌, ℕ, ◌+◌, ◌*◌, ◌<◌, nat_lt, not, ◌&&◌, ◌^◌, Bool, IsTrue, List, Option, Some, None, length, slice_index_or, slice_set, if◌then◌else◌}
+use Rattle.acc_base.specs.declared.ids.QueueAt.{QueueAt}
+use Rattle.acc_base.specs.declared.ids.TheConstants.{QUEUES}
+use Rattle.acc_base.specs.Queues.{seat}
+use Rattle.acc_batch.specs.declared.label.Label.{Label}
+use Rattle.acc_place.specs.Sound.{is_close}
+use Rattle.acc_report.specs.Totals.{plain_ops}
+use Rattle.acc_work.specs.declared.log.WorkEntry.{WorkEntry}
+use Rattle.acc_work.specs.declared.log.WorkEntry.TheVariants as entry
+use Rattle.acc_work.specs.Logs.{performed}
+
+-- how many operations a batch has, but for closes
+abbrev pub plain_count : Option Label → ℕ
+plain_count None = 0
+plain_count (Some l) = length (plain_ops l.ops)
+
+-- a queue that has a count
+abbrev pub has_seat : QueueAt → List ℕ → Bool
+has_seat at counts = nat_lt at.queue QUEUES && nat_lt (seat at) (length counts)
+
+-- one more for a queue, by device, then in queue order
+abbrev pub one_counted : QueueAt → List ℕ → List ℕ
+one_counted at counts = if has_seat at counts then slice_set counts (seat at) (slice_index_or counts (seat at) 0 + 1) else counts
+
+-- the counts behind an entry of the work log
+abbrev pub counted_behind : WorkEntry → List ℕ → List ℕ
+counted_behind (entry.Op at op) counts = if is_close op then counts else one_counted at counts
+counted_behind (entry.Item host what) counts = counts
+
+-- There is room for one more.
+abbrev pub HasCountRoom : WorkEntry → List ℕ → Type 0
+HasCountRoom (entry.Op at op) counts = IsTrue (has_seat at counts) → slice_index_or counts (seat at) 0 + 1 < 2 ^ 64
+HasCountRoom (entry.Item host what) counts = Unit {0}
+
+-- Each queue of so many devices has the count of what it has performed.
+pub record AreCounted (devices : ℕ) (work : List WorkEntry) (counts : List ℕ) : Type 0 where
+  pub all : length counts ≡ devices * QUEUES
+  pub each : (at : QueueAt) → at.device < devices → at.queue < QUEUES → slice_index_or counts (seat at) 0 ≡ length (plain_ops (performed at work))

@@ -1,0 +1,3 @@
+pub mod LineEvents
+pub mod LinesAndWords
+pub mod RepeatedTurns
