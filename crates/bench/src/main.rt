@@ -1,9 +1,11 @@
 //! `bench loop NAME TIMES CELLS` computes a loop so many times over so many cells: `bench/kernel` times it.
+//! `bench queue ROOM TIMES` sends batches to another thread and back, so many times: `bench/queue` times it.
 //! `bench world NAME TURNS TIMES` runs a world so many times, and with one more word its opening alone: `bench/world` times it.
-//! Without words each loop and each world is run once.
+//! Without words each loop and each world is run once, and batches go round.
 #![tactic(auto)]
 
 mod loops;
+mod queue;
 mod script;
 mod tally;
 mod workloads;
@@ -11,6 +13,7 @@ mod workloads;
 use acc_base::Fault;
 use acc_kernel::Job;
 use loops::{CELLS, job_for, parts_of};
+use queue::{ROOM, crossings_of};
 use std::alloc::Global;
 use std::{env, io};
 use tally::{Tally, tally_of};
@@ -79,6 +82,13 @@ fn main(rt: HostRuntime) -> io::Result<()> {
                     Ok(sum) => println!(rt; "{sum}"),
                     Err(fault) => println!(rt; "{fault}"),
                 }
+            } else if kind.as_str() == "queue" {
+                let room = number_of(Some(name), ROOM);
+                let times = number_of(words.next(), 1);
+                match crossings_of(&rt, rt.alloc(), room, times) {
+                    Ok(crossings) => println!(rt; "{crossings}"),
+                    Err(fault) => println!(rt; "{fault}"),
+                }
             } else {
                 let turns = number_of(words.next(), 1);
                 let times = number_of(words.next(), 1);
@@ -102,7 +112,10 @@ fn main(rt: HostRuntime) -> io::Result<()> {
                     Err(failure) => println!(rt; "{name} {failure}")?,
                 }
             }
-            Ok(())
+            match crossings_of(&rt, rt.alloc(), ROOM, 1_000) {
+                Ok(crossings) => println!(rt; "queue {crossings}"),
+                Err(fault) => println!(rt; "{fault}"),
+            }
         }
     }
 }

@@ -1,0 +1,139 @@
+//! The two ends of an activity queue.
+
+ghost use Rattle.std.specs.Prelude.{◌≡◌, ◌<◌, ◌++◌, ◌∷◌, [], IfOk, IfErr, OnOk, IfSome, IfNone};
+ghost use Rattle.acc_base.specs.declared.fault.Fault.TheVariants.{Memory};
+ghost use Rattle.acc_queue.specs.Tied.{WasHeld};
+
+use crate::rule::{End, InOrder, Parts, Popped, Pushed, Room};
+use acc_base::Fault;
+use acc_batch::Batch;
+use crossbeam_queue::{Pass, RuledArrayQueue};
+use std::alloc::Global;
+use std::marker::{Brand, Model};
+use std::sync::{Arc, Wait};
+
+type Line = RuledArrayQueue<Batch, End, InOrder>;
+
+/// An activity queue of a device: where directives place batches, and where a worker takes them.
+pub struct Activity;
+
+/// The end that sends. A contract sees the queue's room, and the labels of the batches that were sent, in order.
+#[derive(Drop)]
+pub struct Sender {
+    queue: Arc<Line, Global>,
+    pass: Pass<Batch, End>,
+}
+
+/// The end that takes. A contract sees the queue's room, and the labels of the batches that were taken, in order.
+#[derive(Drop)]
+pub struct Taker {
+    queue: Arc<Line, Global>,
+    pass: Pass<Batch, End>,
+}
+
+/// The queue held as many batches as it has room for.
+#[derive(Clone, Copy)]
+pub struct Full;
+
+impl Model for Sender {
+    ghost use Rattle.std.specs.Prelude.{◌≡◌};
+    ghost use Rattle.std.specs.Arc.{arc_value};
+    ghost use Rattle.std.specs.Coded.{codes};
+    ghost use Rattle.acc_kernel.specs.contracts.expr.Expr as expr;
+    ghost use Rattle.crossbeam_queue.specs.Passes.{IsPassOf, ruled_capacity};
+    ghost use Rattle.acc_queue.specs.Tied.{Line};
+    ghost use Rattle.acc_queue.specs.declared.rule.Role.TheVariants.{Sends};
+
+    ghost Value = { Line };
+
+    ghost coded = { Prim.hlevel (codes, expr.the_row.coded) };
+
+    ghost view = { λ s. record { room = s.pass.me.0.client.room; labels = s.pass.me.0.client.labels } };
+
+    ghost invariant = { λ s. IsPassOf (arc_value s.queue) s.pass × (s.pass.me.0.client.role ≡ Sends) × (s.pass.me.0.client.room ≡ ruled_capacity (arc_value s.queue)) };
+}
+
+impl Model for Taker {
+    ghost use Rattle.std.specs.Prelude.{◌≡◌};
+    ghost use Rattle.std.specs.Arc.{arc_value};
+    ghost use Rattle.std.specs.Coded.{codes};
+    ghost use Rattle.acc_kernel.specs.contracts.expr.Expr as expr;
+    ghost use Rattle.crossbeam_queue.specs.Passes.{IsPassOf, ruled_capacity};
+    ghost use Rattle.acc_queue.specs.Tied.{Line};
+    ghost use Rattle.acc_queue.specs.declared.rule.Role.TheVariants.{Takes};
+
+    ghost Value = { Line };
+
+    ghost coded = { Prim.hlevel (codes, expr.the_row.coded) };
+
+    ghost view = { λ s. record { room = s.pass.me.0.client.room; labels = s.pass.me.0.client.labels } };
+
+    ghost invariant = { λ s. IsPassOf (arc_value s.queue) s.pass × (s.pass.me.0.client.role ≡ Takes) × (s.pass.me.0.client.room ≡ ruled_capacity (arc_value s.queue)) };
+}
+
+impl Activity {
+    /// A queue with room for so many batches, of which it has none: its two ends.
+    ///
+    /// # Errors
+    ///
+    /// `Memory` where memory is refused.
+    pub fn new(alloc: Global, room: u32) -> Result<(Sender, Taker), Fault>
+        requires { 0 < room }
+        ensures room { IfOk result (λ r. (r.0.room ≡ room) × (r.1.room ≡ room)) }
+        ensures empty { IfOk result (λ r. (r.0.labels ≡ []) × (r.1.labels ≡ [])) }
+        ensures fault { IfErr result (λ f. f ≡ Memory) }
+    {
+        opened::<Brand>(alloc, room)
+    }
+}
+
+// The two ends of a queue with this room.
+fn opened<B: Room>(alloc: Global, room: u32) -> Result<(Sender, Taker), Fault>
+    requires room { 0 < room }
+    requires given { room ≡ B.room }
+    ensures room { IfOk result (λ r. (r.0.room ≡ room) × (r.1.room ≡ room)) }
+    ensures empty { IfOk result (λ r. (r.0.labels ≡ []) × (r.1.labels ≡ [])) }
+    ensures fault { IfErr result (λ f. f ≡ Memory) }
+{
+    let (queue, mut pass) = Line::ruled(alloc, room as usize)?;
+    let other = queue.another::<Parts<B>>(&mut pass);
+    let queue = Arc::new(alloc, queue)?;
+    let theirs = Arc::try_clone(&queue)?;
+    let sender = Sender { queue, pass };
+    let taker = Taker {
+        queue: theirs,
+        pass: other,
+    };
+    Ok((sender, taker))
+}
+
+impl Sender {
+    /// Places the batch behind those that the queue holds, with its memory. It takes no memory, and is one step.
+    ///
+    /// # Errors
+    ///
+    /// The batch, whole, and `Full` where the queue held as many as it has room for.
+    pub fn push<R: Wait>(&mut self, rt: &R, batch: Batch) -> Result<(), (Batch, Full)>
+        ensures room { self.new.room ≡ self.old.room }
+        ensures pushed { OnOk result (self.new.labels ≡ self.old.labels ++ batch ∷ []) }
+        ensures refused { IfErr result (λ r. (r.0 ≡ batch) × (self.new ≡ self.old) × WasHeld self.old.room self.old.labels) }
+    {
+        let Sender { queue, pass } = self;
+        match queue.push_as::<Pushed, R>(rt, pass, batch) {
+            Ok(()) => Ok(()),
+            Err(batch) => Err((batch, Full)),
+        }
+    }
+}
+
+impl Taker {
+    /// Takes the first batch that the queue holds, if it holds one. It takes no memory, and is one step.
+    pub fn pop<R: Wait>(&mut self, rt: &R) -> Option<Batch>
+        ensures room { self.new.room ≡ self.old.room }
+        ensures some { IfSome result (λ batch. self.new.labels ≡ self.old.labels ++ batch ∷ []) }
+        ensures none { IfNone result (self.new ≡ self.old) }
+    {
+        let Taker { queue, pass } = self;
+        queue.pop_as::<Popped, R>(rt, pass)
+    }
+}
