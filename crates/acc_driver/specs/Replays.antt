@@ -53,6 +53,15 @@ IsReaderFault (fault.Script f) = ⊥
 IsReaderFault (fault.Schedule f) = ⊥
 IsReaderFault (fault.Runtime f) = ⊥
 
+-- It is the script's own fault.
+abbrev pub IsOfScript : DriverFault → Type 0
+IsOfScript (fault.Script f) = Unit {0}
+IsOfScript (fault.Schedule f) = ⊥
+IsOfScript (fault.Runtime f) = ⊥
+IsOfScript fault.Input = ⊥
+IsOfScript fault.Output = ⊥
+IsOfScript fault.Memory = ⊥
+
 -- Why there is no world of a configuration.
 abbrev pub IsWorldFault : Configuration → DriverFault → Type 0
 IsWorldFault config fault.Memory = Unit {0}

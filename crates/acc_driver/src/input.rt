@@ -4,6 +4,7 @@ ghost use Rattle.std.specs.Prelude.{◌≡◌, ◌+◌, ◌≤◌, ◌<◌, ◌=
 ghost use Rattle.std.specs.List.{prefix_len};
 ghost use Rattle.acc_driver.specs.Inputs.{ReadsTurn, is_split_line, behind_line, parts};
 ghost use Rattle.acc_driver.specs.Replays.{IsReaderFault};
+ghost use Rattle.acc_driver.specs.inner.Readers.{reader_fault};
 
 use crate::fault::DriverFault;
 use acc_token::line_len;
@@ -21,7 +22,8 @@ pub enum InputFault {
 impl InputFault {
     /// The same fault, of a run.
     pub(crate) fn of_reader(self) -> DriverFault
-        ensures { IsReaderFault result }
+        ensures kind { IsReaderFault result }
+        ensures fault { result ≡ reader_fault self }
     {
         match self {
             InputFault::Read => DriverFault::Input,

@@ -1,1 +1,4 @@
+mod NumberWords
 mod StatusReplay
+mod WordsMean
+mod WordsRead

@@ -11,7 +11,7 @@ use Rattle.acc_driver.specs.Inputs.{Parts, parts}
 use Rattle.acc_report.specs.Puts.{AppendsFront}
 use Rattle.acc_driver.specs.Replays.{Answers, defaults}
 use Rattle.accq.specs.Statuses.{FilesAnswer}
-use Rattle.accq.specs.declared.command.Replay.{Replay}
+use Rattle.accq.specs.Words.{Asked}
 
 appends_kept : (a b c : Option (List ℕ)) (text : List ℕ) → Appends a b text → Keeps b c → Appends a c text
 appends_kept None b c text first kept = tt
@@ -65,14 +65,14 @@ texts_held options None schedule of_script of_schedule old new answer is_script 
 texts_held options (Some s) None of_script of_schedule old new answer is_script is_schedule answers = tt
 texts_held options (Some s) (Some e) of_script of_schedule old new answer is_script is_schedule answers = rw (is_script, is_schedule) at answers
 
-pub files_answered : (holds : List ℕ → Option (List ℕ)) (asked : Replay) (of_script of_schedule : Option (List ℕ)) (old new : Option (List ℕ)) (answer : Result Ended DriverFault)
-    → IfSome (holds asked.script.now) (λ bytes. of_script ≡ Some bytes) → IfSome (holds asked.schedule.now) (λ bytes. of_schedule ≡ Some bytes)
+pub files_answered : (holds : List ℕ → Option (List ℕ)) (asked : Asked) (of_script of_schedule : Option (List ℕ)) (old new : Option (List ℕ)) (answer : Result Ended DriverFault)
+    → IfSome (holds asked.script) (λ bytes. of_script ≡ Some bytes) → IfSome (holds asked.schedule) (λ bytes. of_schedule ≡ Some bytes)
     → IfSome of_script (λ script. IfSome of_schedule (λ schedule. Answers asked.options (record { script = script; schedule = schedule }) old new answer))
     → FilesAnswer holds asked old new answer
 files_answered holds asked of_script of_schedule old new answer is_script is_schedule answers =
-    texts_held asked.options (holds asked.script.now) (holds asked.schedule.now) of_script of_schedule old new answer is_script is_schedule answers
+    texts_held asked.options (holds asked.script) (holds asked.schedule) of_script of_schedule old new answer is_script is_schedule answers
 
-pub files_sent : (holds : List ℕ → Option (List ℕ)) (asked : Replay) (old whole new : Option (List ℕ)) (ended : Ended) (result : Result Ended DriverFault)
+pub files_sent : (holds : List ℕ → Option (List ℕ)) (asked : Asked) (old whole new : Option (List ℕ)) (ended : Ended) (result : Result Ended DriverFault)
     → FilesAnswer holds asked old whole (Ok ended) → IsSent ended whole new result → FilesAnswer holds asked old new result
 files_sent holds asked old whole new ended result answers sent =
-    texts_sent asked.options (holds asked.script.now) (holds asked.schedule.now) old whole new ended result answers sent
+    texts_sent asked.options (holds asked.script) (holds asked.schedule) old whole new ended result answers sent

@@ -1,1 +1,3 @@
 pub mod Statuses
+pub mod Words
+pub mod worked

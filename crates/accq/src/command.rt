@@ -1,6 +1,12 @@
 //! The words of a command line.
 
-ghost use Rattle.std.specs.Prelude.{◌≤◌, IfOk, IfSome};
+ghost use Rattle.std.specs.Prelude.{◌≡◌, ◌<◌, ◌≤◌, ◌^◌, ◌⊎◌, false, map, option_and_then, option_map, Some, None, IfOk, IfErr, IfSome};
+ghost use Rattle.std.specs.Char.{is_ascii_digit};
+ghost use Rattle.std.specs.List.{list_all};
+ghost use Rattle.clap.specs.Words.{app_of, first_of, found_of, kind_of, rows_of, rule_of, subcommand_rows_of};
+ghost use Rattle.clap.specs.declared.error.kind.ErrorKind.TheVariants.{OutOfMemory};
+ghost use Rattle.clap.specs.declared.builder.command.Command.TheViews.{out-Command as fields_of};
+ghost use Rattle.accq.specs.Words.{accq_app, asked_by, asked_in, asked_of, name_rule, number_in, number_of, number_rule, options_in, replay_app};
 ghost use Rattle.acc_driver.specs.Replays.{AreUsable};
 
 use acc_base::{MAX_CAPACITY, MAX_DEVICES, MAX_ROOM};
@@ -25,92 +31,156 @@ pub struct Replay<'a> {
 }
 
 // An option with a number from 1 to the most that a run may have.
-fn number<'a>(alloc: Global, name: &'a str, help: &'a str, default: &'a str, most: i64) -> Arg<'a> {
+fn number<'a>(alloc: Global, name: &'a str, help: &'a str, default: &'a str, most: u64) -> Arg<'a>
+    requires { most < 2 ^ 63 }
+    ensures rule { rule_of result ≡ number_rule name.entry.now default.entry.now most }
+    ensures local { result.global ≡ false }
+{
     Arg::new(alloc, name)
         .long(name)
         .value_name("N")
-        .value_parser(value_parser!(u64).range(1..=most))
+        .value_parser(value_parser!(u64).range(1..=most as i64))
         .default_value(default)
         .help(help)
 }
 
-// The words that there can be.
-fn accq<'a>(alloc: Global) -> Result<Command<'a>, AllocError> {
-    let script = Arg::new(alloc, "SCRIPT")
+// A name that has to be there.
+fn name<'a>(alloc: Global, id: &'a str, help: &'a str) -> Arg<'a>
+    ensures rule { rule_of result ≡ name_rule id.entry.now }
+    ensures local { result.global ≡ false }
+{
+    Arg::new(alloc, id)
         .required(true)
         .action(ArgAction::Set)
-        .help("The file of the script");
-    let schedule = Arg::new(alloc, "SCHEDULE")
-        .required(true)
-        .action(ArgAction::Set)
-        .help("The file of the schedule");
+        .help(help)
+}
+
+// The words behind `replay`.
+fn replay_words<'a>(alloc: Global) -> Result<Command<'a>, AllocError>
+    ensures app { IfOk result (λ c. app_of c ≡ replay_app) }
+    ensures local { IfOk result (λ c. (fields_of c).has_globals ≡ false) }
+{
     let devices = number(
         alloc,
         "devices",
         "How many devices there are",
         "1",
-        i64::from(MAX_DEVICES),
+        u64::from(MAX_DEVICES),
     );
     let cells = number(
         alloc,
         "cells",
         "How many cells may be present on each device at once",
         "4194304",
-        MAX_CAPACITY as i64,
+        MAX_CAPACITY,
     );
     let room = number(
         alloc,
         "room",
         "How many batches each queue holds that it hasn't taken",
         "64",
-        i64::from(MAX_ROOM),
+        u64::from(MAX_ROOM),
     );
-    let replay = Command::new(alloc, "replay")
+    Command::new(alloc, "replay")
         .about("Replays a script under a schedule")
         .after_help(EXAMPLE)
-        .arg(script)?
-        .arg(schedule)?
+        .arg(name(alloc, "SCRIPT", "The file of the script"))?
+        .arg(name(alloc, "SCHEDULE", "The file of the schedule"))?
         .arg(devices)?
         .arg(cells)?
-        .arg(room)?;
+        .arg(room)
+}
+
+// The words that there can be.
+fn accq_words<'a>(alloc: Global) -> Result<Command<'a>, AllocError>
+    ensures { IfOk result (λ c. app_of c ≡ accq_app) }
+{
     Command::new(alloc, "accq")
         .version("0.1.0, for OpenACC API 3.0")
         .about(ABOUT)
         .after_help(EXAMPLE)
         .subcommand_required(true)
-        .subcommand(replay)
+        .subcommand(replay_words(alloc)?)
 }
 
-// A number that was written in digits alone, and is from 1 to the most.
-fn value_in(matches: &ArgMatches, name: &str, most: u64) -> Option<u64>
-    ensures { IfSome result (λ n. (1 ≤ n) × (n ≤ most)) }
+// Whether a text has digits alone.
+fn is_digits(text: &str) -> bool
+    ensures { result ≡ list_all is_ascii_digit text.now }
 {
-    let text = matches.get_str(name)?;
-    if !text.bytes().all(|b| b.is_ascii_digit()) {
+    text.as_bytes().iter().all(|b| b.is_ascii_digit())
+}
+
+// A number that is written in digits alone, and is from 1 to the most.
+fn number_in(text: &str, most: u64) -> Option<u64>
+    ensures value { result ≡ number_in most text.now }
+    ensures bounds { IfSome result (λ n. (1 ≤ n) × (n ≤ most)) }
+{
+    if !is_digits(text) {
         return None;
     }
     match text.parse::<u64>() {
-        Ok(value) if 1 <= value && value <= most => Some(value),
-        _ => None,
+        Ok(value) => (1 <= value && value <= most).then_some(value),
+        Err(_) => None,
     }
 }
 
-// What the words of the subcommand say, unless a number isn't written in digits.
-fn replay_in<'a>(matches: &ArgMatches<'a>) -> Option<Replay<'a>>
-    ensures { IfSome result (λ r. AreUsable r.options) }
+// What a word of the subcommand says, by its name.
+fn text_of<'a>(matches: &ArgMatches<'a>, id: &str) -> Option<&'a str>
+    ensures { option_map (λ s. s.now) result ≡ first_of id.now (rows_of (found_of matches.now)) }
 {
-    let devices = value_in(matches, "devices", u64::from(MAX_DEVICES))?;
-    let cells = value_in(matches, "cells", MAX_CAPACITY)?;
-    let room = value_in(matches, "room", u64::from(MAX_ROOM))?;
-    Some(Replay {
-        script: matches.get_str("SCRIPT")?,
-        schedule: matches.get_str("SCHEDULE")?,
-        options: Options {
-            devices: devices as u8,
-            cells,
-            room: room as u32,
-        },
+    matches.get_str(id)
+}
+
+// The number of an option.
+fn number_of(matches: &ArgMatches, name: &str, most: u64) -> Option<u64>
+    ensures value { result ≡ number_of (rows_of (found_of matches.now)) name.now most }
+    ensures bounds { IfSome result (λ n. (1 ≤ n) × (n ≤ most)) }
+{
+    match text_of(matches, name) {
+        Some(text) => number_in(text, most),
+        None => None,
+    }
+}
+
+// The options that there are, unless a number isn't written in digits.
+fn options_in(matches: &ArgMatches) -> Option<Options>
+    ensures value { result ≡ options_in (rows_of (found_of matches.now)) }
+    ensures usable { IfSome result AreUsable }
+{
+    let devices = number_of(matches, "devices", u64::from(MAX_DEVICES))?;
+    let cells = number_of(matches, "cells", MAX_CAPACITY)?;
+    let room = number_of(matches, "room", u64::from(MAX_ROOM))?;
+    Some(Options {
+        devices: devices as u8,
+        cells,
+        room: room as u32,
     })
+}
+
+// What the words of the subcommand ask for, unless a number isn't written in digits.
+fn asked_in<'a>(matches: &ArgMatches<'a>) -> Option<Replay<'a>>
+    ensures value { option_map asked_by result ≡ asked_in (rows_of (found_of matches.now)) }
+    ensures usable { IfSome result (λ r. AreUsable r.options) }
+{
+    let options = options_in(matches)?;
+    let script = text_of(matches, "SCRIPT")?;
+    let schedule = text_of(matches, "SCHEDULE")?;
+    Some(Replay {
+        script,
+        schedule,
+        options,
+    })
+}
+
+// What the words asked for, if they named the subcommand.
+fn asked_in_subcommand<'a>(matches: &ArgMatches<'a>) -> Option<Replay<'a>>
+    ensures value { option_map asked_by result ≡ option_and_then (λ p. asked_in p.1) (subcommand_rows_of matches.now) }
+    ensures usable { IfSome result (λ r. AreUsable r.options) }
+{
+    match matches.subcommand() {
+        Some((_, found)) => asked_in(found),
+        None => None,
+    }
 }
 
 /// What the words of a command line ask for. The first word is the program's name.
@@ -120,17 +190,19 @@ fn replay_in<'a>(matches: &ArgMatches<'a>) -> Option<Replay<'a>>
 /// The parser's, with its text: a word that has no place, an option that stands twice or is beyond its limit, a name
 /// that is missing, a request for help or for the version; and want of memory.
 pub fn replay_of<'a, N: AsStr>(alloc: Global, words: &'a [N]) -> Result<Replay<'a>, Error>
-    ensures { IfOk result (λ r. AreUsable r.options) }
+    ensures asked { IfOk result (λ r. asked_of (map N.text words.entry.now) ≡ Some (asked_by r)) }
+    ensures usable { IfOk result (λ r. AreUsable r.options) }
+    ensures refused { IfErr result (λ e. (kind_of e ≡ OutOfMemory) ⊎ (asked_of (map N.text words.entry.now) ≡ None)) }
 {
-    let mut command = accq(alloc)?;
-    let matches = command.try_get_matches_from_mut(words)?;
-    if let Some((_, found)) = matches.subcommand()
-        && let Some(replay) = replay_in(found)
-    {
-        return Ok(replay);
+    let mut command = accq_words(alloc)?;
+    match command.try_get_matches_from_mut(words) {
+        Ok(matches) => match asked_in_subcommand(&matches) {
+            Some(replay) => Ok(replay),
+            None => Err(command.error(
+                ErrorKind::InvalidValue,
+                "a number is written in digits alone",
+            )?),
+        },
+        Err(error) => Err(error),
     }
-    Err(command.error(
-        ErrorKind::InvalidValue,
-        "a number is written in digits alone",
-    )?)
 }

@@ -1,11 +1,14 @@
 //! The program between its words, its files and its streams, and the status that it ends with.
 
-ghost use Rattle.std.specs.Prelude.{◌≡◌, ◌≤◌, ◌<◌, ◌⊎◌, [], IfOk, IfErr, IfSome, length};
+ghost use Rattle.std.specs.Prelude.{◌≡◌, ◌≤◌, ◌<◌, ◌⊎◌, map, IfOk, IfErr, IfSome, length};
 ghost use Rattle.std.specs.Io.KnownBytes.{Keeps};
 ghost use Rattle.acc_driver.specs.Inputs.{parts};
-ghost use Rattle.acc_driver.specs.Replays.{Answers, defaults};
+ghost use Rattle.acc_driver.specs.Replays.{Answers, AreUsable, IsRun, defaults};
 ghost use Rattle.acc_driver.specs.declared.fault.DriverFault.TheVariants.{Output};
-ghost use Rattle.accq.specs.Statuses.{AsksForOpen, FilesAnswer, Replayed, TellsWords, status_after, status_for};
+ghost use Rattle.accq.specs.Statuses.{AsksForOpen, FilesAnswer, InputReplayed, TellsWords, status_after, status_for};
+ghost use Rattle.accq.specs.Words.{asked_by, asked_of};
+ghost use Rattle.clap.specs.Words.{kind_of};
+ghost use Rattle.clap.specs.declared.error.kind.ErrorKind.TheVariants.{OutOfMemory};
 
 use crate::command::{Replay, replay_of};
 use crate::store::Store;
@@ -28,8 +31,10 @@ pub fn status_of<F: Read + Drop, S: Store<F>, N: AsStr, R: Read, W: Write, E: Wr
     output: &mut W,
     errors: &mut E,
 ) -> u8
-    ensures input { length words.now ≤ 1 → IfSome (R.remaining input.old) (λ text. Replayed defaults (parts text) (W.contents output.old) (W.contents output.new) result) }
-    ensures words { 1 < length words.now → TellsWords (S.holds files.now) (S.opens files.now) (W.contents output.old) (W.contents output.new) result }
+    ensures input { length words.now ≤ 1 → InputReplayed (R.remaining input.old) (W.contents output.old) (W.contents output.new) result }
+    ensures words { 1 < length words.now → TellsWords (asked_of (map N.text words.now)) (S.holds files.now) (S.opens files.now) (W.contents output.old) (W.contents output.new) result }
+    ensures unread { 1 < length words.now → input.new ≡ input.old }
+    ensures quiet { result < 2 → errors.new ≡ errors.old }
 {
     if words.len() <= 1 {
         return status_after(replay_input(alloc, input, output), errors);
@@ -42,7 +47,8 @@ pub fn status_of<F: Read + Drop, S: Store<F>, N: AsStr, R: Read, W: Write, E: Wr
 
 // The status of an answer, whose fault is told.
 fn status_after<E: Write>(answer: Result<Ended, DriverFault>, errors: &mut E) -> u8
-    ensures { result ≡ status_after answer }
+    ensures status { result ≡ status_after answer }
+    ensures quiet { result < 2 → errors.new ≡ errors.old }
 {
     match answer {
         Ok(ended) => u8::from(ended.refused),
@@ -56,7 +62,8 @@ fn replay_input<R: Read, W: Write>(
     input: &mut R,
     output: &mut W,
 ) -> Result<Ended, DriverFault>
-    ensures { IfSome (R.remaining input.old) (λ text. Answers defaults (parts text) (W.contents output.old) (W.contents output.new) result) }
+    ensures answers { IfSome (R.remaining input.old) (λ text. Answers defaults (parts text) (W.contents output.old) (W.contents output.new) result) }
+    ensures run { IsRun result }
 {
     let ended = replay_one(alloc, input, Options::DEFAULT, output)?;
     sent(ended, output)
@@ -69,9 +76,11 @@ fn replay_files<F: Read + Drop, S: Store<F>, W: Write>(
     files: &S,
     output: &mut W,
 ) -> Result<Ended, DriverFault>
-    ensures answers { FilesAnswer (S.holds files.now) asked.now (W.contents output.old) (W.contents output.new) result }
+    requires { AreUsable asked.now.options }
+    ensures answers { FilesAnswer (S.holds files.now) (asked_by asked.now) (W.contents output.old) (W.contents output.new) result }
     ensures script { AsksForOpen (S.opens files.now asked.now.script.now) result }
     ensures schedule { AsksForOpen (S.opens files.now asked.now.schedule.now) result }
+    ensures run { IsRun result }
 {
     let Some(mut script) = files.open(asked.script) else {
         return Err(DriverFault::Input);
@@ -109,7 +118,9 @@ pub(crate) fn told<E: Write>(fault: DriverFault, errors: &mut E) -> u8
 
 /// Tells the parser's error by its own text, and answers its status.
 fn told_words<E: Write>(error: &Error, errors: &mut E) -> u8
-    ensures { (result ≡ 2) ⊎ (result ≡ 3) }
+    ensures memory { kind_of error.now ≡ OutOfMemory → result ≡ 3 }
+    ensures told { (result ≡ 2) ⊎ (result ≡ 3) }
+    ensures words { (kind_of error.now ≡ OutOfMemory → ⊥) → result ≡ 2 }
 {
     if error.kind() == ErrorKind::OutOfMemory {
         return told(DriverFault::Memory, errors);

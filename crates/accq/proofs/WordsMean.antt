@@ -1,0 +1,27 @@
+-- The worked words, computed.
+use Rattle.std.proofs.Common.{refl}
+use Rattle.clap.proofs.OnLiterals.{clap_on_literals}
+use Rattle.accq.specs.worked.Words.{AreAsked, AreRefused}
+
+pub are_asked : AreAsked
+unfolding clap_on_literals
+are_asked = record { names = refl; before = refl; between = refl; behind = refl; all = refl; behind_dashes = refl }
+
+pub are_refused : AreRefused
+unfolding clap_on_literals
+are_refused = record {
+  no_device = refl;
+  fifth_device = refl;
+  many_cells = refl;
+  wide_room = refl;
+  plus = refl;
+  twice = refl;
+  without_a_number = refl;
+  one_name = refl;
+  three_names = refl;
+  unknown = refl;
+  no_subcommand = refl;
+  help = refl;
+  help_behind = refl;
+  version = refl;
+}

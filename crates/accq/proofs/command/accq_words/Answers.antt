@@ -1,0 +1,13 @@
+use Rattle.std.proofs.Common.{◌≡◌, ◌∙◌, ap, ap₂}
+use Rattle.std.specs.Prelude.{codes, true}
+use Rattle.std.proofs.lemmas.Result.{IfOk-weaker}
+use Rattle.clap.specs.Words.{App, app_of, new_app, with_subcommand}
+use Rattle.clap.specs.Simple.{app_of_fields, on_top}
+use Rattle.accq.proofs.command.accq_words.Goals as goal
+
+pub returns : goal.returns
+returns c =
+    let begun : app_of c.subcommand_required.result ≡ on_top (λ s. record s { has_version = true; subcommand_required = true }) (new_app (codes "accq")) =
+    ap app_of_fields c.subcommand_required.ensures
+    ∙ ap (λ (a : App). on_top (λ s. record s { subcommand_required = true }) a) (ap app_of_fields c.after_help.ensures ∙ ap app_of_fields c.about.ensures ∙ ap app_of_fields c.version.ensures ∙ ap (λ (a : App). on_top (λ s. record s { has_version = true }) a) c.new.ensures.app) in
+    IfOk-weaker c.subcommand.result _ _ (λ made adds. adds.shape c.in_ok-replay_words.ensures.local ∙ ap₂ with_subcommand begun (ap (λ (a : App). a.top) c.in_ok-replay_words.ensures.app)) c.subcommand.ensures

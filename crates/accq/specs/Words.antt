@@ -1,0 +1,73 @@
+-- What the words of a command line ask for. How a parser goes over words is told by the crate clap (`subcommand_of` gives what they say, `fault_of`
+-- what is wrong with them); which words there are, and what they mean, stands here.
+use Rattle.std.specs.Prelude.{◌&&◌, ℕ, List, [], ◌∷◌, Option, Some, None, option_and_then, option_map, codes, nat_le, true, if◌then◌else◌}
+use Rattle.std.specs.Char.{is_ascii_digit}
+use Rattle.std.specs.List.{list_all}
+use Rattle.std.specs.Str.Parse.{digits_value}
+use Rattle.acc_base.specs.declared.config.TheConstants.{MAX_DEVICES, MAX_CAPACITY, MAX_ROOM}
+use Rattle.acc_driver.specs.declared.options.Options.{Options}
+use Rattle.clap.specs.Words.{App, Kinds, Row, Rule, Text, fault_of, first_of, new_app, new_rule, subcommand_of, with_rule, with_subcommand}
+use Rattle.accq.specs.declared.command.Replay.{Replay}
+use Rattle.clap.specs.Simple.{on_top}
+use Rattle.clap.specs.declared.builder.ArgAction.TheVariants.{Set}
+use Rattle.clap.specs.declared.builder.value_parser.ValueParser.TheVariants.{Unsigned}
+
+-- ## The words that there are
+
+-- a name, which has to be there
+abbrev pub name_rule : Text → Rule
+name_rule id = record (new_rule id) { required = true; action = Some Set }
+
+-- an option with a number from 1 to the most, and what it is where it isn't there
+abbrev pub number_rule : Text → Text → ℕ → Rule
+number_rule id default most =
+    record (new_rule id) { long = Some id; value_names = 1; defaults = default ∷ []; parser = Some (Unsigned 1 most) }
+
+-- accq replay [--devices N] [--cells N] [--room N] SCRIPT SCHEDULE
+abbrev pub replay_app : App
+replay_app =
+    with_rule (with_rule (with_rule (with_rule (with_rule (new_app (codes "replay")) (name_rule (codes "SCRIPT"))) (name_rule (codes "SCHEDULE")))
+    (number_rule (codes "devices") (codes "1") MAX_DEVICES)) (number_rule (codes "cells") (codes "4194304") MAX_CAPACITY)) (number_rule (codes "room") (codes "64") MAX_ROOM)
+
+abbrev pub accq_app : App
+accq_app = with_subcommand (on_top (λ s. record s { has_version = true; subcommand_required = true }) (new_app (codes "accq"))) replay_app.top
+
+-- ## What they mean
+
+-- Two files are asked for, by their names, and options.
+pub record Asked : Type 0 where
+  pub script : Text
+  pub schedule : Text
+  pub options : Options
+
+-- a number that is written in digits alone, from 1 to the most
+abbrev pub number_in : ℕ → Text → Option ℕ
+number_in most text =
+    let n = digits_value 10 text in
+    if list_all is_ascii_digit text && (nat_le 1 n && nat_le n most) then Some n else None
+
+abbrev pub number_of : List Row → Text → ℕ → Option ℕ
+number_of rows id most = option_and_then (number_in most) (first_of id rows)
+
+abbrev pub options_in : List Row → Option Options
+options_in rows =
+    option_and_then (λ devices. option_and_then (λ cells. option_map (λ room. record { devices = devices; cells = cells; room = room })
+    (number_of rows (codes "room") MAX_ROOM)) (number_of rows (codes "cells") MAX_CAPACITY)) (number_of rows (codes "devices") MAX_DEVICES)
+
+abbrev pub asked_in : List Row → Option Asked
+asked_in rows =
+    option_and_then (λ options. option_and_then (λ script. option_map (λ schedule. record { script = script; schedule = schedule; options = options })
+    (first_of (codes "SCHEDULE") rows)) (first_of (codes "SCRIPT") rows)) (options_in rows)
+
+-- what was found, unless there is an error of some kind
+abbrev pub unless_any : {A : Type 0} → Kinds → Option A → Option A
+unless_any [] found = found
+unless_any (k ∷ kinds) found = None
+
+-- What words ask for, the program's own name among them; nothing where they are at fault, or ask for help or the version.
+abbrev pub asked_of : List Text → Option Asked
+asked_of words = unless_any (fault_of accq_app words) (option_and_then (λ p. asked_in p.1) (subcommand_of accq_app words))
+
+-- what is replayed
+abbrev pub asked_by : Replay → Asked
+asked_by r = record { script = r.script.now; schedule = r.schedule.now; options = r.options }

@@ -1,0 +1,40 @@
+-- Words, and what they ask for.
+use Rattle.std.specs.Prelude.{◌≡◌, ℕ, List, [], ◌∷◌, Option, Some, None, codes}
+use Rattle.clap.specs.Words.{Text}
+use Rattle.acc_driver.specs.Replays.{defaults}
+use Rattle.accq.specs.Words.{Asked, asked_of}
+
+-- the files a and b, with these options
+abbrev pub asks : ℕ → ℕ → ℕ → Option Asked
+asks devices cells room = Some (record { script = codes "a"; schedule = codes "b"; options = record { devices = devices; cells = cells; room = room } })
+
+-- behind `accq replay`
+abbrev pub replay : List Text → Option Asked
+replay words = asked_of (codes "accq" ∷ codes "replay" ∷ words)
+
+-- Two names alone ask for the default options. An option stands before, between or behind them, with `=` or without.
+pub record AreAsked : Type 0 where
+  pub names : replay (codes "a" ∷ codes "b" ∷ []) ≡ Some (record { script = codes "a"; schedule = codes "b"; options = defaults })
+  pub before : replay (codes "--devices" ∷ codes "4" ∷ codes "a" ∷ codes "b" ∷ []) ≡ asks 4 4194304 64
+  pub between : replay (codes "a" ∷ codes "--cells=4294967296" ∷ codes "b" ∷ []) ≡ asks 1 4294967296 64
+  pub behind : replay (codes "a" ∷ codes "b" ∷ codes "--room" ∷ codes "1024" ∷ []) ≡ asks 1 4194304 1024
+  pub all : replay (codes "--room=1" ∷ codes "a" ∷ codes "--cells" ∷ codes "01" ∷ codes "--devices=2" ∷ codes "b" ∷ []) ≡ asks 2 1 1
+  pub behind_dashes : replay (codes "--devices=3" ∷ codes "--" ∷ codes "a" ∷ codes "b" ∷ []) ≡ asks 3 4194304 64
+
+-- What asks for nothing: an option beyond its limits, not in digits alone or written twice, a name too few or too many, a word that there isn't, and
+-- requests for help or the version.
+pub record AreRefused : Type 0 where
+  pub no_device : replay (codes "a" ∷ codes "b" ∷ codes "--devices" ∷ codes "0" ∷ []) ≡ None
+  pub fifth_device : replay (codes "a" ∷ codes "b" ∷ codes "--devices" ∷ codes "5" ∷ []) ≡ None
+  pub many_cells : replay (codes "a" ∷ codes "b" ∷ codes "--cells" ∷ codes "4294967297" ∷ []) ≡ None
+  pub wide_room : replay (codes "a" ∷ codes "b" ∷ codes "--room" ∷ codes "1025" ∷ []) ≡ None
+  pub plus : replay (codes "a" ∷ codes "b" ∷ codes "--devices" ∷ codes "+3" ∷ []) ≡ None
+  pub twice : replay (codes "a" ∷ codes "b" ∷ codes "--room=1" ∷ codes "--room=1" ∷ []) ≡ None
+  pub without_a_number : replay (codes "a" ∷ codes "b" ∷ codes "--room" ∷ []) ≡ None
+  pub one_name : replay (codes "a" ∷ []) ≡ None
+  pub three_names : replay (codes "a" ∷ codes "b" ∷ codes "c" ∷ []) ≡ None
+  pub unknown : replay (codes "a" ∷ codes "b" ∷ codes "--hosts=1" ∷ []) ≡ None
+  pub no_subcommand : asked_of (codes "accq" ∷ codes "a" ∷ codes "b" ∷ []) ≡ None
+  pub help : asked_of (codes "accq" ∷ codes "--help" ∷ []) ≡ None
+  pub help_behind : replay (codes "a" ∷ codes "b" ∷ codes "-h" ∷ []) ≡ None
+  pub version : asked_of (codes "accq" ∷ codes "--version" ∷ []) ≡ None
