@@ -49,20 +49,29 @@ fn drain(rt: &impl Abort, world: &mut World) -> u32 {
 const CHAIN: &[u8] =
     b"long a[2];\nhost {\n#pragma acc enter data create(a) async(1)\n#pragma acc parallel loop present(a) async(2)\nfor (i = 0; i < 2; i++) a[i] = i + 7;\n#pragma acc exit data copyout(a) async(1)\n}\n";
 
-/// Steps of the enabled queues alone perform all, whatever awaits what: behind each step of the host, and behind its last.
+// The host goes on by so many steps, and then the enabled queues by so many.
+fn check_drained(rt: &impl Abort, world: &mut World, host_steps: u32, steps: u32) {
+    check_steps(rt, world, 0, host_steps);
+    assert_eq!(rt; drain(rt, world), steps);
+}
+
+/// Steps of the enabled queues alone perform all, whatever awaits what: behind each step of the host. A batch is taken each time.
+#[test]
+fn enabled_queues_perform_all_step_by_step(rt: HostRuntime) -> Result<(), Fail> {
+    let mut world = world_of(rt.alloc(), CHAIN, ONE)?;
+    for (host_steps, steps) in [(0u32, 0u32), (1, 2), (1, 3), (1, 4)] {
+        check_drained(&rt, &mut world, host_steps, steps);
+    }
+    Ok(())
+}
+
+/// So they do behind the host's last step.
 #[test]
 fn enabled_queues_perform_all(rt: HostRuntime) -> Result<(), Fail> {
     let mut world = world_of(rt.alloc(), CHAIN, ONE)?;
-    assert_eq!(rt; drain(&rt, &mut world), 0);
-    // a batch is taken each time
-    for steps in [2u32, 3, 4] {
-        check_steps(&rt, &mut world, 0, 1);
-        assert_eq!(rt; drain(&rt, &mut world), steps);
-    }
-    let mut world = world_of(rt.alloc(), CHAIN, ONE)?;
     check_steps(&rt, &mut world, 0, 3);
     assert!(rt; !world.enabled(queue(0, 0)) && !world.enabled(queue(3, 0)));
-    assert_eq!(rt; drain(&rt, &mut world), 9);
+    check_drained(&rt, &mut world, 0, 9);
     Ok(())
 }
 

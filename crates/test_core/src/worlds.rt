@@ -21,15 +21,22 @@ pub const ONE: Setting = Setting {
     room: 64,
 };
 
-// What a script says; `Unfinished` where it is at fault.
+// A fault of a text is `Unfinished` here.
+fn fault_of(error: ReadError) -> Fault {
+    match error {
+        ReadError::Memory => Fault::Memory,
+        ReadError::Fault(_) => Fault::Unfinished,
+    }
+}
+
+// What a script says.
 pub fn script_of<'a>(alloc: Global, text: &'a [u8]) -> Result<Script<'a>, Fault>
     ensures numbered { IfOk result (λ s. AreNumbered 0 s.programs.items) }
     ensures few { IfOk result (λ s. length s.programs.items ≤ MAX_HOSTS) }
 {
     match read(alloc, text) {
         Ok(script) => Ok(script),
-        Err(ReadError::Memory) => Err(Fault::Memory),
-        Err(ReadError::Fault(_)) => Err(Fault::Unfinished),
+        Err(error) => Err(fault_of(error)),
     }
 }
 

@@ -538,6 +538,30 @@ const CASES: &[Case] = &[
         report: b"host 0\n0\ndone\npresent 0 a[0:1] s 0 d 1\nqueue 0 sync batches 1 operations 1 of 1\nend\n",
         refused: false,
     },
+    // each routine for data
+    Case {
+        options: Options::DEFAULT,
+        input: b"long a[8] = {1, 2, 3, 4, 5, 6, 7, 8,}; long b[4] = {1, -2};\nhost {\n    acc_copyin(a[0:4]);\n    acc_create(b);\n    acc_copyin(a[0:4]);\n    a[0] = 10;\n    acc_update_device(a[0:2]);\n    a[0] = 99;\n    acc_update_self(a[0:1]);\n    print(a[0:2]);\n    acc_copyout(a[0:4]);\n    print(acc_is_present(a[0:4]));\n    a[1] = 77;\n    acc_copyout_finalize(a[0:4]);\n    print(a[0:4]);\n    acc_create(a[4:4]);\n    acc_create(a[4:4]);\n    acc_delete(a[4:4]);\n    print(acc_is_present(a[4:4]));\n    acc_delete_finalize(a[4:4]);\n    print(acc_is_present(a[4:4]));\n    acc_copyout(b);\n    print(b);\n}\n%%\nround 60\n",
+        report: b"host 0\n10 2\n1\n10 2 3 4\n1\n0\n0 0 0 0\ndone\nqueue 0 sync batches 8 operations 11 of 11\nend\n",
+        refused: false,
+    },
+    // waits as routines, the other names of data clauses, types of loops and all comparisons
+    Case {
+        options: Options::DEFAULT,
+        input: b"long a[4] = {1, 2, 3, 4}; long b[4]; long c[4];\nhost {\n#pragma acc data pcopyin(a) present_or_create(b) pcreate(c)\n    {\n#pragma acc parallel loop async(1)\n        for (int i = 0; i < 4; i++)\n            b[i] = a[i] != 2;\n#pragma acc parallel loop async(2)\n        for (long k = 0; k < 4; k++) {\n            c[k] = (a[k] <= 2) + 10 * (a[k] >= 3) + 100 * (a[k] > 1);\n        }\n        acc_wait_async(1, 2);\n        acc_wait(1);\n        print(acc_async_test(1));\n        acc_wait_all();\n        print(acc_async_test_all());\n        acc_update_self(b);\n        acc_update_self(c);\n    }\n    print(b);\n    print(c);\n}\n%%\nround 60\n",
+        report: b"host 0\n1\n1\n1 0 1 1\n1 101 110 110\ndone\nqueue 0 sync batches 4 operations 11 of 11\nqueue 0 1 batches 1 operations 2 of 2\nqueue 0 2 batches 2 operations 3 of 3\nend\n",
+        refused: false,
+    },
+    // the last of four devices
+    Case {
+        options: Options {
+            devices: 4,
+            ..Options::DEFAULT
+        },
+        input: b"long a[2];\nhost {\n#pragma acc enter data create(a) async(3)\n    acc_set_device_num(3);\n#pragma acc enter data create(a) async(3)\n    print(acc_get_device_num());\n    acc_wait(3);\n    print(acc_is_present(a));\n}\n%%\nround 1\nhost 0 20\ntake 3 3\ndo 3 3\nhost 0 9\n",
+        report: b"host 0\n3\n1\ndone\npresent 0 a[0:2] s 0 d 1\npresent 3 a[0:2] s 0 d 1\nqueue 0 3 batches 1 operations 1 of 1\nqueue 3 3 batches 1 operations 1 of 1\nend\n",
+        refused: false,
+    },
 ];
 
 /// An input that is refused, with the line and the kind of its fault, in the schedule or in the script.
@@ -639,6 +663,20 @@ const FAULTY: &[Faulty] = &[
         in_schedule: false,
         line: 5,
         kind: ReadKind::Name,
+    },
+    // a ninth host
+    Faulty {
+        input: b"long a[1];\nhost { } host { } host { } host { } host { } host { } host { } host { }\nhost { }\n%%\n",
+        in_schedule: false,
+        line: 3,
+        kind: ReadKind::Limit,
+    },
+    // a loop with seventeen statements
+    Faulty {
+        input: b"long a[4];\nhost {\n#pragma acc parallel loop\n    for (i = 0; i < 4; i++) {\n        a[i] = 1; a[i] = 2; a[i] = 3; a[i] = 4; a[i] = 5; a[i] = 6; a[i] = 7; a[i] = 8;\n        a[i] = 9; a[i] = 10; a[i] = 11; a[i] = 12; a[i] = 13; a[i] = 14; a[i] = 15; a[i] = 16;\n        a[i] = 17;\n    }\n}\n%%\n",
+        in_schedule: false,
+        line: 4,
+        kind: ReadKind::Limit,
     },
 ];
 

@@ -10,4 +10,6 @@ mod replay;
 #[cfg(test)]
 mod runs;
 #[cfg(test)]
+mod schedules;
+#[cfg(test)]
 mod streams;

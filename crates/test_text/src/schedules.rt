@@ -1,0 +1,37 @@
+//! A schedule with all its events in one list.
+
+use acc_base::{DeviceId, HostId, QueueAt, QueueId};
+use acc_host::Event;
+use acc_schedule::read_schedule;
+use std::test::Fail;
+
+// Whether this event stands at that place.
+fn has_at(events: &[Event], place: usize, event: Event) -> bool {
+    match events.get(place) {
+        Some(found) => *found == event,
+        None => false,
+    }
+}
+
+/// Lines of each kind, for two hosts and two devices: a round has an event for each host, and two for each queue.
+#[test]
+fn a_schedule_is_read_as_its_events(rt: HostRuntime) -> Result<(), Fail> {
+    let text = b"host 1 2\n\n# a remark\ntake 1 5\ndo 1 sync 3\nround 1\nclose\n";
+    let at = QueueAt {
+        device: DeviceId::new(1),
+        queue: QueueId::new(7),
+    };
+    let events = read_schedule(rt.alloc(), text.as_slice(), 2, 2)?;
+    let events = events.as_slice();
+    assert_eq!(rt; events.len(), 2 + 1 + 3 + 34 + 1);
+    assert!(rt; has_at(events, 0, Event::Host(HostId::new(1))));
+    assert!(rt; has_at(events, 1, Event::Host(HostId::new(1))));
+    assert!(rt; has_at(events, 2, Event::Take(at)));
+    for place in 3..6usize {
+        let sync = QueueAt::sync(DeviceId::new(1));
+        assert!(rt; has_at(events, place, Event::Perform(sync)));
+    }
+    assert!(rt; has_at(events, 6, Event::Host(HostId::new(0))));
+    assert!(rt; has_at(events, 40, Event::Close));
+    Ok(())
+}
