@@ -246,7 +246,7 @@ pub struct Region {
 pub struct Placed {
     /// The queue of the directive's batch, and the batch's number there, from 1, if it placed one.
     pub batch: Option<(QueueAt, u64)>,
-    /// How many batches were placed on each queue that a `wait` directive without `async` or a question names, else 0.
+    /// How many batches were placed on each queue that a `wait` on queue `sync` or a question names, else 0.
     pub counts: QueueCounts,
     /// The answer of `acc_is_present`; false for every other directive.
     pub present: bool,

@@ -403,7 +403,7 @@ fn is_answered(table: &Table, kind: &Kind, items: &[DataItem]) -> bool
             .all(|item| table.counters(item.range).is_some())
 }
 
-// How many batches were placed on each queue that a wait without async or a question names, else 0.
+// How many batches were placed on each queue that a wait on queue sync or a question names, else 0.
 fn counts_for(labels: &Labels, device: DeviceId, directive: &Directive) -> QueueCounts
     ensures { result ≡ counts_in (counts_queues directive.now.kind (queue_by directive.now.kind directive.now)) labels.now.queues device (queues_named directive.now) }
 {

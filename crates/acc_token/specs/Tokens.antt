@@ -115,7 +115,7 @@ abbrev pub value_behind : ℕ → List ℕ → ℕ
 value_behind n [] = n
 value_behind n (b ∷ bs) = value_behind (10 * n + (b - 48)) bs
 
--- a number above all that a number can be
+-- a number above all that one without a sign can be
 abbrev pub is_large : List ℕ → Bool
 is_large text = is_digit (front text) && nat_lt 9223372036854775807 (value_behind 0 text)
 

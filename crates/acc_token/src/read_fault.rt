@@ -11,9 +11,10 @@ pub enum ReadKind {
     Text,
     /// The text ends where more is needed.
     End,
-    /// A name that is not declared, is declared twice, or is too long.
+    /// A name that is not declared, is declared twice, is too long, or names what can't stand there; in a schedule, a host, a
+    /// device or a queue that isn't there.
     Name,
-    /// A limit is passed.
+    /// A limit is passed: a number is larger or smaller than it can be there, or there is one too many of something.
     Limit,
     /// Any other token, word or number.
     Form,

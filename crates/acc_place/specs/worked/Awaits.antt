@@ -115,7 +115,7 @@ counts_behind d =
     let st = left_by (async 2 runs ∷ async 2 runs ∷ async 1 (enters a) ∷ []) in
     (answer_of st d (walk_of st 0 d)).counts
 
--- a wait without `async`, and a question, are answered by how many batches were placed on each queue that they name
+-- a wait on queue sync, and a question, are answered by how many batches were placed on each queue that they name
 abbrev pub CountsOfWaits : Type 0
 CountsOfWaits =
     (counts_behind (waiting (pos 1 ∷ []) (directive kind.Wait [])) ≡ 0 ∷ 0 ∷ 0 ∷ 1 ∷ 0 ∷ 0 ∷ 0 ∷ 0 ∷ [])
