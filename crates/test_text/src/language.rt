@@ -562,6 +562,13 @@ const CASES: &[Case] = &[
         report: b"host 0\n3\n1\ndone\npresent 0 a[0:2] s 0 d 1\npresent 3 a[0:2] s 0 d 1\nqueue 0 3 batches 1 operations 1 of 1\nqueue 3 3 batches 1 operations 1 of 1\nend\n",
         refused: false,
     },
+    // the other names of the clauses that copy
+    Case {
+        options: Options::DEFAULT,
+        input: b"long a[1] = {1}; long b[1] = {2}; long c[1] = {3};\nhost {\n#pragma acc data pcopy(a) pcopyout(b) present_or_copyin(c)\n    {\n#pragma acc data present_or_copy(a) present_or_copyout(b)\n        {\n#pragma acc parallel loop\n            for (i = 0; i < 1; i++) {\n                a[i] = c[i] + 4;\n                b[i] = a[i] * 2;\n            }\n        }\n        print(a);\n    }\n    print(a);\n    print(b);\n    print(c);\n}\n%%\nround 40\n",
+        report: b"host 0\n1\n7\n14\n3\ndone\nqueue 0 sync batches 3 operations 11 of 11\nend\n",
+        refused: false,
+    },
 ];
 
 /// An input that is refused, with the line and the kind of its fault, in the schedule or in the script.
