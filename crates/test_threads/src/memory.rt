@@ -34,11 +34,15 @@ fn push_all<R: Wait>(rt: &R, alloc: Global, sender: &mut Sender) -> u64 {
 }
 
 // How many batches a new queue is given before memory is refused; then both its ends are dropped, in either order.
-fn count_pushed<R: Wait>(rt: &R, alloc: Global, is_taker_first: bool) -> Result<u64, Fault> {
+fn count_pushed<R: Wait>(rt: &R, alloc: Global, is_sender_first: bool) -> Result<u64, Fault> {
     let (mut sender, taker) = Activity::new(alloc, ROOM as u32)?;
     let count = push_all(rt, alloc, &mut sender);
-    if is_taker_first {
+    if is_sender_first {
+        drop(sender);
         drop(taker);
+    } else {
+        drop(taker);
+        drop(sender);
     }
     Ok(count)
 }
