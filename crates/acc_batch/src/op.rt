@@ -96,22 +96,4 @@ impl Op {
             OpLabel::Close => Ok(Op::Close),
         }
     }
-
-    /// Its label: the operation without its memory. It takes none.
-    pub fn into_label(self) -> OpLabel
-        ensures { result ≡ op_label self }
-    {
-        match self {
-            Op::Make { block } => {
-                let Block { block, range, .. } = block;
-                OpLabel::Make { block, range }
-            }
-            Op::CopyIn { block, range } => OpLabel::CopyIn { block, range },
-            Op::CopyOut { block, range } => OpLabel::CopyOut { block, range },
-            Op::Release { block } => OpLabel::Release { block },
-            Op::Run { kernel, uses } => OpLabel::Run { kernel, uses },
-            Op::Await { queue, number } => OpLabel::Await { queue, number },
-            Op::Close => OpLabel::Close,
-        }
-    }
 }

@@ -673,9 +673,9 @@ plan_at_closing p q at_queue h = (
   plan_closed p q (Closed at_queue) h,
 )
 
--- and where its batch is handed out
-pub plan_without : KeptByTaking
-plan_without p q = (
+-- and whatever becomes of its batch
+pub plan_with : (p : PlaceView) (q : PlanView) (batch : Option Label) → (IsPlanOf p q → IsPlanOf p (record q { batch = batch })) × (Fits p q → Fits p (record q { batch = batch }))
+plan_with p q batch = (
   λ h. record {
     history_then = h.history_then;
     history_since = h.history_since;
@@ -691,6 +691,9 @@ plan_without p q = (
   },
   λ h. record { accepted = h.accepted; region = h.region; labelled = h.labelled; roomy = h.roomy },
 )
+
+pub plan_without : KeptByTaking
+plan_without p q = plan_with p q None
 
 -- ## What is asked of a place
 

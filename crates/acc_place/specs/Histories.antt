@@ -1,7 +1,7 @@
 -- A place history, the latest entry first, as what it leaves (OpenACC API 3.0, 2.6.7, Reference Counters). The counts go
 -- with its directives: how many items the host of each had before it, the latest first. Closing is the project's own: once it
 -- has begun no directive is accepted, and each queue gets a last batch.
-use Rattle.std.specs.Prelude.{◌≡◌, ℕ, ◌+◌, ◌<◌, Bool, true, false, List, [], ◌∷◌, ◌++◌, drop, length, map, slice_index_or, None}
+use Rattle.std.specs.Prelude.{◌≡◌, ℕ, ◌+◌, ◌<◌, Bool, true, false, List, [], ◌∷◌, ◌++◌, drop, slice_index_or, None}
 use Rattle.std.specs.List.{list_any}
 use Rattle.acc_base.specs.declared.ids.QueueAt.{QueueAt}
 use Rattle.acc_base.specs.declared.ids.TheConstants.{QUEUES}

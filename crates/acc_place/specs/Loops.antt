@@ -1,17 +1,15 @@
 -- A loop as it is judged: where its implicit items come from, that it stays in the ranges of its items, and what it uses of
 -- what is present.
-use Rattle.std.specs.Prelude.{◌≡◌, ◌↔◌, false, ℕ, ◌+◌, ℤ, ◌≤ℤ◌, ◌<ℤ◌, pos, ◌&&◌, ◌==◌, if◌then◌else◌, not, List, [], length, map, filter, Option, Some, None}
+use Rattle.std.specs.Prelude.{◌≡◌, ◌↔◌, false, ℕ, ◌+◌, ℤ, ◌≤ℤ◌, ◌<ℤ◌, pos, ◌&&◌, ◌==◌, if◌then◌else◌, List, [], map, Option, Some, None}
 use Rattle.std.specs.List.{flat_map}
-use Rattle.acc_base.specs.Configurations.{Configuration}
 use Rattle.acc_kernel.specs.Jobs.{Use}
 use Rattle.acc_kernel.specs.Kernels.{Loop, Reaches, arrays_of}
 use Rattle.acc_present.specs.Presences.{Presence, holder}
-use Rattle.acc_place.specs.Directives.{Directive}
 use Rattle.acc_place.specs.declared.directive.DataItem.{DataItem}
 use Rattle.acc_place.specs.declared.directive.Region.{Region}
 use Rattle.acc_place.specs.Accepting.{is_past}
 use Rattle.acc_place.specs.Batches.{found_block}
-use Rattle.acc_place.specs.Implicit.{item_of, is_named, items_around, implicit_item}
+use Rattle.acc_place.specs.Implicit.{item_of}
 
 -- the first item of an array in a data construct, if this is on the device and the host is inside it
 abbrev pub item_inside : ℕ → ℕ → ℕ → Region → Option DataItem

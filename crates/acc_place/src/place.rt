@@ -17,8 +17,9 @@ ghost use Rattle.acc_place.specs.Batches.{answer_of, counts_queues, is_answered,
 ghost use Rattle.acc_place.specs.inner.Devices.{held_on};
 ghost use Rattle.acc_place.specs.inner.Noting.{noted_ranges, noted_with};
 ghost use Rattle.acc_place.specs.Targets.{queue_by, queues_named};
-ghost use Rattle.acc_place.specs.inner.Trials.{counts_in};
+ghost use Rattle.acc_place.specs.inner.Trials.{counts_in, CanBeMade};
 ghost use Rattle.acc_place.specs.Closing.{place_after_begin, close_of, place_after_close, handed_back, handed_out, is_at_hand, IsOut};
+ghost use Rattle.acc_place.specs.declared.directive.PlaceEntry.TheVariants.{Accepted};
 ghost use Rattle.acc_place.specs.Histories.{is_closed, AllAccepted, IsQueue};
 ghost use Rattle.acc_place.specs.inner.Places.{queues_after, ClosesQueue};
 ghost use Rattle.acc_place.specs.Plans.{nth_batch, standing_in, IsRefusal, IsPlanOf, IsRoomy, Fits, place_after, queue_for};
@@ -30,7 +31,7 @@ use crate::device::{Device, devices_of};
 use crate::directive::{DataItem, Directive, Kind, PlaceEntry, Placed, Region};
 use crate::judge::Known;
 use crate::labels::Labels;
-use crate::plan::Plan;
+use crate::plan::{Plan, batch_of};
 use crate::regions::{device_by, enter_or_leave};
 use crate::subject::ends_of;
 use crate::targets::queue_by;
@@ -110,8 +111,8 @@ impl Place {
         })
     }
 
-    /// What accepting a directive of this host, which has so many items, would add. Nothing is added but spare
-    /// memory.
+    /// What accepting a directive of this host, which has so many items, would add, with its batch. Nothing is added but
+    /// spare memory.
     ///
     /// # Errors
     ///
@@ -132,6 +133,53 @@ impl Place {
         ensures stamp { IfOk result (λ q. q.stamp ≡ length self.new.history) }
         ensures fits { IfOk result (λ q. Fits self.new q × IsPlanOf self.new q) }
         ensures batch { IfOk result (λ q. q.batch ≡ q.label) }
+    {
+        let mut plan = self.plan_without_batch(host, items_done, directive)?;
+        plan.batch = batch_of(self.alloc, &plan.label)?;
+        Ok(plan)
+    }
+
+    /// Accepts a directive of this host, which has so many items, without its batch: so a place history is told once more.
+    ///
+    /// # Errors
+    ///
+    /// The directive's first fault, or `Memory` where it has none and memory is refused; then nothing is added but spare memory.
+    pub fn retell(
+        &mut self,
+        host: HostId,
+        items_done: u64,
+        directive: &Directive,
+    ) -> Result<Placed, Fault>
+        ensures config { self.new.config ≡ self.old.config }
+        ensures closes { self.new.closes ≡ self.old.closes }
+        ensures history { OnOk result (self.new.history ≡ Accepted host directive.now ∷ self.old.history) }
+        ensures counts { OnOk result (self.new.counts ≡ items_done ∷ self.old.counts) }
+        ensures answer { IfOk result (λ placed. placed ≡ answer_of (standing_in self.old) directive.now (walk_of (standing_in self.old) host directive.now)) }
+        ensures refused { IfErr result (λ fault. IsRefusal (refusal self.old.config (standing_in self.old) host directive.now) fault) }
+        ensures unchanged { OnErr result ((self.new.history ≡ self.old.history) × (self.new.counts ≡ self.old.counts)) }
+    {
+        let plan = self.plan_without_batch(host, items_done, directive)?;
+        Ok(self.accept(plan))
+    }
+
+    // What accepting a directive would add, but for its batch.
+    fn plan_without_batch(
+        &mut self,
+        host: HostId,
+        items_done: u64,
+        directive: &Directive,
+    ) -> Result<Plan, Fault>
+        ensures config { self.new.config ≡ self.old.config }
+        ensures history { self.new.history ≡ self.old.history }
+        ensures counts { self.new.counts ≡ self.old.counts }
+        ensures closes { self.new.closes ≡ self.old.closes }
+        ensures roomy { (at : QueueAt) → IsRoomy self.old at → IsRoomy self.new at }
+        ensures refused { IfErr result (λ fault. IsRefusal (refusal self.old.config (standing_in self.old) host directive.now) fault) }
+        ensures plan { IfOk result (λ q. (q.host ≡ host) × (q.items_done ≡ items_done) × (q.directive ≡ directive.now)) }
+        ensures stamp { IfOk result (λ q. q.stamp ≡ length self.new.history) }
+        ensures fits { IfOk result (λ q. Fits self.new q × IsPlanOf self.new q) }
+        ensures cells { IfOk result (λ q. IfSome q.label CanBeMade) }
+        ensures batch { IfOk result (λ q. q.batch ≡ None) }
     {
         let QueueAt { device, queue } = self.queue_for(host, directive)?;
         let there = &self.devices[usize::from(device.number())];

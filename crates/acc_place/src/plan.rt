@@ -10,7 +10,7 @@ ghost use Rattle.acc_base.specs.declared.range.Range.{Range};
 ghost use Rattle.acc_batch.specs.Awaits.{with_awaits};
 ghost use Rattle.acc_present.specs.Notes.{Note, HasNotes};
 ghost use Rattle.acc_place.specs.inner.Noting.{awaits_from, used_ranges};
-ghost use Rattle.acc_place.specs.inner.Trials.{behind_noted, next_in};
+ghost use Rattle.acc_place.specs.inner.Trials.{behind_noted, next_in, CanBeMade};
 ghost use Rattle.acc_place.specs.Plans.{Fits, IsPlanOf, label_for, opened_region};
 ghost use Rattle.acc_place.specs.inner.Judging.{block_of, op_of, op_for, update_for, group_ops, marked_ops};
 
@@ -83,7 +83,7 @@ impl Plan {
     }
 }
 
-/// A plan for a host's directive with these steps, that runs this loop, if any.
+/// A plan for a host's directive with these steps, that runs this loop, if any. It has no batch yet.
 pub(crate) fn plan_of(
     alloc: Global,
     known: &Known,
@@ -100,7 +100,8 @@ pub(crate) fn plan_of(
     ensures directive { IfOk result (λ q. q.directive ≡ directive.now) }
     ensures region { IfOk result (λ q. q.region ≡ opened_region host directive.now directive.now.kind) }
     ensures label { (notes : Range → ℕ → Note) → HasNotes notes known.now.table.now.notes → IfOk result (λ q. q.label ≡ label_for known.now.at (next_in known.now) host items_done (behind_noted known.now notes directive.now (marked_ops (option_to_list run) steps.now) steps.now)) }
-    ensures batch { IfOk result (λ q. q.batch ≡ q.label) }
+    ensures cells { IfOk result (λ q. IfSome q.label CanBeMade) }
+    ensures batch { IfOk result (λ q. q.batch ≡ None) }
     ensures fault { IfErr result (λ fault. fault ≡ Fault.Memory) }
 {
     let numbers = awaited_numbers(known, directive, steps, &run);
@@ -115,14 +116,13 @@ pub(crate) fn plan_of(
     let region = opened_region(host, directive)?;
     let directive = directive.try_clone()?;
     let label = label_of(alloc, known, host, items_done, ops)?;
-    let batch = batch_of(alloc, &label)?;
     Ok(Plan {
         host,
         items_done,
         directive,
         region,
         label,
-        batch,
+        batch: None,
         stamp: known.accepted,
     })
 }
@@ -151,9 +151,13 @@ fn label_of(
     }))
 }
 
-// The batch with this label, if there is one.
-fn batch_of(alloc: Global, label: &Option<Label>) -> Result<Option<Batch>, Fault>
-    requires { IfSome label.now (λ l. (0 < length l.ops) × All HasItsCells l.ops) }
+/// The batch with this label, if there is one.
+///
+/// # Errors
+///
+/// `Memory` where memory is refused.
+pub(crate) fn batch_of(alloc: Global, label: &Option<Label>) -> Result<Option<Batch>, Fault>
+    requires { IfSome label.now CanBeMade }
     ensures batch { IfOk result (λ batch. batch ≡ label.now) }
     ensures fault { IfErr result (λ fault. fault ≡ Fault.Memory) }
 {

@@ -1,14 +1,14 @@
 //! Where a directive is tried: its items, their marks on a draft of the table, and what becomes of them; its first fault,
 //! or its plan.
 
-ghost use Rattle.std.specs.Prelude.{ℕ, ◌≡◌, ◌+◌, ◌≤◌, take, IfNone, IfOk, IfErr};
+ghost use Rattle.std.specs.Prelude.{ℕ, ◌≡◌, ◌+◌, ◌≤◌, take, None, IfNone, IfSome, IfOk, IfErr};
 ghost use Rattle.acc_base.specs.declared.fault.Fault.TheVariants.{Memory};
 ghost use Rattle.acc_base.specs.declared.range.Range.{Range};
 ghost use Rattle.acc_present.specs.Notes.{Note, HasNotes};
 ghost use Rattle.acc_base.specs.Configurations.{lengths_of};
 ghost use Rattle.acc_place.specs.Plans.{label_for, opened_region};
 ghost use Rattle.acc_place.specs.Standings.{subject_by};
-ghost use Rattle.acc_place.specs.inner.Trials.{behind_noted, fault_by, next_in, ops_by, steps_by, IsKnown, IsTried};
+ghost use Rattle.acc_place.specs.inner.Trials.{behind_noted, fault_by, next_in, ops_by, steps_by, CanBeMade, IsKnown, IsTried};
 ghost use Rattle.acc_place.specs.inner.Judging.{device_by};
 
 use crate::directive::{DataItem, Directive, MAX_ITEMS, Region};
@@ -123,7 +123,7 @@ impl Trial {
         past_fault(kind, items)
     }
 
-    /// The plan of a host's directive that was judged last, and has no fault.
+    /// The plan of a host's directive that was judged last, and has no fault. It has no batch yet.
     ///
     /// # Errors
     ///
@@ -142,7 +142,8 @@ impl Trial {
         ensures directive { IfOk result (λ q. q.directive ≡ directive.now) }
         ensures region { IfOk result (λ q. q.region ≡ opened_region host directive.now directive.now.kind) }
         ensures label { (notes : Range → ℕ → Note) → HasNotes notes known.now.table.now.notes → IfOk result (λ q. q.label ≡ label_for known.now.at (next_in known.now) host items_done (behind_noted known.now notes directive.now (ops_by known.now host directive.now) (steps_by known.now host directive.now))) }
-        ensures batch { IfOk result (λ q. q.batch ≡ q.label) }
+        ensures cells { IfOk result (λ q. IfSome q.label CanBeMade) }
+        ensures batch { IfOk result (λ q. q.batch ≡ None) }
         ensures fault { IfErr result (λ fault. fault ≡ Memory) }
     {
         let kind = directive.kind();

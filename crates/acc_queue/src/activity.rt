@@ -1,12 +1,15 @@
 //! The two ends of an activity queue.
 
 ghost use Rattle.std.specs.Prelude.{◌≡◌, ◌<◌, ◌++◌, ◌∷◌, [], IfOk, IfErr, OnOk, IfSome, IfNone};
+ghost use Rattle.crossbeam_queue.specs.Fifo.{Held, Learns, Pops};
+ghost use Rattle.crossbeam_queue.specs.Passes.{view, IsPassOf, IsSamePass};
 ghost use Rattle.acc_base.specs.declared.fault.Fault.TheVariants.{Memory};
 ghost use Rattle.acc_queue.specs.Tied.{WasHeld};
 
 use crate::rule::{End, InOrder, Parts, Popped, Pushed, Room};
 use acc_base::Fault;
 use acc_batch::Batch;
+use crossbeam_queue::protocol::{Lesson, Outcome, Protocol};
 use crossbeam_queue::{Pass, RuledArrayQueue};
 use std::alloc::Global;
 use std::marker::{Brand, Model};
@@ -134,6 +137,23 @@ impl Taker {
         ensures none { IfNone result (self.new ≡ self.old) }
     {
         let Taker { queue, pass } = self;
-        queue.pop_as::<Popped, R>(rt, pass)
+        take_first::<InOrder, Popped, R>(rt, queue, pass)
     }
+}
+
+// Takes the first batch of a queue, whatever its rule is and whatever is to be learned at this step (`M`). Where it gives nothing, the
+// queue held nothing at some step of the call: what the unknown rule says of that, only a look at the queue can tell.
+fn take_first<P: Protocol<Batch, End>, M: Outcome<Batch, End> + Lesson<Batch, End>, R: Wait>(
+    rt: &R,
+    queue: &RuledArrayQueue<Batch, End, P>,
+    pass: &mut Pass<Batch, End>,
+) -> Option<Batch>
+    requires queue { IsPassOf queue.now pass.old }
+    requires pops { Pops P.holds pass.old.id (view pass.old) (M.then (view pass.old)) }
+    requires learns { Learns P.holds pass.old.id (view pass.old) (M.fact (view pass.old)) }
+    ensures queue { IsSamePass pass.old pass.new }
+    ensures some { IfSome result (λ batch. M.then (view pass.old) batch (view pass.new)) }
+    ensures none { IfNone result ((view pass.new ≡ view pass.old) × Held 0 (M.fact (view pass.old))) }
+{
+    queue.pop_as::<M, R>(rt, pass)
 }

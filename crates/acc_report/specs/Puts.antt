@@ -14,10 +14,10 @@ Writes old new (Ok x) text = Appends old new text
 Writes old new (Err fault) text = AppendsFront old new text
 
 -- A report was written, or a beginning of it where the writer failed, or nothing where memory was refused.
-abbrev pub Answers : {A : Type 0} → Option (List ℕ) → Option (List ℕ) → Result A ReportFault → List ℕ → Type 0
-Answers old new (Ok x) text = Appends old new text
-Answers old new (Err fault.Write) text = AppendsFront old new text
-Answers old new (Err fault.Memory) text = Appends old new []
+abbrev pub ReportAnswers : {A : Type 0} → Option (List ℕ) → Option (List ℕ) → Result A ReportFault → List ℕ → Type 0
+ReportAnswers old new (Ok x) text = Appends old new text
+ReportAnswers old new (Err fault.Write) text = AppendsFront old new text
+ReportAnswers old new (Err fault.Memory) text = Appends old new []
 
 -- what a writer holds, where that is known, and whether it has failed
 pub record Sink : Type 0 where

@@ -78,8 +78,7 @@ fn tell<'a>(
             };
             let directive = directive.try_clone()?;
             answered.reserve(1)?;
-            let plan = place.plan(*host, items_before, &directive)?;
-            let placed = place.accept(plan);
+            let placed = place.retell(*host, items_before, &directive)?;
             answered.push_reserved(Answered {
                 host: *host,
                 items_before,

@@ -8,7 +8,7 @@ ghost use Rattle.acc_batch.specs.Labels.{on_queue, ops_of};
 ghost use Rattle.acc_place.specs.Plans.{nth_batch, standing_in};
 ghost use Rattle.acc_report.specs.Totals.{plain_batches, plain_ops};
 ghost use Rattle.acc_report.specs.Lines.{each_below};
-ghost use Rattle.acc_report.specs.Puts.{Answers, Puts, sink};
+ghost use Rattle.acc_report.specs.Puts.{ReportAnswers, Puts, sink};
 ghost use Rattle.acc_report.specs.Reports.{IsLeft, ended_in, host_text, left_by, nth_host_text, report};
 ghost use Rattle.acc_report.specs.inner.Counting.{plain_count};
 ghost use Rattle.acc_report.specs.inner.Retelling.{AreAnswers};
@@ -43,7 +43,7 @@ pub fn report<W: Write>(
     writer: &mut W,
 ) -> Result<(), ReportFault>
     requires { IsLeft (left_by outcome.now) }
-    ensures { Answers (W.contents writer.old) (W.contents writer.new) result (report (texts script.now.names.keys) script.now.programs.items (left_by outcome.now)) }
+    ensures { ReportAnswers (W.contents writer.old) (W.contents writer.new) result (report (texts script.now.names.keys) script.now.programs.items (left_by outcome.now)) }
 {
     let config = match outcome.config.try_clone(alloc) {
         Ok(config) => config,

@@ -5,8 +5,8 @@ use Rattle.std.specs.List.{flat_map}
 use Rattle.std.specs.Option.{option_and_then, option_to_list}
 use Rattle.acc_base.specs.declared.range.Range.{Range}
 use Rattle.acc_base.specs.declared.fault.Fault.{Fault}
-use Rattle.acc_base.specs.declared.fault.Fault.TheVariants.{BadRange, BadAsync, TooMany, PartlyPresent, NotPresent, DeviceFull, OutsideRange, NoRegion}
-use Rattle.acc_base.specs.Configurations.{Configuration, has_range}
+use Rattle.acc_base.specs.declared.fault.Fault.TheVariants.{BadAsync, TooMany, PartlyPresent, NotPresent, DeviceFull, OutsideRange, NoRegion}
+use Rattle.acc_base.specs.Configurations.{Configuration}
 use Rattle.acc_kernel.specs.Kernels.{Loop}
 use Rattle.acc_present.specs.declared.table.Counter.{Counter}
 use Rattle.acc_present.specs.declared.table.Counter.TheVariants.{Structured, Dynamic}

@@ -1,5 +1,5 @@
 -- What a place keeps between directives. Only private contracts and proofs cite it.
-use Rattle.std.specs.Prelude.{◌≡◌, ℕ, ◌+◌, ◌*◌, ◌<◌, ◌≤◌, zero, suc, Bool, true, false, not, nat_lt, List, [], length, filter, All, slice_get, slice_index_or, slice_set, ◌++◌, ◌∷◌, Option, Some, None, IfSome, is_some, if◌then◌else◌}
+use Rattle.std.specs.Prelude.{◌≡◌, ℕ, ◌+◌, ◌*◌, ◌<◌, ◌≤◌, Bool, true, false, not, nat_lt, List, [], length, filter, All, slice_get, slice_index_or, slice_set, ◌++◌, ◌∷◌, Option, Some, None, IfSome, is_some, if◌then◌else◌}
 use Rattle.acc_base.specs.declared.ids.QueueAt.{QueueAt}
 use Rattle.acc_base.specs.declared.ids.TheConstants.{QUEUES}
 use Rattle.acc_base.specs.Configurations.{Configuration}

@@ -1,6 +1,6 @@
 -- Where a directive is tried: what has to be known there, and what is left where it has no fault, in the table's own words.
 -- Only private contracts and proofs cite it.
-use Rattle.std.specs.Prelude.{◌≡◌, ℕ, ◌+◌, ◌≤◌, max, Bool, true, false, List, length, map, replicate, Option, None, if◌then◌else◌}
+use Rattle.std.specs.Prelude.{All, ◌≡◌, ℕ, ◌+◌, ◌<◌, ◌≤◌, max, Bool, true, false, List, length, map, replicate, Option, None, if◌then◌else◌}
 use Rattle.std.specs.List.{flat_map}
 use Rattle.acc_base.specs.declared.fault.Fault.{Fault}
 use Rattle.acc_base.specs.declared.range.Range.{Range}
@@ -9,6 +9,7 @@ use Rattle.acc_batch.specs.declared.label.Label.{Label}
 use Rattle.acc_batch.specs.declared.label.OpLabel.{OpLabel}
 use Rattle.acc_batch.specs.Awaits.{with_awaits}
 use Rattle.acc_batch.specs.Labels.{has_number}
+use Rattle.acc_batch.specs.Ops.{HasItsCells}
 use Rattle.acc_present.specs.Notes.{Note}
 use Rattle.acc_present.specs.declared.table.TheConstants.{COUNTER_LIMIT}
 use Rattle.acc_present.specs.Drafts.{DraftView, drafted, IsDraft}
@@ -83,6 +84,10 @@ number_in k notes named ops steps q =
 abbrev pub behind_noted : Known → (Range → ℕ → Note) → Directive → List OpLabel → List Marked → List OpLabel
 behind_noted k notes d ops steps =
     with_awaits (is_alone d) (awaits_from k.at.queue 0 (map (number_in k notes (queues_named d) ops steps) every_queue)) ops
+
+-- a batch with this label can be made
+abbrev pub CanBeMade : Label → Type 0
+CanBeMade l = (0 < length l.ops) × All HasItsCells l.ops
 
 -- The table is one of the configuration; its counters can take the items of one more directive; and what the open regions
 -- of the device have entered is present.
