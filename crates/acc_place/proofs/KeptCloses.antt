@@ -19,10 +19,10 @@ use Rattle.acc_place.specs.declared.device.Device.{Device}
 use Rattle.acc_place.specs.declared.directive.PlaceEntry.{PlaceEntry}
 use Rattle.acc_place.specs.declared.directive.PlaceEntry.TheVariants.{Accepted, Closing, Closed}
 use Rattle.acc_place.specs.declared.directive.Region.{Region}
-use Rattle.acc_place.specs.Closing.{IsOut}
+use Rattle.acc_place.specs.Closing.{IsOut, ClosesQueue}
 use Rattle.acc_place.specs.Batches.{batch_of, labels_with, walk_at}
 use Rattle.acc_place.specs.Histories.{after_close, after_directive, at_first, is_closed, standing, CanClose, IsQueue}
-use Rattle.acc_place.specs.inner.Places.{close_in, closing_entries, entries_left, closes_kept, new_close, no_close, queues_after, ClosesQueue, IsCloseOf, IsPlace, KeepsCloses}
+use Rattle.acc_place.specs.inner.Places.{close_in, closing_entries, entries_left, closes_kept, new_close, no_close, queues_after, IsCloseOf, IsPlace, KeepsCloses}
 use Rattle.acc_place.specs.Plans.{standing_in, Fits, PlaceView, PlanView, Room}
 use Rattle.acc_place.specs.Standings.{Standing, walk_of}
 use Rattle.acc_place.proofs.AcceptedDirective.{accepted_open}

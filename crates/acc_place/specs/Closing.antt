@@ -1,5 +1,5 @@
 -- What closing makes of a place: it begins once; the close of each queue is handed out, comes back, or is placed.
-use Rattle.std.specs.Prelude.{◌≡◌, Bool, true, false, ◌&&◌, nat_lt, ◌∷◌, slice_index_or, slice_set, Option, Some, None, if◌then◌else◌}
+use Rattle.std.specs.Prelude.{◌≡◌, Bool, true, false, ◌&&◌, nat_lt, [], ◌∷◌, slice_index_or, slice_set, Option, Some, None, if◌then◌else◌}
 use Rattle.acc_base.specs.declared.ids.QueueAt.{QueueAt}
 use Rattle.acc_base.specs.declared.ids.TheConstants.{QUEUES}
 use Rattle.acc_base.specs.Queues.{seat}
@@ -18,6 +18,10 @@ pub record IsOut (p : PlaceView) (at : QueueAt) : Type 0 where
   pub there : IsQueue p.config at
   pub given : is_at_hand p at ≡ false
   pub unplaced : is_closed (standing_in p) at ≡ false
+
+-- a label is that of a queue's close, whatever its number
+abbrev pub ClosesQueue : QueueAt → Label → Type 0
+ClosesQueue at l = l ≡ record (close_label at []) { number = l.number }
 
 -- what is handed out is the queue's last batch
 abbrev pub close_of : PlaceView → QueueAt → Option Label

@@ -48,6 +48,7 @@ is_bad (Some q) = false
 abbrev pub has_bad_queue : Directive → Bool
 has_bad_queue d = is_bad (target_queue d.default d.target) || list_any is_bad (queues_written d.default d.waits)
 
+-- its wait has more values than it may
 abbrev pub waits_on_too_many : Waits → Bool
 waits_on_too_many waits.Nothing = false
 waits_on_too_many waits.All = false

@@ -12,7 +12,7 @@ use std::mem::size_of;
 /// The most items of a directive.
 pub const MAX_ITEMS: usize = 16;
 
-/// The most queues that one directive waits for.
+/// The most values by which one directive names queues to wait for.
 pub const MAX_WAITS: usize = 16;
 
 /// The most directives that are accepted in a run.

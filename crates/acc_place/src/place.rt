@@ -18,10 +18,10 @@ ghost use Rattle.acc_place.specs.inner.Devices.{held_on};
 ghost use Rattle.acc_place.specs.inner.Noting.{noted_ranges, noted_with};
 ghost use Rattle.acc_place.specs.Targets.{queue_by, queues_named};
 ghost use Rattle.acc_place.specs.inner.Trials.{counts_in, CanBeMade};
-ghost use Rattle.acc_place.specs.Closing.{place_after_begin, close_of, place_after_close, handed_back, handed_out, is_at_hand, IsOut};
+ghost use Rattle.acc_place.specs.Closing.{place_after_begin, close_of, place_after_close, handed_back, handed_out, is_at_hand, ClosesQueue, IsOut};
 ghost use Rattle.acc_place.specs.declared.directive.PlaceEntry.TheVariants.{Accepted};
 ghost use Rattle.acc_place.specs.Histories.{is_closed, AllAccepted, IsQueue};
-ghost use Rattle.acc_place.specs.inner.Places.{queues_after, ClosesQueue};
+ghost use Rattle.acc_place.specs.inner.Places.{queues_after};
 ghost use Rattle.acc_place.specs.Plans.{nth_batch, standing_in, IsRefusal, IsPlanOf, IsRoomy, Fits, place_after, queue_for};
 ghost use Rattle.acc_place.specs.Standings.{walk_of};
 

@@ -64,7 +64,7 @@ impl Model for Plan {
 }
 
 impl Plan {
-    /// Whether no other directive was accepted by the place since it made the plan. The place has to be the one
+    /// Whether the place has accepted no directive since it made the plan, and closed nothing. The place has to be the one
     /// that made it; `plans_are_kept` says that it stays so.
     pub fn fits(&self, place: &Place) -> bool
         requires { IsPlanOf place.now self.now }

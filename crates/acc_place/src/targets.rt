@@ -56,7 +56,7 @@ fn one_is_bad(default: i64, values: &[i64]) -> bool
     }
 }
 
-/// Whether a wait names more queues than it may.
+/// Whether a wait has more values than it may.
 pub(crate) fn waits_on_too_many(waits: &Waits) -> bool
     ensures { result ≡ waits_on_too_many waits.now }
 {

@@ -1,10 +1,12 @@
 //! Schedules.
 
-ghost use Rattle.std.specs.Prelude.{◌≡◌, ℕ, ◌+◌, ◌^◌, ◌<◌, ◌≤◌, ◌==◌, not, [], ◌∷◌, ◌++◌, length, map, option_map, List, Ok, IfOk, IfSome, MatchOption, if◌then◌else◌};
+ghost use Rattle.std.specs.Prelude.{◌≡◌, ℕ, ◌+◌, ◌^◌, ◌<◌, ◌≤◌, ◌==◌, not, [], ◌∷◌, ◌++◌, length, map, option_map, List, Ok, IfOk, IfErr, IfSome, MatchOption, if◌then◌else◌};
 ghost use Rattle.std.specs.List.{flat_map, list_all, prefix_len, range_with_len};
 ghost use Rattle.acc_host.specs.declared.event.Event.{Event};
 ghost use Rattle.acc_host.specs.declared.event.Event.TheVariants.{Host, Take, Perform};
 ghost use Rattle.acc_token.specs.Faults.{Gives};
+ghost use Rattle.acc_token.specs.declared.read_fault.ReadError.TheVariants.{Memory};
+ghost use Rattle.acc_token.specs.declared.text.TheConstants.{MAX_TEXT};
 ghost use Rattle.acc_schedule.specs.Schedules.{lines, is_space, words, with_first, is_skipped, is_plain, is_number, number_below, host_named, async_queue, queue_of, queue_named, repeated, queue_turn, device_turn, turn_of, one_turn, times_of, asked_turn, times_word, host_events, queue_events, close_events, round_events, events_by, line_events, joined_events, events_behind, schedule_of, turn_events, kept_events, all_events, turn_read, line_read};
 ghost use Rattle.acc_token.specs.Tokens.{is_digit};
 
@@ -506,7 +508,8 @@ fn lines_of(
     hosts: u8,
     devices: u8,
 ) -> Result<Vec<ScheduleLine>, ReadError>
-    ensures { Gives (λ kept. all_events (turn_of hosts devices) kept.items) result (schedule_of hosts devices text.now) }
+    ensures found { Gives (λ kept. all_events (turn_of hosts devices) kept.items) result (schedule_of hosts devices text.now) }
+    ensures long { IfErr result (λ error. error ≡ Memory → length text.now ≤ MAX_TEXT) }
 {
     if let Err(fault) = check_length(text) {
         return Err(ReadError::Fault(fault));

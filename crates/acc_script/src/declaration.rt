@@ -1,6 +1,8 @@
 //! Declarations of arrays.
 
-ghost use Rattle.std.specs.Prelude.{◌≡◌, ◌+◌, ◌≤◌, ◌<◌, length, IfOk, OnOk, false, if◌then◌else◌, bytes_eq};
+ghost use Rattle.std.specs.Prelude.{◌≡◌, ◌+◌, ◌≤◌, ◌<◌, length, IfOk, OnOk, false, if◌then◌else◌, bytes_eq, IfErr};
+ghost use Rattle.acc_base.specs.declared.config.TheConstants.{MAX_ARRAYS};
+ghost use Rattle.acc_token.specs.declared.read_fault.ReadError.TheVariants.{Memory};
 ghost use Rattle.std.specs.List.{list_any};
 ghost use Rattle.acc_script.specs.Arrays.{negative, value_of, begins_value, value_turn_behind, value_turn, size_at, initial_values_at, fresh_name, array_at, array_turn, array_of};
 ghost use Rattle.acc_token.specs.Faults.{Gives, Reads};
@@ -74,6 +76,7 @@ fn value_turn<'a>(
 ) -> Result<(bool, At<'a>), ReadError>
     requires { length cells.old.items ≤ size }
     ensures found { Gives (λ x. turn x.0 cells.new.items (spot x.1)) result (value_turn size cells.old.items (spot at.entry)) }
+    ensures room { IfErr result (λ error. error ≡ Memory → length cells.old.items < size) }
     ensures few { OnOk result (length cells.new.items ≤ size) }
     ensures shorter { IfOk result (λ x. (if x.0 then 1 else 0) + length x.1.bytes.now ≤ length at.entry.bytes.now) }
 {
@@ -188,6 +191,7 @@ fn array_turn<'a>(
     at: At<'a>,
 ) -> Result<(bool, At<'a>), ReadError>
     ensures found { Gives (λ x. turn x.0 arrays.new (spot x.1)) result (array_turn arrays.old (spot at.entry)) }
+    ensures room { IfErr result (λ error. error ≡ Memory → length arrays.old.names < MAX_ARRAYS) }
     ensures shorter { IfOk result (λ x. (if x.0 then 1 else 0) + length x.1.bytes.now ≤ length at.entry.bytes.now) }
 {
     let t = token_at(at, false)?;

@@ -1,7 +1,9 @@
 //! Parallel loops.
 
-ghost use Rattle.std.specs.Prelude.{◌≡◌, ◌+◌, ◌≤◌, ◌<◌, false, length, IfOk, OnOk, if◌then◌else◌};
+ghost use Rattle.std.specs.Prelude.{◌≡◌, ◌+◌, ◌≤◌, ◌<◌, false, length, IfOk, OnOk, if◌then◌else◌, IfErr, None};
+ghost use Rattle.acc_token.specs.declared.read_fault.ReadError.TheVariants.{Memory};
 ghost use Rattle.acc_kernel.specs.Kernels.{loop};
+ghost use Rattle.acc_kernel.specs.Faults.{fault_of};
 ghost use Rattle.acc_script.specs.Expressions.{names};
 ghost use Rattle.acc_token.specs.Faults.{Gives, Reads};
 ghost use Rattle.acc_script.specs.Loops.{type_at, first_at, bound_at, header_at, opening, assign_of, assign_turn, body_at, told_fault, accepted_loop, loop_at};
@@ -194,7 +196,8 @@ fn accepted_loop(
     header: Header,
     assigns: Vec<Assign>,
 ) -> Result<Kernel, ReadError>
-    ensures { Gives (λ k. k) result (accepted_loop line (loop header.entry.lo header.entry.hi assigns.items)) }
+    ensures found { Gives (λ k. k) result (accepted_loop line (loop header.entry.lo header.entry.hi assigns.items)) }
+    ensures told { IfErr result (λ error. error ≡ Memory → fault_of (loop header.entry.lo header.entry.hi assigns.items) ≡ None) }
 {
     match Kernel::new(alloc, header.lo, header.hi, assigns) {
         Ok(kernel) => Ok(kernel),

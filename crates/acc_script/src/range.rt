@@ -1,6 +1,8 @@
 //! Ranges of arrays, and those of a clause.
 
-ghost use Rattle.std.specs.Prelude.{◌≡◌, ◌+◌, ◌≤◌, ◌<◌, true, false, length, IfOk, OnOk};
+ghost use Rattle.std.specs.Prelude.{◌≡◌, ◌+◌, ◌≤◌, ◌<◌, true, false, length, IfOk, OnOk, IfErr};
+ghost use Rattle.acc_script.specs.declared.range.TheConstants.{MAX_RANGES};
+ghost use Rattle.acc_token.specs.declared.read_fault.ReadError.TheVariants.{Memory};
 ghost use Rattle.acc_script.specs.Clauses.{allows};
 ghost use Rattle.acc_token.specs.Faults.{Gives, Reads};
 ghost use Rattle.acc_script.specs.Ranges.{bound_at, range_in, bounds_at, range_behind, range_of, range_at, item_behind, item_turn, items_at};
@@ -152,6 +154,7 @@ fn item_turn<'a>(
     requires clause { allows head clause ≡ true }
     requires items { AreAllowed head items.old }
     ensures found { Gives (λ x. turn x.0 items.new (spot x.1)) result (item_turn arrays.now clause items.old (spot at.entry)) }
+    ensures room { IfErr result (λ error. error ≡ Memory → length items.old < MAX_RANGES) }
     ensures allowed { OnOk result (AreAllowed head items.new) }
     ensures shorter { IfOk result (λ x. length x.1.bytes.now < length at.entry.bytes.now) }
 {

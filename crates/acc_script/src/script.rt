@@ -1,6 +1,8 @@
 //! The whole script.
 
-ghost use Rattle.std.specs.Prelude.{◌≡◌, ◌+◌, ◌≤◌, ◌<◌, ◌∷◌, [], false, All, length, IfOk, OnOk, if◌then◌else◌};
+ghost use Rattle.std.specs.Prelude.{◌≡◌, ◌+◌, ◌≤◌, ◌<◌, ◌∷◌, [], false, All, length, IfOk, OnOk, if◌then◌else◌, IfErr};
+ghost use Rattle.acc_token.specs.declared.text.TheConstants.{MAX_TEXT};
+ghost use Rattle.acc_token.specs.declared.read_fault.ReadError.TheVariants.{Memory};
 ghost use Rattle.acc_base.specs.Configurations.{rows};
 ghost use Rattle.acc_base.specs.declared.config.TheConstants.{MAX_HOSTS};
 ghost use Rattle.acc_host.specs.Hosts.{AreNumbered};
@@ -63,6 +65,7 @@ fn host_turn<'a>(
     ensures found { Gives (λ x. turn x.0 programs.new.items (spot x.1)) result (host_turn arrays.now programs.old.items (spot at.entry)) }
     ensures numbered { OnOk result (AreNumbered 0 programs.new.items) }
     ensures few { OnOk result (length programs.new.items ≤ MAX_HOSTS) }
+    ensures room { IfErr result (λ error. error ≡ Memory → length programs.old.items < MAX_HOSTS) }
     ensures shorter { IfOk result (λ x. (if x.0 then 1 else 0) + length x.1.bytes.now ≤ length at.entry.bytes.now) }
 {
     let t = token_at(at, false)?;
@@ -133,6 +136,7 @@ fn script_at<'a>(alloc: Global, at: At<'a>) -> Result<Script<'a>, ReadError>
 #[tactic(auto, unfolding(crate::specs::Scripts::script_of))]
 pub fn read<'a>(alloc: Global, text: &'a [u8]) -> Result<Script<'a>, ReadError>
     ensures found { Gives program_of result (script_of text.now) }
+    ensures long { IfErr result (λ error. error ≡ Memory → length text.now ≤ MAX_TEXT) }
     ensures declared { IfOk result (λ s. IsDeclared (record { names = texts s.names.keys; cells = rows s.arrays.items })) }
     ensures numbered { IfOk result (λ s. AreNumbered 0 s.programs.items) }
     ensures few { IfOk result (λ s. length s.programs.items ≤ MAX_HOSTS) }

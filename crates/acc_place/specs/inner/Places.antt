@@ -17,6 +17,7 @@ use Rattle.acc_place.specs.declared.device.Device.{Device}
 use Rattle.acc_place.specs.declared.directive.PlaceEntry.{PlaceEntry}
 use Rattle.acc_place.specs.declared.directive.Region.{Region}
 use Rattle.acc_place.specs.declared.directive.TheConstants.{MAX_ITEMS, MAX_DIRECTIVES}
+use Rattle.acc_place.specs.Closing.{ClosesQueue}
 use Rattle.acc_place.specs.Counters.{IsEnteredBy, entered_ranges}
 use Rattle.acc_place.specs.Histories.{is_closed, standing, AllAccepted, IsQueue}
 use Rattle.acc_place.specs.inner.Noting.{notes_on}
@@ -70,10 +71,6 @@ pub record IsPlace (config : Configuration) (history : List PlaceEntry) (counts 
   pub tied : IsTied config (standing config history counts) devices regions labels
 
 -- ## Closes
-
--- a label is that of a queue's close, whatever its number
-abbrev pub ClosesQueue : QueueAt → Label → Type 0
-ClosesQueue at l = l ≡ record (close_label at []) { number = l.number }
 
 -- how many entries of the history closing takes: one, and one for each queue
 abbrev pub closing_entries : Configuration → ℕ

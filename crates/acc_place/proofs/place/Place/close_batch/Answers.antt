@@ -5,9 +5,9 @@ use Rattle.acc_base.specs.Queues.{seat}
 use Rattle.acc_batch.specs.Awaits.{close_label}
 use Rattle.acc_batch.specs.Labels.{on_queue}
 use Rattle.acc_place.specs.declared.closes.Close.{Close}
-use Rattle.acc_place.specs.Closing.{is_at_hand}
+use Rattle.acc_place.specs.Closing.{is_at_hand, ClosesQueue}
 use Rattle.acc_place.specs.Histories.{IsQueue}
-use Rattle.acc_place.specs.inner.Places.{close_in, ClosesQueue, IsCloseOf}
+use Rattle.acc_place.specs.inner.Places.{close_in, IsCloseOf}
 use Rattle.acc_place.specs.Plans.{standing_in}
 use Rattle.acc_place.proofs.KeptCloses.{at_hand_is, at_hand_set, close_at, close_set, close_without, label_closes, set_own}
 use Rattle.acc_place.proofs.QueuesAfter.{is_queue}

@@ -5,9 +5,9 @@ use Rattle.acc_batch.specs.Awaits.{close_label}
 use Rattle.acc_batch.specs.Labels.{on_queue}
 use Rattle.acc_place.specs.declared.closes.Close.{Close}
 use Rattle.acc_place.specs.declared.directive.PlaceEntry.TheVariants.{Closed}
-use Rattle.acc_place.specs.Closing.{IsOut}
+use Rattle.acc_place.specs.Closing.{IsOut, ClosesQueue}
 use Rattle.acc_place.specs.Histories.{CanClose}
-use Rattle.acc_place.specs.inner.Places.{no_close, ClosesQueue, IsCloseOf}
+use Rattle.acc_place.specs.inner.Places.{no_close, IsCloseOf}
 use Rattle.acc_place.specs.Plans.{standing_in}
 use Rattle.acc_place.proofs.KeptCloses.{close_at, close_gone, closed_by, entry_room, label_closes}
 use Rattle.acc_place.proofs.StandingIn.{reverse-push}
