@@ -29,7 +29,7 @@ queue_of in_directive t =
 abbrev pub begins_queue : List ℕ → Bool
 begins_queue text = begins_value text || (bytes_eq text (codes "acc_async_sync") || bytes_eq text (codes "acc_async_noval"))
 
--- a queue, and the comma or the ) behind it; one too many is told at its first token
+-- a queue, and the comma or the ) behind it
 unfoldable pub queue_behind : List ℤ → Lexeme → Result (Turn (List ℤ)) ReadFault
 queue_behind values t =
     queue_of true t >>= λ queue.
@@ -37,7 +37,7 @@ queue_behind values t =
     if bytes_eq u.text (codes ",") then Ok (turn true (values ++ queue.0 ∷ []) u.after)
     else (exactly (codes ")") u >>= λ at. Ok (turn false (values ++ queue.0 ∷ []) at))
 
--- queues = queue { "," queue }, with the ) behind it
+-- queues = queue { "," queue }, with the ) behind it; one too many is told at its first token
 unfoldable pub queue_turn : List ℤ → Spot → Result (Turn (List ℤ)) ReadFault
 queue_turn values at =
     token_at true at >>= λ t.

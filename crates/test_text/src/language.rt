@@ -569,6 +569,27 @@ const CASES: &[Case] = &[
         report: b"host 0\n1\n7\n14\n3\ndone\nqueue 0 sync batches 3 operations 11 of 11\nend\n",
         refused: false,
     },
+    // sixty-four parentheses inside one another, each read once
+    Case {
+        options: Options::DEFAULT,
+        input: b"long b[2];\nhost {\n#pragma acc parallel loop\nfor (i = 0; i < 2; i++) b[i] = ((((((((((((((((((((((((((((((((((((((((((((((((((((((((((((((((i + 5))))))))))))))))))))))))))))))))))))))))))))))))))))))))))))))));\nprint(b);\n}\n%%\nround 20\n",
+        report: b"host 0\n5 6\ndone\nqueue 0 sync batches 1 operations 5 of 5\nend\n",
+        refused: false,
+    },
+    // thirty-one signs
+    Case {
+        options: Options::DEFAULT,
+        input: b"long b[2];\nhost {\n#pragma acc parallel loop\nfor (i = 0; i < 2; i++) b[i] = -------------------------------i;\nprint(b);\n}\n%%\nround 20\n",
+        report: b"host 0\n0 -1\ndone\nqueue 0 sync batches 1 operations 5 of 5\nend\n",
+        refused: false,
+    },
+    // thirty choices inside one another
+    Case {
+        options: Options::DEFAULT,
+        input: b"long b[2];\nhost {\n#pragma acc parallel loop\nfor (i = 0; i < 2; i++) b[i] = i == 0 ? 1 : i == 0 ? 1 : i == 0 ? 1 : i == 0 ? 1 : i == 0 ? 1 : i == 0 ? 1 : i == 0 ? 1 : i == 0 ? 1 : i == 0 ? 1 : i == 0 ? 1 : i == 0 ? 1 : i == 0 ? 1 : i == 0 ? 1 : i == 0 ? 1 : i == 0 ? 1 : i == 0 ? 1 : i == 0 ? 1 : i == 0 ? 1 : i == 0 ? 1 : i == 0 ? 1 : i == 0 ? 1 : i == 0 ? 1 : i == 0 ? 1 : i == 0 ? 1 : i == 0 ? 1 : i == 0 ? 1 : i == 0 ? 1 : i == 0 ? 1 : i == 0 ? 1 : i == 0 ? 1 : 7;\nprint(b);\n}\n%%\nround 20\n",
+        report: b"host 0\n1 7\ndone\nqueue 0 sync batches 1 operations 5 of 5\nend\n",
+        refused: false,
+    },
 ];
 
 /// An input that is refused, with the line and the kind of its fault, in the schedule or in the script.
