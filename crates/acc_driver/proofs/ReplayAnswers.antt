@@ -2,7 +2,7 @@
 use Rattle.std.proofs.Common.{◌≡◌, ◌≤◌, ℕ, false, List, [], length, take, Result, Ok, Err, refl, sym, ap, ◌∙◌, arith, inl, inr}
 use Rattle.std.specs.Prelude.{nat_lt}
 use Rattle.std.proofs.lemmas.Bool.{cases_lt, le-ltb, lt-ltb}
-use Rattle.std.specs.Prelude.{◌+◌, Option, Some, None, IfSome, All, ℤ, ◌==◌}
+use Rattle.std.specs.Prelude.{◌+◌, ◌⊎◌, Option, Some, None, IfSome, All, ℤ, ◌==◌}
 use Rattle.std.proofs.lemmas.List.Folds.{list_any_none}
 use Rattle.std.proofs.lemmas.Bool.Decides.{nat_tests}
 use Rattle.acc_base.specs.declared.config.TheConstants.{MAX_ARRAYS, MAX_CELLS, MAX_DEVICES, MAX_HOSTS, MAX_CAPACITY, MAX_ROOM}
@@ -18,7 +18,7 @@ use Rattle.acc_driver.specs.declared.replays.TheConstants.{INPUT_LIMIT, TEXT_LIM
 use Rattle.acc_host.specs.declared.event.Event.{Event}
 use Rattle.acc_token.specs.Texts.{within}
 use Rattle.acc_driver.specs.Inputs.{Parts, parts}
-use Rattle.acc_driver.specs.Replays.{driver_fault, events_in, configured, IsWorldFault, IsReaderFault, RunAnswers, AnswersRun, Answers, AreUsable, IsRun}
+use Rattle.acc_driver.specs.Replays.{driver_fault, events_in, configured, IsWorldFault, IsReaderFault, RunAnswers, AnswersRun, Answers, AreUsable, IsRun, IsScript}
 use Rattle.acc_driver.specs.inner.Scripts.{AnswersEvents, IsScriptFault, ScheduleAnswers}
 use Rattle.acc_driver.specs.declared.fault.ReplayFault.{ReplayFault}
 use Rattle.acc_driver.specs.declared.fault.ReplayFault.TheVariants as replay
@@ -125,6 +125,12 @@ whole_texts None of_schedule script schedule options old new result is_script is
 whole_texts (Some s) None script schedule options old new result is_script is_schedule answers = tt
 whole_texts (Some s) (Some e) script schedule options old new result is_script is_schedule answers =
     answers_both options s e old new result (rw (is_script, is_schedule) at answers)
+
+-- a script of which no more than that is read is understood
+pub understood_script : (X : Type 0) (remaining : Option (List ℕ)) (text : List ℕ) (program : Program) → IfSome remaining (λ bytes. text ≡ take TEXT_LIMIT bytes) → script_of text ≡ Ok program
+    → IfSome remaining (λ bytes. IsScript bytes ⊎ X)
+understood_script X None text program is found = tt
+understood_script X (Some bytes) text program is found = inl (program, sym (capped_script bytes) ∙ (ap script_of (sym is) ∙ found))
 
 -- where the script says no program
 pub whole_script : (of_script of_schedule : Option (List ℕ)) (script : List ℕ) (options : Options) (old new : Option (List ℕ)) (f : ReplayFault)

@@ -53,6 +53,10 @@ IsReaderFault (fault.Script f) = ⊥
 IsReaderFault (fault.Schedule f) = ⊥
 IsReaderFault (fault.Runtime f) = ⊥
 
+-- the text is a script
+abbrev pub IsScript : List ℕ → Type 0
+IsScript text = (program : Program) × (script_of text ≡ Ok program)
+
 -- It is the script's own fault.
 abbrev pub IsOfScript : DriverFault → Type 0
 IsOfScript (fault.Script f) = Unit {0}

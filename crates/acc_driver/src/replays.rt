@@ -1,6 +1,6 @@
 //! The path from bytes to bytes, with the faults in their order.
 
-ghost use Rattle.std.specs.Prelude.{◌≡◌, ◌≤◌, IfOk, IfErr, IfSome, List, Ok, length};
+ghost use Rattle.std.specs.Prelude.{◌≡◌, ◌≤◌, ◌⊎◌, IfOk, IfErr, IfSome, List, Ok, length};
 ghost use Rattle.acc_base.specs.Configurations.{rows, configuration};
 ghost use Rattle.acc_base.specs.declared.config.TheConstants.{MAX_HOSTS};
 ghost use Rattle.acc_host.specs.Hosts.{AreNumbered};
@@ -9,7 +9,7 @@ ghost use Rattle.acc_script.specs.Arrays.{IsDeclared, texts};
 ghost use Rattle.acc_driver.specs.Inputs.{parts};
 ghost use Rattle.acc_core.specs.Machine.{Runs};
 ghost use Rattle.acc_host.specs.declared.state.Reply.{Reply};
-ghost use Rattle.acc_driver.specs.Replays.{Answers, RunAnswers, AreUsable, IsOfScript, IsRun, IsWorldFault, driver_fault, of_input, is_refused};
+ghost use Rattle.acc_driver.specs.Replays.{Answers, RunAnswers, AreUsable, IsOfScript, IsRun, IsScript, IsWorldFault, driver_fault, of_input, is_refused};
 ghost use Rattle.acc_driver.specs.inner.Scripts.{IsScriptFault, ScheduleAnswers};
 ghost use Rattle.std.specs.List.{list_any};
 ghost use Rattle.acc_base.specs.declared.fault.Fault.TheVariants.{Memory};
@@ -59,6 +59,7 @@ pub fn replay<R: Read, S: Read, W: Write>(
 ) -> Result<Ended, DriverFault>
     ensures answers { IfSome (R.remaining script.old) (λ script. IfSome (S.remaining schedule.old) (λ schedule. Answers options (record { script = script; schedule = schedule }) (W.contents writer.old) (W.contents writer.new) result)) }
     ensures unread { IfErr result (λ f. IsOfScript f → schedule.new ≡ schedule.old) }
+    ensures understood { IfSome (R.remaining script.old) (λ script. IsScript script ⊎ (schedule.new ≡ schedule.old)) }
     ensures run { AreUsable options → IsRun result }
 {
     let text = match read_text(alloc, script, TEXT_LIMIT, TEXT_TURNS) {

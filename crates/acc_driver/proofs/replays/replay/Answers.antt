@@ -1,7 +1,7 @@
 use Rattle.std.proofs.Common.{rules}
 use Rattle.acc_script.specs.Scripts.{program_of}
 use Rattle.acc_driver.specs.Replays.{of_input}
-use Rattle.acc_driver.proofs.ReplayAnswers.{schedule_answered, whole_script, whole_texts}
+use Rattle.acc_driver.proofs.ReplayAnswers.{schedule_answered, understood_script, whole_script, whole_texts}
 use Rattle.acc_driver.proofs.replays.replay.Goals as goal
 
 pub returns-in-Err-read_script-clause-answers : goal.returns-in-Err-read_script-clause-answers
@@ -18,3 +18,13 @@ returns-clause-answers g c =
     rw c.of_input-2.ensures
     (whole_texts (g.R.Read.remaining c.args.script.now) (g.S.Read.remaining c.args.schedule.now) c.in-Ok.text.items c.in-Ok-read_text.schedule.items c.args.options _ _ _
     c.in-Ok.ensures.bytes c.in-Ok-read_text.ensures.bytes both)
+
+pub returns-in-Err-read_text-clause-understood : goal.returns-in-Err-read_text-clause-understood
+returns-in-Err-read_text-clause-understood g c =
+    let found = rw c.as_slice.ensures.value at c.in-Ok-read_script.ensures.found in
+    understood_script _ (g.R.Read.remaining c.args.script.now) c.in-Ok.text.items (program_of c.in-Ok-read_script.script) c.in-Ok.ensures.bytes found
+
+pub returns-clause-understood : goal.returns-clause-understood
+returns-clause-understood g c =
+    let found = rw c.as_slice.ensures.value at c.in-Ok-read_script.ensures.found in
+    understood_script _ (g.R.Read.remaining c.args.script.now) c.in-Ok.text.items (program_of c.in-Ok-read_script.script) c.in-Ok.ensures.bytes found
