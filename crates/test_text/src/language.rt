@@ -2,6 +2,8 @@
 //! out by hand; a contract compares with definitions alone.
 
 use acc_driver::{DriverFault, Ended, Options, ReadFault, ReadKind, replay_one};
+use std::alloc::Global;
+use std::process::Abort;
 use std::test::Fail;
 
 /// An input under these options, its report, and whether a host was refused.
@@ -569,6 +571,10 @@ const CASES: &[Case] = &[
         report: b"host 0\n1\n7\n14\n3\ndone\nqueue 0 sync batches 3 operations 11 of 11\nend\n",
         refused: false,
     },
+];
+
+/// Expressions as deep as there may be: a reader that reads a part twice never comes to their end.
+const DEEP: &[Case] = &[
     // sixty-four parentheses inside one another, each read once
     Case {
         options: Options::DEFAULT,
@@ -708,13 +714,12 @@ const FAULTY: &[Faulty] = &[
     },
 ];
 
-/// Programs of each kind of directive, worked by hand.
-#[test]
-fn worked_programs_have_their_reports(rt: HostRuntime) -> Result<(), Fail> {
-    for case in CASES {
+// Each input has its report.
+fn check_reports(rt: &impl Abort, alloc: Global, cases: &[Case]) {
+    for case in cases {
         let mut input = case.input;
-        let mut written = Vec::new(rt.alloc());
-        let answer = replay_one(rt.alloc(), &mut input, case.options, &mut written);
+        let mut written = Vec::new(alloc);
+        let answer = replay_one(alloc, &mut input, case.options, &mut written);
         assert_eq!(rt; written.as_slice(), case.report);
         assert_eq!(rt;
             answer,
@@ -723,6 +728,19 @@ fn worked_programs_have_their_reports(rt: HostRuntime) -> Result<(), Fail> {
             })
         );
     }
+}
+
+/// Programs of each kind of directive, worked by hand.
+#[test]
+fn worked_programs_have_their_reports(rt: HostRuntime) -> Result<(), Fail> {
+    check_reports(&rt, rt.alloc(), CASES);
+    Ok(())
+}
+
+/// Deep expressions are read in time, and have their values.
+#[test]
+fn deep_expressions_are_replayed(rt: HostRuntime) -> Result<(), Fail> {
+    check_reports(&rt, rt.alloc(), DEEP);
     Ok(())
 }
 
