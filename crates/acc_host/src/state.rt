@@ -17,7 +17,7 @@ pub struct Awaited {
 }
 
 /// What a host does next.
-#[derive(Clone, Copy, Debug, PartialEq, Eq)]
+#[derive(Clone, Copy)]
 pub enum Phase {
     Ready,
     /// It waits until each queue of the device has performed so many batches.

@@ -37,7 +37,7 @@ pub struct Known<'a> {
 
 /// What became of an item: the number of the block that held its range before, of the block of the lifetime that it
 /// opened, and of the one that it ended.
-#[derive(Clone, Copy, Debug, PartialEq, Eq)]
+#[derive(Clone, Copy)]
 pub struct Marked {
     pub item: DataItem,
     pub held: Option<u64>,

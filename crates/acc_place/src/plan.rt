@@ -26,7 +26,7 @@ use std::alloc::Global;
 use std::marker::Model;
 
 /// The groups of a batch's operations, in their order.
-#[derive(Clone, Copy, Debug, PartialEq, Eq)]
+#[derive(Clone, Copy)]
 pub enum Group {
     Makes,
     CopyIns,

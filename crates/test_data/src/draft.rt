@@ -69,12 +69,10 @@ fn entry(range: Range, block: u64, d: u64) -> Look {
 }
 
 #[test]
-fn a_draft_shows_what_its_marks_make(rt: HostRuntime) -> Result<(), Fail> {
+fn ended_ranges_lie_in_no_way(rt: HostRuntime) -> Result<(), Fail> {
     let mut table = Table::new(rt.alloc(), CELLS);
     let _ = entered_into(&rt, &mut table, cells(0, 2), 1);
     let _ = entered_into(&rt, &mut table, cells(2, 2), 2);
-    let _ = entered_into(&rt, &mut table, cells(8, 4), 3);
-    let _ = entered_into(&rt, &mut table, cells(8, 4), 4);
     let mut draft = Draft::with_room(rt.alloc(), 16)?;
     draft.begin(&table);
     assert_eq!(rt; draft.look(&table, cells(0, 4)), Look::Partly);
@@ -92,12 +90,36 @@ fn a_draft_shows_what_its_marks_make(rt: HostRuntime) -> Result<(), Fail> {
         drafted_out_of(&table, &mut draft, cells(0, 4)),
         Left::Nothing
     );
+    Ok(())
+}
+
+#[test]
+fn a_range_is_opened_over_ended_ones(rt: HostRuntime) -> Result<(), Fail> {
+    let mut table = Table::new(rt.alloc(), CELLS);
+    let _ = entered_into(&rt, &mut table, cells(0, 2), 1);
+    let _ = entered_into(&rt, &mut table, cells(2, 2), 2);
+    let mut draft = Draft::with_room(rt.alloc(), 16)?;
+    draft.begin(&table);
+    let _ = drafted_out_of(&table, &mut draft, cells(0, 2));
+    let _ = drafted_out_of(&table, &mut draft, cells(2, 2));
     assert_eq!(rt;
         drafted_into(&rt, &table, &mut draft, cells(1, 5), 4),
         Entered::Opened
     );
     assert_eq!(rt; draft.look(&table, cells(2, 3)), entry(cells(1, 5), 4, 1));
     assert_eq!(rt; draft.look(&table, cells(0, 2)), Look::Partly);
+    assert_eq!(rt; draft.used_cells(), 5);
+    assert_eq!(rt; table.used_cells(), 4);
+    Ok(())
+}
+
+#[test]
+fn a_draft_leaves_the_table_as_it_was(rt: HostRuntime) -> Result<(), Fail> {
+    let mut table = Table::new(rt.alloc(), CELLS);
+    let _ = entered_into(&rt, &mut table, cells(8, 4), 3);
+    let _ = entered_into(&rt, &mut table, cells(8, 4), 4);
+    let mut draft = Draft::with_room(rt.alloc(), 16)?;
+    draft.begin(&table);
     assert_eq!(rt;
         drafted_out_of(&table, &mut draft, cells(9, 1)),
         Left::Counted
@@ -108,8 +130,8 @@ fn a_draft_shows_what_its_marks_make(rt: HostRuntime) -> Result<(), Fail> {
         Left::Ended(BlockId::new(3))
     );
     assert_eq!(rt; draft.look(&table, cells(6, 3)), Look::Absent);
-    assert_eq!(rt; draft.used_cells(), 5);
-    assert_eq!(rt; table.used_cells(), 8);
+    assert_eq!(rt; draft.used_cells(), 0);
+    assert_eq!(rt; table.used_cells(), 4);
     draft.begin(&table);
     assert_eq!(rt; draft.look(&table, cells(8, 4)), entry(cells(8, 4), 3, 2));
     Ok(())

@@ -28,7 +28,7 @@ fn left_by_region(rt: &impl Abort, table: &mut Table, range: Range) -> Left
 }
 
 #[test]
-fn a_range_is_entered_and_left(rt: HostRuntime) -> Result<(), Fail> {
+fn a_range_is_entered(rt: HostRuntime) {
     let mut table = Table::new(rt.alloc(), CELLS);
     assert_eq!(rt; table.look(cells(2, 4)), Look::Absent);
     assert_eq!(rt;
@@ -45,12 +45,26 @@ fn a_range_is_entered_and_left(rt: HostRuntime) -> Result<(), Fail> {
     assert_eq!(rt; table.counters(cells(2, 1)), Some((0, 2)));
     assert_eq!(rt; table.counters(cells(1, 1)), None);
     assert_eq!(rt; table.used_cells(), 4);
+}
+
+#[test]
+fn an_entry_is_shown(rt: HostRuntime) {
+    let mut table = Table::new(rt.alloc(), CELLS);
+    let _ = entered_into(&rt, &mut table, cells(2, 4), 7);
+    let _ = entered_into(&rt, &mut table, cells(3, 2), 8);
     let opened = table.nth(0).copied();
     assert_eq!(rt;
         opened.map(|e| (e.range, e.block, e.s, e.d)),
         Some((cells(2, 4), BlockId::new(7), 0, 2))
     );
     assert_eq!(rt; table.nth(1).copied(), None);
+}
+
+#[test]
+fn a_range_is_left(rt: HostRuntime) {
+    let mut table = Table::new(rt.alloc(), CELLS);
+    let _ = entered_into(&rt, &mut table, cells(2, 4), 7);
+    let _ = entered_into(&rt, &mut table, cells(3, 2), 8);
     assert_eq!(rt; table.leave(cells(6, 1), Counter::Dynamic), Left::Nothing);
     assert_eq!(rt; table.leave(cells(5, 1), Counter::Dynamic), Left::Counted);
     assert_eq!(rt;
@@ -59,11 +73,10 @@ fn a_range_is_entered_and_left(rt: HostRuntime) -> Result<(), Fail> {
     );
     assert_eq!(rt; table.leave(cells(2, 4), Counter::Dynamic), Left::Nothing);
     assert_eq!(rt; table.used_cells(), 0);
-    Ok(())
 }
 
 #[test]
-fn regions_and_entries_are_counted_apart(rt: HostRuntime) {
+fn what_a_region_holds_is_counted_apart(rt: HostRuntime) {
     let whole = cells(2, 4);
     let part = cells(3, 2);
     let mut table = Table::new(rt.alloc(), CELLS);
@@ -75,19 +88,38 @@ fn regions_and_entries_are_counted_apart(rt: HostRuntime) {
     assert_eq!(rt; table.finalize(part), Left::Nothing);
     assert_eq!(rt; entered_into(&rt, &mut table, part, 2), Entered::Counted);
     assert_eq!(rt; entered_into(&rt, &mut table, part, 3), Entered::Counted);
+    assert_eq!(rt; table.counters(part), Some((1, 2)));
+    assert_eq!(rt; table.finalize(part), Left::Counted);
+    assert_eq!(rt; table.counters(whole), Some((1, 0)));
+}
+
+#[test]
+fn a_range_ends_with_its_last_region(rt: HostRuntime) {
+    let whole = cells(2, 4);
+    let part = cells(3, 2);
+    let mut table = Table::new(rt.alloc(), CELLS);
+    assert_eq!(rt;
+        entered_by(&rt, &mut table, whole, Counter::Structured, 1),
+        Entered::Opened
+    );
     assert_eq!(rt;
         entered_by(&rt, &mut table, part, Counter::Structured, 4),
         Entered::Counted
     );
-    assert_eq!(rt; table.counters(part), Some((2, 2)));
-    assert_eq!(rt; table.finalize(part), Left::Counted);
-    assert_eq!(rt; table.counters(whole), Some((2, 0)));
+    assert_eq!(rt; table.counters(part), Some((2, 0)));
     assert_eq!(rt; left_by_region(&rt, &mut table, part), Left::Counted);
     assert_eq!(rt;
         left_by_region(&rt, &mut table, whole),
         Left::Ended(BlockId::new(1))
     );
     assert_eq!(rt; table.finalize(whole), Left::Nothing);
+    assert_eq!(rt; table.used_cells(), 0);
+}
+
+#[test]
+fn finalize_ends_at_once_what_was_entered_twice(rt: HostRuntime) {
+    let part = cells(3, 2);
+    let mut table = Table::new(rt.alloc(), CELLS);
     assert_eq!(rt; entered_into(&rt, &mut table, part, 5), Entered::Opened);
     assert_eq!(rt; entered_into(&rt, &mut table, part, 6), Entered::Counted);
     assert_eq!(rt; table.finalize(part), Left::Ended(BlockId::new(5)));

@@ -224,35 +224,50 @@ fn set_input(job: &mut Job, place: usize, values: &[i64]) {
     }
 }
 
-fn check(
-    rt: &impl Abort,
-    alloc: Global,
-    (body, rows): (Body, &[Row]),
-    (lo, turns): (i64, i64),
-) -> Result<(), Fail> {
-    let hi = lo.wrapping_add(turns);
+// The job of a loop from lo to hi - 1, computed, if the arrays hold all cells that it refers to.
+fn computed(alloc: Global, rows: &[Row], (lo, hi): (i64, i64)) -> Result<Option<Job>, Fail> {
     let kernel = Kernel::new(alloc, lo, hi, statements_of(alloc, rows)?)?;
     let kernel = Shared::new(alloc, kernel)?;
     let Some(mut job) = job_of(alloc, &kernel, &uses_of(alloc)?)? else {
-        assert!(rt; false, "{body:?} isn't held");
-        return Ok(());
+        return Ok(None);
     };
     for array in 0..3u8 {
         let values = values_of(alloc, |cell| before(array, cell))?;
         set_input(&mut job, usize::from(array), values.as_slice());
     }
     job.compute();
-    assert_eq!(rt; job.uses().len(), 3);
-    for array in 0..3u8 {
-        let wanted = values_of(alloc, |cell| after(body, (lo, hi), array, cell))?;
-        let place = usize::from(array);
-        if place < job.uses().len() {
-            assert_eq!(rt;
-                job.output(place),
-                wanted.as_slice(),
-                "{body:?}, {turns} turns from {lo} on"
-            );
+    Ok(Some(job))
+}
+
+// What a job computed for an array is what plain code gives.
+fn check_output(
+    rt: &impl Abort,
+    alloc: Global,
+    job: &Job,
+    array: u8,
+    (body, span): (Body, (i64, i64)),
+) -> Result<(), Fault> {
+    let place = usize::from(array);
+    assert!(rt; place < job.uses().len());
+    let wanted = values_of(alloc, |cell| after(body, span, array, cell))?;
+    assert_eq!(rt; job.output(place), wanted.as_slice(), "{body:?}, {span:?}");
+    Ok(())
+}
+
+fn check(
+    rt: &impl Abort,
+    alloc: Global,
+    (body, rows): (Body, &[Row]),
+    (lo, turns): (i64, i64),
+) -> Result<(), Fail> {
+    let span = (lo, lo.wrapping_add(turns));
+    match computed(alloc, rows, span)? {
+        Some(job) => {
+            for array in 0..3u8 {
+                check_output(rt, alloc, &job, array, (body, span))?;
+            }
         }
+        None => assert!(rt; false, "{body:?} isn't held"),
     }
     Ok(())
 }

@@ -4,6 +4,7 @@
 use acc_base::Fault;
 use acc_kernel::{Assign, Expr, Kernel, KernelFault, MAX_DISTANCE, Reach};
 use std::alloc::Global;
+use std::process::Abort;
 use std::test::Fail;
 use tool_loops::Part::{self, Choose, Index, Negate, Number, Read};
 use tool_loops::{PLUS, expr_of};
@@ -122,14 +123,28 @@ fn what_a_loop_reaches(rt: HostRuntime) -> Result<(), Fail> {
         (4, 3, None, None),
     ];
     let value = expr_of(rt.alloc(), &[Index, Read(1, -2), Read(1, 3), Choose])?;
-    for (lo, hi, read, assigned) in &cases {
-        let statements = repeated(rt.alloc(), 1, &value)?;
-        let kernel = Kernel::new(rt.alloc(), *lo, *hi, statements)?.try_clone(rt.alloc())?;
-        let reach = |(first, last): (i64, i64)| Reach { first, last };
-        assert_eq!(rt; kernel.reach(0), assigned.map(reach));
-        assert_eq!(rt; kernel.reach(1), read.map(reach));
-        assert_eq!(rt; kernel.reach(2), None);
-        assert_eq!(rt; kernel.statements().len(), 1);
+    for case in &cases {
+        check_reach(&rt, rt.alloc(), &value, *case)?;
     }
+    Ok(())
+}
+
+/// The first and the last cell of an array that a loop reaches, if it reaches one.
+type Cells = Option<(i64, i64)>;
+
+// What a loop from lo to hi - 1 reads of array 1 and assigns of array 0.
+fn check_reach(
+    rt: &impl Abort,
+    alloc: Global,
+    value: &Expr,
+    (lo, hi, read, assigned): (i64, i64, Cells, Cells),
+) -> Result<(), Fail> {
+    let statements = repeated(alloc, 1, value)?;
+    let kernel = Kernel::new(alloc, lo, hi, statements)?.try_clone(alloc)?;
+    let reach = |(first, last): (i64, i64)| Reach { first, last };
+    assert_eq!(rt; kernel.reach(0), assigned.map(reach));
+    assert_eq!(rt; kernel.reach(1), read.map(reach));
+    assert_eq!(rt; kernel.reach(2), None);
+    assert_eq!(rt; kernel.statements().len(), 1);
     Ok(())
 }

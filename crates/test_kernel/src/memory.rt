@@ -8,7 +8,7 @@ use std::alloc::Global;
 use std::process::Abort;
 use std::test::Fail;
 use tool_loops::Part::{self, Choose, Index, Negate, Number, Read};
-use tool_loops::{Row, TIMES, job_of, statements_of};
+use tool_loops::{Row, TIMES, expr_of, job_of, statements_of};
 use tool_scarce::at_each_amount;
 
 /// `-(i * 5) ? y[i + 2] : y[i]`, where y is array 1
@@ -72,43 +72,51 @@ fn a_loop_is_refused_until_there_is_memory(rt: HostRuntime) -> Result<(), Fail> 
     Ok(())
 }
 
-/// Each call that makes an expression, alone; what was refused to grow is as it was.
+/// Each call that makes an expression of parts, alone; what was refused to grow is as it was.
 #[test]
-fn expressions_are_refused_until_there_is_memory(rt: HostRuntime) -> Result<(), Fail> {
+fn an_expression_is_refused_until_there_is_memory(rt: HostRuntime) -> Result<(), Fail> {
     let alloc = rt.alloc();
     let (refusals, five) = at_each_amount(alloc, || Expr::number(alloc, 5))?;
     assert!(rt; 0 < refusals, "number");
     let (refusals, mut expr) = at_each_amount(alloc, || Expr::index(alloc))?;
     assert!(rt; 0 < refusals, "index");
-    let (refusals, first) = at_each_amount(alloc, || Expr::read(alloc, 1, 2))?;
-    assert!(rt; 0 < refusals, "read");
-    let second = Expr::read(alloc, 1, 0)?;
     let (refusals, ()) = at_each_amount(alloc, || expr.binary(Operator::Times, &five))?;
     assert!(rt; 0 < refusals, "binary");
     // it may have room for this
     expr.negate()?;
+    check_values(&rt, alloc, expr, &[0, -5])
+}
+
+/// A choice between cells, and the copy of an expression, which has room for no more.
+#[test]
+fn a_choice_is_refused_until_there_is_memory(rt: HostRuntime) -> Result<(), Fail> {
+    let alloc = rt.alloc();
+    let (refusals, first) = at_each_amount(alloc, || Expr::read(alloc, 1, 2))?;
+    assert!(rt; 0 < refusals, "read");
+    let second = Expr::read(alloc, 1, 0)?;
+    let expr = expr_of(alloc, &[Index, Number(5), TIMES, Negate])?;
     let (refusals, mut copy) = at_each_amount(alloc, || expr.try_clone(alloc))?;
     assert!(rt; 0 < refusals, "try_clone");
     let (refusals, ()) = at_each_amount(alloc, || copy.choose(&first, &second))?;
     assert!(rt; 0 < refusals, "choose");
-    let (refusals, whole) = at_each_amount(alloc, || copy.try_clone(alloc))?;
-    assert!(rt; 0 < refusals, "try_clone");
-    for expr in [copy, whole] {
-        assert_eq!(rt; expr.depth(), 4);
-        check_values(&rt, alloc, expr)?;
-    }
-    Ok(())
+    assert_eq!(rt; copy.depth(), 4);
+    check_values(&rt, alloc, copy, &[10, 40])
 }
 
-// `x[i] = -(i * 5) ? y[i + 2] : y[i]` from 0 to 1, where the expression is as here.
-fn check_values(rt: &impl Abort, alloc: Global, value: Expr) -> Result<(), Fail> {
+// `x[i] = value` from 0 to 1, where y, the array 1, holds 10, 20, 30, 40.
+fn check_values(
+    rt: &impl Abort,
+    alloc: Global,
+    value: Expr,
+    x_after: &[i64; 2],
+) -> Result<(), Fail> {
     let statements = vec![in alloc; Assign { array: 0, value }]?;
     let Some(kernel) = kernel_of(alloc, statements)? else {
         assert!(rt; false, "refused");
         return Ok(());
     };
     let y = [10, 20, 30, 40];
-    check(rt, alloc, kernel, (&[7, 7], &[10, 40]), (&y, &y))?;
+    check(rt, alloc, kernel, (&[7, 7], x_after), (&y, &y))?;
     Ok(())
 }
 
@@ -144,14 +152,21 @@ fn uses_of(alloc: Global, len: u32) -> Result<Shared<Listed<(BlockId, Range)>>, 
     Shared::new(alloc, Listed::from_vec(uses))
 }
 
+// The loop as a value that jobs share.
+fn shared_loop(alloc: Global) -> Result<Option<Shared<Kernel>>, Fault> {
+    match kernel_of(alloc, statements_of(alloc, &LOOP)?)? {
+        Some(kernel) => Ok(Some(Shared::new(alloc, kernel)?)),
+        None => Ok(None),
+    }
+}
+
 #[test]
 fn a_job_is_refused_until_there_is_memory(rt: HostRuntime) -> Result<(), Fail> {
     let alloc = rt.alloc();
-    let Some(kernel) = kernel_of(alloc, statements_of(alloc, &LOOP)?)? else {
+    let Some(kernel) = shared_loop(alloc)? else {
         assert!(rt; false, "refused");
         return Ok(());
     };
-    let kernel = Shared::new(alloc, kernel)?;
     let uses = uses_of(alloc, 4)?;
     let (refusals, job) = at_each_amount(alloc, || job_of(alloc, &kernel, &uses))?;
     assert!(rt; 5 < refusals, "{refusals} refusals");
@@ -159,10 +174,19 @@ fn a_job_is_refused_until_there_is_memory(rt: HostRuntime) -> Result<(), Fail> {
         assert!(rt; false, "not held");
         return Ok(());
     };
-    assert_eq!(rt; job.uses().len(), 2);
     let (loop_of_job, uses_of_job) = job.into_parts();
     assert_eq!(rt; loop_of_job.get().arrays(), [0, 1].as_slice());
     assert_eq!(rt; uses_of_job.get().as_slice(), uses.get().as_slice());
+    Ok(())
+}
+
+#[test]
+fn a_loop_that_its_uses_do_not_hold_has_no_job(rt: HostRuntime) -> Result<(), Fail> {
+    let alloc = rt.alloc();
+    let Some(kernel) = shared_loop(alloc)? else {
+        assert!(rt; false, "refused");
+        return Ok(());
+    };
     assert!(rt; job_of(alloc, &kernel, &uses_of(alloc, 3)?)?.is_none());
     Ok(())
 }

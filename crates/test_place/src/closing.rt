@@ -307,10 +307,18 @@ fn closing_takes_no_memory(rt: HostRuntime) -> Result<(), Fail> {
     let second = count_closed(&mut place, 1);
     hoard.free();
     assert_eq!(rt; (first, second), (8, 8));
-    assert_eq!(rt; place.history().len(), 23);
     for device in 0..2u8 {
         check_closed(&rt, &mut place, device, &PLACED[usize::from(device)]);
     }
+    Ok(())
+}
+
+/// The history has each of them, in order, and the counts those of directives alone.
+#[test]
+fn the_history_tells_that_closing_begins_and_each_close(rt: HostRuntime) -> Result<(), Fail> {
+    let mut place = place_with_batches(rt.alloc())?;
+    let closed = [count_closed(&mut place, 0), count_closed(&mut place, 1)];
+    assert_eq!(rt; closed, [8, 8]);
     let (_, history, counts) = place.into_histories();
     assert!(rt; matches!(history.get(6), Some(PlaceEntry::Closing)));
     assert_eq!(rt; history.len(), 23);
