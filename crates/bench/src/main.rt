@@ -13,7 +13,7 @@ mod workloads;
 use acc_base::Fault;
 use acc_kernel::Job;
 use loops::{CELLS, job_for, parts_of};
-use queue::{ROOM, crossings_of};
+use queue::{Crossings, ROOM, crossings_of};
 use std::alloc::Global;
 use std::{env, io};
 use tally::{Tally, tally_of};
@@ -68,54 +68,69 @@ fn number_of(word: Option<String>, otherwise: u32) -> u32 {
     }
 }
 
+fn print_loop(rt: &HostRuntime, name: &str, times: u32, cells: u32) -> io::Result<()> {
+    match loop_sum(rt.alloc(), name, times, cells) {
+        Ok(sum) => println!(rt; "{sum}"),
+        Err(fault) => println!(rt; "{fault}"),
+    }
+}
+
+fn print_crossings(rt: &HostRuntime, told: Result<Crossings, Fault>) -> io::Result<()> {
+    match told {
+        Ok(crossings) => println!(rt; "{crossings}"),
+        Err(fault) => println!(rt; "{fault}"),
+    }
+}
+
+fn print_world(
+    rt: &HostRuntime,
+    name: &str,
+    turns: u32,
+    times: u32,
+    is_whole: bool,
+) -> io::Result<()> {
+    match world_tally(rt.alloc(), name, turns, times, is_whole) {
+        Ok(tally) => println!(rt; "{tally}"),
+        Err(failure) => println!(rt; "{failure}"),
+    }
+}
+
+// A line for each loop and for each world.
+fn print_all(rt: &HostRuntime) -> io::Result<()> {
+    for name in &loops::NAMES {
+        print!(rt; "{name} ")?;
+        print_loop(rt, name, 1, CELLS)?;
+    }
+    for name in &workloads::NAMES {
+        print!(rt; "{name} ")?;
+        print_world(rt, name, 10, 1, true)?;
+    }
+    Ok(())
+}
+
 fn main(rt: HostRuntime) -> io::Result<()> {
     let mut words = env::args(&rt)?;
     words.next();
-    let kind = words.next();
-    let name = words.next();
+    let (kind, name) = (words.next(), words.next());
+    let (first, second) = (words.next(), words.next());
+    let is_whole = words.next().is_none();
     match (kind, name) {
         (Some(kind), Some(name)) => {
             if kind.as_str() == "loop" {
-                let times = number_of(words.next(), 1);
-                let cells = number_of(words.next(), CELLS);
-                match loop_sum(rt.alloc(), name.as_str(), times, cells) {
-                    Ok(sum) => println!(rt; "{sum}"),
-                    Err(fault) => println!(rt; "{fault}"),
-                }
+                let times = number_of(first, 1);
+                print_loop(&rt, name.as_str(), times, number_of(second, CELLS))
             } else if kind.as_str() == "queue" {
-                let room = number_of(Some(name), ROOM);
-                let times = number_of(words.next(), 1);
-                match crossings_of(&rt, rt.alloc(), room, times) {
-                    Ok(crossings) => println!(rt; "{crossings}"),
-                    Err(fault) => println!(rt; "{fault}"),
-                }
+                let (room, times) = (number_of(Some(name), ROOM), number_of(first, 1));
+                print_crossings(&rt, crossings_of(&rt, rt.alloc(), room, times))
             } else {
-                let turns = number_of(words.next(), 1);
-                let times = number_of(words.next(), 1);
-                let is_whole = words.next().is_none();
-                match world_tally(rt.alloc(), name.as_str(), turns, times, is_whole) {
-                    Ok(tally) => println!(rt; "{tally}"),
-                    Err(failure) => println!(rt; "{failure}"),
-                }
+                let turns = number_of(first, 1);
+                print_world(&rt, name.as_str(), turns, number_of(second, 1), is_whole)
             }
         }
         _ => {
-            for name in &loops::NAMES {
-                match loop_sum(rt.alloc(), name, 1, CELLS) {
-                    Ok(sum) => println!(rt; "{name} {sum}")?,
-                    Err(fault) => println!(rt; "{fault}")?,
-                }
-            }
-            for name in &workloads::NAMES {
-                match world_tally(rt.alloc(), name, 10, 1, true) {
-                    Ok(tally) => println!(rt; "{name} {tally}")?,
-                    Err(failure) => println!(rt; "{name} {failure}")?,
-                }
-            }
-            match crossings_of(&rt, rt.alloc(), ROOM, 1_000) {
-                Ok(crossings) => println!(rt; "queue {crossings}"),
-                Err(fault) => println!(rt; "{fault}"),
-            }
+            print_all(&rt)?;
+            print!(rt; "queue ")?;
+            print_crossings(&rt, crossings_of(&rt, rt.alloc(), ROOM, 1_000))
         }
     }
 }

@@ -98,18 +98,30 @@ fn updates(alloc: Global) -> Result<Vec<u8>, AllocError> {
     Ok(text)
 }
 
-/// Neither closing nor performing the closes takes memory, in a new world and behind many batches.
-#[test]
-fn closing_takes_no_memory(rt: HostRuntime) -> Result<(), Fail> {
-    let alloc = rt.alloc();
-    let mut world = world_of(alloc, b"host { }\n", ONE)?;
-    let replies = scarce_closes(alloc, &mut world)?;
+// Neither closing nor performing the closes takes memory.
+fn check_scarce_closes(
+    rt: &impl Abort,
+    alloc: Global,
+    world: &mut World,
+) -> Result<(), AllocError> {
+    let replies = scarce_closes(alloc, world)?;
     assert!(rt; replies == [Reply::Remaining(0); 2]);
-    let text = updates(alloc)?;
-    let mut world = world_of(alloc, text.as_slice(), ONE)?;
+    Ok(())
+}
+
+#[test]
+fn closing_a_new_world_takes_no_memory(rt: HostRuntime) -> Result<(), Fail> {
+    let mut world = world_of(rt.alloc(), b"host { }\n", ONE)?;
+    check_scarce_closes(&rt, rt.alloc(), &mut world)?;
+    Ok(())
+}
+
+#[test]
+fn closing_behind_many_batches_takes_no_memory(rt: HostRuntime) -> Result<(), Fail> {
+    let text = updates(rt.alloc())?;
+    let mut world = world_of(rt.alloc(), text.as_slice(), ONE)?;
     check_steps(&rt, &mut world, 0, 64);
     turns(&mut world, 70);
-    let replies = scarce_closes(alloc, &mut world)?;
-    assert!(rt; replies == [Reply::Remaining(0); 2]);
+    check_scarce_closes(&rt, rt.alloc(), &mut world)?;
     Ok(())
 }
