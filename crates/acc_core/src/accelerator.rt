@@ -1,6 +1,6 @@
 //! The place, the queues and the work side as one: the machine without its hosts, and their engine.
 
-ghost use Rattle.std.specs.Prelude.{reverse, ◌≡◌, ◌+◌, ◌<◌, ◌≤◌, [], length, IfOk, IfErr, OnOk, OnErr, OnSome, true, false, slice_get, IsTrue, ◌^◌, Ok};
+ghost use Rattle.std.specs.Prelude.{reverse, ◌≡◌, ◌+◌, ◌<◌, ◌≤◌, ℕ, [], length, IfOk, IfErr, OnOk, OnErr, OnSome, true, false, slice_get, IsTrue, ◌^◌, Ok};
 ghost use Rattle.acc_base.specs.declared.config.TheConstants.{MAX_HOSTS};
 ghost use Rattle.acc_host.specs.Engines.{Wait, Record, MayRecord, without_item};
 ghost use Rattle.acc_core.specs.inner.Answers.{Makes, Places};
@@ -9,7 +9,8 @@ ghost use Rattle.acc_core.specs.Legality.{AllRise};
 ghost use Rattle.acc_core.specs.inner.Ties.{has_cells, HasRoom};
 ghost use Rattle.acc_place.specs.Histories.{is_closed, IsQueue};
 ghost use Rattle.acc_base.specs.Queues.{queue_count};
-ghost use Rattle.acc_work.specs.Works.{HasMadeRoom};
+ghost use Rattle.acc_memory.specs.Memories.{rows_on, room_on};
+ghost use Rattle.acc_work.specs.Works.{HasMadeRoom, HasQueue, lane_at};
 ghost use Rattle.acc_work.specs.Logs.{all_done, performed};
 ghost use Rattle.acc_core.specs.inner.Closing.{closing_begun, closes_one};
 ghost use Rattle.acc_core.specs.Machine.{state_at_first, step, standing_of, labels_of};
@@ -96,15 +97,10 @@ impl Accelerator {
             Some(batch) => {
                 let QueueAt { device, queue } = batch.label().at;
                 let seat = QueueAt { device, queue }.seat();
-                if self.queues[seat].len() >= self.place.config().room() as usize {
-                    return Err(Fault::QueueFull);
-                }
                 let count = batch.ops().len();
-                let waiting = match self.waiting.checked_add(count) {
-                    Some(waiting) => waiting,
-                    None => return Err(Fault::Memory),
-                };
-                self.work.spare(QueueAt { device, queue }, waiting)?;
+                let has_room = self.queues[seat].len() < self.place.config().room() as usize;
+                let at = QueueAt { device, queue };
+                let waiting = room_for(&mut self.work, at, has_room, self.waiting, count)?;
                 let placed = self.place.accept(plan);
                 self.queues[seat].push(batch, count);
                 self.waiting = waiting;
@@ -390,4 +386,36 @@ fn spare_closes(work: &mut Work, config: &Config) -> Result<(), Fault>
         work.spare(QueueAt::at_seat(index), usize::from(count))?;
     }
     Ok(())
+}
+
+// Makes room for a batch of so many operations beside those that wait, where its queue has room for it: in its lane, in the log,
+// and beside the blocks of each device. Answers how many wait with it.
+fn room_for(
+    work: &mut Work,
+    at: QueueAt,
+    has_room: bool,
+    waiting: usize,
+    count: usize,
+) -> Result<usize, Fault>
+    requires queue { HasQueue work.old at }
+    ensures kept { HasMadeRoom work.old work.new }
+    ensures full { IfErr result (λ f. has_room ≡ false → f ≡ Fault.QueueFull) }
+    ensures fault { IfErr result (λ f. has_room ≡ true → f ≡ Fault.Memory) }
+    ensures some { OnOk result (has_room ≡ true) }
+    ensures waiting { IfOk result (λ more. more ≡ waiting + count) }
+    ensures fits { IfOk result (λ more. more < 2 ^ 64) }
+    ensures log { IfOk result (λ more. length work.new.work + more ≤ work.new.room) }
+    ensures lane { IfOk result (λ more. length (lane_at work.new at).taken + more ≤ (lane_at work.new at).room) }
+    ensures blocks { IfOk result (λ more. (d : ℕ) → d < length work.new.memory.devices → length (rows_on work.new.memory d) + more ≤ room_on work.new.memory d) }
+{
+    if !has_room {
+        return Err(Fault::QueueFull);
+    }
+    match waiting.checked_add(count) {
+        Some(more) => {
+            work.spare(at, more)?;
+            Ok(more)
+        }
+        None => Err(Fault::Memory),
+    }
 }
