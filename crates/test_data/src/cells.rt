@@ -4,6 +4,7 @@
 ghost use Rattle.std.specs.Prelude.{◌≡◌};
 ghost use Rattle.acc_raw.specs.Windows.{IsWithin, AreApart};
 
+use crate::fixtures::check_same;
 use acc_base::Fault;
 use acc_raw::{Cells, Window};
 use std::alloc::{AllocError, Global};
@@ -17,14 +18,14 @@ fn a_row_is_written_and_read(rt: HostRuntime) -> Result<(), Fail> {
     cells.set(2, 7);
     let mut values = [9i64; 3];
     cells.copy_to(0, &mut values);
-    assert_eq!(rt; values, [0, 0, 7]);
+    check_same(&rt, &values, &[0, 0, 7]);
     cells.copy_from(1, &[i64::MIN, i64::MAX]);
     let mut last = [9i64; 2];
     cells.copy_to(1, &mut last);
-    assert_eq!(rt; last, [i64::MIN, i64::MAX]);
-    assert_eq!(rt; cells.get(0), 0);
+    check_same(&rt, &last, &[i64::MIN, i64::MAX]);
+    check_same(&rt, cells.get(0), 0);
     assert_eq!(rt; cells.len(), 3);
-    assert_eq!(rt; Cells::zeroed(rt.alloc(), 0)?.len(), 0);
+    check_same(&rt, Cells::zeroed(rt.alloc(), 0)?.len(), 0);
     Ok(())
 }
 
@@ -43,8 +44,8 @@ fn filled(
     let mut cells = Cells::zeroed(alloc, 6)?;
     cells.copy_from(0, &[10, 11, 12, 13, 14, 15]);
     let (one, other) = cells.two(first, second);
-    assert_eq!(rt; &*one, lent.0);
-    assert_eq!(rt; &*other, lent.1);
+    check_same(rt, &*one, lent.0);
+    check_same(rt, &*other, lent.1);
     one.fill(1);
     other.fill(2);
     assert_eq!(rt; cells.len(), 6);
@@ -66,18 +67,18 @@ fn two_windows_are_lent(rt: HostRuntime) -> Result<(), Fail> {
     let alloc = rt.alloc();
     let (low, high) = (window(1, 2), window(4, 1));
     let values = filled(&rt, alloc, low, high, (&[11, 12], &[14]))?;
-    assert_eq!(rt; values, [10, 1, 1, 13, 2, 15]);
+    check_same(&rt, &values, &[10, 1, 1, 13, 2, 15]);
     let values = filled(&rt, alloc, high, low, (&[14], &[11, 12]))?;
-    assert_eq!(rt; values, [10, 2, 2, 13, 1, 15]);
+    check_same(&rt, &values, &[10, 2, 2, 13, 1, 15]);
     let (low, high) = (window(0, 3), window(3, 3));
     let values = filled(&rt, alloc, low, high, (&[10, 11, 12], &[13, 14, 15]))?;
-    assert_eq!(rt; values, [1, 1, 1, 2, 2, 2]);
+    check_same(&rt, &values, &[1, 1, 1, 2, 2, 2]);
     let (low, high) = (window(0, 1), window(5, 1));
     let values = filled(&rt, alloc, high, low, (&[15], &[10]))?;
-    assert_eq!(rt; values, [2, 11, 12, 13, 14, 1]);
+    check_same(&rt, &values, &[2, 11, 12, 13, 14, 1]);
     let (all, none) = (window(0, 6), window(6, 0));
     let values = filled(&rt, alloc, none, all, (&[], &[10, 11, 12, 13, 14, 15]))?;
-    assert_eq!(rt; values, [2, 2, 2, 2, 2, 2]);
+    check_same(&rt, &values, &[2, 2, 2, 2, 2, 2]);
     Ok(())
 }
 
@@ -96,7 +97,7 @@ fn numbers_below(alloc: Global, count: usize) -> Result<Vec<i64>, AllocError> {
 fn check_swapped(rt: &impl Abort, values: &[i64]) {
     let mut wanted = 32_768i64;
     for value in values {
-        assert_eq!(rt; *value, wanted);
+        check_same(rt, *value, wanted);
         wanted = wanted.wrapping_add(1) % 65_536;
     }
 }

@@ -1,5 +1,6 @@
 //! Configurations at each limit and one beyond it, in numbers, where a contract has names.
 
+use crate::fixtures::check_same;
 use acc_base::{Config, DeviceId, Fault, HostId, QueueAt, QueueId};
 use std::alloc::{AllocError, Global};
 use std::process::Abort;
@@ -46,17 +47,17 @@ fn configurations_and_their_first_fault(rt: HostRuntime) -> Result<(), Fail> {
     for (devices, hosts, arrays, cells, capacity, room, fault) in CASES {
         let arrays = arrays_of(rt.alloc(), arrays, cells)?;
         let made = Config::new(devices, hosts, arrays, capacity, room);
-        assert_eq!(rt; made.err(), fault);
+        check_same(&rt, made.err(), fault);
     }
     Ok(())
 }
 
 fn check_numbers(rt: &impl Abort, config: &Config) {
-    assert_eq!(rt; config.devices(), 2);
-    assert_eq!(rt; config.hosts(), 3);
-    assert_eq!(rt; config.arrays(), 2);
-    assert_eq!(rt; config.capacity(), 40);
-    assert_eq!(rt; config.room(), 5);
+    check_same(rt, config.devices(), 2);
+    check_same(rt, config.hosts(), 3);
+    check_same(rt, config.arrays(), 2);
+    check_same(rt, config.capacity(), 40);
+    check_same(rt, config.room(), 5);
 }
 
 fn check_names(rt: &impl Abort, config: &Config) {

@@ -4,7 +4,7 @@
 ghost use Rattle.std.specs.Prelude.{◌≡◌, ◌+◌, ◌<◌, ◌≤◌, length};
 ghost use Rattle.acc_present.specs.Drafts.{IsDraft};
 
-use crate::fixtures::{CELLS, cells, entered_into};
+use crate::fixtures::{CELLS, cells, check_same, entered_into};
 use acc_base::{BlockId, Fault, QueueId, Range};
 use acc_present::{Counter, Draft, Entered, Entry, Left, Look, Table};
 use std::process::Abort;
@@ -75,20 +75,23 @@ fn ended_ranges_lie_in_no_way(rt: HostRuntime) -> Result<(), Fail> {
     let _ = entered_into(&rt, &mut table, cells(2, 2), 2);
     let mut draft = Draft::with_room(rt.alloc(), 16)?;
     draft.begin(&table);
-    assert_eq!(rt; draft.look(&table, cells(0, 4)), Look::Partly);
-    assert_eq!(rt;
+    check_same(&rt, draft.look(&table, cells(0, 4)), Look::Partly);
+    check_same(
+        &rt,
         drafted_out_of(&table, &mut draft, cells(0, 2)),
-        Left::Ended(BlockId::new(1))
+        Left::Ended(BlockId::new(1)),
     );
-    assert_eq!(rt; draft.look(&table, cells(0, 4)), Look::Partly);
-    assert_eq!(rt;
+    check_same(&rt, draft.look(&table, cells(0, 4)), Look::Partly);
+    check_same(
+        &rt,
         drafted_out_of(&table, &mut draft, cells(2, 2)),
-        Left::Ended(BlockId::new(2))
+        Left::Ended(BlockId::new(2)),
     );
-    assert_eq!(rt; draft.look(&table, cells(0, 4)), Look::Absent);
-    assert_eq!(rt;
+    check_same(&rt, draft.look(&table, cells(0, 4)), Look::Absent);
+    check_same(
+        &rt,
         drafted_out_of(&table, &mut draft, cells(0, 4)),
-        Left::Nothing
+        Left::Nothing,
     );
     Ok(())
 }
@@ -102,14 +105,19 @@ fn a_range_is_opened_over_ended_ones(rt: HostRuntime) -> Result<(), Fail> {
     draft.begin(&table);
     let _ = drafted_out_of(&table, &mut draft, cells(0, 2));
     let _ = drafted_out_of(&table, &mut draft, cells(2, 2));
-    assert_eq!(rt;
+    check_same(
+        &rt,
         drafted_into(&rt, &table, &mut draft, cells(1, 5), 4),
-        Entered::Opened
+        Entered::Opened,
     );
-    assert_eq!(rt; draft.look(&table, cells(2, 3)), entry(cells(1, 5), 4, 1));
-    assert_eq!(rt; draft.look(&table, cells(0, 2)), Look::Partly);
-    assert_eq!(rt; draft.used_cells(), 5);
-    assert_eq!(rt; table.used_cells(), 4);
+    check_same(
+        &rt,
+        draft.look(&table, cells(2, 3)),
+        entry(cells(1, 5), 4, 1),
+    );
+    check_same(&rt, draft.look(&table, cells(0, 2)), Look::Partly);
+    check_same(&rt, draft.used_cells(), 5);
+    check_same(&rt, table.used_cells(), 4);
     Ok(())
 }
 
@@ -120,20 +128,30 @@ fn a_draft_leaves_the_table_as_it_was(rt: HostRuntime) -> Result<(), Fail> {
     let _ = entered_into(&rt, &mut table, cells(8, 4), 4);
     let mut draft = Draft::with_room(rt.alloc(), 16)?;
     draft.begin(&table);
-    assert_eq!(rt;
+    check_same(
+        &rt,
         drafted_out_of(&table, &mut draft, cells(9, 1)),
-        Left::Counted
+        Left::Counted,
     );
-    assert_eq!(rt; draft.look(&table, cells(8, 4)), entry(cells(8, 4), 3, 1));
-    assert_eq!(rt;
+    check_same(
+        &rt,
+        draft.look(&table, cells(8, 4)),
+        entry(cells(8, 4), 3, 1),
+    );
+    check_same(
+        &rt,
         drafted_out_of(&table, &mut draft, cells(8, 4)),
-        Left::Ended(BlockId::new(3))
+        Left::Ended(BlockId::new(3)),
     );
-    assert_eq!(rt; draft.look(&table, cells(6, 3)), Look::Absent);
-    assert_eq!(rt; draft.used_cells(), 0);
-    assert_eq!(rt; table.used_cells(), 4);
+    check_same(&rt, draft.look(&table, cells(6, 3)), Look::Absent);
+    check_same(&rt, draft.used_cells(), 0);
+    check_same(&rt, table.used_cells(), 4);
     draft.begin(&table);
-    assert_eq!(rt; draft.look(&table, cells(8, 4)), entry(cells(8, 4), 3, 2));
+    check_same(
+        &rt,
+        draft.look(&table, cells(8, 4)),
+        entry(cells(8, 4), 3, 2),
+    );
     Ok(())
 }
 
@@ -143,6 +161,6 @@ fn a_draft_that_has_no_memory(rt: HostRuntime) -> Result<(), Fail> {
     hoard.fill(rt.alloc());
     let made = Draft::with_room(rt.alloc(), 100_000);
     hoard.free();
-    assert_eq!(rt; made.map(|_| ()), Err(Fault::Memory));
+    check_same(&rt, made.map(|_| ()), Err(Fault::Memory));
     Ok(())
 }

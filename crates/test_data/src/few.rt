@@ -1,6 +1,7 @@
 //! Short lists that grow to a thousand items and shrink, and which of their calls take memory: to
 //! the contract a push may be refused at any length.
 
+use crate::fixtures::check_same;
 use acc_base::{Fault, Few};
 use std::alloc::Global;
 use std::process::Abort;
@@ -14,14 +15,14 @@ fn many_items_are_pushed_and_popped(rt: HostRuntime) -> Result<(), Fail> {
     for _ in 0..2u32 {
         for n in 0..1_000u32 {
             few.push(n)?;
-            assert_eq!(rt; few.as_slice().len(), n as usize + 1);
-            assert_eq!(rt; few.as_slice().last().copied(), Some(n));
+            check_same(&rt, few.as_slice().len(), n as usize + 1);
+            check_same(&rt, few.as_slice().last().copied(), Some(n));
         }
         for n in 0..1_000u32 {
-            assert_eq!(rt; few.as_slice().len(), 1_000 - n as usize);
-            assert_eq!(rt; few.pop(), Some(999 - n));
+            check_same(&rt, few.as_slice().len(), 1_000 - n as usize);
+            check_same(&rt, few.pop(), Some(999 - n));
         }
-        assert_eq!(rt; few.pop(), None);
+        check_same(&rt, few.pop(), None);
     }
     Ok(())
 }
@@ -52,6 +53,11 @@ fn try_push(few: &mut Few<i64>, before: &[i64], changes: &mut u32) -> Result<(),
     }
 }
 
+// Memory was refused, or not, to a list of these items.
+fn check_refused(rt: &impl Abort, refusals: u32, is_refused: bool, items: &[i64]) {
+    assert_eq!(rt; 0 < refusals, is_refused, "{items:?}");
+}
+
 // Pushes an item with each amount of memory: as long as it is refused, the list is as before.
 fn check_push(
     rt: &impl Abort,
@@ -62,10 +68,10 @@ fn check_push(
     let mut few = Few::from_slice(alloc, items)?;
     let mut changes = 0u32;
     let (refusals, ()) = at_each_amount(alloc, || try_push(&mut few, items, &mut changes))?;
-    assert_eq!(rt; 0 < refusals, is_refused, "{items:?}");
+    check_refused(rt, refusals, is_refused, items);
     assert_eq!(rt; changes, 0, "{items:?}");
-    assert_eq!(rt; few.pop(), Some(99));
-    assert_eq!(rt; few.as_slice(), items);
+    check_same(rt, few.pop(), Some(99));
+    check_same(rt, few.as_slice(), items);
     Ok(())
 }
 
@@ -82,12 +88,12 @@ fn lists_and_their_copies_are_refused_until_there_is_memory(rt: HostRuntime) -> 
     let alloc = rt.alloc();
     for (items, _, is_refused) in CASES {
         let (refusals, few) = at_each_amount(alloc, || Few::from_slice(alloc, items))?;
-        assert_eq!(rt; 0 < refusals, is_refused, "{items:?}");
-        assert_eq!(rt; few.as_slice(), items);
+        check_refused(&rt, refusals, is_refused, items);
+        check_same(&rt, few.as_slice(), items);
         let (refusals, copy) = at_each_amount(alloc, || few.try_clone())?;
-        assert_eq!(rt; 0 < refusals, is_refused, "{items:?}");
-        assert_eq!(rt; copy.as_slice(), items);
-        assert_eq!(rt; few.as_slice(), items);
+        check_refused(&rt, refusals, is_refused, items);
+        check_same(&rt, copy.as_slice(), items);
+        check_same(&rt, few.as_slice(), items);
     }
     Ok(())
 }

@@ -1,9 +1,10 @@
-//! Ranges of one array, and entries into a present table behind all that it requires.
+//! Ranges of one array, entries into a present table behind all that it requires, and what was found beside what was wanted.
 
 ghost use Rattle.std.specs.Prelude.{◌≡◌, ◌<◌};
 
 use acc_base::{BlockId, Range};
 use acc_present::{Counter, Entered, Look, Table};
+use std::fmt::Debug;
 use std::process::Abort;
 
 // The capacity of a table.
@@ -54,4 +55,9 @@ pub fn entered_into(rt: &impl Abort, table: &mut Table, range: Range, block: u64
     ensures { table.new.capacity ≡ CELLS }
 {
     entered_by(rt, table, range, Counter::Dynamic, block)
+}
+
+// Stops the test where the two differ. An assertion that is written out takes as long to prove as the rest of a test.
+pub fn check_same<T: PartialEq + Debug + Copy>(rt: &impl Abort, found: T, wanted: T) {
+    assert_eq!(rt; found, wanted);
 }

@@ -3,7 +3,7 @@
 
 ghost use Rattle.std.specs.Prelude.{◌≡◌, ◌<◌};
 
-use crate::fixtures::{CELLS, cells, entered_by, entered_into};
+use crate::fixtures::{CELLS, cells, check_same, entered_by, entered_into};
 use acc_base::{BlockId, Fault, Range};
 use acc_present::{Counter, Entered, Left, Look, Table};
 use std::process::Abort;
@@ -30,21 +30,23 @@ fn left_by_region(rt: &impl Abort, table: &mut Table, range: Range) -> Left
 #[test]
 fn a_range_is_entered(rt: HostRuntime) {
     let mut table = Table::new(rt.alloc(), CELLS);
-    assert_eq!(rt; table.look(cells(2, 4)), Look::Absent);
-    assert_eq!(rt;
+    check_same(&rt, table.look(cells(2, 4)), Look::Absent);
+    check_same(
+        &rt,
         entered_into(&rt, &mut table, cells(2, 4), 7),
-        Entered::Opened
+        Entered::Opened,
     );
-    assert_eq!(rt;
+    check_same(
+        &rt,
         entered_into(&rt, &mut table, cells(3, 2), 8),
-        Entered::Counted
+        Entered::Counted,
     );
-    assert_eq!(rt; table.look(cells(0, 3)), Look::Partly);
-    assert_eq!(rt; table.look(cells(5, 9)), Look::Partly);
-    assert_eq!(rt; table.look(cells(6, 1)), Look::Absent);
-    assert_eq!(rt; table.counters(cells(2, 1)), Some((0, 2)));
-    assert_eq!(rt; table.counters(cells(1, 1)), None);
-    assert_eq!(rt; table.used_cells(), 4);
+    check_same(&rt, table.look(cells(0, 3)), Look::Partly);
+    check_same(&rt, table.look(cells(5, 9)), Look::Partly);
+    check_same(&rt, table.look(cells(6, 1)), Look::Absent);
+    check_same(&rt, table.counters(cells(2, 1)), Some((0, 2)));
+    check_same(&rt, table.counters(cells(1, 1)), None);
+    check_same(&rt, table.used_cells(), 4);
 }
 
 #[test]
@@ -53,11 +55,12 @@ fn an_entry_is_shown(rt: HostRuntime) {
     let _ = entered_into(&rt, &mut table, cells(2, 4), 7);
     let _ = entered_into(&rt, &mut table, cells(3, 2), 8);
     let opened = table.nth(0).copied();
-    assert_eq!(rt;
+    check_same(
+        &rt,
         opened.map(|e| (e.range, e.block, e.s, e.d)),
-        Some((cells(2, 4), BlockId::new(7), 0, 2))
+        Some((cells(2, 4), BlockId::new(7), 0, 2)),
     );
-    assert_eq!(rt; table.nth(1).copied(), None);
+    check_same(&rt, table.nth(1).copied(), None);
 }
 
 #[test]
@@ -65,14 +68,27 @@ fn a_range_is_left(rt: HostRuntime) {
     let mut table = Table::new(rt.alloc(), CELLS);
     let _ = entered_into(&rt, &mut table, cells(2, 4), 7);
     let _ = entered_into(&rt, &mut table, cells(3, 2), 8);
-    assert_eq!(rt; table.leave(cells(6, 1), Counter::Dynamic), Left::Nothing);
-    assert_eq!(rt; table.leave(cells(5, 1), Counter::Dynamic), Left::Counted);
-    assert_eq!(rt;
-        table.leave(cells(2, 4), Counter::Dynamic),
-        Left::Ended(BlockId::new(7))
+    check_same(
+        &rt,
+        table.leave(cells(6, 1), Counter::Dynamic),
+        Left::Nothing,
     );
-    assert_eq!(rt; table.leave(cells(2, 4), Counter::Dynamic), Left::Nothing);
-    assert_eq!(rt; table.used_cells(), 0);
+    check_same(
+        &rt,
+        table.leave(cells(5, 1), Counter::Dynamic),
+        Left::Counted,
+    );
+    check_same(
+        &rt,
+        table.leave(cells(2, 4), Counter::Dynamic),
+        Left::Ended(BlockId::new(7)),
+    );
+    check_same(
+        &rt,
+        table.leave(cells(2, 4), Counter::Dynamic),
+        Left::Nothing,
+    );
+    check_same(&rt, table.used_cells(), 0);
 }
 
 #[test]
@@ -80,17 +96,26 @@ fn what_a_region_holds_is_counted_apart(rt: HostRuntime) {
     let whole = cells(2, 4);
     let part = cells(3, 2);
     let mut table = Table::new(rt.alloc(), CELLS);
-    assert_eq!(rt;
+    check_same(
+        &rt,
         entered_by(&rt, &mut table, whole, Counter::Structured, 1),
-        Entered::Opened
+        Entered::Opened,
     );
-    assert_eq!(rt; table.leave(part, Counter::Dynamic), Left::Nothing);
-    assert_eq!(rt; table.finalize(part), Left::Nothing);
-    assert_eq!(rt; entered_into(&rt, &mut table, part, 2), Entered::Counted);
-    assert_eq!(rt; entered_into(&rt, &mut table, part, 3), Entered::Counted);
-    assert_eq!(rt; table.counters(part), Some((1, 2)));
-    assert_eq!(rt; table.finalize(part), Left::Counted);
-    assert_eq!(rt; table.counters(whole), Some((1, 0)));
+    check_same(&rt, table.leave(part, Counter::Dynamic), Left::Nothing);
+    check_same(&rt, table.finalize(part), Left::Nothing);
+    check_same(
+        &rt,
+        entered_into(&rt, &mut table, part, 2),
+        Entered::Counted,
+    );
+    check_same(
+        &rt,
+        entered_into(&rt, &mut table, part, 3),
+        Entered::Counted,
+    );
+    check_same(&rt, table.counters(part), Some((1, 2)));
+    check_same(&rt, table.finalize(part), Left::Counted);
+    check_same(&rt, table.counters(whole), Some((1, 0)));
 }
 
 #[test]
@@ -98,32 +123,39 @@ fn a_range_ends_with_its_last_region(rt: HostRuntime) {
     let whole = cells(2, 4);
     let part = cells(3, 2);
     let mut table = Table::new(rt.alloc(), CELLS);
-    assert_eq!(rt;
+    check_same(
+        &rt,
         entered_by(&rt, &mut table, whole, Counter::Structured, 1),
-        Entered::Opened
+        Entered::Opened,
     );
-    assert_eq!(rt;
+    check_same(
+        &rt,
         entered_by(&rt, &mut table, part, Counter::Structured, 4),
-        Entered::Counted
+        Entered::Counted,
     );
-    assert_eq!(rt; table.counters(part), Some((2, 0)));
-    assert_eq!(rt; left_by_region(&rt, &mut table, part), Left::Counted);
-    assert_eq!(rt;
+    check_same(&rt, table.counters(part), Some((2, 0)));
+    check_same(&rt, left_by_region(&rt, &mut table, part), Left::Counted);
+    check_same(
+        &rt,
         left_by_region(&rt, &mut table, whole),
-        Left::Ended(BlockId::new(1))
+        Left::Ended(BlockId::new(1)),
     );
-    assert_eq!(rt; table.finalize(whole), Left::Nothing);
-    assert_eq!(rt; table.used_cells(), 0);
+    check_same(&rt, table.finalize(whole), Left::Nothing);
+    check_same(&rt, table.used_cells(), 0);
 }
 
 #[test]
 fn finalize_ends_at_once_what_was_entered_twice(rt: HostRuntime) {
     let part = cells(3, 2);
     let mut table = Table::new(rt.alloc(), CELLS);
-    assert_eq!(rt; entered_into(&rt, &mut table, part, 5), Entered::Opened);
-    assert_eq!(rt; entered_into(&rt, &mut table, part, 6), Entered::Counted);
-    assert_eq!(rt; table.finalize(part), Left::Ended(BlockId::new(5)));
-    assert_eq!(rt; table.used_cells(), 0);
+    check_same(&rt, entered_into(&rt, &mut table, part, 5), Entered::Opened);
+    check_same(
+        &rt,
+        entered_into(&rt, &mut table, part, 6),
+        Entered::Counted,
+    );
+    check_same(&rt, table.finalize(part), Left::Ended(BlockId::new(5)));
+    check_same(&rt, table.used_cells(), 0);
 }
 
 #[test]
@@ -131,16 +163,18 @@ fn a_thousand_ranges_in_mixed_order(rt: HostRuntime) {
     let mut table = Table::new(rt.alloc(), CELLS);
     for i in 0..1_000u32 {
         let place = i * 387 % 1_000;
-        assert_eq!(rt;
+        check_same(
+            &rt,
             entered_into(&rt, &mut table, cells(place * 3, 2), u64::from(i)),
-            Entered::Opened
+            Entered::Opened,
         );
     }
-    assert_eq!(rt; table.used_cells(), 2_000);
+    check_same(&rt, table.used_cells(), 2_000);
     for place in 0..1_000u32 {
-        assert_eq!(rt;
+        check_same(
+            &rt,
             table.nth(place as usize).map(|e| e.range),
-            Some(cells(place * 3, 2))
+            Some(cells(place * 3, 2)),
         );
     }
     for i in 0..1_000u32 {
@@ -150,8 +184,8 @@ fn a_thousand_ranges_in_mixed_order(rt: HostRuntime) {
             other => assert!(rt; false, "{other:?} at {place}"),
         }
     }
-    assert_eq!(rt; table.used_cells(), 0);
-    assert_eq!(rt; table.nth(0).copied(), None);
+    check_same(&rt, table.used_cells(), 0);
+    check_same(&rt, table.nth(0).copied(), None);
 }
 
 #[test]
@@ -161,8 +195,8 @@ fn room_is_refused_with_memory(rt: HostRuntime) -> Result<(), Fail> {
     hoard.fill(rt.alloc());
     let refused = table.spare(1_000);
     hoard.free();
-    assert_eq!(rt; refused.err(), Some(Fault::Memory));
-    assert_eq!(rt; table.used_cells(), 0);
+    check_same(&rt, refused.err(), Some(Fault::Memory));
+    check_same(&rt, table.used_cells(), 0);
     assert!(rt; table.spare(1_000).is_ok());
     Ok(())
 }
