@@ -4,11 +4,11 @@ ghost use Rattle.std.specs.Prelude.{◌≡◌};
 ghost use Rattle.acc_kernel.specs.Faults.{code_of, name_of};
 
 use std::alloc::AllocError;
-use thiserror::Error;
+use std::error::Error;
+use std::fmt::{self, Display, Formatter, Write};
 
 /// Why a loop was refused. Its text is its code and its name, as `K2 NoStatement`.
-#[derive(Clone, Copy, Debug, PartialEq, Eq, Error)]
-#[error("{} {}", self.code(), self.name())]
+#[derive(Clone, Copy, Debug, PartialEq, Eq)]
 pub enum KernelFault {
     /// An array that the loop assigns is read off the index.
     ReadsAssigned,
@@ -53,6 +53,14 @@ impl KernelFault {
         }
     }
 }
+
+impl Display for KernelFault {
+    fn fmt<W: Write>(&self, f: &mut Formatter<W>) -> fmt::Result {
+        write!(f, "{} {}", self.code(), self.name())
+    }
+}
+
+impl Error for KernelFault {}
 
 impl From<AllocError> for KernelFault {
     ghost use Rattle.std.specs.Prelude.{◌≡◌};
