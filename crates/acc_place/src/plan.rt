@@ -171,9 +171,8 @@ pub(crate) fn batch_of(alloc: Global, label: &Option<Label>) -> Result<Option<Ba
     }
 }
 
-// The operations of a batch, behind the awaits by these numbers; a loop runs behind the copies in. Awaits that nothing stands
-// behind are dropped, but those of a wait.
-#[tactic(auto, unfolding(crate::specs::inner::Judging::marked_ops))]
+// The operations of a batch, behind the awaits by these numbers. Awaits that nothing stands behind are dropped, but those of a
+// wait.
 fn ops_of(
     alloc: Global,
     own: QueueId,
@@ -188,17 +187,26 @@ fn ops_of(
     let mut ops = Few::new(alloc);
     add_awaits(own, 0, numbers.as_slice(), &mut ops)?;
     let awaits = ops.as_slice().len();
-    add_group(Group::Makes, steps, &mut ops)?;
-    add_group(Group::CopyIns, steps, &mut ops)?;
-    add_run(run, &mut ops)?;
-    add_group(Group::Updates, steps, &mut ops)?;
-    add_group(Group::CopyOuts, steps, &mut ops)?;
-    add_group(Group::Releases, steps, &mut ops)?;
+    add_groups(steps, run, &mut ops)?;
     if !alone && ops.as_slice().len() == awaits {
         return Ok(Few::new(alloc));
     }
     ops.shrink_to_fit();
     Ok(ops)
+}
+
+// Adds the operations of the steps group by group; a loop runs behind the copies in.
+#[tactic(auto, unfolding(crate::specs::inner::Judging::marked_ops))]
+fn add_groups(steps: &[Marked], run: Option<OpLabel>, ops: &mut Few<OpLabel>) -> Result<(), Fault>
+    ensures ops { OnOk result (ops.new ≡ ops.old ++ marked_ops (option_to_list run) steps.now) }
+    ensures fault { IfErr result (λ fault. fault ≡ Fault.Memory) }
+{
+    add_group(Group::Makes, steps, ops)?;
+    add_group(Group::CopyIns, steps, ops)?;
+    add_run(run, ops)?;
+    add_group(Group::Updates, steps, ops)?;
+    add_group(Group::CopyOuts, steps, ops)?;
+    add_group(Group::Releases, steps, ops)
 }
 
 // Adds the operation that runs the loop, if there is one.
