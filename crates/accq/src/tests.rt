@@ -7,6 +7,7 @@ use crate::store::Store;
 use acc_driver::DriverFault;
 use std::alloc::Global;
 use std::io::{Error, ErrorKind, Read, Result, Write};
+use std::process::Abort;
 use std::test::Fail;
 
 /// A reader, or a writer, that fails.
@@ -337,79 +338,132 @@ fn answered(alloc: Global, case: &Told) -> (u8, Vec<u8>, Vec<u8>) {
     (status, output, errors)
 }
 
+// It ended with this status, and wrote this.
+fn check_told(rt: &impl Abort, status: u8, written: &[u8], wanted: u8, text: &[u8]) {
+    assert_eq!(rt; (status, written), (wanted, text));
+}
+
+fn check_case(rt: &impl Abort, alloc: Global, case: &Told) {
+    let (status, output, errors) = answered(alloc, case);
+    check_told(rt, status, output.as_slice(), case.status, case.output);
+    check_told(rt, status, errors.as_slice(), case.status, case.errors);
+}
+
 #[test]
 fn words_and_inputs_have_their_status(rt: HostRuntime) -> std::result::Result<(), Fail> {
     for cases in [INPUTS, FILES] {
         for case in cases {
-            let (status, output, errors) = answered(rt.alloc(), case);
-            assert_eq!(rt; status, case.status);
-            assert_eq!(rt; output.as_slice(), case.output);
-            assert_eq!(rt; errors.as_slice(), case.errors);
+            check_case(&rt, rt.alloc(), case);
         }
     }
     Ok(())
 }
 
+// The text begins so.
+fn check_begin(rt: &impl Abort, text: &[u8], begin: &[u8]) {
+    assert!(rt; text.starts_with(begin));
+}
+
+fn check_faulty(rt: &impl Abort, alloc: Global, words: &'static [&'static str], begin: &[u8]) {
+    let case = Told {
+        words,
+        input: b"",
+        status: 2,
+        output: b"",
+        errors: b"",
+    };
+    let (status, output, errors) = answered(alloc, &case);
+    check_told(rt, status, output.as_slice(), 2, b"");
+    check_begin(rt, errors.as_slice(), begin);
+}
+
 #[test]
 fn faulty_words_are_told_by_the_parser(rt: HostRuntime) -> std::result::Result<(), Fail> {
     for (words, begin) in FAULTY_WORDS {
-        let case = Told {
-            words,
-            input: b"",
-            status: 2,
-            output: b"",
-            errors: b"",
-        };
-        let (status, output, errors) = answered(rt.alloc(), &case);
-        assert_eq!(rt; status, 2);
-        assert!(rt; output.is_empty());
-        assert!(rt; errors.starts_with(*begin));
+        check_faulty(&rt, rt.alloc(), words, begin);
     }
     Ok(())
 }
 
-/// A writer that fails at the first byte of the report, in its middle and at its last byte, and one that can't send on.
+const NAMED: &[&str] = &["accq", "replay", "script", "schedule"];
+
+const CANNOT_WRITE: &[u8] = b"accq: cannot write\n";
+
+// With these words and streams the status is 3, and this is told.
+fn check_streams<R: Read, W: Write>(
+    rt: &impl Abort,
+    alloc: Global,
+    words: &[&str],
+    input: &mut R,
+    output: &mut W,
+    text: &[u8],
+) {
+    let mut errors = Vec::new(alloc);
+    let status = status_of(alloc, words, &Shelf, input, output, &mut errors);
+    check_told(rt, status, errors.as_slice(), 3, text);
+}
+
+// A writer that takes so many bytes of a report has taken them.
+fn check_narrow(rt: &impl Abort, alloc: Global, room: usize) {
+    let mut input: &[u8] = b"";
+    let mut output = Narrow { room, taken: 0 };
+    check_streams(rt, alloc, NAMED, &mut input, &mut output, CANNOT_WRITE);
+    assert_eq!(rt; output.taken, room);
+}
+
+/// A writer that fails at the first byte of the report, in its middle and at its last byte, one that can't send on, and a
+/// reader that fails.
 #[test]
 fn streams_that_fail_have_status_three(rt: HostRuntime) -> std::result::Result<(), Fail> {
     let alloc = rt.alloc();
-    let words: [&str; 4] = ["accq", "replay", "script", "schedule"];
-    let mut input: &'static [u8] = b"";
-    let mut errors = Vec::new(alloc);
     for room in [0, 40, ON_ONE.len().saturating_sub(1)] {
-        let mut output = Narrow { room, taken: 0 };
-        errors.clear();
-        let status = status_of(alloc, &words, &Shelf, &mut input, &mut output, &mut errors);
-        assert_eq!(rt; status, 3);
-        assert_eq!(rt; output.taken, room);
-        assert_eq!(rt; errors.as_slice(), b"accq: cannot write\n".as_slice());
+        check_narrow(&rt, alloc, room);
     }
-    for named in [true, false] {
-        let asked: &[&str] = if named { &words } else { &[] };
-        errors.clear();
-        let status = status_of(alloc, asked, &Shelf, &mut input, &mut Stuck, &mut errors);
-        assert_eq!(rt; status, 3);
-        assert_eq!(rt; errors.as_slice(), b"accq: cannot write\n".as_slice());
-    }
-    let none: &[&str] = &[];
-    let mut output = Vec::new(alloc);
-    errors.clear();
-    let status = status_of(alloc, none, &Shelf, &mut Broken, &mut output, &mut errors);
-    assert_eq!(rt; status, 3);
-    assert!(rt; output.is_empty());
-    assert_eq!(rt; errors.as_slice(), b"accq: cannot read\n".as_slice());
-    // what can't be told to the errors changes no status
-    let status = status_of(alloc, none, &Shelf, &mut input, &mut output, &mut Broken);
-    assert_eq!(rt; status, 0);
+    let mut input: &[u8] = b"";
+    check_streams(&rt, alloc, NAMED, &mut input, &mut Stuck, CANNOT_WRITE);
+    check_streams(&rt, alloc, &[], &mut input, &mut Stuck, CANNOT_WRITE);
+    let mut output = Narrow { room: 0, taken: 0 };
+    let text = b"accq: cannot read\n";
+    check_streams(&rt, alloc, &[], &mut Broken, &mut output, text);
     Ok(())
+}
+
+/// What can't be told to the errors changes no status.
+#[test]
+fn errors_that_fail_change_no_status(rt: HostRuntime) -> std::result::Result<(), Fail> {
+    const CASES: &[(&[&str], u8)] = &[(&[], 3), (&["accq", "more"], 2)];
+    let mut output = Narrow { room: 0, taken: 0 };
+    for (words, wanted) in CASES {
+        let status = status_of(
+            rt.alloc(),
+            words,
+            &Shelf,
+            &mut Broken,
+            &mut output,
+            &mut Broken,
+        );
+        assert_eq!(rt; status, *wanted);
+    }
+    Ok(())
+}
+
+// A fault that no input of these tests has is told so.
+fn check_fault(rt: &impl Abort, alloc: Global, fault: DriverFault, text: &[u8]) {
+    let mut errors = Vec::new(alloc);
+    let status = told(fault, &mut errors);
+    check_told(rt, status, errors.as_slice(), 3, text);
 }
 
 #[test]
 fn what_never_came_so_far_is_told(rt: HostRuntime) -> std::result::Result<(), Fail> {
+    check_fault(
+        &rt,
+        rt.alloc(),
+        DriverFault::Memory,
+        b"accq: out of memory\n",
+    );
     let mut errors = Vec::new(rt.alloc());
-    assert_eq!(rt; told(DriverFault::Memory, &mut errors), 3);
-    assert_eq!(rt; errors.as_slice(), b"accq: out of memory\n".as_slice());
-    errors.clear();
     assert_eq!(rt; told_no_text(&mut errors), 2);
-    assert!(rt; errors.starts_with(b"error: invalid UTF-8"));
+    check_begin(&rt, errors.as_slice(), b"error: invalid UTF-8");
     Ok(())
 }

@@ -5,6 +5,7 @@ ghost use Rattle.std.specs.Prelude.{◌<◌};
 use crate::worlds::{host, queue, reply_to};
 use acc_base::{DeviceId, Fault, HostId, Range};
 use acc_core::{Event, HostState, Reply, Told, WorkEntry, World};
+use std::fmt::Debug;
 use std::process::Abort;
 
 pub const FINISHED: HostState = HostState::Finished;
@@ -14,10 +15,15 @@ pub fn refused(ended: usize, line: u32, fault: Fault) -> HostState {
     HostState::Refused { ended, line, fault }
 }
 
+// Stops the test where the two differ. An assertion that is written out takes as long to prove as the rest of a test.
+pub fn check_same<T: PartialEq + Debug + Copy>(rt: &impl Abort, found: T, wanted: T) {
+    assert_eq!(rt; found, wanted);
+}
+
 // The reply to each of these events.
 pub fn check_replies(rt: &impl Abort, world: &mut World, events: &[(Event, Reply)]) {
     for (event, wanted) in events {
-        assert_eq!(rt; reply_to(world, *event), *wanted, "{event:?}");
+        check_same(rt, (*event, reply_to(world, *event)), (*event, *wanted));
     }
 }
 
@@ -26,24 +32,28 @@ pub fn check_idle(rt: &impl Abort, world: &mut World, queues: &[(u8, u8)]) {
     for (device, number) in queues {
         let taken = reply_to(world, Event::Take(queue(*device, *number)));
         let performed = reply_to(world, Event::Perform(queue(*device, *number)));
-        assert_eq!(rt; (taken, performed), (Reply::Idle, Reply::Idle));
+        check_same(rt, (taken, performed), (Reply::Idle, Reply::Idle));
     }
 }
 
 // So many steps of a host, each of which does something.
 pub fn check_steps(rt: &impl Abort, world: &mut World, number: u8, count: u32) {
     for step in 0..count {
-        assert_eq!(rt; reply_to(world, host(number)), Reply::Did, "step {step}");
+        check_same(
+            rt,
+            (step, reply_to(world, host(number))),
+            (step, Reply::Did),
+        );
     }
 }
 
 // Where each host stands.
 pub fn check_states(rt: &impl Abort, world: &World, states: &[HostState]) {
-    assert_eq!(rt; usize::from(world.hosts()), states.len());
+    check_same(rt, usize::from(world.hosts()), states.len());
     let mut number = 0u8;
     for wanted in states {
         let state = world.state(HostId::new(number));
-        assert_eq!(rt; state, Some(*wanted), "host {number}");
+        check_same(rt, (number, state), (number, Some(*wanted)));
         number = number.wrapping_add(1);
     }
 }
@@ -53,11 +63,11 @@ pub fn check_present(rt: &impl Abort, world: &World, wanted: Option<(Range, u64,
     assert!(rt; 0 < world.devices());
     let device = DeviceId::new(0);
     let entry = world.nth(device, 0);
-    assert_eq!(rt; entry.map(|e| (e.range, e.s, e.d)), wanted);
-    assert!(rt; world.nth(device, 1).is_none());
+    check_same(rt, entry.map(|e| (e.range, e.s, e.d)), wanted);
+    check_same(rt, world.nth(device, 1).is_none(), true);
     if let Some((range, s, d)) = wanted {
         assert!(rt; 0 < range.len);
-        assert_eq!(rt; world.counters(device, range), Some((s, d)));
+        check_same(rt, world.counters(device, range), Some((s, d)));
     }
 }
 
@@ -76,5 +86,5 @@ pub fn printed(entry: Option<&WorkEntry>) -> Option<&[i64]> {
 
 // The last entry of a log is a print that showed these values.
 pub fn check_last_print(rt: &impl Abort, log: &[WorkEntry], values: &[i64]) {
-    assert_eq!(rt; printed(log.last()), Some(values));
+    check_same(rt, printed(log.last()), Some(values));
 }

@@ -1,7 +1,7 @@
 //! Worlds that close: when a full queue is closed, and that closing needs no memory, of which
 //! contracts don't speak.
 
-use crate::checks::{FINISHED, check_replies, check_states, check_steps};
+use crate::checks::{FINISHED, check_replies, check_same, check_states, check_steps};
 use crate::worlds::{ONE, Setting, queue, reply_to, turns, world_of};
 use acc_base::{Fault, QUEUES};
 use acc_core::{Event, Reply, World};
@@ -47,7 +47,7 @@ fn check_closes(rt: &impl Abort, world: &mut World, device: u8, open: u32) {
         let taken = reply_to(world, Event::Take(queue(device, number)));
         open = open.wrapping_sub(1);
         let closed = reply_to(world, Event::Close);
-        assert!(rt; taken == Reply::Did && closed == Reply::Remaining(open));
+        check_same(rt, (taken, closed), (Reply::Did, Reply::Remaining(open)));
     }
 }
 
@@ -61,7 +61,7 @@ fn full_queues_are_closed_one_by_one(rt: HostRuntime) -> Result<(), Fail> {
         check_closes(&rt, &mut world, device, 32 - 8 * u32::from(device));
     }
     turns(&mut world, 10);
-    assert!(rt; !world.any_left());
+    check_same(&rt, world.any_left(), false);
     check_states(&rt, &world, &[FINISHED; 4]);
     check_replies(&rt, &mut world, &[(Event::Close, Reply::Remaining(0))]);
     Ok(())
@@ -105,7 +105,7 @@ fn check_scarce_closes(
     world: &mut World,
 ) -> Result<(), AllocError> {
     let replies = scarce_closes(alloc, world)?;
-    assert!(rt; replies == [Reply::Remaining(0); 2]);
+    check_same(rt, replies, [Reply::Remaining(0); 2]);
     Ok(())
 }
 

@@ -3,7 +3,7 @@
 
 ghost use Rattle.std.specs.Prelude.{◌≡◌};
 
-use crate::checks::{FINISHED, check_last_print, check_states, refused};
+use crate::checks::{FINISHED, check_last_print, check_same, check_states, refused};
 use crate::worlds::{script_of, turns};
 use acc_base::{Config, Fault, HostId};
 use acc_core::{HostProgram, HostState, World};
@@ -50,7 +50,7 @@ fn a_copied_program_runs_alike(rt: HostRuntime) -> Result<(), Fail> {
     let alloc = rt.alloc();
     let program = program_of(alloc, SCRIPT)?;
     let (refusals, copy) = at_each_amount(alloc, || program.try_clone(alloc))?;
-    assert!(rt; 0 < refusals, "{refusals}");
+    check_same(&rt, 0 < refusals, true);
     run_of(&rt, alloc, program)?;
     run_of(&rt, alloc, copy)?;
     Ok(())
@@ -59,14 +59,14 @@ fn a_copied_program_runs_alike(rt: HostRuntime) -> Result<(), Fail> {
 // A host that is refused from outside, and then stands so.
 fn check_refusal(rt: &impl Abort, host: &mut Host, fault: Fault, state: HostState) {
     host.refuse(fault);
-    assert_eq!(rt; host.state(), state);
+    check_same(rt, host.state(), state);
 }
 
 /// It stands at its next statement then, and stays so.
 #[test]
 fn a_host_is_refused_from_outside(rt: HostRuntime) -> Result<(), Fail> {
     let mut running = Host::new(program_of(rt.alloc(), SCRIPT)?);
-    assert_eq!(rt; running.state(), HostState::Running { ended: 0 });
+    check_same(&rt, running.state(), HostState::Running { ended: 0 });
     let state = refused(0, 3, Fault::Memory);
     check_refusal(&rt, &mut running, Fault::Memory, state);
     check_refusal(&rt, &mut running, Fault::QueueFull, state);

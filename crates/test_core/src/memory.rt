@@ -2,7 +2,7 @@
 //! at last; no clause can tell how much there is.
 
 use crate::checks::{
-    FINISHED, check_last_print, check_present, check_states, check_steps, refused,
+    FINISHED, check_last_print, check_present, check_same, check_states, check_steps, refused,
 };
 use crate::worlds::{ONE, Setting, host, on, queue, reply_to, turns, world_of};
 use acc_base::{Config, Fault, Range};
@@ -70,7 +70,7 @@ fn check_replies(
         } else {
             scarce_step(alloc, world, *event)?
         };
-        assert_eq!(rt; reply, *wanted, "{event:?}");
+        check_same(rt, (*event, reply), (*event, *wanted));
     }
     Ok(())
 }
@@ -96,7 +96,7 @@ fn scarce_outcome(alloc: Global, world: World) -> Result<Outcome, AllocError> {
 fn check_scarce_run(rt: &impl Abort, alloc: Global, text: &[u8]) -> Result<(), Fail> {
     let mut world = world_of(alloc, text, ONE)?;
     let refused = scarce_run(alloc, &mut world)?;
-    assert_eq!(rt; refused, Some(Fault::Memory));
+    check_same(rt, refused, Some(Fault::Memory));
     check_present(rt, &world, None);
     check_steps(rt, &mut world, 0, 1);
     Ok(())
@@ -119,11 +119,9 @@ fn check_outcome(
     line: u32,
 ) -> Result<(), AllocError> {
     let outcome = scarce_outcome(alloc, world)?;
-    assert_eq!(rt; outcome.places.len(), accepted);
-    assert_eq!(rt;
-        outcome.hosts.as_slice(),
-        [refused(ended, line, Fault::Memory)].as_slice()
-    );
+    let wanted = [refused(ended, line, Fault::Memory)];
+    check_same(rt, outcome.places.len(), accepted);
+    check_same(rt, outcome.hosts.as_slice(), wanted.as_slice());
     Ok(())
 }
 
@@ -156,7 +154,7 @@ fn check_scarce_statement(rt: &impl Abort, alloc: Global, text: &[u8]) -> Result
     ];
     let mut world = world_of(alloc, text, ONE)?;
     check_replies(rt, alloc, &mut world, &events)?;
-    assert_eq!(rt; world.log().len(), 0);
+    check_same(rt, world.log().len(), 0);
     check_states(rt, &world, &[refused(0, 3, Fault::Memory)]);
     Ok(())
 }
@@ -188,7 +186,7 @@ fn memory_is_refused_to_a_host_that_waited(rt: HostRuntime) -> Result<(), Fail> 
         b"long a[4];\nhost {\n#pragma acc enter data create(a[0:1]) async(1)\n#pragma acc enter data create(a[1:1]) async(2)\n#pragma acc wait\n}\n";
     let mut world = world_of(alloc, text, ONE)?;
     check_replies(&rt, alloc, &mut world, &events)?;
-    assert_eq!(rt; world.log().len(), 2);
+    check_same(&rt, world.log().len(), 2);
     check_outcome(&rt, alloc, world, 3, 2, 5)?;
     Ok(())
 }
@@ -229,7 +227,7 @@ fn memory_is_refused_to_a_new_world(rt: HostRuntime) -> Result<(), Fail> {
     hoard.fill(alloc);
     let refused = World::new(alloc, config, programs);
     hoard.free();
-    assert_eq!(rt; refused.err(), Some(Fault::Memory));
+    check_same(&rt, refused.err(), Some(Fault::Memory));
     Ok(())
 }
 
@@ -246,8 +244,8 @@ fn counts_are_refused_until_there_is_memory(rt: HostRuntime) -> Result<(), Fail>
     ];
     for (numbers, is_refused) in &cases {
         let (refusals, counts) = at_each_amount(alloc, || Counts::new(alloc, *numbers))?;
-        assert_eq!(rt; 0 < refusals, *is_refused, "{numbers:?}");
-        assert_eq!(rt; counts.numbers(), *numbers);
+        check_same(&rt, (*numbers, 0 < refusals), (*numbers, *is_refused));
+        check_same(&rt, counts.numbers(), *numbers);
     }
     Ok(())
 }
@@ -270,10 +268,7 @@ fn a_world_and_its_loop_are_refused_until_there_is_memory(rt: HostRuntime) -> Re
     let alloc = rt.alloc();
     let mut worlds = 0u32;
     let (refusals, mut world) = at_each_amount(alloc, || placed_world(alloc, &mut worlds))?;
-    assert!(rt;
-        1 < worlds && worlds < refusals,
-        "{worlds} worlds, {refusals} refusals"
-    );
+    check_same(&rt, (1 < worlds, worlds < refusals), (true, true));
     turns(&mut world, 20);
     check_states(&rt, &world, &[FINISHED]);
     check_last_print(&rt, world.log(), &[2, 4, 6, 8]);

@@ -1,7 +1,7 @@
 //! Two hosts race on one queue in every order of a small schedule, where the contract of a step
 //! knows one event.
 
-use crate::checks::{FINISHED, check_present, check_states, check_steps, printed};
+use crate::checks::{FINISHED, check_present, check_same, check_states, check_steps, printed};
 use crate::worlds::{ONE, on, reply_to, turns, world_of};
 use acc_base::Fault;
 use acc_core::{Event, WorkEntry, World};
@@ -85,11 +85,11 @@ fn check_log(rt: &impl Abort, log: &[WorkEntry], operations: u32) {
             performed = performed.wrapping_add(1);
         }
         if let Some(values) = printed(Some(entry)) {
-            assert!(rt; matches!(values, [1] | [2]), "{values:?}");
+            check_same(rt, matches!(values, [1] | [2]), true);
             prints = prints.wrapping_add(1);
         }
     }
-    assert_eq!(rt; (performed, prints), (operations, 2));
+    check_same(rt, (performed, prints), (operations, 2));
 }
 
 fn run_race(rt: &impl Abort, alloc: Global, words: &[Word; 8]) -> Result<(), Fault> {
@@ -115,7 +115,7 @@ fn two_hosts_race_in_every_order(rt: HostRuntime) -> Result<(), Fail> {
             apart = apart.wrapping_add(u32::from(is_apart(&words)));
         }
     }
-    assert_eq!(rt; orders, 560);
-    assert!(rt; 0 < apart && apart < orders, "{apart} of {orders}");
+    check_same(&rt, orders, 560);
+    check_same(&rt, (0 < apart, apart < orders), (true, true));
     Ok(())
 }

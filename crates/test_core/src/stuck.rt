@@ -1,7 +1,7 @@
 //! Queues that await one another come to an end by themselves. A contract says that some queue is
 //! enabled where something is left, and not that it ends.
 
-use crate::checks::check_steps;
+use crate::checks::{check_same, check_steps};
 use crate::worlds::{ONE, queue, reply_to, world_of};
 use acc_base::QueueAt;
 use acc_core::{Event, Reply, World};
@@ -24,7 +24,7 @@ fn check_goes_on(rt: &impl Abort, world: &mut World, at: QueueAt) {
     let took = reply_to(world, Event::Take(QueueAt { device, queue }));
     if took == Reply::Idle {
         let performed = reply_to(world, Event::Perform(QueueAt { device, queue }));
-        assert_eq!(rt; performed, Reply::Did);
+        check_same(rt, performed, Reply::Did);
     }
 }
 
@@ -33,11 +33,11 @@ fn drain(rt: &impl Abort, world: &mut World) -> u32 {
     for steps in 0..1_000u32 {
         match enabled_queue(world) {
             None => {
-                assert!(rt; !world.any_left());
+                check_same(rt, world.any_left(), false);
                 return steps;
             }
             Some(at) => {
-                assert!(rt; world.any_left());
+                check_same(rt, world.any_left(), true);
                 check_goes_on(rt, world, at);
             }
         }
@@ -52,7 +52,7 @@ const CHAIN: &[u8] =
 // The host goes on by so many steps, and then the enabled queues by so many.
 fn check_drained(rt: &impl Abort, world: &mut World, host_steps: u32, steps: u32) {
     check_steps(rt, world, 0, host_steps);
-    assert_eq!(rt; drain(rt, world), steps);
+    check_same(rt, drain(rt, world), steps);
 }
 
 /// Steps of the enabled queues alone perform all, whatever awaits what: behind each step of the host. A batch is taken each time.
@@ -70,7 +70,8 @@ fn enabled_queues_perform_all_step_by_step(rt: HostRuntime) -> Result<(), Fail> 
 fn enabled_queues_perform_all(rt: HostRuntime) -> Result<(), Fail> {
     let mut world = world_of(rt.alloc(), CHAIN, ONE)?;
     check_steps(&rt, &mut world, 0, 3);
-    assert!(rt; !world.enabled(queue(0, 0)) && !world.enabled(queue(3, 0)));
+    check_same(&rt, world.enabled(queue(0, 0)), false);
+    check_same(&rt, world.enabled(queue(3, 0)), false);
     check_drained(&rt, &mut world, 0, 9);
     Ok(())
 }
@@ -93,6 +94,6 @@ fn a_ring_of_queues_goes_on(rt: HostRuntime) -> Result<(), Fail> {
     check_steps(&rt, &mut world, 2, 12);
     // 25 batches are taken, and 35 operations performed: each wait is one await, and an update on another queue than its
     // block's maker has one, too
-    assert_eq!(rt; drain(&rt, &mut world), 60);
+    check_same(&rt, drain(&rt, &mut world), 60);
     Ok(())
 }

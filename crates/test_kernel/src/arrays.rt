@@ -1,7 +1,11 @@
 //! The arrays that a loop names, in the order of their first mention, as lists written by hand: the
 //! contract computes them from the loop.
 
+use crate::checks::check_same;
+use acc_base::Fault;
 use acc_kernel::Kernel;
+use std::alloc::Global;
+use std::process::Abort;
 use std::test::Fail;
 use tool_loops::Part::{Choose, Index, Negate, Number, Read};
 use tool_loops::{PLUS, Row, TIMES, statements_of};
@@ -33,13 +37,23 @@ const CASES: [(&[Row], &[u8]); 4] = [
     ),
 ];
 
+fn loop_of(alloc: Global, rows: &[Row]) -> Result<Kernel, Fail> {
+    let statements = statements_of(alloc, rows)?;
+    Ok(Kernel::new(alloc, 0, 2, statements)?)
+}
+
+fn check_copy(rt: &impl Abort, alloc: Global, kernel: &Kernel, arrays: &[u8]) -> Result<(), Fault> {
+    let copy = kernel.try_clone(alloc)?;
+    check_same(rt, copy.arrays(), arrays);
+    Ok(())
+}
+
 #[test]
 fn loops_tell_their_arrays(rt: HostRuntime) -> Result<(), Fail> {
-    for (statements, arrays) in &CASES {
-        let statements = statements_of(rt.alloc(), statements)?;
-        let kernel = Kernel::new(rt.alloc(), 0, 2, statements)?;
-        assert_eq!(rt; kernel.arrays(), *arrays);
-        assert_eq!(rt; kernel.try_clone(rt.alloc())?.arrays(), *arrays);
+    for (rows, arrays) in &CASES {
+        let kernel = loop_of(rt.alloc(), rows)?;
+        check_same(&rt, kernel.arrays(), arrays);
+        check_copy(&rt, rt.alloc(), &kernel, arrays)?;
     }
     Ok(())
 }

@@ -1,6 +1,7 @@
 //! Loops that go column by column give what formulas in plain code give, for spans around a
 //! column's length. The contract has the values by its own definitions alone.
 
+use crate::checks::check_same;
 use acc_base::{BlockId, Fault, Listed, Range, Shared};
 use acc_kernel::{Job, Kernel};
 use std::alloc::Global;
@@ -224,19 +225,22 @@ fn set_input(job: &mut Job, place: usize, values: &[i64]) {
     }
 }
 
-// The job of a loop from lo to hi - 1, computed, if the arrays hold all cells that it refers to.
-fn computed(alloc: Global, rows: &[Row], (lo, hi): (i64, i64)) -> Result<Option<Job>, Fail> {
+// The job of a loop from lo to hi - 1, if the arrays hold all cells that it refers to.
+fn job_over(alloc: Global, rows: &[Row], (lo, hi): (i64, i64)) -> Result<Option<Job>, Fail> {
     let kernel = Kernel::new(alloc, lo, hi, statements_of(alloc, rows)?)?;
     let kernel = Shared::new(alloc, kernel)?;
-    let Some(mut job) = job_of(alloc, &kernel, &uses_of(alloc)?)? else {
-        return Ok(None);
-    };
+    let uses = uses_of(alloc)?;
+    Ok(job_of(alloc, &kernel, &uses)?)
+}
+
+// Computes a job.
+fn compute(alloc: Global, job: &mut Job) -> Result<(), Fault> {
     for array in 0..3u8 {
         let values = values_of(alloc, |cell| before(array, cell))?;
-        set_input(&mut job, usize::from(array), values.as_slice());
+        set_input(job, usize::from(array), values.as_slice());
     }
     job.compute();
-    Ok(Some(job))
+    Ok(())
 }
 
 // What a job computed for an array is what plain code gives.
@@ -250,7 +254,21 @@ fn check_output(
     let place = usize::from(array);
     assert!(rt; place < job.uses().len());
     let wanted = values_of(alloc, |cell| after(body, span, array, cell))?;
-    assert_eq!(rt; job.output(place), wanted.as_slice(), "{body:?}, {span:?}");
+    check_same(rt, (span, job.output(place)), (span, wanted.as_slice()));
+    Ok(())
+}
+
+// Computes a job, and looks at what it has for each array.
+fn check_job(
+    rt: &impl Abort,
+    alloc: Global,
+    job: &mut Job,
+    case: (Body, (i64, i64)),
+) -> Result<(), Fault> {
+    compute(alloc, job)?;
+    for array in 0..3u8 {
+        check_output(rt, alloc, job, array, case)?;
+    }
     Ok(())
 }
 
@@ -261,12 +279,8 @@ fn check(
     (lo, turns): (i64, i64),
 ) -> Result<(), Fail> {
     let span = (lo, lo.wrapping_add(turns));
-    match computed(alloc, rows, span)? {
-        Some(job) => {
-            for array in 0..3u8 {
-                check_output(rt, alloc, &job, array, (body, span))?;
-            }
-        }
+    match job_over(alloc, rows, span)? {
+        Some(mut job) => check_job(rt, alloc, &mut job, (body, span))?,
         None => assert!(rt; false, "{body:?} isn't held"),
     }
     Ok(())

@@ -1,6 +1,7 @@
 //! Values of expressions and loops that another calculator gave, also where they wrap round:
 //! contracts compare them with definitions, and not with numbers.
 
+use crate::checks::check_same;
 use acc_base::{BlockId, Fault, Listed, Range, Shared};
 use acc_kernel::{Job, Kernel};
 use std::alloc::Global;
@@ -318,31 +319,47 @@ fn set_input(rt: &impl Abort, job: &mut Job, place: usize, values: &[i64]) {
 
 fn assert_output(rt: &impl Abort, job: &Job, place: usize, values: &[i64]) {
     assert!(rt; place < job.uses().len());
-    assert_eq!(rt; job.output(place), values);
+    check_same(rt, job.output(place), values);
 }
 
-// Runs a loop as a job over x and y, and compares each with what it has to have then.
+// A loop as a job over x and y.
+fn job_over(alloc: Global, kernel: Kernel, x: &[i64], y: &[i64]) -> Result<Option<Job>, Fault> {
+    let kernel = Shared::new(alloc, kernel)?;
+    let uses = vec![in alloc; whole(0, x), whole(1, y)]?;
+    let uses = Shared::new(alloc, Listed::from_vec(uses))?;
+    job_of(alloc, &kernel, &uses)
+}
+
+// Computes a job over x and y, and compares each with what it has to have then.
+fn check_job(
+    rt: &impl Abort,
+    job: &mut Job,
+    (x, x_after): (&[i64], &[i64]),
+    (y, y_after): (&[i64], &[i64]),
+) {
+    set_input(rt, job, 0, x);
+    set_input(rt, job, 1, y);
+    job.compute();
+    assert_output(rt, job, 0, x_after);
+    assert_output(rt, job, 1, y_after);
+}
+
+// Runs a loop as a job over x and y.
 pub fn check(
     rt: &impl Abort,
     alloc: Global,
     kernel: Kernel,
-    (x, x_after): (&[i64], &[i64]),
-    (y, y_after): (&[i64], &[i64]),
+    x: (&[i64], &[i64]),
+    y: (&[i64], &[i64]),
 ) -> Result<(), Fault> {
-    let kernel = Shared::new(alloc, kernel)?;
-    let uses = vec![in alloc; whole(0, x), whole(1, y)]?;
-    let uses = Shared::new(alloc, Listed::from_vec(uses))?;
-    let Some(mut job) = job_of(alloc, &kernel, &uses)? else {
-        assert!(rt; false, "not held");
-        return Ok(());
-    };
-    let (lo, hi) = (kernel.get().lo(), kernel.get().hi());
-    assert!(rt; job.kernel().lo() == lo && job.kernel().hi() == hi);
-    set_input(rt, &mut job, 0, x);
-    set_input(rt, &mut job, 1, y);
-    job.compute();
-    assert_output(rt, &job, 0, x_after);
-    assert_output(rt, &job, 1, y_after);
+    let bounds = (kernel.lo(), kernel.hi());
+    match job_over(alloc, kernel, x.0, y.0)? {
+        Some(mut job) => {
+            check_same(rt, (job.kernel().lo(), job.kernel().hi()), bounds);
+            check_job(rt, &mut job, x, y);
+        }
+        None => assert!(rt; false, "not held"),
+    }
     Ok(())
 }
 

@@ -1,17 +1,29 @@
 //! What refuses a loop, at both sides of each limit in numbers; the texts of these faults, which no
 //! contract has; and the cells that a loop reaches.
 
+use crate::checks::check_same;
 use acc_base::Fault;
 use acc_kernel::{Assign, Expr, Kernel, KernelFault, MAX_DISTANCE, Reach};
-use std::alloc::Global;
+use std::alloc::{AllocError, Global};
 use std::process::Abort;
 use std::test::Fail;
 use tool_loops::Part::{self, Choose, Index, Negate, Number, Read};
 use tool_loops::{PLUS, expr_of};
 
+fn check_text(
+    rt: &impl Abort,
+    alloc: Global,
+    fault: KernelFault,
+    text: &str,
+) -> Result<(), AllocError> {
+    let shown = format!(in alloc; "{fault}")?;
+    check_same(rt, shown.as_str(), text);
+    Ok(())
+}
+
 #[test]
 fn the_texts_of_kernel_faults(rt: HostRuntime) -> Result<(), Fail> {
-    let texts = [
+    const TEXTS: &[(KernelFault, &str)] = &[
         (KernelFault::ReadsAssigned, "K1 ReadsAssigned"),
         (KernelFault::NoStatement, "K2 NoStatement"),
         (KernelFault::TooDeep, "K3 TooDeep"),
@@ -19,9 +31,8 @@ fn the_texts_of_kernel_faults(rt: HostRuntime) -> Result<(), Fail> {
         (KernelFault::TooMany, "F5 TooMany"),
         (KernelFault::Memory, "F11 Memory"),
     ];
-    for (fault, text) in &texts {
-        let shown = format!(in rt.alloc(); "{fault}")?;
-        assert_eq!(rt; shown.as_str(), *text);
+    for (fault, text) in TEXTS {
+        check_text(&rt, rt.alloc(), *fault, text)?;
     }
     Ok(())
 }
@@ -45,9 +56,33 @@ fn repeated(alloc: Global, count: usize, value: &Expr) -> Result<Vec<Assign>, Fa
     Ok(statements)
 }
 
+// The fault of a loop from lo to hi - 1 of so many statements.
+fn check_fault(
+    rt: &impl Abort,
+    alloc: Global,
+    (lo, hi): (i64, i64),
+    (count, value): (usize, &Expr),
+    fault: Option<KernelFault>,
+) -> Result<(), Fault> {
+    let statements = repeated(alloc, count, value)?;
+    let found = Kernel::new(alloc, lo, hi, statements).err();
+    check_same(rt, found, fault);
+    Ok(())
+}
+
+/// So many minus signs, so many statements, and their fault.
+type Deep = (usize, usize, Option<KernelFault>);
+
+fn check_depth(rt: &impl Abort, alloc: Global, deep: Deep) -> Result<(), Fault> {
+    let (signs, count, fault) = deep;
+    let value = minus_signs(alloc, signs)?;
+    check_same(rt, value.depth(), signs.wrapping_add(1));
+    check_fault(rt, alloc, (0, 1), (count, &value), fault)
+}
+
 #[test]
 fn depths_and_counts_at_their_limits(rt: HostRuntime) -> Result<(), Fail> {
-    let cases = [
+    const CASES: &[Deep] = &[
         (31, 1, None),
         (32, 1, Some(KernelFault::TooDeep)),
         (0, 0, Some(KernelFault::NoStatement)),
@@ -55,30 +90,26 @@ fn depths_and_counts_at_their_limits(rt: HostRuntime) -> Result<(), Fail> {
         (0, 17, Some(KernelFault::TooMany)),
         (32, 17, Some(KernelFault::TooDeep)),
     ];
-    for (signs, count, fault) in &cases {
-        let value = minus_signs(rt.alloc(), *signs)?;
-        assert_eq!(rt; value.depth(), *signs + 1);
-        let statements = repeated(rt.alloc(), *count, &value)?;
-        assert_eq!(rt; Kernel::new(rt.alloc(), 0, 1, statements).err(), *fault);
+    for deep in CASES {
+        check_depth(&rt, rt.alloc(), *deep)?;
     }
     Ok(())
 }
 
 #[test]
 fn bounds_at_their_limits(rt: HostRuntime) -> Result<(), Fail> {
-    let cases = [
-        (-MAX_DISTANCE, MAX_DISTANCE, None),
-        (MAX_DISTANCE, -MAX_DISTANCE, None),
-        (-65_537, 0, Some(KernelFault::TooFar)),
-        (65_537, 0, Some(KernelFault::TooFar)),
-        (0, 65_537, Some(KernelFault::TooFar)),
-        (0, -65_537, Some(KernelFault::TooFar)),
-        (i64::MIN, i64::MAX, Some(KernelFault::TooFar)),
+    const CASES: &[((i64, i64), Option<KernelFault>)] = &[
+        ((-MAX_DISTANCE, MAX_DISTANCE), None),
+        ((MAX_DISTANCE, -MAX_DISTANCE), None),
+        ((-65_537, 0), Some(KernelFault::TooFar)),
+        ((65_537, 0), Some(KernelFault::TooFar)),
+        ((0, 65_537), Some(KernelFault::TooFar)),
+        ((0, -65_537), Some(KernelFault::TooFar)),
+        ((i64::MIN, i64::MAX), Some(KernelFault::TooFar)),
     ];
     let index = Expr::index(rt.alloc())?;
-    for (lo, hi, fault) in &cases {
-        let statements = repeated(rt.alloc(), 1, &index)?;
-        assert_eq!(rt; Kernel::new(rt.alloc(), *lo, *hi, statements).err(), *fault);
+    for (bounds, fault) in CASES {
+        check_fault(&rt, rt.alloc(), *bounds, (1, &index), *fault)?;
     }
     Ok(())
 }
@@ -108,8 +139,7 @@ const FAULTS: [(&[Part], Option<KernelFault>); 11] = [
 fn expressions_have_their_faults(rt: HostRuntime) -> Result<(), Fail> {
     for (parts, fault) in &FAULTS {
         let value = expr_of(rt.alloc(), parts)?;
-        let statements = repeated(rt.alloc(), 1, &value)?;
-        assert_eq!(rt; Kernel::new(rt.alloc(), 0, 2, statements).err(), *fault);
+        check_fault(&rt, rt.alloc(), (0, 2), (1, &value), *fault)?;
     }
     Ok(())
 }
@@ -132,6 +162,13 @@ fn what_a_loop_reaches(rt: HostRuntime) -> Result<(), Fail> {
 /// The first and the last cell of an array that a loop reaches, if it reaches one.
 type Cells = Option<(i64, i64)>;
 
+// The copy of a loop from lo to hi - 1.
+fn copied(alloc: Global, (lo, hi): (i64, i64), value: &Expr) -> Result<Kernel, Fail> {
+    let statements = repeated(alloc, 1, value)?;
+    let kernel = Kernel::new(alloc, lo, hi, statements)?;
+    Ok(kernel.try_clone(alloc)?)
+}
+
 // What a loop from lo to hi - 1 reads of array 1 and assigns of array 0.
 fn check_reach(
     rt: &impl Abort,
@@ -139,12 +176,11 @@ fn check_reach(
     value: &Expr,
     (lo, hi, read, assigned): (i64, i64, Cells, Cells),
 ) -> Result<(), Fail> {
-    let statements = repeated(alloc, 1, value)?;
-    let kernel = Kernel::new(alloc, lo, hi, statements)?.try_clone(alloc)?;
+    let kernel = copied(alloc, (lo, hi), value)?;
     let reach = |(first, last): (i64, i64)| Reach { first, last };
-    assert_eq!(rt; kernel.reach(0), assigned.map(reach));
-    assert_eq!(rt; kernel.reach(1), read.map(reach));
-    assert_eq!(rt; kernel.reach(2), None);
-    assert_eq!(rt; kernel.statements().len(), 1);
+    check_same(rt, kernel.reach(0), assigned.map(reach));
+    check_same(rt, kernel.reach(1), read.map(reach));
+    check_same(rt, kernel.reach(2), None);
+    check_same(rt, kernel.statements().len(), 1);
     Ok(())
 }

@@ -4,6 +4,8 @@
 #[cfg(test)]
 mod arrays;
 #[cfg(test)]
+mod checks;
+#[cfg(test)]
 mod columns;
 #[cfg(test)]
 mod computed;

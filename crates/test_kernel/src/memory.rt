@@ -1,9 +1,10 @@
 //! Expressions, loops, copies and jobs with each amount of memory from none on. A clause says what
 //! a refusal is, and not that refusals end.
 
+use crate::checks::{check_refused, check_same};
 use crate::computed::check;
 use acc_base::{BlockId, Fault, Listed, Range, Shared};
-use acc_kernel::{Assign, Expr, Kernel, KernelFault, Operator};
+use acc_kernel::{Assign, Expr, Job, Kernel, KernelFault, Operator};
 use std::alloc::Global;
 use std::process::Abort;
 use std::test::Fail;
@@ -47,6 +48,14 @@ fn pairs(alloc: Global) -> Result<Vec<Assign>, Fault> {
     Ok(statements)
 }
 
+// The arrays are 0 to 31, in order.
+fn check_arrays(rt: &impl Abort, arrays: &[u8]) {
+    check_same(rt, arrays.len(), 32);
+    for (place, array) in arrays.iter().enumerate() {
+        check_same(rt, usize::from(*array), place);
+    }
+}
+
 /// Each loop is of statements that are made for it, and these may be refused, too.
 #[test]
 fn a_loop_is_refused_until_there_is_memory(rt: HostRuntime) -> Result<(), Fail> {
@@ -57,17 +66,10 @@ fn a_loop_is_refused_until_there_is_memory(rt: HostRuntime) -> Result<(), Fail> 
         made = made.wrapping_add(1);
         kernel_of(alloc, statements)
     })?;
-    assert!(rt;
-        4 < made && made < refusals,
-        "{made} loops, {refusals} refusals"
-    );
-    let Some(kernel) = kernel else {
-        assert!(rt; false, "refused");
-        return Ok(());
-    };
-    assert_eq!(rt; kernel.arrays().len(), 32);
-    for (place, array) in kernel.arrays().iter().enumerate() {
-        assert_eq!(rt; usize::from(*array), place);
+    check_same(&rt, (4 < made, made < refusals), (true, true));
+    match kernel {
+        Some(kernel) => check_arrays(&rt, kernel.arrays()),
+        None => assert!(rt; false, "refused"),
     }
     Ok(())
 }
@@ -77,11 +79,11 @@ fn a_loop_is_refused_until_there_is_memory(rt: HostRuntime) -> Result<(), Fail> 
 fn an_expression_is_refused_until_there_is_memory(rt: HostRuntime) -> Result<(), Fail> {
     let alloc = rt.alloc();
     let (refusals, five) = at_each_amount(alloc, || Expr::number(alloc, 5))?;
-    assert!(rt; 0 < refusals, "number");
+    check_refused(&rt, refusals, 1);
     let (refusals, mut expr) = at_each_amount(alloc, || Expr::index(alloc))?;
-    assert!(rt; 0 < refusals, "index");
+    check_refused(&rt, refusals, 1);
     let (refusals, ()) = at_each_amount(alloc, || expr.binary(Operator::Times, &five))?;
-    assert!(rt; 0 < refusals, "binary");
+    check_refused(&rt, refusals, 1);
     // it may have room for this
     expr.negate()?;
     check_values(&rt, alloc, expr, &[0, -5])
@@ -92,14 +94,14 @@ fn an_expression_is_refused_until_there_is_memory(rt: HostRuntime) -> Result<(),
 fn a_choice_is_refused_until_there_is_memory(rt: HostRuntime) -> Result<(), Fail> {
     let alloc = rt.alloc();
     let (refusals, first) = at_each_amount(alloc, || Expr::read(alloc, 1, 2))?;
-    assert!(rt; 0 < refusals, "read");
+    check_refused(&rt, refusals, 1);
     let second = Expr::read(alloc, 1, 0)?;
     let expr = expr_of(alloc, &[Index, Number(5), TIMES, Negate])?;
     let (refusals, mut copy) = at_each_amount(alloc, || expr.try_clone(alloc))?;
-    assert!(rt; 0 < refusals, "try_clone");
+    check_refused(&rt, refusals, 1);
     let (refusals, ()) = at_each_amount(alloc, || copy.choose(&first, &second))?;
-    assert!(rt; 0 < refusals, "choose");
-    assert_eq!(rt; copy.depth(), 4);
+    check_refused(&rt, refusals, 1);
+    check_same(&rt, copy.depth(), 4);
     check_values(&rt, alloc, copy, &[10, 40])
 }
 
@@ -126,8 +128,8 @@ fn a_minus_sign_is_refused_until_there_is_memory(rt: HostRuntime) -> Result<(), 
     let alloc = rt.alloc();
     let mut expr = Expr::number(alloc, 5)?;
     let (refusals, ()) = at_each_amount(alloc, || expr.negate())?;
-    assert!(rt; 0 < refusals);
-    assert_eq!(rt; expr.depth(), 2);
+    check_refused(&rt, refusals, 1);
+    check_same(&rt, expr.depth(), 2);
     Ok(())
 }
 
@@ -139,9 +141,9 @@ fn copies_of_a_loop_are_refused_until_there_is_memory(rt: HostRuntime) -> Result
         return Ok(());
     };
     let (refusals, copy) = at_each_amount(alloc, || kernel.try_clone(alloc))?;
-    assert!(rt; 1 < refusals);
-    assert_eq!(rt; copy.statements().len(), 1);
-    assert_eq!(rt; copy.arrays(), [0, 1].as_slice());
+    check_refused(&rt, refusals, 2);
+    check_same(&rt, copy.statements().len(), 1);
+    check_same(&rt, copy.arrays(), [0, 1].as_slice());
     Ok(())
 }
 
@@ -160,6 +162,13 @@ fn shared_loop(alloc: Global) -> Result<Option<Shared<Kernel>>, Fault> {
     }
 }
 
+// The parts of a job are its loop and these uses.
+fn check_parts(rt: &impl Abort, job: Job, uses: &[(BlockId, Range)]) {
+    let (kernel, parts) = job.into_parts();
+    check_same(rt, kernel.get().arrays(), [0, 1].as_slice());
+    check_same(rt, parts.get().as_slice(), uses);
+}
+
 #[test]
 fn a_job_is_refused_until_there_is_memory(rt: HostRuntime) -> Result<(), Fail> {
     let alloc = rt.alloc();
@@ -169,14 +178,11 @@ fn a_job_is_refused_until_there_is_memory(rt: HostRuntime) -> Result<(), Fail> {
     };
     let uses = uses_of(alloc, 4)?;
     let (refusals, job) = at_each_amount(alloc, || job_of(alloc, &kernel, &uses))?;
-    assert!(rt; 5 < refusals, "{refusals} refusals");
-    let Some(job) = job else {
-        assert!(rt; false, "not held");
-        return Ok(());
-    };
-    let (loop_of_job, uses_of_job) = job.into_parts();
-    assert_eq!(rt; loop_of_job.get().arrays(), [0, 1].as_slice());
-    assert_eq!(rt; uses_of_job.get().as_slice(), uses.get().as_slice());
+    check_refused(&rt, refusals, 6);
+    match job {
+        Some(job) => check_parts(&rt, job, uses.get().as_slice()),
+        None => assert!(rt; false, "not held"),
+    }
     Ok(())
 }
 

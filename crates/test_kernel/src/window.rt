@@ -1,6 +1,7 @@
 //! A turn of a loop over a window that a caller brings, of a single cell: the contract is for
 //! windows of any crate, and this is one.
 
+use crate::checks::check_same;
 use acc_base::{BlockId, Fault, Range};
 use acc_kernel::{Assign, Kernel, Operator, Window};
 use std::alloc::Global;
@@ -78,9 +79,9 @@ fn a_turn_goes_through_a_window(rt: HostRuntime) -> Result<(), Fail> {
         Part::Read(0, 0),
         Part::Binary(Operator::Times),
     ];
-    assert_eq!(rt; after(rt.alloc(), &square, 9)?, Some(81));
-    assert_eq!(rt; after(rt.alloc(), &[Part::Index], 9)?, Some(0));
-    assert_eq!(rt; after(rt.alloc(), &[Part::Read(1, 0)], 9)?, None);
-    assert_eq!(rt; after(rt.alloc(), &[Part::Read(0, 1)], 9)?, None);
+    check_same(&rt, after(rt.alloc(), &square, 9)?, Some(81));
+    check_same(&rt, after(rt.alloc(), &[Part::Index], 9)?, Some(0));
+    check_same(&rt, after(rt.alloc(), &[Part::Read(1, 0)], 9)?, None);
+    check_same(&rt, after(rt.alloc(), &[Part::Read(0, 1)], 9)?, None);
     Ok(())
 }

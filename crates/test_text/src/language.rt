@@ -1,7 +1,8 @@
 //! Whole inputs for the rules of the language, each with the report or the fault that was worked
 //! out by hand; a contract compares with definitions alone.
 
-use acc_driver::{DriverFault, Ended, Options, ReadFault, ReadKind, replay_one};
+use crate::answers::{Answer, check_input, schedule_fault, script_fault};
+use acc_driver::{Ended, Options, ReadKind};
 use std::alloc::Global;
 use std::process::Abort;
 use std::test::Fail;
@@ -598,6 +599,23 @@ const DEEP: &[Case] = &[
     },
 ];
 
+const LOOPS: &[Case] = &[
+    // an array in two clauses of a loop: the last one decides what is copied out
+    Case {
+        options: Options::DEFAULT,
+        input: b"long a[4] = {1,2,3,4};\nhost {\n#pragma acc parallel loop copyin(a) copy(a)\nfor (i = 0; i < 4; i++) a[i] = a[i] + 1;\nprint(a);\n#pragma acc parallel loop copy(a) copyin(a)\nfor (i = 0; i < 4; i++) a[i] = a[i] + 1;\nprint(a);\n}\n%%\nround 30\n",
+        report: b"host 0\n2 3 4 5\n2 3 4 5\ndone\nqueue 0 sync batches 2 operations 9 of 9\nend\n",
+        refused: false,
+    },
+    // a loop passes over a construct of another host
+    Case {
+        options: Options::DEFAULT,
+        input: b"long a[4] = {1,2,3,4};\nhost {\n#pragma acc data create(a[1:2])\n{\nprint(a);\n}\n}\nhost {\n#pragma acc parallel loop\nfor (i = 1; i < 3; i++) a[i] = a[i] + 1;\n}\n%%\nhost 0\nhost 1\nround 20\n",
+        report: b"host 0\n1 2 3 4\ndone\nhost 1\nrefused 9 F6 PartlyPresent\nqueue 0 sync batches 2 operations 2 of 2\nend\n",
+        refused: true,
+    },
+];
+
 /// An input that is refused, with the line and the kind of its fault, in the schedule or in the script.
 struct Faulty {
     input: &'static [u8],
@@ -717,16 +735,9 @@ const FAULTY: &[Faulty] = &[
 // Each input has its report.
 fn check_reports(rt: &impl Abort, alloc: Global, cases: &[Case]) {
     for case in cases {
-        let mut input = case.input;
-        let mut written = Vec::new(alloc);
-        let answer = replay_one(alloc, &mut input, case.options, &mut written);
-        assert_eq!(rt; written.as_slice(), case.report);
-        assert_eq!(rt;
-            answer,
-            Ok(Ended {
-                refused: case.refused
-            })
-        );
+        let refused = case.refused;
+        let wanted = Ok(Ended { refused });
+        check_input(rt, alloc, case.input, case.options, wanted, case.report);
     }
 }
 
@@ -734,6 +745,7 @@ fn check_reports(rt: &impl Abort, alloc: Global, cases: &[Case]) {
 #[test]
 fn worked_programs_have_their_reports(rt: HostRuntime) -> Result<(), Fail> {
     check_reports(&rt, rt.alloc(), CASES);
+    check_reports(&rt, rt.alloc(), LOOPS);
     Ok(())
 }
 
@@ -744,50 +756,21 @@ fn deep_expressions_are_replayed(rt: HostRuntime) -> Result<(), Fail> {
     Ok(())
 }
 
+// The answer to an input that is refused.
+fn answer_to(faulty: &Faulty) -> Answer {
+    if faulty.in_schedule {
+        schedule_fault(faulty.line, faulty.kind)
+    } else {
+        script_fault(faulty.line, faulty.kind)
+    }
+}
+
 /// Faults of both texts.
 #[test]
 fn faults_are_told_with_their_lines(rt: HostRuntime) -> Result<(), Fail> {
-    for case in FAULTY {
-        let mut input = case.input;
-        let mut written = Vec::new(rt.alloc());
-        let answer = replay_one(rt.alloc(), &mut input, Options::DEFAULT, &mut written);
-        let fault = ReadFault {
-            line: case.line,
-            kind: case.kind,
-        };
-        let wanted = if case.in_schedule {
-            DriverFault::Schedule(fault)
-        } else {
-            DriverFault::Script(fault)
-        };
-        assert_eq!(rt; answer, Err(wanted));
-        assert_eq!(rt; written.len(), 0);
-    }
-    Ok(())
-}
-
-/// Sixty-five parentheses are too many inside one another, and a text of blanks alone may be too long.
-#[test]
-fn deep_and_long_texts_are_told(rt: HostRuntime) -> Result<(), Fail> {
-    let alloc = rt.alloc();
-    let mut deep = Vec::new(alloc);
-    deep.extend_from_slice(
-        b"long a[1];\nhost {\n#pragma acc parallel loop\nfor (i = 0; i < 1; i++) a[i] = ",
-    )?;
-    for _ in 0..65u32 {
-        deep.push(b'(')?;
-    }
-    let mut long = Vec::new(alloc);
-    long.resize(1_048_577, b' ')?;
-    let cases = [(deep, 4), (long, 1)];
-    for (input, line) in &cases {
-        let mut written = Vec::new(alloc);
-        let answer = replay_one(alloc, &mut input.as_slice(), Options::DEFAULT, &mut written);
-        let fault = ReadFault {
-            line: *line,
-            kind: ReadKind::Limit,
-        };
-        assert_eq!(rt; answer, Err(DriverFault::Script(fault)));
+    for faulty in FAULTY {
+        let wanted = answer_to(faulty);
+        check_input(&rt, rt.alloc(), faulty.input, Options::DEFAULT, wanted, b"");
     }
     Ok(())
 }

@@ -1,24 +1,18 @@
 //! Inputs with as many arrays, ranges, data constructs, cells, events and bytes as there may be, and with one more:
 //! contracts have these numbers by name.
 
-use crate::replay::replayed;
-use acc_driver::{DriverFault, Ended, ReadFault, ReadKind};
+use crate::answers::{Answer, ENDED, REFUSED, check_input, schedule_fault, script_fault};
+use acc_driver::{Options, ReadKind};
 use std::alloc::{AllocError, Global};
 use std::process::Abort;
 use std::test::Fail;
 
 /// An input, what is answered to it, and its report.
-type Told = (Vec<u8>, Result<Ended, DriverFault>, &'static [u8]);
+type Told = (Vec<u8>, Answer, &'static [u8]);
 
-const ENDED: Result<Ended, DriverFault> = Ok(Ended { refused: false });
-
-const REFUSED: Result<Ended, DriverFault> = Ok(Ended { refused: true });
-
-fn limit(line: u32) -> ReadFault {
-    ReadFault {
-        line,
-        kind: ReadKind::Limit,
-    }
+// A limit of the script is passed in this line.
+fn too_long(line: u32) -> Answer {
+    script_fault(line, ReadKind::Limit)
 }
 
 // So many arrays, each in a line of its own.
@@ -71,9 +65,14 @@ fn rounds(alloc: Global, script: &[u8], count: u32, last: &[u8]) -> Result<Vec<u
 
 fn check(rt: &impl Abort, alloc: Global, cases: &[Told]) {
     for (input, wanted, report) in cases {
-        let (answer, written) = replayed(alloc, &mut input.as_slice());
-        assert_eq!(rt; answer, *wanted);
-        assert_eq!(rt; written.as_slice(), *report);
+        check_input(
+            rt,
+            alloc,
+            input.as_slice(),
+            Options::DEFAULT,
+            *wanted,
+            report,
+        );
     }
 }
 
@@ -84,7 +83,7 @@ fn limits_of_scripts(rt: HostRuntime) -> Result<(), Fail> {
     let refused: &'static [u8] = b"host 0\nrefused 3 F5 TooMany\nend\n";
     let cases: [Told; 8] = [
         (arrays(alloc, 64)?, ENDED, b"end\n"),
-        (arrays(alloc, 65)?, Err(DriverFault::Script(limit(65))), b""),
+        (arrays(alloc, 65)?, too_long(65), b""),
         (
             ranges(alloc, 16)?,
             ENDED,
@@ -92,7 +91,7 @@ fn limits_of_scripts(rt: HostRuntime) -> Result<(), Fail> {
         ),
         (ranges(alloc, 17)?, REFUSED, refused),
         (ranges(alloc, 64)?, REFUSED, refused),
-        (ranges(alloc, 65)?, Err(DriverFault::Script(limit(3))), b""),
+        (ranges(alloc, 65)?, too_long(3), b""),
         (
             Vec::from_slice(
                 alloc,
@@ -161,13 +160,8 @@ fn check_crowded(
 ) -> Result<(), AllocError> {
     for (tail, kind) in tails {
         let input = crowded(alloc, directive, part, tail)?;
-        let (answer, written) = replayed(alloc, &mut input.as_slice());
-        let fault = ReadFault {
-            line: 4,
-            kind: *kind,
-        };
-        assert_eq!(rt; answer, Err(DriverFault::Script(fault)));
-        assert!(rt; written.is_empty());
+        let wanted = script_fault(4, *kind);
+        check_input(rt, alloc, input.as_slice(), Options::DEFAULT, wanted, b"");
     }
     Ok(())
 }
@@ -201,11 +195,7 @@ fn limits_of_constructs(rt: HostRuntime) -> Result<(), Fail> {
         ),
         (constructs(alloc, 33)?, REFUSED, refused),
         (constructs(alloc, 64)?, REFUSED, refused),
-        (
-            constructs(alloc, 65)?,
-            Err(DriverFault::Script(limit(131))),
-            b"",
-        ),
+        (constructs(alloc, 65)?, too_long(131), b""),
     ];
     check(&rt, alloc, &cases);
     Ok(())
@@ -220,7 +210,7 @@ fn limits_of_schedules(rt: HostRuntime) -> Result<(), Fail> {
         (rounds(alloc, b"", 6, b"round 2500\n")?, ENDED, b"end\n"),
         (
             rounds(alloc, b"", 6, b"round 2500\nround 1\n")?,
-            Err(DriverFault::Schedule(limit(8))),
+            schedule_fault(8, ReadKind::Limit),
             b"",
         ),
         (
@@ -230,7 +220,7 @@ fn limits_of_schedules(rt: HostRuntime) -> Result<(), Fail> {
         ),
         (
             rounds(alloc, host, 5, b"round 8824\n")?,
-            Err(DriverFault::Schedule(limit(6))),
+            schedule_fault(6, ReadKind::Limit),
             b"",
         ),
     ];
@@ -248,20 +238,65 @@ fn long_input(alloc: Global, script: usize, schedule: usize) -> Result<Vec<u8>, 
     Ok(input)
 }
 
+// An input whose texts have so many lines is answered so.
+fn check_long(
+    rt: &impl Abort,
+    alloc: Global,
+    (script, schedule): (usize, usize),
+    wanted: Answer,
+    report: &[u8],
+) -> Result<(), Fail> {
+    let input = long_input(alloc, script, schedule)?;
+    check_input(
+        rt,
+        alloc,
+        input.as_slice(),
+        Options::DEFAULT,
+        wanted,
+        report,
+    );
+    Ok(())
+}
+
 /// Each text has 1,048,576 bytes at most.
 #[test]
 fn long_texts_are_told(rt: HostRuntime) -> Result<(), Fail> {
-    let long = limit(1_048_577);
-    let inputs = [
-        (1_048_576, 1_048_576, Ok(Ended { refused: false })),
-        (1_048_577, 1_048_576, Err(DriverFault::Script(long))),
-        (1_048_576, 1_048_577, Err(DriverFault::Schedule(long))),
-        (3_000_000, 3_000_000, Err(DriverFault::Script(long))),
-    ];
-    for (script, schedule, wanted) in &inputs {
-        let input = long_input(rt.alloc(), *script, *schedule)?;
-        let (answer, _written) = replayed(rt.alloc(), &mut input.as_slice());
-        assert_eq!(rt; answer, *wanted);
+    const LINE: u32 = 1_048_577;
+    let in_schedule = schedule_fault(LINE, ReadKind::Limit);
+    let alloc = rt.alloc();
+    check_long(&rt, alloc, (1_048_576, 1_048_576), ENDED, b"end\n")?;
+    check_long(&rt, alloc, (1_048_577, 1_048_576), too_long(LINE), b"")?;
+    check_long(&rt, alloc, (1_048_576, 1_048_577), in_schedule, b"")?;
+    check_long(&rt, alloc, (3_000_000, 3_000_000), too_long(LINE), b"")?;
+    Ok(())
+}
+
+// Sixty-five parentheses inside one another.
+fn deep_text(alloc: Global) -> Result<Vec<u8>, AllocError> {
+    let mut text = Vec::from_slice(
+        alloc,
+        b"long a[1];\nhost {\n#pragma acc parallel loop\nfor (i = 0; i < 1; i++) a[i] = ",
+    )?;
+    for _ in 0..65u32 {
+        text.push(b'(')?;
     }
+    Ok(text)
+}
+
+// A text of blanks, one longer than a text may be.
+fn blank_text(alloc: Global) -> Result<Vec<u8>, Fail> {
+    let mut text = Vec::new(alloc);
+    text.resize(1_048_577, b' ')?;
+    Ok(text)
+}
+
+#[test]
+fn deep_and_long_texts_are_told(rt: HostRuntime) -> Result<(), Fail> {
+    let alloc = rt.alloc();
+    let cases: [Told; 2] = [
+        (deep_text(alloc)?, too_long(4), b""),
+        (blank_text(alloc)?, too_long(1), b""),
+    ];
+    check(&rt, alloc, &cases);
     Ok(())
 }

@@ -1,83 +1,62 @@
 //! A replay whose reader, writer or memory fails at each place in turn: a clause can't say when one
 //! of these fails. Also worked reports, kinds of faults, and their texts.
 
+use crate::answers::{
+    Answer, ENDED, REFUSED, check_answer, check_bytes, check_input, check_read, schedule_fault,
+    script_fault,
+};
 use crate::streams::{End, Late, Narrow, Trickle};
 use acc_base::Fault;
 use acc_driver::{DriverFault, Ended, Options, ReadFault, ReadKind, replay_one};
-use std::alloc::Global;
-use std::io::Read;
+use std::alloc::{AllocError, Global};
+use std::process::Abort;
 use std::test::Fail;
 use tool_scarce::{Hoard, Purse};
 
-/// An input, its report, and whether a host was refused.
-#[derive(Clone, Copy)]
-struct Worked {
-    input: &'static [u8],
-    report: &'static [u8],
-    refused: bool,
-}
+/// An input, its answer and its report.
+type Worked = (&'static [u8], Answer, &'static [u8]);
 
-const STALE: Worked = Worked {
-    input: b"long a[4] = {1,2,3,4};\nhost {\n#pragma acc enter data copyin(a)\na[0] = 9;\n#pragma acc exit data copyout(a)\nprint(a);\n}\n%%\nround 20\n",
-    report: b"host 0\n1 2 3 4\ndone\nqueue 0 sync batches 2 operations 4 of 4\nend\n",
-    refused: false,
-};
+const STALE: &[u8] =
+    b"long a[4] = {1,2,3,4};\nhost {\n#pragma acc enter data copyin(a)\na[0] = 9;\n#pragma acc exit data copyout(a)\nprint(a);\n}\n%%\nround 20\n";
 
-// A text that is replayed, and what was written.
-pub fn replayed<R: Read>(alloc: Global, reader: &mut R) -> (Result<Ended, DriverFault>, Vec<u8>) {
-    let mut written = Vec::new(alloc);
-    let answer = replay_one(alloc, reader, Options::DEFAULT, &mut written);
-    (answer, written)
-}
+const STALE_REPORT: &[u8] =
+    b"host 0\n1 2 3 4\ndone\nqueue 0 sync batches 2 operations 4 of 4\nend\n";
 
 #[test]
 fn worked_inputs_have_their_reports(rt: HostRuntime) -> Result<(), Fail> {
-    let worked = [
-        Worked {
-            input: b"",
-            report: b"end\n",
-            refused: false,
-        },
-        Worked {
-            input: b"%%\n",
-            report: b"end\n",
-            refused: false,
-        },
-        STALE,
-        Worked {
-            input: b"long a[4];\nhost {\n#pragma acc enter data copyin(a)\n#pragma acc enter data copyin(a)\n#pragma acc exit data delete(a)\n}\n%%\nround 20\n",
-            report: b"host 0\ndone\npresent 0 a[0:4] s 0 d 1\nqueue 0 sync batches 1 operations 2 of 2\nend\n",
-            refused: false,
-        },
-        Worked {
-            input: b"long a[8];\nhost {\n#pragma acc enter data copyin(a[0:4])\n#pragma acc enter data copyin(a[2:4])\n}\n%%\nround 20\n",
-            report: b"host 0\nrefused 4 F6 PartlyPresent\npresent 0 a[0:4] s 0 d 1\nqueue 0 sync batches 1 operations 2 of 2\nend\n",
-            refused: true,
-        },
-        Worked {
-            input: b"long b[2] = {-1, 9223372036854775807};\nlong a[1] = {-9223372036854775808};\nhost {\nprint(a);\n#pragma acc enter data copyin(b[1:], a) // both\nprint(b);\n}\n%%\nround 2\n# that's all",
-            report: b"host 0\n-9223372036854775808\nunfinished\npresent 0 b[1:1] s 0 d 1\npresent 0 a[0:1] s 0 d 1\nqueue 0 sync batches 1 operations 1 of 4\nend\n",
-            refused: false,
-        },
+    const CASES: &[Worked] = &[
+        (b"", ENDED, b"end\n"),
+        (b"%%\n", ENDED, b"end\n"),
+        (STALE, ENDED, STALE_REPORT),
+        (
+            b"long a[4];\nhost {\n#pragma acc enter data copyin(a)\n#pragma acc enter data copyin(a)\n#pragma acc exit data delete(a)\n}\n%%\nround 20\n",
+            ENDED,
+            b"host 0\ndone\npresent 0 a[0:4] s 0 d 1\nqueue 0 sync batches 1 operations 2 of 2\nend\n",
+        ),
+        (
+            b"long a[8];\nhost {\n#pragma acc enter data copyin(a[0:4])\n#pragma acc enter data copyin(a[2:4])\n}\n%%\nround 20\n",
+            REFUSED,
+            b"host 0\nrefused 4 F6 PartlyPresent\npresent 0 a[0:4] s 0 d 1\nqueue 0 sync batches 1 operations 2 of 2\nend\n",
+        ),
+        (
+            b"long b[2] = {-1, 9223372036854775807};\nlong a[1] = {-9223372036854775808};\nhost {\nprint(a);\n#pragma acc enter data copyin(b[1:], a) // both\nprint(b);\n}\n%%\nround 2\n# that's all",
+            ENDED,
+            b"host 0\n-9223372036854775808\nunfinished\npresent 0 b[1:1] s 0 d 1\npresent 0 a[0:1] s 0 d 1\nqueue 0 sync batches 1 operations 1 of 4\nend\n",
+        ),
     ];
-    for case in &worked {
-        let mut input = case.input;
-        let (answer, written) = replayed(rt.alloc(), &mut input);
-        assert_eq!(rt;
-            answer,
-            Ok(Ended {
-                refused: case.refused
-            })
-        );
-        assert_eq!(rt; written.as_slice(), case.report);
+    for (input, wanted, report) in CASES {
+        check_input(&rt, rt.alloc(), input, Options::DEFAULT, *wanted, report);
     }
     Ok(())
 }
 
+/// An input, and the line and the kind of its fault.
+type Faulty = (&'static [u8], u32, ReadKind);
+
 /// Each kind of fault of a script, with its line; a schedule's fault is told behind it.
 #[test]
 fn faults_of_scripts_are_told(rt: HostRuntime) -> Result<(), Fail> {
-    let faulty: [(&'static [u8], u32, ReadKind); 6] = [
+    const CASES: &[Faulty] = &[
         (
             b"long a[4];\nhost {\n#pragma acc enter data copyin(a[0:",
             3,
@@ -93,15 +72,9 @@ fn faults_of_scripts_are_told(rt: HostRuntime) -> Result<(), Fail> {
         (b"long a[65537];\n", 1, ReadKind::Limit),
         (b"long a[01];\n", 1, ReadKind::Form),
     ];
-    for (input, line, kind) in &faulty {
-        let mut input = *input;
-        let (answer, written) = replayed(rt.alloc(), &mut input);
-        let fault = ReadFault {
-            line: *line,
-            kind: *kind,
-        };
-        assert_eq!(rt; answer, Err(DriverFault::Script(fault)));
-        assert_eq!(rt; written.len(), 0);
+    for (input, line, kind) in CASES {
+        let wanted = script_fault(*line, *kind);
+        check_input(&rt, rt.alloc(), input, Options::DEFAULT, wanted, b"");
     }
     Ok(())
 }
@@ -109,7 +82,7 @@ fn faults_of_scripts_are_told(rt: HostRuntime) -> Result<(), Fail> {
 /// Each kind of fault of a schedule; a second line %% is one of its lines.
 #[test]
 fn faults_of_schedules_are_told(rt: HostRuntime) -> Result<(), Fail> {
-    let faulty: [(&'static [u8], u32, ReadKind); 8] = [
+    const CASES: &[Faulty] = &[
         (b"host { }\n%%\nround 20\n%%\n", 2, ReadKind::Form),
         (b"%%\n# a\n\ntake 0 zero\n", 3, ReadKind::Name),
         (b"%%\ndo 1 sync\n", 1, ReadKind::Name),
@@ -119,38 +92,25 @@ fn faults_of_schedules_are_told(rt: HostRuntime) -> Result<(), Fail> {
         (b"%%\nround 10001\nround 0\r\n", 1, ReadKind::Limit),
         (b"%%\nround 1\r\n", 1, ReadKind::Text),
     ];
-    for (input, line, kind) in &faulty {
-        let mut input = *input;
-        let (answer, written) = replayed(rt.alloc(), &mut input);
-        let fault = ReadFault {
-            line: *line,
-            kind: *kind,
-        };
-        assert_eq!(rt; answer, Err(DriverFault::Schedule(fault)));
-        assert_eq!(rt; written.len(), 0);
+    for (input, line, kind) in CASES {
+        let wanted = schedule_fault(*line, *kind);
+        check_input(&rt, rt.alloc(), input, Options::DEFAULT, wanted, b"");
     }
     Ok(())
+}
+
+fn check_trickle(rt: &impl Abort, alloc: Global, end: End, wanted: Answer, report: &[u8]) {
+    let mut reader = Trickle { left: STALE, end };
+    check_read(rt, alloc, &mut reader, Options::DEFAULT, wanted, report);
 }
 
 /// A reader that gives a byte a turn is read to its end; one that then fails in place of ending, or that is interrupted
 /// for good, is told as the input's fault, and nothing is written.
 #[test]
 fn readers_are_slow_and_fail(rt: HostRuntime) -> Result<(), Fail> {
-    let mut quiet = Trickle {
-        left: STALE.input,
-        end: End::Quiet,
-    };
-    let (answer, written) = replayed(rt.alloc(), &mut quiet);
-    assert_eq!(rt; answer, Ok(Ended { refused: false }));
-    assert_eq!(rt; written.as_slice(), STALE.report);
+    check_trickle(&rt, rt.alloc(), End::Quiet, ENDED, STALE_REPORT);
     for end in [End::Fails, End::Interrupted] {
-        let mut broken = Trickle {
-            left: STALE.input,
-            end,
-        };
-        let (answer, written) = replayed(rt.alloc(), &mut broken);
-        assert_eq!(rt; answer, Err(DriverFault::Input));
-        assert_eq!(rt; written.len(), 0);
+        check_trickle(&rt, rt.alloc(), end, Err(DriverFault::Input), b"");
     }
     Ok(())
 }
@@ -158,28 +118,32 @@ fn readers_are_slow_and_fail(rt: HostRuntime) -> Result<(), Fail> {
 /// An interrupted read is one turn. The last turns are for the text and its end.
 #[test]
 fn readers_are_interrupted(rt: HostRuntime) -> Result<(), Fail> {
-    let cases = [
-        (0, Ok(Ended { refused: false })),
-        (1, Ok(Ended { refused: false })),
-        (4_194_302, Ok(Ended { refused: false })),
-        (4_194_303, Err(DriverFault::Input)),
-        (4_194_304, Err(DriverFault::Input)),
+    const CASES: &[(u32, Answer, &[u8])] = &[
+        (0, ENDED, STALE_REPORT),
+        (1, ENDED, STALE_REPORT),
+        (4_194_302, ENDED, STALE_REPORT),
+        (4_194_303, Err(DriverFault::Input), b""),
+        (4_194_304, Err(DriverFault::Input), b""),
     ];
-    for (interrupts, wanted) in &cases {
-        let mut late = Late {
+    for (interrupts, wanted, report) in CASES {
+        let mut reader = Late {
             interrupts: *interrupts,
-            left: STALE.input,
+            left: STALE,
         };
-        let (answer, _written) = replayed(rt.alloc(), &mut late);
-        assert_eq!(rt; answer, *wanted);
+        check_read(
+            &rt,
+            rt.alloc(),
+            &mut reader,
+            Options::DEFAULT,
+            *wanted,
+            report,
+        );
     }
     Ok(())
 }
 
-/// Sixteen arrays of the most cells enter by one directive, leave by another, and one is printed whole.
-#[test]
-fn the_largest_arrays_are_replayed(rt: HostRuntime) -> Result<(), Fail> {
-    let alloc = rt.alloc();
+// Sixteen arrays of the most cells enter by one directive, leave by another, and one is printed whole.
+fn largest_arrays(alloc: Global) -> Result<Vec<u8>, AllocError> {
     let mut input = Vec::new(alloc);
     for name in b"abcdefghijklmnop" {
         input.extend_from_slice(b"long ")?;
@@ -187,45 +151,67 @@ fn the_largest_arrays_are_replayed(rt: HostRuntime) -> Result<(), Fail> {
         input.extend_from_slice(b"[65536] = {7};\n")?;
     }
     input.extend_from_slice(
-        b"host {\n#pragma acc enter data copyin(a,b,c,d,e,f,g,h,i,j,k,l,m,n,o,p)\na[0] = 8;\n",
+        b"host {\n#pragma acc enter data copyin(a,b,c,d,e,f,g,h,i,j,k,l,m,n,o,p)\na[0] = 8;\n#pragma acc exit data copyout(a,b,c,d,e,f,g,h,i,j,k,l,m,n,o,p)\nprint(a);\n}\n%%\nround 80\n",
     )?;
-    input.extend_from_slice(
-        b"#pragma acc exit data copyout(a,b,c,d,e,f,g,h,i,j,k,l,m,n,o,p)\nprint(a);\n}\n%%\nround 80\n",
-    )?;
-    let mut wanted = Vec::new(alloc);
-    wanted.extend_from_slice(b"host 0\n7")?;
+    Ok(input)
+}
+
+// Their report.
+fn largest_report(alloc: Global) -> Result<Vec<u8>, AllocError> {
+    let mut report = Vec::from_slice(alloc, b"host 0\n7")?;
     for _ in 1..65_536u32 {
-        wanted.extend_from_slice(b" 0")?;
+        report.extend_from_slice(b" 0")?;
     }
-    wanted.extend_from_slice(b"\ndone\nqueue 0 sync batches 2 operations 64 of 64\nend\n")?;
-    let (answer, written) = replayed(alloc, &mut input.as_slice());
-    assert_eq!(rt; answer, Ok(Ended { refused: false }));
-    assert!(rt; written.as_slice() == wanted.as_slice());
+    report.extend_from_slice(b"\ndone\nqueue 0 sync batches 2 operations 64 of 64\nend\n")?;
+    Ok(report)
+}
+
+#[test]
+fn the_largest_arrays_are_replayed(rt: HostRuntime) -> Result<(), Fail> {
+    let input = largest_arrays(rt.alloc())?;
+    let report = largest_report(rt.alloc())?;
+    check_input(
+        &rt,
+        rt.alloc(),
+        input.as_slice(),
+        Options::DEFAULT,
+        ENDED,
+        report.as_slice(),
+    );
     Ok(())
+}
+
+// A writer with room for so many bytes gets these, and the fault is told where they aren't all.
+fn check_narrow(rt: &impl Abort, alloc: Global, room: usize, fails: bool) {
+    let mut narrow = Narrow {
+        taken: Vec::new(alloc),
+        room,
+        fails,
+        was_interrupted: false,
+    };
+    let mut input = STALE;
+    let answer = replay_one(alloc, &mut input, Options::DEFAULT, &mut narrow);
+    let is_whole = STALE_REPORT.len() <= room;
+    check_answer(
+        rt,
+        answer,
+        if is_whole {
+            ENDED
+        } else {
+            Err(DriverFault::Output)
+        },
+    );
+    let (taken, _) = STALE_REPORT.split_at(room.min(STALE_REPORT.len()));
+    check_bytes(rt, narrow.taken.as_slice(), taken);
 }
 
 /// A writer that is interrupted, and takes two bytes at a time, gets the whole report; one that fails, or takes nothing
 /// more, behind any number of bytes has just these.
 #[test]
 fn writers_are_narrow_and_fail(rt: HostRuntime) -> Result<(), Fail> {
-    let alloc = rt.alloc();
-    for room in 0..STALE.report.len() + 1 {
-        for fails in [true, false] {
-            let mut narrow = Narrow {
-                taken: Vec::new(alloc),
-                room,
-                fails,
-                was_interrupted: false,
-            };
-            let mut input = STALE.input;
-            let answer = replay_one(alloc, &mut input, Options::DEFAULT, &mut narrow);
-            if room < STALE.report.len() {
-                assert_eq!(rt; answer, Err(DriverFault::Output));
-            } else {
-                assert_eq!(rt; answer, Ok(Ended { refused: false }));
-            }
-            assert_eq!(rt; narrow.taken.as_slice(), &STALE.report[..room]);
-        }
+    for room in 0..STALE_REPORT.len() + 1 {
+        check_narrow(&rt, rt.alloc(), room, true);
+        check_narrow(&rt, rt.alloc(), room, false);
     }
     Ok(())
 }
@@ -233,81 +219,47 @@ fn writers_are_narrow_and_fail(rt: HostRuntime) -> Result<(), Fail> {
 /// Options beyond their limits are refused when both texts are read.
 #[test]
 fn options_are_refused(rt: HostRuntime) -> Result<(), Fail> {
-    let good = Options::DEFAULT;
-    let refused = [
-        (Options { devices: 0, ..good }, Fault::BadDevice),
-        (Options { devices: 5, ..good }, Fault::BadDevice),
+    const GOOD: Options = Options::DEFAULT;
+    const CASES: &[(Options, Fault)] = &[
+        (Options { devices: 0, ..GOOD }, Fault::BadDevice),
+        (Options { devices: 5, ..GOOD }, Fault::BadDevice),
         (
             Options {
                 devices: 255,
-                ..good
+                ..GOOD
             },
             Fault::BadDevice,
         ),
-        (Options { cells: 0, ..good }, Fault::TooMany),
+        (Options { cells: 0, ..GOOD }, Fault::TooMany),
         (
             Options {
                 cells: 4_294_967_297,
-                ..good
+                ..GOOD
             },
             Fault::TooMany,
         ),
-        (Options { room: 0, ..good }, Fault::TooMany),
+        (Options { room: 0, ..GOOD }, Fault::TooMany),
         (
             Options {
                 room: 1_025,
-                ..good
+                ..GOOD
             },
             Fault::TooMany,
         ),
     ];
-    for (options, fault) in &refused {
-        let mut written = Vec::new(rt.alloc());
-        let mut input = STALE.input;
-        let answer = replay_one(rt.alloc(), &mut input, *options, &mut written);
-        assert_eq!(rt; answer, Err(DriverFault::Runtime(*fault)));
-        assert_eq!(rt; written.len(), 0);
+    for (options, fault) in CASES {
+        let wanted = Err(DriverFault::Runtime(*fault));
+        check_input(&rt, rt.alloc(), STALE, *options, wanted, b"");
     }
     Ok(())
 }
 
-/// With each amount of memory from none on: first the answer is want of memory, and nothing is written; then the run is
-/// reported with a host that was refused F11; at last there is enough. The queues are short, as a world takes their room.
-#[test]
-fn memory_is_refused_at_each_amount(rt: HostRuntime) -> Result<(), Fail> {
-    let alloc = rt.alloc();
-    let mut written = Vec::with_capacity(alloc, 4_096)?;
-    let mut purse = Purse::new(alloc)?;
-    let mut hoard = Hoard::new(alloc)?;
-    let mut silent = 0u32;
-    let mut hosts_refused = 0u32;
-    let mut answer = Err(DriverFault::Memory);
-    let options = Options {
-        room: 4,
-        ..Options::DEFAULT
-    };
-    hoard.fill(alloc);
-    for _ in 0..Purse::GIFTS {
-        let mut input = STALE.input;
-        answer = replay_one(alloc, &mut input, options, &mut written);
-        match answer {
-            Err(DriverFault::Memory) if written.is_empty() => silent = silent.saturating_add(1),
-            Ok(Ended { refused: true }) if tells_of_memory(written.as_slice()) => {
-                hosts_refused = hosts_refused.saturating_add(1);
-                written.clear();
-            }
-            _ => break,
-        }
-        if !purse.give() {
-            break;
-        }
-    }
-    hoard.free();
-    assert_eq!(rt; answer, Ok(Ended { refused: false }));
-    assert_eq!(rt; written.as_slice(), STALE.report);
-    assert!(rt; 8 < silent, "{silent} times silent");
-    assert!(rt; 0 < hosts_refused);
-    Ok(())
+/// How often nothing was written for want of memory, and how often a host was refused it; and what was answered at last.
+#[derive(Clone, Copy)]
+struct Tried {
+    silent: u32,
+    hosts_refused: u32,
+    answer: Answer,
 }
 
 // Whether a report tells that its host was refused memory.
@@ -317,33 +269,112 @@ fn tells_of_memory(report: &[u8]) -> bool {
         .any(|bytes| bytes == b"F11 Memory".as_slice())
 }
 
+// Replays the input with each amount of memory, until it is answered otherwise than by want of that. The queues are
+// short, as a world takes their room.
+fn try_amounts(alloc: Global, written: &mut Vec<u8>) -> Result<Tried, AllocError> {
+    let options = Options {
+        room: 4,
+        ..Options::DEFAULT
+    };
+    let mut purse = Purse::new(alloc)?;
+    let mut hoard = Hoard::new(alloc)?;
+    let mut tried = Tried {
+        silent: 0,
+        hosts_refused: 0,
+        answer: Err(DriverFault::Memory),
+    };
+    hoard.fill(alloc);
+    for _ in 0..Purse::GIFTS {
+        let mut input = STALE;
+        tried.answer = replay_one(alloc, &mut input, options, written);
+        match tried.answer {
+            Err(DriverFault::Memory) if written.is_empty() => {
+                tried.silent = tried.silent.saturating_add(1);
+            }
+            Ok(Ended { refused: true }) if tells_of_memory(written.as_slice()) => {
+                tried.hosts_refused = tried.hosts_refused.saturating_add(1);
+                written.clear();
+            }
+            _ => break,
+        }
+        if !purse.give() {
+            break;
+        }
+    }
+    hoard.free();
+    Ok(tried)
+}
+
+fn check_tried(rt: &impl Abort, tried: Tried) {
+    assert!(rt; 8 < tried.silent, "{} times silent", tried.silent);
+    assert!(rt; 0 < tried.hosts_refused);
+}
+
+/// With each amount of memory from none on: first the answer is want of memory, and nothing is written; then the run is
+/// reported with a host that was refused F11; at last there is enough.
+#[test]
+fn memory_is_refused_at_each_amount(rt: HostRuntime) -> Result<(), Fail> {
+    let mut written = Vec::with_capacity(rt.alloc(), 4_096)?;
+    let tried = try_amounts(rt.alloc(), &mut written)?;
+    check_answer(&rt, tried.answer, ENDED);
+    check_bytes(&rt, written.as_slice(), STALE_REPORT);
+    check_tried(&rt, tried);
+    Ok(())
+}
+
+fn check_fault(
+    rt: &impl Abort,
+    alloc: Global,
+    fault: DriverFault,
+    text: &str,
+) -> Result<(), AllocError> {
+    let shown = format!(in alloc; "{fault}")?;
+    check_bytes(rt, shown.as_bytes(), text.as_bytes());
+    Ok(())
+}
+
 #[test]
 fn the_texts_of_driver_faults(rt: HostRuntime) -> Result<(), Fail> {
-    let fault = ReadFault {
+    const FAULT: ReadFault = ReadFault {
         line: 3,
         kind: ReadKind::End,
     };
-    let texts = [
-        (DriverFault::Script(fault), "script line 3: End"),
-        (DriverFault::Schedule(fault), "schedule line 3: End"),
+    const TEXTS: &[(DriverFault, &str)] = &[
+        (DriverFault::Script(FAULT), "script line 3: End"),
+        (DriverFault::Schedule(FAULT), "schedule line 3: End"),
         (DriverFault::Input, "cannot read"),
         (DriverFault::Output, "cannot write"),
         (DriverFault::Memory, "out of memory"),
         (DriverFault::Runtime(Fault::Unfinished), "F13 Unfinished"),
     ];
-    for (fault, text) in &texts {
-        let shown = format!(in rt.alloc(); "{fault}")?;
-        assert_eq!(rt; shown.as_str(), *text);
+    for (fault, text) in TEXTS {
+        check_fault(&rt, rt.alloc(), *fault, text)?;
     }
-    let kinds = [
+    Ok(())
+}
+
+fn check_kind(
+    rt: &impl Abort,
+    alloc: Global,
+    kind: ReadKind,
+    text: &str,
+) -> Result<(), AllocError> {
+    let shown = format!(in alloc; "{kind:?}")?;
+    check_bytes(rt, shown.as_bytes(), text.as_bytes());
+    Ok(())
+}
+
+#[test]
+fn the_texts_of_kinds(rt: HostRuntime) -> Result<(), Fail> {
+    const TEXTS: &[(ReadKind, &str)] = &[
         (ReadKind::Text, "Text"),
         (ReadKind::Name, "Name"),
         (ReadKind::Limit, "Limit"),
         (ReadKind::Form, "Form"),
+        (ReadKind::End, "End"),
     ];
-    for (kind, text) in &kinds {
-        let shown = format!(in rt.alloc(); "{kind:?}")?;
-        assert_eq!(rt; shown.as_str(), *text);
+    for (kind, text) in TEXTS {
+        check_kind(&rt, rt.alloc(), *kind, text)?;
     }
     Ok(())
 }

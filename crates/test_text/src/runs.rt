@@ -1,6 +1,7 @@
 //! Inputs of hundreds of directives, which a loop builds: queues that are full, and long runs.
 
-use acc_driver::{Ended, Options, replay_one};
+use crate::answers::{Answer, ENDED, REFUSED, check_input};
+use acc_driver::Options;
 use std::alloc::{AllocError, Global};
 use std::process::Abort;
 use std::test::Fail;
@@ -21,20 +22,6 @@ fn text_of(
     Ok(text)
 }
 
-fn check(
-    rt: &impl Abort,
-    alloc: Global,
-    options: Options,
-    input: &Vec<u8>,
-    refused: bool,
-    report: &[u8],
-) {
-    let mut written = Vec::new(alloc);
-    let answer = replay_one(alloc, &mut input.as_slice(), options, &mut written);
-    assert_eq!(rt; written.as_slice(), report);
-    assert_eq!(rt; answer, Ok(Ended { refused }));
-}
-
 const ENTER: &[u8] = b"long a[2];\nhost {\n#pragma acc enter data create(a) async(1)\n";
 
 const UPDATE: &[u8] = b"#pragma acc update self(a) async(1)\n";
@@ -45,33 +32,57 @@ fn updates(alloc: Global, count: u32, schedule: &str) -> Result<Vec<u8>, AllocEr
     text_of(alloc, ENTER, UPDATE, count, last.as_bytes())
 }
 
+// An entry and so many updates, under a schedule and with queues of this room, are answered so.
+fn check_updates(
+    rt: &impl Abort,
+    alloc: Global,
+    room: u32,
+    schedule: &str,
+    wanted: Answer,
+    report: &str,
+) -> Result<(), AllocError> {
+    let options = Options {
+        room,
+        ..Options::DEFAULT
+    };
+    let input = updates(alloc, room, schedule)?;
+    check_input(
+        rt,
+        alloc,
+        input.as_slice(),
+        options,
+        wanted,
+        report.as_bytes(),
+    );
+    Ok(())
+}
+
+// A queue of this room is full, and has no place for one more batch, whose directive has this line.
+fn check_full(rt: &impl Abort, alloc: Global, room: u32, line: u32) -> Result<(), AllocError> {
+    let schedule = format!(in alloc; "host 0 {}\n", room.wrapping_add(1))?;
+    let report = format!(in alloc;
+        "host 0\nrefused {line} F12 QueueFull\npresent 0 a[0:2] s 0 d 1\nqueue 0 1 batches {room} operations 0 of {room}\nend\n"
+    )?;
+    check_updates(rt, alloc, room, schedule.as_str(), REFUSED, report.as_str())
+}
+
+// It has a place for one more once one was taken.
+fn check_taken(rt: &impl Abort, alloc: Global, room: u32) -> Result<(), AllocError> {
+    let more = room.wrapping_add(1);
+    let schedule = format!(in alloc; "host 0 {room}\ntake 0 1\nhost 0\n")?;
+    let report = format!(in alloc;
+        "host 0\ndone\npresent 0 a[0:2] s 0 d 1\nqueue 0 1 batches {more} operations 0 of {more}\nend\n"
+    )?;
+    check_updates(rt, alloc, room, schedule.as_str(), ENDED, report.as_str())
+}
+
 /// A queue holds its room of batches: one more is refused and changes nothing, and is accepted once one was taken. For
-/// each room, how many batches one more makes, and the line of the last.
+/// each room, the line of the last.
 #[test]
 fn a_full_queue_refuses_a_batch(rt: HostRuntime) -> Result<(), Fail> {
-    let alloc = rt.alloc();
-    for (room, more, line) in &[
-        (1u32, 2u32, 4u32),
-        (2, 3, 5),
-        (64, 65, 67),
-        (1_024, 1_025, 1_027),
-    ] {
-        let options = Options {
-            room: *room,
-            ..Options::DEFAULT
-        };
-        let schedule = format!(in alloc; "host 0 {more}\n")?;
-        let input = updates(alloc, *room, schedule.as_str())?;
-        let report = format!(in alloc;
-            "host 0\nrefused {line} F12 QueueFull\npresent 0 a[0:2] s 0 d 1\nqueue 0 1 batches {room} operations 0 of {room}\nend\n"
-        )?;
-        check(&rt, alloc, options, &input, true, report.as_bytes());
-        let schedule = format!(in alloc; "host 0 {room}\ntake 0 1\nhost 0\n")?;
-        let input = updates(alloc, *room, schedule.as_str())?;
-        let report = format!(in alloc;
-            "host 0\ndone\npresent 0 a[0:2] s 0 d 1\nqueue 0 1 batches {more} operations 0 of {more}\nend\n"
-        )?;
-        check(&rt, alloc, options, &input, false, report.as_bytes());
+    for (room, line) in [(1u32, 4u32), (2, 5), (64, 67), (1_024, 1_027)] {
+        check_full(&rt, rt.alloc(), room, line)?;
+        check_taken(&rt, rt.alloc(), room)?;
     }
     Ok(())
 }
@@ -87,7 +98,14 @@ fn three_hundred_rounds_of_sixteen_ranges(rt: HostRuntime) -> Result<(), Fail> {
     let last = b"}\n%%\nround 10000\nround 9800\n";
     let input = text_of(rt.alloc(), first, ROUND, 300, last)?;
     let report = b"host 0\ndone\nqueue 0 sync batches 600 operations 19200 of 19200\nend\n";
-    check(&rt, rt.alloc(), Options::DEFAULT, &input, false, report);
+    check_input(
+        &rt,
+        rt.alloc(),
+        input.as_slice(),
+        Options::DEFAULT,
+        ENDED,
+        report,
+    );
     Ok(())
 }
 
@@ -99,6 +117,13 @@ fn eleven_hundred_entries_of_one_range(rt: HostRuntime) -> Result<(), Fail> {
     let input = text_of(rt.alloc(), b"long a[4];\nhost {\n", enter, 1_100, last)?;
     let report =
         b"host 0\ndone\npresent 0 a[0:4] s 0 d 1100\nqueue 0 sync batches 1 operations 2 of 2\nend\n";
-    check(&rt, rt.alloc(), Options::DEFAULT, &input, false, report);
+    check_input(
+        &rt,
+        rt.alloc(),
+        input.as_slice(),
+        Options::DEFAULT,
+        ENDED,
+        report,
+    );
     Ok(())
 }
