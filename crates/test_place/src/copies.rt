@@ -108,7 +108,8 @@ fn check_elsewhere(rt: &impl Abort, alloc: Global) -> Result<(), Fault> {
     const WORD: Word = Over(0, 4, Body::Counted);
     const ITEMS: &[(Clause, Cells)] = &[(Copyin, A(1, 2)), (Copyout, B(3, 4))];
     let copy = copy_elsewhere(rt, alloc, WORD, ITEMS)?;
-    let wanted = synchronous(alloc, 3, WORD, ITEMS)?;
+    let mut wanted = synchronous(alloc, WORD, ITEMS)?;
+    wanted.set_ids(DeviceId::new(3), 7);
     assert!(rt; is_same_directive(&copy, &wanted));
     Ok(())
 }
@@ -129,7 +130,7 @@ fn check_scarce(rt: &impl Abort, alloc: Global) -> Result<(), Fault> {
         directive_of(alloc, Form::EnterData, &two, Target::Plain, Waits::Nothing)
     })?;
     assert!(rt; 0 < refusals);
-    let wanted = synchronous(alloc, 0, Enter, &[(Copyin, A(1, 2)); 2])?;
+    let wanted = synchronous(alloc, Enter, &[(Copyin, A(1, 2)); 2])?;
     assert!(rt; is_same_directive(&directive, &wanted));
     Ok(())
 }

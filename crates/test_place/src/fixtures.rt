@@ -54,15 +54,14 @@ pub fn directive_with(
     directive_on(alloc, word, items.as_slice(), target, named)
 }
 
-// A directive without an async clause and a wait clause.
+// A directive without an async clause and a wait clause, for the first device.
 pub fn synchronous(
     alloc: Global,
-    device: u8,
     word: Word,
     items: &[(Clause, Cells)],
 ) -> Result<Directive, Fault> {
     let mut directive = directive_with(alloc, word, items, Target::Plain, Named::Nothing)?;
-    directive.set_ids(DeviceId::new(device), ASYNC_NOVAL);
+    directive.set_ids(DeviceId::new(0), ASYNC_NOVAL);
     Ok(directive)
 }
 
@@ -87,37 +86,22 @@ pub fn planned(place: &mut Place, host: u8, directive: &Directive) -> Result<Pla
     place.plan(HostId::new(host), count.wrapping_add(3), directive)
 }
 
-// The plan of a host's directive without clauses, for a device.
-pub fn plan_of(
-    alloc: Global,
-    place: &mut Place,
-    host: u8,
-    device: u8,
-    word: Word,
-    items: &[(Clause, Cells)],
-) -> Result<Plan, Fault>
-    ensures { IfOk result (λ q. Fits place.new q) }
-{
-    let directive = synchronous(alloc, device, word, items)?;
-    planned(place, host, &directive)
-}
-
-// Accepts such a directive.
+// Accepts a host's directive without an async clause and a wait clause, for the first device.
 pub fn accepted(
     alloc: Global,
     place: &mut Place,
     host: u8,
-    device: u8,
     word: Word,
     items: &[(Clause, Cells)],
 ) -> Result<Placed, Fault> {
-    let plan = plan_of(alloc, place, host, device, word, items)?;
+    let directive = synchronous(alloc, word, items)?;
+    let plan = planned(place, host, &directive)?;
     Ok(place.accept(plan))
 }
 
 // Accepts a step.
 fn accept_one(alloc: Global, place: &mut Place, step: &Step) -> Result<(), Fault> {
-    match accepted(alloc, place, step.host, 0, step.word, step.items) {
+    match accepted(alloc, place, step.host, step.word, step.items) {
         Ok(_) => Ok(()),
         Err(fault) => Err(fault),
     }
@@ -233,18 +217,18 @@ pub fn check_batch(rt: &impl Abort, batch: Option<Batch>, step: &Step, number: u
     }
 }
 
-// The counters of a range of a device.
-pub fn counters_of(rt: &impl Abort, place: &Place, device: u8, range: Range) -> Option<(u64, u64)> {
-    assert!(rt; device < place.config().devices());
+// The counters of a range of the first device.
+fn counters_of(rt: &impl Abort, place: &Place, range: Range) -> Option<(u64, u64)> {
+    assert!(rt; 0 < place.config().devices());
     assert!(rt; 0 < range.len);
-    let counters = place.counters(DeviceId::new(device), range);
-    assert!(rt; place.is_present(DeviceId::new(device), range) == counters.is_some());
+    let counters = place.counters(DeviceId::new(0), range);
+    assert!(rt; place.is_present(DeviceId::new(0), range) == counters.is_some());
     counters
 }
 
-fn entry_at(rt: &impl Abort, place: &Place, device: u8, index: usize) -> Option<Entry> {
-    assert!(rt; device < place.config().devices());
-    place.nth(DeviceId::new(device), index).copied()
+fn entry_at(rt: &impl Abort, place: &Place, index: usize) -> Option<Entry> {
+    assert!(rt; 0 < place.config().devices());
+    place.nth(DeviceId::new(0), index).copied()
 }
 
 // The entry is this one, whatever is noted there of batches.
@@ -261,21 +245,16 @@ fn is_held(entry: Option<Entry>, held: Held) -> bool {
     }
 }
 
-// What is present on a device, in order.
-pub fn check_present_on(rt: &impl Abort, place: &Place, device: u8, present: &[Held]) {
+// What is present on the first device, in order.
+pub fn check_present(rt: &impl Abort, place: &Place, present: &[Held]) {
     for (index, held) in present.iter().enumerate() {
         let (cells, _, s, d) = *held;
-        let entry = entry_at(rt, place, device, index);
+        let entry = entry_at(rt, place, index);
         assert!(rt; is_held(entry, *held), "entry {index}");
-        let counters = counters_of(rt, place, device, range_of(cells));
+        let counters = counters_of(rt, place, range_of(cells));
         assert!(rt; counters == Some((s, d)), "counters {index}");
     }
-    assert!(rt; entry_at(rt, place, device, present.len()).is_none());
-}
-
-// What is present on the first device.
-pub fn check_present(rt: &impl Abort, place: &Place, present: &[Held]) {
-    check_present_on(rt, place, 0, present);
+    assert!(rt; entry_at(rt, place, present.len()).is_none());
 }
 
 /// How much a place has accepted, and what is present in it: the first entries, and the counters of the first array's
@@ -291,11 +270,11 @@ pub struct Shown {
 pub fn shown_by(rt: &impl Abort, place: &Place) -> Shown {
     let mut present = [None; 4];
     for at in 0..4usize {
-        present[at] = entry_at(rt, place, 0, at);
+        present[at] = entry_at(rt, place, at);
     }
     let mut counters = [None; 8];
     for at in 0..8u32 {
-        counters[at as usize] = counters_of(rt, place, 0, a(at, 1));
+        counters[at as usize] = counters_of(rt, place, a(at, 1));
     }
     Shown {
         accepted: place.history().len(),

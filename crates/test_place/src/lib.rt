@@ -2,26 +2,18 @@
 #![tactic(auto)]
 
 #[cfg(test)]
-mod accepted;
-#[cfg(test)]
 mod batch;
 #[cfg(test)]
 mod closing;
 #[cfg(test)]
 mod copies;
 #[cfg(test)]
-mod devices;
-#[cfg(test)]
 mod fixtures;
-#[cfg(test)]
-mod loops;
 #[cfg(test)]
 mod memory;
 #[cfg(test)]
 mod plans;
 #[cfg(test)]
 mod queues;
-#[cfg(test)]
-mod refused;
 #[cfg(test)]
 mod tables;

@@ -57,7 +57,7 @@ fn accepted_scarcely(
 // Three ranges enter a new place so.
 fn check_accepting(rt: &impl Abort, alloc: Global, place: &mut Place) -> Result<(), Fault> {
     let items = [(Copyin, A(4, 4)), (Copyin, A(0, 4)), (Copyin, B(0, 4))];
-    let directive = synchronous(alloc, 0, Enter, &items)?;
+    let directive = synchronous(alloc, Enter, &items)?;
     let placed = accepted_scarcely(alloc, place, &directive)?;
     assert!(rt; placed == answer(Some((sync(), 1)), false));
     Ok(())
@@ -145,7 +145,7 @@ fn check_accepted(
     step: &Step,
     number: u64,
 ) -> Result<(), Fault> {
-    let placed = accepted(alloc, place, step.host, 0, step.word, step.items)?;
+    let placed = accepted(alloc, place, step.host, step.word, step.items)?;
     assert!(rt; placed == answer_to(step, number));
     check_present(rt, place, step.present);
     Ok(())
@@ -159,7 +159,7 @@ fn check_plan(
     step: &Step,
     before: u64,
 ) -> Result<(), Fault> {
-    let directive = synchronous(alloc, 0, step.word, step.items)?;
+    let directive = synchronous(alloc, step.word, step.items)?;
     let mut plan = plan_at_each_amount(rt, alloc, place, step.host, &directive)?;
     check_batch(rt, plan.take_batch(), step, before.wrapping_add(1), before);
     Ok(())

@@ -79,8 +79,8 @@ fn check(
 }
 
 fn check_in(rt: &impl Abort, alloc: Global, place: &mut Place) -> Result<(), Fault> {
-    let one = synchronous(alloc, 0, STEP.word, STEP.items)?;
-    let other = synchronous(alloc, 0, Enter, &[(Copyin, A(4, 4))])?;
+    let one = synchronous(alloc, STEP.word, STEP.items)?;
+    let other = synchronous(alloc, Enter, &[(Copyin, A(4, 4))])?;
     check(rt, place, &one, &other)
 }
 

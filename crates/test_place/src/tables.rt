@@ -6,12 +6,11 @@ use std::alloc::{AllocError, Global};
 use tool_directives::{EXIT, FINALIZE, Form, Operation, UPDATE, UPDATE_IF_PRESENT, over};
 use tool_loops::Body;
 
-/// So many cells of an array, from one on: of the first array, of the second, or of a third, which no place has.
+/// So many cells of an array, from one on: of the first array, or of the second.
 #[derive(Clone, Copy)]
 pub enum Cells {
     A(u32, u32),
     B(u32, u32),
-    C(u32, u32),
 }
 
 /// Which directive it is.
@@ -68,7 +67,6 @@ pub fn range_of(cells: Cells) -> Range {
     let (array, lo, len) = match cells {
         Cells::A(lo, len) => (0, lo, len),
         Cells::B(lo, len) => (1, lo, len),
-        Cells::C(lo, len) => (2, lo, len),
     };
     Range { array, lo, len }
 }

@@ -7,7 +7,7 @@ use acc_base::Fault;
 use acc_kernel::{Kernel, KernelFault};
 use std::alloc::Global;
 
-/// What a loop assigns at each index, where a, b and c are the arrays 0, 1 and 2.
+/// What a loop assigns at each index, where a and b are the arrays 0 and 1.
 #[derive(Clone, Copy, Debug)]
 pub enum Body {
     /// `a[i] = i + 7`
@@ -18,22 +18,12 @@ pub enum Body {
     Doubled,
     /// `a[i] = -a[i]`
     Negated,
-    /// `a[i] = 0 ? a[i] : 7`
-    Sevens,
-    /// `b[i] = a[i]`
-    Copied,
     /// `b[i] = a[i + 1]`
     Next,
     /// `a[i] = b[i + 1]`
     NextBack,
-    /// `b[i] = a[i - 1]`
-    Before,
-    /// `b[i] = 1 ? a[i] : a[i + 1]`
-    Either,
     /// `b[i] = 1 + 2 * -a[i] < 0 == 1 ? 5 : 6`
     Chosen,
-    /// `a[i] = c[i]`
-    Third,
     /// `a[i] = a[i] + 1; b[i] = 2 * a[i]; a[i] = b[i] - 5;`
     Three,
 }
@@ -68,14 +58,9 @@ fn rows_of(body: Body) -> &'static [Row] {
         Body::Counted => &[(0, &[Read(0, 0), Number(1), PLUS])],
         Body::Doubled => &[(0, &[Read(0, 0), Number(2), TIMES])],
         Body::Negated => &[(0, &[Read(0, 0), Negate])],
-        Body::Sevens => &[(0, &[Number(0), Read(0, 0), Number(7), Choose])],
-        Body::Copied => &[(1, &[Read(0, 0)])],
         Body::Next => &[(1, &[Read(0, 1)])],
         Body::NextBack => &[(0, &[Read(1, 1)])],
-        Body::Before => &[(1, &[Read(0, -1)])],
-        Body::Either => &[(1, &[Number(1), Read(0, 0), Read(0, 1), Choose])],
         Body::Chosen => &[(1, &CHOSEN)],
-        Body::Third => &[(0, &[Read(2, 0)])],
         Body::Three => &[
             (0, &[Read(0, 0), Number(1), PLUS]),
             (1, &[Number(2), Read(0, 0), TIMES]),
