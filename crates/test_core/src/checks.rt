@@ -20,22 +20,6 @@ pub fn check_same<T: PartialEq + Debug + Copy>(rt: &impl Abort, found: T, wanted
     assert_eq!(rt; found, wanted);
 }
 
-// The reply to each of these events.
-pub fn check_replies(rt: &impl Abort, world: &mut World, events: &[(Event, Reply)]) {
-    for (event, wanted) in events {
-        check_same(rt, (*event, reply_to(world, *event)), (*event, *wanted));
-    }
-}
-
-// From none of these queues, each with its device, a batch is taken, and none performs an operation.
-pub fn check_idle(rt: &impl Abort, world: &mut World, queues: &[(u8, u8)]) {
-    for (device, number) in queues {
-        let taken = reply_to(world, Event::Take(queue(*device, *number)));
-        let performed = reply_to(world, Event::Perform(queue(*device, *number)));
-        check_same(rt, (taken, performed), (Reply::Idle, Reply::Idle));
-    }
-}
-
 // So many steps of a host, each of which does something.
 pub fn check_steps(rt: &impl Abort, world: &mut World, number: u8, count: u32) {
     for step in 0..count {

@@ -8,8 +8,6 @@ mod closing;
 #[cfg(test)]
 mod hosts;
 #[cfg(test)]
-mod idle;
-#[cfg(test)]
 mod memory;
 #[cfg(test)]
 mod races;

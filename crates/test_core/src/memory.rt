@@ -4,7 +4,7 @@
 use crate::checks::{
     FINISHED, check_last_print, check_present, check_same, check_states, check_steps, refused,
 };
-use crate::worlds::{ONE, Setting, host, on, queue, reply_to, turns, world_of};
+use crate::worlds::{ROOM, host, on, queue, reply_to, turns, world_of};
 use acc_base::{Config, Fault, Range};
 use acc_core::{Counts, Event, Outcome, Reply, World};
 use std::alloc::{AllocError, Global};
@@ -94,7 +94,7 @@ fn scarce_outcome(alloc: Global, world: World) -> Result<Outcome, AllocError> {
 }
 
 fn check_scarce_run(rt: &impl Abort, alloc: Global, text: &[u8]) -> Result<(), Fail> {
-    let mut world = world_of(alloc, text, ONE)?;
+    let mut world = world_of(alloc, text, ROOM)?;
     let refused = scarce_run(alloc, &mut world)?;
     check_same(rt, refused, Some(Fault::Memory));
     check_present(rt, &world, None);
@@ -139,7 +139,7 @@ fn memory_is_refused_to_a_step(rt: HostRuntime) -> Result<(), Fail> {
         (false, host(0), Reply::Refused(Fault::Memory)),
         (true, host(0), Reply::Idle),
     ];
-    let mut world = world_of(alloc, ENTER, ONE)?;
+    let mut world = world_of(alloc, ENTER, ROOM)?;
     check_replies(&rt, alloc, &mut world, &events)?;
     check_present(&rt, &world, Some((ALL, 0, 1)));
     check_outcome(&rt, alloc, world, 1, 1, 4)?;
@@ -152,7 +152,7 @@ fn check_scarce_statement(rt: &impl Abort, alloc: Global, text: &[u8]) -> Result
         (false, host(0), Reply::Refused(Fault::Memory)),
         (true, host(0), Reply::Idle),
     ];
-    let mut world = world_of(alloc, text, ONE)?;
+    let mut world = world_of(alloc, text, ROOM)?;
     check_replies(rt, alloc, &mut world, &events)?;
     check_same(rt, world.log().len(), 0);
     check_states(rt, &world, &[refused(0, 3, Fault::Memory)]);
@@ -184,7 +184,7 @@ fn memory_is_refused_to_a_host_that_waited(rt: HostRuntime) -> Result<(), Fail> 
     ];
     let text =
         b"long a[4];\nhost {\n#pragma acc enter data create(a[0:1]) async(1)\n#pragma acc enter data create(a[1:1]) async(2)\n#pragma acc wait\n}\n";
-    let mut world = world_of(alloc, text, ONE)?;
+    let mut world = world_of(alloc, text, ROOM)?;
     check_replies(&rt, alloc, &mut world, &events)?;
     check_same(&rt, world.log().len(), 2);
     check_outcome(&rt, alloc, world, 3, 2, 5)?;
@@ -209,7 +209,7 @@ fn memory_is_refused_to_a_loop(rt: HostRuntime) -> Result<(), Fail> {
         (false, host(0), Reply::Refused(Fault::Memory)),
         (true, host(0), Reply::Idle),
     ];
-    let mut world = world_of(alloc, DOUBLE_TWICE, ONE)?;
+    let mut world = world_of(alloc, DOUBLE_TWICE, ROOM)?;
     check_replies(&rt, alloc, &mut world, &events)?;
     check_last_print(&rt, world.log(), &[2, 4, 6, 8]);
     check_present(&rt, &world, None);
@@ -252,8 +252,7 @@ fn counts_are_refused_until_there_is_memory(rt: HostRuntime) -> Result<(), Fail>
 
 // A world of short queues, whose host has placed its loop; the worlds that were made are counted.
 fn placed_world(alloc: Global, worlds: &mut u32) -> Result<World, Fault> {
-    let short = Setting { room: 4, ..ONE };
-    let mut world = world_of(alloc, DOUBLE, short)?;
+    let mut world = world_of(alloc, DOUBLE, 4)?;
     *worlds = worlds.wrapping_add(1);
     match reply_to(&mut world, host(0)) {
         Reply::Did => Ok(world),

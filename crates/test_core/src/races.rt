@@ -2,7 +2,7 @@
 //! knows one event.
 
 use crate::checks::{FINISHED, check_present, check_same, check_states, check_steps, printed};
-use crate::worlds::{ONE, on, reply_to, turns, world_of};
+use crate::worlds::{ROOM, on, reply_to, turns, world_of};
 use acc_base::Fault;
 use acc_core::{Event, WorkEntry, World};
 use std::alloc::Global;
@@ -93,7 +93,7 @@ fn check_log(rt: &impl Abort, log: &[WorkEntry], operations: u32) {
 }
 
 fn run_race(rt: &impl Abort, alloc: Global, words: &[Word; 8]) -> Result<(), Fault> {
-    let mut world = world_of(alloc, RACERS, ONE)?;
+    let mut world = world_of(alloc, RACERS, ROOM)?;
     run_words(rt, &mut world, words);
     check_states(rt, &world, &[FINISHED, FINISHED]);
     check_present(rt, &world, None);

@@ -2,7 +2,7 @@
 //! enabled where something is left, and not that it ends.
 
 use crate::checks::{check_same, check_steps};
-use crate::worlds::{ONE, queue, reply_to, world_of};
+use crate::worlds::{ROOM, queue, reply_to, world_of};
 use acc_base::QueueAt;
 use acc_core::{Event, Reply, World};
 use std::process::Abort;
@@ -58,7 +58,7 @@ fn check_drained(rt: &impl Abort, world: &mut World, host_steps: u32, steps: u32
 /// Steps of the enabled queues alone perform all, whatever awaits what: behind each step of the host. A batch is taken each time.
 #[test]
 fn enabled_queues_perform_all_step_by_step(rt: HostRuntime) -> Result<(), Fail> {
-    let mut world = world_of(rt.alloc(), CHAIN, ONE)?;
+    let mut world = world_of(rt.alloc(), CHAIN, ROOM)?;
     for (host_steps, steps) in [(0u32, 0u32), (1, 2), (1, 3), (1, 4)] {
         check_drained(&rt, &mut world, host_steps, steps);
     }
@@ -68,7 +68,7 @@ fn enabled_queues_perform_all_step_by_step(rt: HostRuntime) -> Result<(), Fail> 
 /// So they do behind the host's last step.
 #[test]
 fn enabled_queues_perform_all(rt: HostRuntime) -> Result<(), Fail> {
-    let mut world = world_of(rt.alloc(), CHAIN, ONE)?;
+    let mut world = world_of(rt.alloc(), CHAIN, ROOM)?;
     check_steps(&rt, &mut world, 0, 3);
     check_same(&rt, world.enabled(queue(0, 0)), false);
     check_same(&rt, world.enabled(queue(3, 0)), false);
@@ -88,7 +88,7 @@ fn a_ring_of_queues_goes_on(rt: HostRuntime) -> Result<(), Fail> {
     let mut text = Vec::from_slice(rt.alloc(), CREATE)?;
     text.extend_from_slice(ROUND)?;
     text.extend_from_slice(ROUND)?;
-    let mut world = world_of(rt.alloc(), text.as_slice(), ONE)?;
+    let mut world = world_of(rt.alloc(), text.as_slice(), ROOM)?;
     check_steps(&rt, &mut world, 0, 1);
     check_steps(&rt, &mut world, 1, 12);
     check_steps(&rt, &mut world, 2, 12);

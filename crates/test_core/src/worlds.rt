@@ -9,17 +9,8 @@ use acc_core::{Event, Reply, World};
 use acc_script::{ReadError, Script, read};
 use std::alloc::Global;
 
-/// How many devices a world has, and how many batches each of their queues holds: a world takes the memory for these.
-#[derive(Clone, Copy)]
-pub struct Setting {
-    pub devices: u8,
-    pub room: u32,
-}
-
-pub const ONE: Setting = Setting {
-    devices: 1,
-    room: 64,
-};
+/// How many batches each queue of a world holds, as a rule: a world takes the memory for these.
+pub const ROOM: u32 = 64;
 
 // A fault of a text is `Unfinished` here.
 fn fault_of(error: ReadError) -> Fault {
@@ -40,15 +31,15 @@ pub fn script_of<'a>(alloc: Global, text: &'a [u8]) -> Result<Script<'a>, Fault>
     }
 }
 
-// The world of a script, before the first event.
-pub fn world_of(alloc: Global, text: &[u8], setting: Setting) -> Result<World, Fault> {
+// The world of a script on one device, before the first event.
+pub fn world_of(alloc: Global, text: &[u8], room: u32) -> Result<World, Fault> {
     let Script {
         names: _,
         arrays,
         programs,
     } = script_of(alloc, text)?;
     let hosts = programs.len() as u8;
-    let config = Config::new(setting.devices, hosts, arrays, MAX_CAPACITY, setting.room)?;
+    let config = Config::new(1, hosts, arrays, MAX_CAPACITY, room)?;
     World::new(alloc, config, programs)
 }
 

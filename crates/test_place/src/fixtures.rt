@@ -20,17 +20,6 @@ pub fn a(lo: u32, len: u32) -> Range {
     Range { array: 0, lo, len }
 }
 
-// A step of which only the directive matters.
-pub fn given(host: u8, word: Word, items: &'static [(Clause, Cells)]) -> Step {
-    Step {
-        host,
-        word,
-        items,
-        ops: &[],
-        present: &[],
-    }
-}
-
 fn directive_on(
     alloc: Global,
     word: Word,

@@ -60,20 +60,18 @@ fn check_accepting(rt: &impl Abort, alloc: Global, place: &mut Place) -> Result<
     let directive = synchronous(alloc, Enter, &items)?;
     let placed = accepted_scarcely(alloc, place, &directive)?;
     assert!(rt; placed == answer(Some((sync(), 1)), false));
+    check_present(
+        rt,
+        place,
+        &[(A(0, 4), 2, 0, 1), (A(4, 4), 1, 0, 1), (B(0, 4), 3, 0, 1)],
+    );
     Ok(())
 }
 
 #[test]
 fn accepting_takes_no_memory(rt: HostRuntime) -> Result<(), Fail> {
     let mut place = place_of(rt.alloc(), 12)?;
-    check_accepting(&rt, rt.alloc(), &mut place)?;
-    check_present(
-        &rt,
-        &place,
-        &[(A(0, 4), 2, 0, 1), (A(4, 4), 1, 0, 1), (B(0, 4), 3, 0, 1)],
-    );
-    assert!(rt; place.history().len() == 1);
-    Ok(())
+    Ok(check_accepting(&rt, rt.alloc(), &mut place)?)
 }
 
 /// How often a place was asked for a plan, and how often it then showed something else than before.
@@ -169,19 +167,18 @@ fn check_plan(
 type Last = (&'static [Step], Step);
 
 // The last step is planned once there is memory, and then accepted by a plan of its own.
-fn check_last(rt: &impl Abort, alloc: Global, case: &Last) -> Result<(), Fault> {
+fn check_last(rt: &impl Abort, alloc: Global, place: &mut Place, case: &Last) -> Result<(), Fault> {
     let (steps, last) = case;
     let before = steps.len() as u64;
-    let mut place = place_of(alloc, 12)?;
-    accept_each(alloc, &mut place, steps)?;
+    accept_each(alloc, place, steps)?;
     assert!(rt; place.placed_count(sync()) == before);
-    check_plan(rt, alloc, &mut place, last, before)?;
-    check_accepted(rt, alloc, &mut place, last, before.wrapping_add(1))
+    check_plan(rt, alloc, place, last, before)?;
+    check_accepted(rt, alloc, place, last, before.wrapping_add(1))
 }
 
 fn check(rt: &impl Abort, alloc: Global, cases: &[Last]) -> Result<(), Fail> {
     for case in cases {
-        check_last(rt, alloc, case)?;
+        check_last(rt, alloc, &mut place_of(alloc, 12)?, case)?;
     }
     Ok(())
 }

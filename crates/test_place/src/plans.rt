@@ -81,14 +81,14 @@ fn check(
 fn check_in(rt: &impl Abort, alloc: Global, place: &mut Place) -> Result<(), Fault> {
     let one = synchronous(alloc, STEP.word, STEP.items)?;
     let other = synchronous(alloc, Enter, &[(Copyin, A(4, 4))])?;
-    check(rt, place, &one, &other)
+    check(rt, place, &one, &other)?;
+    check_present(rt, place, STEP.present);
+    Ok(())
 }
 
 /// A plan that was made before another directive was accepted has that one's block and number, and doesn't fit.
 #[test]
 fn a_plan_fits_until_another_directive_is_accepted(rt: HostRuntime) -> Result<(), Fail> {
     let mut place = place_of(rt.alloc(), 12)?;
-    check_in(&rt, rt.alloc(), &mut place)?;
-    check_present(&rt, &place, STEP.present);
-    Ok(())
+    Ok(check_in(&rt, rt.alloc(), &mut place)?)
 }

@@ -518,13 +518,14 @@ const USES: &[Case] = &[
     },
 ];
 
-// A case is planned once there is memory, and then accepted by a plan of its own.
+// Behind the uses a case is planned once there is memory, and then accepted by a plan of its own.
 fn check_scarce(
     rt: &impl Abort,
     alloc: Global,
     place: &mut Place,
     case: &Case,
 ) -> Result<(), Fault> {
+    accept_cases(rt, alloc, place, USES)?;
     let directive = directive_for(alloc, case)?;
     let mut plan = plan_at_each_amount(rt, alloc, place, case.host, &directive)?;
     check_batch(rt, plan.take_batch(), case.ops);
@@ -548,7 +549,5 @@ fn a_batch_with_four_awaits_is_refused_until_there_is_memory(rt: HostRuntime) ->
         ..ON_1
     };
     let mut place = place_of(rt.alloc())?;
-    accept_cases(&rt, rt.alloc(), &mut place, USES)?;
-    check_scarce(&rt, rt.alloc(), &mut place, &EXIT)?;
-    Ok(())
+    Ok(check_scarce(&rt, rt.alloc(), &mut place, &EXIT)?)
 }
