@@ -1,11 +1,13 @@
-//! A host's program copied, though the contract lets that be refused each time.
+//! A host's program copied, though the contract lets that be refused each time; and a host that its
+//! caller refuses.
 
 ghost use Rattle.std.specs.Prelude.{◌≡◌};
 
-use crate::checks::{FINISHED, check_last_print, check_same, check_states};
+use crate::checks::{FINISHED, check_last_print, check_same, check_states, refused};
 use crate::worlds::{script_of, turns};
 use acc_base::{Config, Fault, HostId};
-use acc_core::{HostProgram, World};
+use acc_core::{HostProgram, HostState, World};
+use acc_host::Host;
 use std::alloc::Global;
 use std::process::Abort;
 use std::test::Fail;
@@ -51,5 +53,24 @@ fn a_copied_program_runs_alike(rt: HostRuntime) -> Result<(), Fail> {
     check_same(&rt, 0 < refusals, true);
     run_of(&rt, alloc, program)?;
     run_of(&rt, alloc, copy)?;
+    Ok(())
+}
+
+// A host that is refused from outside, and then stands so.
+fn check_refusal(rt: &impl Abort, host: &mut Host, fault: Fault, state: HostState) {
+    host.refuse(fault);
+    check_same(rt, host.state(), state);
+}
+
+/// It stands at its next statement then, and stays so.
+#[test]
+fn a_host_is_refused_from_outside(rt: HostRuntime) -> Result<(), Fail> {
+    let mut running = Host::new(program_of(rt.alloc(), SCRIPT)?);
+    check_same(&rt, running.state(), HostState::Running { ended: 0 });
+    let state = refused(0, 3, Fault::Memory);
+    check_refusal(&rt, &mut running, Fault::Memory, state);
+    check_refusal(&rt, &mut running, Fault::QueueFull, state);
+    let mut finished = Host::new(program_of(rt.alloc(), b"host { }\n")?);
+    check_refusal(&rt, &mut finished, Fault::Memory, FINISHED);
     Ok(())
 }
