@@ -85,10 +85,16 @@ fn opening_at<'a>(alloc: Global, head: Head, at: At<'a>) -> Result<(Clauses, At<
     }
 }
 
-// A directive with these clauses.
-fn placed_with(alloc: Global, kind: Kind, clauses: Clauses) -> Result<Act, ReadError>
+// A directive with these clauses, which ends here.
+fn placed_with<'a>(
+    alloc: Global,
+    kind: Kind,
+    clauses: Clauses,
+    at: At<'a>,
+) -> Result<(Act, At<'a>), ReadError>
     requires form { is_well_formed (record { kind = kind; items = clauses.items; target = clauses.target; waits = clauses.waits }) ≡ true }
-    ensures act { IfOk result (λ act. act ≡ placed_with kind clauses) }
+    ensures act { IfOk result (λ x. x.0 ≡ placed_with kind clauses) }
+    ensures end { IfOk result (λ x. spot x.1 ≡ spot at.entry) }
     ensures fault { IfErr result (λ error. error ≡ Memory) }
 {
     let Clauses {
@@ -104,7 +110,7 @@ fn placed_with(alloc: Global, kind: Kind, clauses: Clauses) -> Result<Act, ReadE
         target,
         waits,
     };
-    placed(alloc, written)
+    Ok((placed(alloc, written)?, at))
 }
 
 // What the directive is, behind its line.
@@ -122,30 +128,24 @@ fn act_behind<'a>(
     ensures shorter { IfOk result (λ x. length x.1.bytes.now ≤ length at.entry.bytes.now) }
 {
     match head {
-        Head::EnterData => Ok((placed_with(alloc, Kind::EnterData, clauses)?, at)),
+        Head::EnterData => placed_with(alloc, Kind::EnterData, clauses, at),
         Head::ExitData => {
             let finalize = clauses.marked;
-            Ok((
-                placed_with(alloc, Kind::ExitData { finalize }, clauses)?,
-                at,
-            ))
+            placed_with(alloc, Kind::ExitData { finalize }, clauses, at)
         }
         Head::Update => {
             let if_present = clauses.marked;
-            Ok((
-                placed_with(alloc, Kind::Update { if_present }, clauses)?,
-                at,
-            ))
+            placed_with(alloc, Kind::Update { if_present }, clauses, at)
         }
-        Head::Wait => Ok((placed_with(alloc, Kind::Wait, clauses)?, at)),
+        Head::Wait => placed_with(alloc, Kind::Wait, clauses, at),
         Head::Data => {
             let at = expect(at, false, b"{")?;
-            Ok((placed_with(alloc, Kind::Data, clauses)?, at))
+            placed_with(alloc, Kind::Data, clauses, at)
         }
         Head::Loop => {
             let (kernel, at) = loop_at(alloc, arrays, at)?;
             let kernel = Shared::new(alloc, kernel)?;
-            Ok((placed_with(alloc, Kind::Loop { kernel }, clauses)?, at))
+            placed_with(alloc, Kind::Loop { kernel }, clauses, at)
         }
     }
 }

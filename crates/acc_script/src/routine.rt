@@ -1,12 +1,11 @@
 //! Runtime library routines: calls and questions.
 
 ghost use Rattle.std.specs.Prelude.{◌≡◌, ◌+◌, ◌≤◌, ◌<◌, [], ◌∷◌, true, false, length, IfOk, IfErr, IfSome, OnOk};
-ghost use Rattle.acc_place.specs.Clauses.{allows_clause};
+ghost use Rattle.acc_place.specs.Clauses.{allows_clause, is_well_formed};
 ghost use Rattle.acc_token.specs.declared.read_fault.ReadError.TheVariants.{Memory};
-ghost use Rattle.acc_script.specs.Clauses.{is_nothing};
 ghost use Rattle.acc_token.specs.Faults.{Gives, Reads};
 ghost use Rattle.acc_script.specs.Ranges.{item};
-ghost use Rattle.acc_script.specs.Routines.{routine, routine_named, range_argument, queue_argument, two_queues, number_argument, no_argument, is_routine, waiting_act, data_call, other_call, call_of, question_of, shown_of, print_at};
+ghost use Rattle.acc_script.specs.Routines.{routine, routine_named, range_argument, queue_argument, two_queues, number_argument, no_argument, is_routine, data_call, other_call, call_of, question_of, shown_of, print_at};
 ghost use Rattle.acc_script.specs.Directives as directives;
 ghost use Rattle.acc_token.specs.Tokens.{spot, lexeme};
 ghost use Rattle.acc_place.specs.declared.directive.Kind.TheVariants as kind;
@@ -129,10 +128,17 @@ pub(crate) fn is_routine(word: &[u8]) -> bool
     word.starts_with(b"acc_")
 }
 
-// A directive with one range.
-fn with_range(alloc: Global, kind: Kind, clause: Clause, range: Range) -> Result<Act, ReadError>
+// A directive with one range, which ends here.
+fn with_range<'a>(
+    alloc: Global,
+    kind: Kind,
+    clause: Clause,
+    range: Range,
+    at: At<'a>,
+) -> Result<(Act, At<'a>), ReadError>
     requires { allows_clause kind clause ≡ true }
-    ensures act { IfOk result (λ act. act ≡ directives.placed kind (item clause range ∷ []) target.Plain waits.Nothing) }
+    ensures act { IfOk result (λ x. x.0 ≡ directives.placed kind (item clause range ∷ []) target.Plain waits.Nothing) }
+    ensures end { IfOk result (λ x. spot x.1 ≡ spot at.entry) }
     ensures fault { IfErr result (λ error. error ≡ Memory) }
 {
     let mut items = Few::new(alloc);
@@ -143,48 +149,48 @@ fn with_range(alloc: Global, kind: Kind, clause: Clause, range: Range) -> Result
         target: Target::Plain,
         waits: Waits::Nothing,
     };
-    placed(alloc, written)
+    Ok((placed(alloc, written)?, at))
 }
 
-// A list of one queue.
-fn listed_queue(alloc: Global, queue: i64) -> Result<Waits, ReadError>
-    ensures waits { IfOk result (λ w. w ≡ waits.Listed (queue ∷ [])) }
+// A directive about queues, which ends here.
+fn about_queues<'a>(
+    alloc: Global,
+    kind: Kind,
+    target: Target,
+    waits: Waits,
+    at: At<'a>,
+) -> Result<(Act, At<'a>), ReadError>
+    requires { is_well_formed (record { kind = kind; items = []; target = target; waits = waits }) ≡ true }
+    ensures act { IfOk result (λ x. x.0 ≡ directives.placed kind [] target waits) }
+    ensures end { IfOk result (λ x. spot x.1 ≡ spot at.entry) }
+    ensures fault { IfErr result (λ error. error ≡ Memory) }
+{
+    let written = Written {
+        kind,
+        items: Few::new(alloc),
+        target,
+        waits,
+    };
+    Ok((placed(alloc, written)?, at))
+}
+
+// The same about one queue.
+fn about_queue<'a>(
+    alloc: Global,
+    kind: Kind,
+    target: Target,
+    queue: i64,
+    at: At<'a>,
+) -> Result<(Act, At<'a>), ReadError>
+    requires { is_well_formed (record { kind = kind; items = []; target = target; waits = waits.Listed (queue ∷ []) }) ≡ true }
+    ensures act { IfOk result (λ x. x.0 ≡ directives.placed kind [] target (waits.Listed (queue ∷ []))) }
+    ensures end { IfOk result (λ x. spot x.1 ≡ spot at.entry) }
     ensures fault { IfErr result (λ error. error ≡ Memory) }
 {
     let mut values = Vec::with_capacity(alloc, 1)?;
     values.push_reserved(queue);
     let values = Listed::from_vec(values);
-    Ok(Waits::Listed { values })
-}
-
-// A wait for queues.
-fn wait(alloc: Global, target: Target, waits: Waits) -> Result<Act, ReadError>
-    requires { is_nothing waits ≡ false }
-    ensures act { IfOk result (λ act. act ≡ directives.placed kind.Wait [] target waits) }
-    ensures fault { IfErr result (λ error. error ≡ Memory) }
-{
-    let written = Written {
-        kind: Kind::Wait,
-        items: Few::new(alloc),
-        target,
-        waits,
-    };
-    placed(alloc, written)
-}
-
-// A question about queues.
-fn async_test(alloc: Global, waits: Waits) -> Result<Act, ReadError>
-    requires { is_nothing waits ≡ false }
-    ensures act { IfOk result (λ act. act ≡ waiting_act kind.AsyncTest waits) }
-    ensures fault { IfErr result (λ error. error ≡ Memory) }
-{
-    let written = Written {
-        kind: Kind::AsyncTest,
-        items: Few::new(alloc),
-        target: Target::Plain,
-        waits,
-    };
-    placed(alloc, written)
+    about_queues(alloc, kind, target, Waits::Listed { values }, at)
 }
 
 #[tactic(auto, unfolding(crate::specs::Routines::data_call))]
@@ -200,7 +206,7 @@ fn data_call<'a>(
 {
     let (range, at) = range_argument(arrays, at)?;
     let DataRoutine { kind, clause } = routine;
-    Ok((with_range(alloc, kind, clause, range)?, at))
+    with_range(alloc, kind, clause, range, at)
 }
 
 // A call of another routine.
@@ -211,15 +217,13 @@ fn other_call<'a>(alloc: Global, t: Token<'a>) -> Result<(Act, At<'a>), ReadErro
 {
     if is(t.text, b"acc_wait") {
         let (queue, at) = queue_argument(t.after)?;
-        let waits = listed_queue(alloc, queue)?;
-        Ok((wait(alloc, Target::Plain, waits)?, at))
+        about_queue(alloc, Kind::Wait, Target::Plain, queue, at)
     } else if is(t.text, b"acc_wait_all") {
         let at = no_argument(t.after)?;
-        Ok((wait(alloc, Target::Plain, Waits::All)?, at))
+        about_queues(alloc, Kind::Wait, Target::Plain, Waits::All, at)
     } else if is(t.text, b"acc_wait_async") {
         let ((queue, value), at) = two_queues(t.after)?;
-        let waits = listed_queue(alloc, queue)?;
-        Ok((wait(alloc, Target::Value { value }, waits)?, at))
+        about_queue(alloc, Kind::Wait, Target::Value { value }, queue, at)
     } else if is(t.text, b"acc_set_device_num") {
         let (device, at) = number_argument(t.after)?;
         Ok((Act::SetDevice { device }, at))
@@ -255,17 +259,13 @@ fn question_of<'a>(alloc: Global, arrays: &Arrays, t: Token<'a>) -> Result<(Act,
 {
     if is(t.text, b"acc_is_present") {
         let (range, at) = range_argument(arrays, t.after)?;
-        Ok((
-            with_range(alloc, Kind::IsPresent, Clause::Present, range)?,
-            at,
-        ))
+        with_range(alloc, Kind::IsPresent, Clause::Present, range, at)
     } else if is(t.text, b"acc_async_test") {
         let (queue, at) = queue_argument(t.after)?;
-        let waits = listed_queue(alloc, queue)?;
-        Ok((async_test(alloc, waits)?, at))
+        about_queue(alloc, Kind::AsyncTest, Target::Plain, queue, at)
     } else if is(t.text, b"acc_async_test_all") {
         let at = no_argument(t.after)?;
-        Ok((async_test(alloc, Waits::All)?, at))
+        about_queues(alloc, Kind::AsyncTest, Target::Plain, Waits::All, at)
     } else if is(t.text, b"acc_get_device_num") {
         Ok((Act::ShowDevice, no_argument(t.after)?))
     } else if is(t.text, b"acc_get_num_devices") {
