@@ -16,6 +16,7 @@ use Rattle.acc_report.specs.Lines.{each_below, totals_text}
 use Rattle.acc_report.specs.Puts.{Puts, Sink}
 use Rattle.acc_report.specs.Reports.{Left, device_text, nth_host_text, queue_text, queues_text, report, standing_left}
 use Rattle.acc_report.specs.inner.Counting.{AreCounted}
+use Rattle.acc_report.specs.inner.Retelling.{StandsAs}
 use Rattle.acc_report.specs.inner.Standing.{counted_queue_text, counted_text, present_text}
 use Rattle.acc_report.proofs.JoinedPuts.{puts_then}
 
@@ -40,12 +41,6 @@ queues_same left counts h =
     each_same left.config.devices (counted_text (standing_left left) counts) (queues_text left)
     (λ d device. each_same QUEUES (λ q. counted_queue_text (standing_left left) counts (record { device = d; queue = q })) (λ q. queue_text left (record { device = d; queue = q }))
     (λ q queue. queue_same left counts (record { device = d; queue = q }) h device queue))
-
--- The place that has told the history stands as what is left.
-pub record StandsAs (p : PlaceView) (left : Left) : Type 0 where
-  pub config : p.config ≡ left.config
-  pub history : p.history ≡ left.history
-  pub counts : p.counts ≡ left.counts
 
 stands : (p : PlaceView) (left : Left) → StandsAs p left → standing_in p ≡ standing_left left
 stands p left s =

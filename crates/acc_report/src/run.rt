@@ -10,8 +10,8 @@ ghost use Rattle.acc_report.specs.Totals.{plain_batches, plain_ops};
 ghost use Rattle.acc_report.specs.Lines.{each_below};
 ghost use Rattle.acc_report.specs.Puts.{ReportAnswers, Puts, sink};
 ghost use Rattle.acc_report.specs.Reports.{IsLeft, ended_in, host_text, left_by, nth_host_text, report};
-ghost use Rattle.acc_report.specs.inner.Counting.{plain_count};
-ghost use Rattle.acc_report.specs.inner.Retelling.{AreAnswers};
+ghost use Rattle.acc_report.specs.inner.Counting.{AreCounted, plain_count};
+ghost use Rattle.acc_report.specs.inner.Retelling.{AreAnswers, StandsAs};
 ghost use Rattle.acc_report.specs.inner.Standing.{counted_queue_text, counted_text, present_text};
 ghost use Rattle.acc_script.specs.Arrays.{texts};
 
@@ -19,7 +19,7 @@ use crate::bytes::{ReportFault, put, put_number};
 use crate::line::{put_presence, put_state, put_totals};
 use crate::performed::count_performed;
 use crate::prints::put_lines;
-use crate::retold::{Answered, retell};
+use crate::retold::{Answered, Retold, retell};
 use crate::unread::{Histories, Unread};
 use acc_base::{DeviceId, HostId, QUEUES, QueueAt, QueueId};
 use acc_batch::OpLabel;
@@ -59,6 +59,23 @@ pub fn report<W: Write>(
         Ok(performed) => performed,
         Err(_) => return Err(ReportFault::Memory),
     };
+    put_report(writer, outcome, script, &retold, performed.as_slice())
+}
+
+// All lines, by a place that has told the history once more, and by counts of what was performed.
+fn put_report<W: Write>(
+    writer: &mut W,
+    outcome: &Outcome,
+    script: &Script,
+    retold: &Retold,
+    performed: &[u64],
+) -> Result<(), ReportFault>
+    requires few { length outcome.now.hosts.items ≤ MAX_HOSTS }
+    requires stands { StandsAs retold.now.place (left_by outcome.now) }
+    requires answered { AreAnswers (left_by outcome.now).config (left_by outcome.now).history (left_by outcome.now).counts retold.now.answered.items }
+    requires counted { AreCounted (left_by outcome.now).config.devices (left_by outcome.now).work performed.now }
+    ensures { ReportAnswers (W.contents writer.old) (W.contents writer.new) result (report (texts script.now.names.keys) script.now.programs.items (left_by outcome.now)) }
+{
     let mut failed = false;
     let programs = script.programs.as_slice();
     put_hosts(
@@ -69,7 +86,7 @@ pub fn report<W: Write>(
         retold.answered.as_slice(),
     );
     put_presences(writer, &mut failed, script.names.as_slice(), &retold.place);
-    put_queues(writer, &mut failed, &retold.place, performed.as_slice());
+    put_queues(writer, &mut failed, &retold.place, performed);
     put(writer, &mut failed, b"end\n");
     if failed {
         Err(ReportFault::Write)

@@ -4,11 +4,19 @@ use Rattle.std.specs.List.{flat_map}
 use Rattle.acc_base.specs.Configurations.{Configuration}
 use Rattle.acc_place.specs.Accepting.{refusal}
 use Rattle.acc_place.specs.Histories.{CanClose, standing}
+use Rattle.acc_place.specs.Plans.{PlaceView}
 use Rattle.acc_place.specs.Standings.{Standing}
 use Rattle.acc_place.specs.declared.directive.PlaceEntry.{PlaceEntry}
 use Rattle.acc_place.specs.declared.directive.PlaceEntry.TheVariants as entry
 use Rattle.acc_host.specs.Entries.{Own, own_of}
+use Rattle.acc_report.specs.Reports.{Left}
 use Rattle.acc_report.specs.declared.retold.Answered.{Answered}
+
+-- A place that has told the histories stands as what is left.
+pub record StandsAs (p : PlaceView) (left : Left) : Type 0 where
+  pub config : p.config ≡ left.config
+  pub history : p.history ≡ left.history
+  pub counts : p.counts ≡ left.counts
 
 -- Behind this standing the entry can come next.
 abbrev pub CanFollow : Configuration → Standing → PlaceEntry → Type 0
