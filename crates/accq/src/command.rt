@@ -60,35 +60,32 @@ fn replay_words<'a>(alloc: Global) -> Result<Command<'a>, AllocError>
     ensures app { IfOk result (λ c. app_of c ≡ replay_app) }
     ensures local { IfOk result (λ c. (fields_of c).has_globals ≡ false) }
 {
-    let devices = number(
-        alloc,
-        "devices",
-        "How many devices there are",
-        "1",
-        u64::from(MAX_DEVICES),
-    );
-    let cells = number(
-        alloc,
-        "cells",
-        "How many cells may be present on each device at once",
-        "4194304",
-        MAX_CAPACITY,
-    );
-    let room = number(
-        alloc,
-        "room",
-        "How many batches each queue holds that it hasn't taken",
-        "64",
-        u64::from(MAX_ROOM),
-    );
     Command::new(alloc, "replay")
         .about("Replays a script under a schedule")
         .after_help(EXAMPLE)
         .arg(name(alloc, "SCRIPT", "The file of the script"))?
         .arg(name(alloc, "SCHEDULE", "The file of the schedule"))?
-        .arg(devices)?
-        .arg(cells)?
-        .arg(room)
+        .arg(number(
+            alloc,
+            "devices",
+            "How many devices there are",
+            "1",
+            u64::from(MAX_DEVICES),
+        ))?
+        .arg(number(
+            alloc,
+            "cells",
+            "How many cells may be present on each device at once",
+            "4194304",
+            MAX_CAPACITY,
+        ))?
+        .arg(number(
+            alloc,
+            "room",
+            "How many batches each queue holds that it hasn't taken",
+            "64",
+            u64::from(MAX_ROOM),
+        ))
 }
 
 // The words that there can be.
@@ -183,6 +180,25 @@ fn asked_in_subcommand<'a>(matches: &ArgMatches<'a>) -> Option<Replay<'a>>
     }
 }
 
+// What words ask for, by a parser that knows what there can be.
+fn asked_of<'a, N: AsStr>(parser: &mut Command<'a>, words: &'a [N]) -> Result<Replay<'a>, Error>
+    requires { app_of parser.old ≡ accq_app }
+    ensures asked { IfOk result (λ r. asked_of (map N.text words.entry.now) ≡ Some (asked_by r)) }
+    ensures usable { IfOk result (λ r. AreUsable r.options) }
+    ensures refused { IfErr result (λ e. (kind_of e ≡ OutOfMemory) ⊎ (asked_of (map N.text words.entry.now) ≡ None)) }
+{
+    match parser.try_get_matches_from_mut(words) {
+        Ok(matches) => match asked_in_subcommand(&matches) {
+            Some(replay) => Ok(replay),
+            None => Err(parser.error(
+                ErrorKind::InvalidValue,
+                "a number is written in digits alone",
+            )?),
+        },
+        Err(error) => Err(error),
+    }
+}
+
 /// What the words of a command line ask for. The first word is the program's name.
 ///
 /// # Errors
@@ -194,15 +210,6 @@ pub fn replay_of<'a, N: AsStr>(alloc: Global, words: &'a [N]) -> Result<Replay<'
     ensures usable { IfOk result (λ r. AreUsable r.options) }
     ensures refused { IfErr result (λ e. (kind_of e ≡ OutOfMemory) ⊎ (asked_of (map N.text words.entry.now) ≡ None)) }
 {
-    let mut command = accq_words(alloc)?;
-    match command.try_get_matches_from_mut(words) {
-        Ok(matches) => match asked_in_subcommand(&matches) {
-            Some(replay) => Ok(replay),
-            None => Err(command.error(
-                ErrorKind::InvalidValue,
-                "a number is written in digits alone",
-            )?),
-        },
-        Err(error) => Err(error),
-    }
+    let mut parser = accq_words(alloc)?;
+    asked_of(&mut parser, words)
 }
