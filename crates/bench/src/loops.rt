@@ -106,20 +106,38 @@ pub(crate) fn job_for(
     alloc: Global,
     parts: &'static [Part],
     cells: u32,
-) -> Result<Option<Job>, Fault> {
+) -> Result<Option<Box<Job>>, Fault> {
     let cells = cells.min(CELLS);
+    let Some(kernel) = kernel_of(alloc, parts, cells)? else {
+        return Ok(None);
+    };
+    let uses = uses_of(alloc, cells)?;
+    let mut job = job_of(alloc, &kernel, &uses)?;
+    if let Some(job) = &mut job {
+        fill(alloc, job, cells)?;
+    }
+    Ok(job)
+}
+
+fn kernel_of(
+    alloc: Global,
+    parts: &'static [Part],
+    cells: u32,
+) -> Result<Option<Shared<Kernel>>, Fault>
+    requires { cells ≤ 1000 }
+{
     let statements = statements_of(alloc, &[(1, parts)])?;
-    let Ok(kernel) = Kernel::new(alloc, 1, i64::from(cells) + 1, statements) else {
-        return Ok(None);
-    };
-    let kernel = Shared::new(alloc, kernel)?;
+    match Kernel::new(alloc, 1, i64::from(cells) + 1, statements) {
+        Ok(kernel) => Ok(Some(Shared::new(alloc, kernel)?)),
+        Err(_) => Ok(None),
+    }
+}
+
+fn uses_of(alloc: Global, cells: u32) -> Result<Shared<Listed<(BlockId, Range)>>, Fault>
+    requires { cells ≤ 1000 }
+{
     let uses = vec![in alloc; whole(1, 0, cells), whole(2, 1, cells)]?;
-    let uses = Shared::new(alloc, Listed::from_vec(uses))?;
-    let Some(mut job) = job_of(alloc, &kernel, &uses)? else {
-        return Ok(None);
-    };
-    fill(alloc, &mut job, cells)?;
-    Ok(Some(job))
+    Shared::new(alloc, Listed::from_vec(uses))
 }
 
 // An array with its cells from 0 to one behind the last that is assigned.

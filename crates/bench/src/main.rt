@@ -15,7 +15,10 @@ use acc_kernel::Job;
 use loops::{CELLS, job_for, parts_of};
 use queue::{Crossings, ROOM, crossings_of};
 use std::alloc::Global;
-use std::{env, io};
+use std::env::{self, Args};
+use std::io;
+use std::sync::Wait;
+use std::thread::Threads;
 use tally::{Tally, tally_of};
 use workloads::{Failure, workload_of};
 
@@ -95,8 +98,8 @@ fn print_world(
     }
 }
 
-// A line for each loop and for each world.
-fn print_all(rt: &HostRuntime) -> io::Result<()> {
+// A line for each loop and for each world, and one for a queue.
+fn print_all<R: Threads + Wait + Sync>(rt: &HostRuntime, threads: &R) -> io::Result<()> {
     for name in &loops::NAMES {
         print!(rt; "{name} ")?;
         print_loop(rt, name, 1, CELLS)?;
@@ -105,32 +108,37 @@ fn print_all(rt: &HostRuntime) -> io::Result<()> {
         print!(rt; "{name} ")?;
         print_world(rt, name, 10, 1, true)?;
     }
-    Ok(())
+    print!(rt; "queue ")?;
+    print_crossings(rt, crossings_of(threads, rt.alloc(), ROOM, 1_000))
+}
+
+// What the words behind the kind and the name ask for.
+fn print_asked<R: Threads + Wait + Sync>(
+    rt: &HostRuntime,
+    threads: &R,
+    kind: &str,
+    name: &str,
+    words: &mut Args,
+) -> io::Result<()> {
+    let first = number_of(words.next(), 1);
+    if kind == "queue" {
+        let room = name.parse::<u32>().unwrap_or(ROOM);
+        print_crossings(rt, crossings_of(threads, rt.alloc(), room, first))
+    } else if kind == "loop" {
+        print_loop(rt, name, first, number_of(words.next(), CELLS))
+    } else {
+        let times = number_of(words.next(), 1);
+        print_world(rt, name, first, times, words.next().is_none())
+    }
 }
 
 fn main(rt: HostRuntime) -> io::Result<()> {
     let mut words = env::args(&rt)?;
     words.next();
-    let (kind, name) = (words.next(), words.next());
-    let (first, second) = (words.next(), words.next());
-    let is_whole = words.next().is_none();
-    match (kind, name) {
+    match (words.next(), words.next()) {
         (Some(kind), Some(name)) => {
-            if kind.as_str() == "loop" {
-                let times = number_of(first, 1);
-                print_loop(&rt, name.as_str(), times, number_of(second, CELLS))
-            } else if kind.as_str() == "queue" {
-                let (room, times) = (number_of(Some(name), ROOM), number_of(first, 1));
-                print_crossings(&rt, crossings_of(&rt, rt.alloc(), room, times))
-            } else {
-                let turns = number_of(first, 1);
-                print_world(&rt, name.as_str(), turns, number_of(second, 1), is_whole)
-            }
+            print_asked(&rt, &rt, kind.as_str(), name.as_str(), &mut words)
         }
-        _ => {
-            print_all(&rt)?;
-            print!(rt; "queue ")?;
-            print_crossings(&rt, crossings_of(&rt, rt.alloc(), ROOM, 1_000))
-        }
+        _ => print_all(&rt, &rt),
     }
 }

@@ -67,14 +67,15 @@ fn world_of(
     alloc: Global,
     workload: &Workload,
     statements: Vec<Statement>,
-) -> Result<World, Fault> {
+) -> Result<Box<World>, Fault> {
     let arrays = arrays_of(alloc, workload)?;
     let config = Config::new(workload.devices, 1, arrays, MAX_CAPACITY, ROOM)?;
     let program = HostProgram {
         host: HostId::new(0),
         statements: Listed::from_vec(statements),
     };
-    World::new(alloc, config, vec![in alloc; program]?)
+    let programs = vec![in alloc; program]?;
+    Ok(Box::new(alloc, World::new(alloc, config, programs)?)?)
 }
 
 fn arrays_of(alloc: Global, workload: &Workload) -> Result<Vec<Vec<i64>>, AllocError> {

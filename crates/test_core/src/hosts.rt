@@ -27,12 +27,13 @@ fn program_of(alloc: Global, text: &[u8]) -> Result<HostProgram, Fault> {
 }
 
 // A world with the script's array and one host, of this program.
-fn world_with(alloc: Global, program: HostProgram) -> Result<World, Fault>
+fn world_with(alloc: Global, program: HostProgram) -> Result<Box<World>, Fault>
     requires { program.host ≡ 0 }
 {
     let arrays = script_of(alloc, SCRIPT)?.arrays;
     let config = Config::new(1, 1, arrays, 4, 64)?;
-    World::new(alloc, config, vec![in alloc; program]?)
+    let programs = vec![in alloc; program]?;
+    Ok(Box::new(alloc, World::new(alloc, config, programs)?)?)
 }
 
 fn run_of(rt: &impl Abort, alloc: Global, program: HostProgram) -> Result<(), Fault> {

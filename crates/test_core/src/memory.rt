@@ -85,10 +85,10 @@ fn scarce_run(alloc: Global, world: &mut World) -> Result<Option<Fault>, AllocEr
     Ok(replies.err())
 }
 
-fn scarce_outcome(alloc: Global, world: World) -> Result<Outcome, AllocError> {
+fn scarce_outcome(alloc: Global, world: Box<World>) -> Result<Outcome, AllocError> {
     let mut hoard = Hoard::new(alloc)?;
     hoard.fill(alloc);
-    let outcome = world.outcome();
+    let outcome = Box::into_inner(world).outcome();
     hoard.free();
     Ok(outcome)
 }
@@ -113,7 +113,7 @@ fn memory_is_refused_to_a_run(rt: HostRuntime) -> Result<(), Fail> {
 fn check_outcome(
     rt: &impl Abort,
     alloc: Global,
-    world: World,
+    world: Box<World>,
     accepted: usize,
     ended: usize,
     line: u32,
@@ -251,7 +251,7 @@ fn counts_are_refused_until_there_is_memory(rt: HostRuntime) -> Result<(), Fail>
 }
 
 // A world of short queues, whose host has placed its loop; the worlds that were made are counted.
-fn placed_world(alloc: Global, worlds: &mut u32) -> Result<World, Fault> {
+fn placed_world(alloc: Global, worlds: &mut u32) -> Result<Box<World>, Fault> {
     let mut world = world_of(alloc, DOUBLE, 4)?;
     *worlds = worlds.wrapping_add(1);
     match reply_to(&mut world, host(0)) {

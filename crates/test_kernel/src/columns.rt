@@ -226,7 +226,7 @@ fn set_input(job: &mut Job, place: usize, values: &[i64]) {
 }
 
 // The job of a loop from lo to hi - 1, if the arrays hold all cells that it refers to.
-fn job_over(alloc: Global, rows: &[Row], (lo, hi): (i64, i64)) -> Result<Option<Job>, Fail> {
+fn job_over(alloc: Global, rows: &[Row], (lo, hi): (i64, i64)) -> Result<Option<Box<Job>>, Fail> {
     let kernel = Kernel::new(alloc, lo, hi, statements_of(alloc, rows)?)?;
     let kernel = Shared::new(alloc, kernel)?;
     let uses = uses_of(alloc)?;

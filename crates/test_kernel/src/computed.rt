@@ -323,7 +323,12 @@ fn assert_output(rt: &impl Abort, job: &Job, place: usize, values: &[i64]) {
 }
 
 // A loop as a job over x and y.
-fn job_over(alloc: Global, kernel: Kernel, x: &[i64], y: &[i64]) -> Result<Option<Job>, Fault> {
+fn job_over(
+    alloc: Global,
+    kernel: Kernel,
+    x: &[i64],
+    y: &[i64],
+) -> Result<Option<Box<Job>>, Fault> {
     let kernel = Shared::new(alloc, kernel)?;
     let uses = vec![in alloc; whole(0, x), whole(1, y)]?;
     let uses = Shared::new(alloc, Listed::from_vec(uses))?;

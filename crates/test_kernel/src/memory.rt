@@ -180,7 +180,7 @@ fn a_job_is_refused_until_there_is_memory(rt: HostRuntime) -> Result<(), Fail> {
     let (refusals, job) = at_each_amount(alloc, || job_of(alloc, &kernel, &uses))?;
     check_refused(&rt, refusals, 6);
     match job {
-        Some(job) => check_parts(&rt, job, uses.get().as_slice()),
+        Some(job) => check_parts(&rt, Box::into_inner(job), uses.get().as_slice()),
         None => assert!(rt; false, "not held"),
     }
     Ok(())

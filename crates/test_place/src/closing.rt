@@ -2,14 +2,14 @@
 
 ghost use Rattle.std.specs.Prelude.{◌≡◌};
 
-use crate::fixtures::{check_labels, directive_with, place_with};
+use crate::fixtures::{check_labels, check_same, directive_with, place_with};
 use crate::tables::Cells::{self, A};
 use crate::tables::{Deed, Named, Word};
 use acc_base::{DeviceId, Fault, HostId, QUEUES, QueueAt, QueueCounts, QueueId};
 use acc_batch::Label;
 use acc_place::Clause::{Create, Delete};
 use acc_place::{ASYNC_NOVAL, Clause, Place, Target};
-use std::alloc::Global;
+use std::alloc::{AllocError, Global};
 use std::process::Abort;
 use std::test::Fail;
 use tool_scarce::Hoard;
@@ -55,7 +55,7 @@ fn give(
 }
 
 // A place of two devices, with batches on queue 3 of the first, and on queue 7 of the second.
-fn place_with_batches(alloc: Global) -> Result<Place, Fault> {
+fn place_with_batches(alloc: Global) -> Result<Box<Place>, Fault> {
     const ENTERS: &[(Clause, Cells)] = &[(Create, A(2, 3)), (Create, A(6, 1))];
     const EXITS: &[(Clause, Cells)] = &[(Delete, A(2, 3)), (Delete, A(6, 1))];
     const TURNS: &[(u8, i64)] = &[(0, 1), (0, 1), (1, 5)];
@@ -97,30 +97,40 @@ fn count_closed(place: &mut Place, device: u8) -> u32 {
     count
 }
 
-// The last batch of each of a device's queues is its close, behind so many others, and there is none left.
+// The last batch of a queue is its close, and has this number.
+fn check_last(rt: &impl Abort, place: &Place, device: u8, number: u8, last: u64) {
+    match place.placed(at(device, number), last) {
+        None => panic!(rt; "no batch {last}"),
+        Some(label) => check_label(rt, label, at(device, number), last),
+    }
+}
+
+// So it is of each of a device's queues, behind so many others, and there is none left.
 fn check_closed(rt: &impl Abort, place: &mut Place, device: u8, counts: &QueueCounts) {
     for number in 0..8u8 {
         let last = counts[usize::from(number)].wrapping_add(1);
-        assert_eq!(rt; place.placed_count(at(device, number)), last);
-        match place.placed(at(device, number), last) {
-            None => panic!(rt; "no last batch on queue {number} of device {device}"),
-            Some(label) => check_label(rt, label, at(device, number), last),
-        }
-        assert!(rt; place.close_batch(at(device, number)).is_none());
+        check_same(rt, place.placed_count(at(device, number)), last);
+        check_last(rt, place, device, number, last);
+        check_same(rt, place.close_batch(at(device, number)).is_none(), true);
     }
+}
+
+// How many of both devices' queues are closed where there is no memory.
+fn count_scarcely(alloc: Global, place: &mut Place) -> Result<(u32, u32), AllocError> {
+    let mut hoard = Hoard::new(alloc)?;
+    hoard.fill(alloc);
+    let first = count_closed(place, 0);
+    let second = count_closed(place, 1);
+    hoard.free();
+    Ok((first, second))
 }
 
 /// Whatever the place accepted before.
 #[test]
 fn closing_takes_no_memory(rt: HostRuntime) -> Result<(), Fail> {
-    let alloc = rt.alloc();
-    let mut place = place_with_batches(alloc)?;
-    let mut hoard = Hoard::new(alloc)?;
-    hoard.fill(alloc);
-    let first = count_closed(&mut place, 0);
-    let second = count_closed(&mut place, 1);
-    hoard.free();
-    assert_eq!(rt; (first, second), (8, 8));
+    let mut place = place_with_batches(rt.alloc())?;
+    let counts = count_scarcely(rt.alloc(), &mut place)?;
+    check_same(&rt, counts, (8, 8));
     for device in 0..2u8 {
         check_closed(&rt, &mut place, device, &PLACED[usize::from(device)]);
     }

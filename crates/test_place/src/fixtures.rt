@@ -12,8 +12,14 @@ use acc_place::{ASYNC_NOVAL, Clause, DataItem, Directive, Place, Placed, Plan, T
 use acc_present::Entry;
 use acc_raw::Cells as Values;
 use std::alloc::Global;
+use std::fmt::Debug;
 use std::process::Abort;
 use tool_directives::{Operation, are_alike, directive_of, operation_of, performed_by, sync};
+
+// Stops the test where the two differ. An assertion that is written out takes as long to prove as the rest of a test.
+pub fn check_same<T: PartialEq + Debug + Copy>(rt: &impl Abort, found: T, wanted: T) {
+    assert_eq!(rt; found, wanted);
+}
 
 // Cells of the first array.
 pub fn a(lo: u32, len: u32) -> Range {
@@ -38,9 +44,10 @@ pub fn directive_with(
     items: &[(Clause, Cells)],
     target: Target,
     named: Named,
-) -> Result<Directive, Fault> {
+) -> Result<Box<Directive>, Fault> {
     let items = items_of(alloc, items)?;
-    directive_on(alloc, word, items.as_slice(), target, named)
+    let directive = directive_on(alloc, word, items.as_slice(), target, named)?;
+    Ok(Box::new(alloc, directive)?)
 }
 
 // A directive without an async clause and a wait clause, for the first device.
@@ -48,22 +55,22 @@ pub fn synchronous(
     alloc: Global,
     word: Word,
     items: &[(Clause, Cells)],
-) -> Result<Directive, Fault> {
+) -> Result<Box<Directive>, Fault> {
     let mut directive = directive_with(alloc, word, items, Target::Plain, Named::Nothing)?;
     directive.set_ids(DeviceId::new(0), ASYNC_NOVAL);
     Ok(directive)
 }
 
 // A place of so many devices, without directives, with eight cells in the first array and four in the second, and two
-// hosts.
-pub fn place_with(alloc: Global, devices: u8, capacity: u64) -> Result<Place, Fault> {
+// hosts. It is boxed, as are directives and plans: a function that owns one itself takes up to five times as long to prove.
+pub fn place_with(alloc: Global, devices: u8, capacity: u64) -> Result<Box<Place>, Fault> {
     let first = vec![in alloc; 0i64; 8]?;
     let second = vec![in alloc; 0i64; 4]?;
     let config = Config::new(devices, 2, vec![in alloc; first, second]?, capacity, 64)?;
-    Place::new(alloc, config)
+    Ok(Box::new(alloc, Place::new(alloc, config)?)?)
 }
 
-pub fn place_of(alloc: Global, capacity: u64) -> Result<Place, Fault> {
+pub fn place_of(alloc: Global, capacity: u64) -> Result<Box<Place>, Fault> {
     place_with(alloc, 1, capacity)
 }
 

@@ -111,7 +111,7 @@ pub fn plan_at_each_amount(
     place: &mut Place,
     host: u8,
     directive: &Directive,
-) -> Result<Plan, Fault> {
+) -> Result<Box<Plan>, Fault> {
     let shown = shown_by(rt, place);
     let mut tries = Tried {
         times: 0,
@@ -121,7 +121,7 @@ pub fn plan_at_each_amount(
         try_plan(rt, place, host, directive, &shown, &mut tries)
     })?;
     check_tries(rt, tries, refusals);
-    Ok(plan)
+    Ok(Box::new(alloc, plan)?)
 }
 
 // The answer to a step: its batch, with this number, or to a question that the range is present.
@@ -178,7 +178,8 @@ fn check_last(rt: &impl Abort, alloc: Global, place: &mut Place, case: &Last) ->
 
 fn check(rt: &impl Abort, alloc: Global, cases: &[Last]) -> Result<(), Fail> {
     for case in cases {
-        check_last(rt, alloc, &mut place_of(alloc, 12)?, case)?;
+        let mut place = place_of(alloc, 12)?;
+        check_last(rt, alloc, &mut place, case)?;
     }
     Ok(())
 }

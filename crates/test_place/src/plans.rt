@@ -4,7 +4,7 @@
 ghost use Rattle.std.specs.Prelude.{IfOk};
 ghost use Rattle.acc_place.specs.Plans.{IsPlanOf};
 
-use crate::fixtures::{answer, check_batch, check_present, place_of, synchronous};
+use crate::fixtures::{answer, check_batch, check_present, check_same, place_of, synchronous};
 use crate::tables::Cells::A;
 use crate::tables::Deed::{In, Make};
 use crate::tables::Step;
@@ -17,8 +17,9 @@ use std::process::Abort;
 use std::test::Fail;
 use tool_directives::sync;
 
-fn is_batch(placed: Placed, number: u64) -> bool {
-    placed == answer(Some((sync(), number)), false)
+// The answer tells of this batch.
+fn check_batch_of(rt: &impl Abort, placed: Placed, number: u64) {
+    check_same(rt, placed, answer(Some((sync(), number)), false));
 }
 
 // Plans two directives and accepts the second: the plan of the first, which doesn't fit any more.
@@ -33,10 +34,9 @@ fn left_behind(
     plans_are_kept();
     let one = place.plan(HostId::new(0), 3, first)?;
     let other = place.plan(HostId::new(0), 3, second)?;
-    assert!(rt; one.fits(place));
-    assert!(rt; other.fits(place));
-    assert!(rt; is_batch(place.accept(other), 1));
-    assert!(rt; !one.fits(place));
+    check_same(rt, (one.fits(place), other.fits(place)), (true, true));
+    check_batch_of(rt, place.accept(other), 1);
+    check_same(rt, one.fits(place), false);
     Ok(one)
 }
 
@@ -52,10 +52,9 @@ fn check_anew(
 {
     plans_are_kept();
     let mut anew = place.plan(HostId::new(0), 4, directive)?;
-    assert!(rt; !before.fits(place));
-    assert!(rt; anew.fits(place));
+    check_same(rt, (before.fits(place), anew.fits(place)), (false, true));
     check_batch(rt, anew.take_batch(), step, 2, 1);
-    assert!(rt; is_batch(place.accept(anew), 2));
+    check_batch_of(rt, place.accept(anew), 2);
     Ok(())
 }
 

@@ -4,7 +4,7 @@
 ghost use Rattle.std.specs.Prelude.{IfOk};
 ghost use Rattle.acc_place.specs.Plans.{Fits};
 
-use crate::fixtures::{answer, check_labels, check_ops, directive_with, place_with};
+use crate::fixtures::{answer, check_labels, check_ops, check_same, directive_with, place_with};
 use crate::memory::plan_at_each_amount;
 use crate::tables::Cells::{self, A, B};
 use crate::tables::Deed::{self, Await, In, Make, Out, Release, Run};
@@ -75,7 +75,7 @@ const ON_3: Case = Case {
     ..PLAIN
 };
 
-fn directive_for(alloc: Global, case: &Case) -> Result<Directive, Fault> {
+fn directive_for(alloc: Global, case: &Case) -> Result<Box<Directive>, Fault> {
     let mut directive = directive_with(alloc, case.word, case.items, case.target, case.waits)?;
     directive.set_ids(DeviceId::new(case.device), case.default);
     Ok(directive)
@@ -140,7 +140,7 @@ fn check_case(rt: &impl Abort, alloc: Global, place: &mut Place, case: &Case) ->
     let mut plan = plan_for(alloc, place, case)?;
     check_batch(rt, plan.take_batch(), case.ops);
     let answer = place.accept(plan);
-    assert_eq!(rt; answer, answer_of(case));
+    check_same(rt, answer, answer_of(case));
     check_placed(rt, place, case);
     Ok(())
 }
@@ -159,13 +159,14 @@ fn accept_cases(
 }
 
 // A place of two devices and two hosts.
-fn place_of(alloc: Global) -> Result<Place, Fault> {
+fn place_of(alloc: Global) -> Result<Box<Place>, Fault> {
     place_with(alloc, 2, 8)
 }
 
 // Accepts each of the cases in turn, on a new place.
 fn check_cases(rt: &impl Abort, alloc: Global, cases: &[Case]) -> Result<(), Fail> {
-    Ok(accept_cases(rt, alloc, &mut place_of(alloc)?, cases)?)
+    let mut place = place_of(alloc)?;
+    Ok(accept_cases(rt, alloc, &mut place, cases)?)
 }
 
 /// A loop on another queue awaits the maker of its block, and what releases the block awaits the loop.

@@ -15,7 +15,8 @@ struct Case {
     refused: bool,
 }
 
-const CASES: &[Case] = &[
+/// Entries, exits and data constructs.
+const ENTRIES: &[Case] = &[
     // a finalized exit
     Case {
         options: Options::DEFAULT,
@@ -96,6 +97,10 @@ const CASES: &[Case] = &[
         report: b"host 0\nrefused 5 F5 TooMany\npresent 0 a[0:4] s 16 d 0\nqueue 0 sync batches 1 operations 1 of 1\nend\n",
         refused: true,
     },
+];
+
+/// Parallel loops.
+const LOOPS: &[Case] = &[
     // a loop over what is present
     Case {
         options: Options::DEFAULT,
@@ -221,6 +226,24 @@ const CASES: &[Case] = &[
         report: b"host 0\n1 1 1 1\nrefused 9 F5 TooMany\nqueue 0 sync batches 2 operations 10 of 10\nend\n",
         refused: true,
     },
+    // an array in two clauses of a loop: the last one decides what is copied out
+    Case {
+        options: Options::DEFAULT,
+        input: b"long a[4] = {1,2,3,4};\nhost {\n#pragma acc parallel loop copyin(a) copy(a)\nfor (i = 0; i < 4; i++) a[i] = a[i] + 1;\nprint(a);\n#pragma acc parallel loop copy(a) copyin(a)\nfor (i = 0; i < 4; i++) a[i] = a[i] + 1;\nprint(a);\n}\n%%\nround 30\n",
+        report: b"host 0\n2 3 4 5\n2 3 4 5\ndone\nqueue 0 sync batches 2 operations 9 of 9\nend\n",
+        refused: false,
+    },
+    // a loop passes over a construct of another host
+    Case {
+        options: Options::DEFAULT,
+        input: b"long a[4] = {1,2,3,4};\nhost {\n#pragma acc data create(a[1:2])\n{\nprint(a);\n}\n}\nhost {\n#pragma acc parallel loop\nfor (i = 1; i < 3; i++) a[i] = a[i] + 1;\n}\n%%\nhost 0\nhost 1\nround 20\n",
+        report: b"host 0\n1 2 3 4\ndone\nhost 1\nrefused 9 F6 PartlyPresent\nqueue 0 sync batches 2 operations 2 of 2\nend\n",
+        refused: true,
+    },
+];
+
+/// Updates, and queues that await one another.
+const QUEUES: &[Case] = &[
     // an absent range is no exit and no update
     Case {
         options: Options::DEFAULT,
@@ -321,6 +344,10 @@ const CASES: &[Case] = &[
         report: b"host 0\ndone\nhost 1\nrefused 6 F12 QueueFull\nhost 2\nrefused 10 F12 QueueFull\npresent 0 a[0:1] s 0 d 2\nqueue 0 1 batches 1 operations 1 of 1\nend\n",
         refused: true,
     },
+];
+
+/// Questions, statements of a host's own, hosts and devices beside one another.
+const HOSTS: &[Case] = &[
     // questions are answered at once, of each device apart
     Case {
         options: Options {
@@ -380,6 +407,10 @@ const CASES: &[Case] = &[
         report: b"host 0\n9 2 3 4\n1 2 3 4\ndone\nqueue 0 sync batches 2 operations 4 of 4\nqueue 1 sync batches 2 operations 4 of 4\nend\n",
         refused: false,
     },
+];
+
+/// Closing, and what goes on behind it.
+const CLOSING: &[Case] = &[
     // closing
     Case {
         options: Options::DEFAULT,
@@ -414,6 +445,10 @@ const CASES: &[Case] = &[
         report: b"host 0\n7 6\nrefused 8 F1 Closed\npresent 0 a[0:2] s 0 d 1\nqueue 0 1 batches 1 operations 1 of 1\nend\n",
         refused: true,
     },
+];
+
+/// Waits, full queues, and constructs between them.
+const WAITS: &[Case] = &[
     // a wait means what was placed up to its own step
     Case {
         options: Options::DEFAULT,
@@ -520,6 +555,10 @@ const CASES: &[Case] = &[
         report: b"host 0\n0\nrefused 5 F6 PartlyPresent\npresent 0 a[0:2] s 0 d 1\npresent 0 a[2:2] s 0 d 1\nqueue 0 sync batches 1 operations 2 of 2\nend\n",
         refused: true,
     },
+];
+
+/// How a text may be written.
+const WORDS: &[Case] = &[
     // sixty-four queues are read, and refused where the wait runs
     Case {
         options: Options::DEFAULT,
@@ -596,23 +635,6 @@ const DEEP: &[Case] = &[
         input: b"long b[2];\nhost {\n#pragma acc parallel loop\nfor (i = 0; i < 2; i++) b[i] = i == 0 ? 1 : i == 0 ? 1 : i == 0 ? 1 : i == 0 ? 1 : i == 0 ? 1 : i == 0 ? 1 : i == 0 ? 1 : i == 0 ? 1 : i == 0 ? 1 : i == 0 ? 1 : i == 0 ? 1 : i == 0 ? 1 : i == 0 ? 1 : i == 0 ? 1 : i == 0 ? 1 : i == 0 ? 1 : i == 0 ? 1 : i == 0 ? 1 : i == 0 ? 1 : i == 0 ? 1 : i == 0 ? 1 : i == 0 ? 1 : i == 0 ? 1 : i == 0 ? 1 : i == 0 ? 1 : i == 0 ? 1 : i == 0 ? 1 : i == 0 ? 1 : i == 0 ? 1 : i == 0 ? 1 : 7;\nprint(b);\n}\n%%\nround 20\n",
         report: b"host 0\n1 7\ndone\nqueue 0 sync batches 1 operations 5 of 5\nend\n",
         refused: false,
-    },
-];
-
-const LOOPS: &[Case] = &[
-    // an array in two clauses of a loop: the last one decides what is copied out
-    Case {
-        options: Options::DEFAULT,
-        input: b"long a[4] = {1,2,3,4};\nhost {\n#pragma acc parallel loop copyin(a) copy(a)\nfor (i = 0; i < 4; i++) a[i] = a[i] + 1;\nprint(a);\n#pragma acc parallel loop copy(a) copyin(a)\nfor (i = 0; i < 4; i++) a[i] = a[i] + 1;\nprint(a);\n}\n%%\nround 30\n",
-        report: b"host 0\n2 3 4 5\n2 3 4 5\ndone\nqueue 0 sync batches 2 operations 9 of 9\nend\n",
-        refused: false,
-    },
-    // a loop passes over a construct of another host
-    Case {
-        options: Options::DEFAULT,
-        input: b"long a[4] = {1,2,3,4};\nhost {\n#pragma acc data create(a[1:2])\n{\nprint(a);\n}\n}\nhost {\n#pragma acc parallel loop\nfor (i = 1; i < 3; i++) a[i] = a[i] + 1;\n}\n%%\nhost 0\nhost 1\nround 20\n",
-        report: b"host 0\n1 2 3 4\ndone\nhost 1\nrefused 9 F6 PartlyPresent\nqueue 0 sync batches 2 operations 2 of 2\nend\n",
-        refused: true,
     },
 ];
 
@@ -744,8 +766,13 @@ fn check_reports(rt: &impl Abort, alloc: Global, cases: &[Case]) {
 /// Programs of each kind of directive, worked by hand.
 #[test]
 fn worked_programs_have_their_reports(rt: HostRuntime) -> Result<(), Fail> {
-    check_reports(&rt, rt.alloc(), CASES);
+    check_reports(&rt, rt.alloc(), ENTRIES);
     check_reports(&rt, rt.alloc(), LOOPS);
+    check_reports(&rt, rt.alloc(), QUEUES);
+    check_reports(&rt, rt.alloc(), HOSTS);
+    check_reports(&rt, rt.alloc(), CLOSING);
+    check_reports(&rt, rt.alloc(), WAITS);
+    check_reports(&rt, rt.alloc(), WORDS);
     Ok(())
 }
 

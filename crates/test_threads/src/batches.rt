@@ -1,7 +1,7 @@
 //! Batches of three kinds, told apart by their numbers.
 
 use acc_base::{BlockId, DeviceId, Fault, Few, HostId, Listed, QueueAt, QueueId, Range, Shared};
-use acc_batch::{Batch, Label, Op, OpLabel};
+use acc_batch::{Batch, Label, Op, OpLabel, Ops};
 use std::alloc::Global;
 use tool_loops::{Body, Loop, kernel_of};
 
@@ -45,25 +45,27 @@ fn run_of(alloc: Global, number: u64) -> Result<OpLabel, Fault> {
     Ok(OpLabel::Run { kernel, uses })
 }
 
-fn ops_of(alloc: Global, number: u64) -> Result<Few<OpLabel>, Fault> {
-    let mut ops = Few::new(alloc);
+fn put_entry(ops: &mut Few<OpLabel>, block: BlockId, range: Range) -> Result<(), Fault> {
+    ops.push(OpLabel::Make { block, range })?;
+    ops.push(OpLabel::CopyIn { block, range })?;
+    Ok(())
+}
+
+fn put_ops(alloc: Global, ops: &mut Few<OpLabel>, number: u64) -> Result<(), Fault> {
     match number % 3 {
-        0 => {
-            ops.push(OpLabel::Make {
-                block: block_of(number),
-                range: cells_of(number),
-            })?;
-            ops.push(OpLabel::CopyIn {
-                block: block_of(number),
-                range: cells_of(number),
-            })?;
-        }
+        0 => put_entry(ops, block_of(number), cells_of(number))?,
         1 => ops.push(run_of(alloc, number)?)?,
         _ => ops.push(OpLabel::Await {
             queue: QueueId::new(1),
             number,
         })?,
     }
+    Ok(())
+}
+
+fn ops_of(alloc: Global, number: u64) -> Result<Few<OpLabel>, Fault> {
+    let mut ops = Few::new(alloc);
+    put_ops(alloc, &mut ops, number)?;
     Ok(ops)
 }
 
@@ -92,16 +94,16 @@ pub fn batch_of(alloc: Global, number: u64) -> Result<Batch, Fault> {
 /// Whether it is that batch, with the memory that it needs.
 pub fn is_batch(batch: Batch, number: u64) -> bool {
     let (label, mut ops) = batch.into_parts();
-    if label.number != number || label.items_done != number {
-        return false;
-    }
-    let first = ops.take_next();
-    let second = ops.take_next();
-    match number % 3 {
-        0 => makes(first, number) && copies_in(second, number),
-        1 => runs(first, number) && second.is_none(),
-        _ => awaits(first, number) && second.is_none(),
-    }
+    label.number == number && label.items_done == number && has_ops(&mut ops, number)
+}
+
+fn has_ops(ops: &mut Ops, number: u64) -> bool {
+    let has_first = match number % 3 {
+        0 => makes(ops.take_next(), number) && copies_in(ops.take_next(), number),
+        1 => runs(ops.take_next(), number),
+        _ => awaits(ops.take_next(), number),
+    };
+    has_first && ops.take_next().is_none()
 }
 
 fn makes(op: Option<Op>, number: u64) -> bool {

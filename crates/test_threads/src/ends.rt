@@ -34,6 +34,14 @@ fn push_back<R: Wait>(
     }
 }
 
+// Pushes the batch that came back, for which there is room now.
+fn push_again<R: Wait + Abort>(rt: &R, sender: &mut Sender, back: Option<Batch>) {
+    match back {
+        Some(batch) => assert!(rt; sender.push(rt, batch).is_ok()),
+        None => panic!(rt; "no batch came back"),
+    }
+}
+
 // The next batch has this number.
 fn check_next<R: Wait + Abort>(rt: &R, taker: &mut Taker, number: u64) {
     match taker.pop(rt) {
@@ -42,48 +50,68 @@ fn check_next<R: Wait + Abort>(rt: &R, taker: &mut Taker, number: u64) {
     }
 }
 
-#[test]
-fn a_full_queue_gives_the_batch_back(rt: HostRuntime) -> Result<(), Fail> {
-    let alloc = rt.alloc();
-    let (mut sender, mut taker) = Activity::new(alloc, 2)?;
-    push(&rt, alloc, &mut sender, 1)?;
-    push(&rt, alloc, &mut sender, 2)?;
-    let third = push_back(&rt, alloc, &mut sender, 3)?;
-    check_next(&rt, &mut taker, 1);
-    match third {
-        Some(third) => assert!(rt; sender.push(&rt, third).is_ok()),
-        None => assert!(rt; false),
+// The next batches have these numbers, and there are no others.
+fn check_all<R: Wait + Abort>(rt: &R, taker: &mut Taker, from: u64, to: u64) {
+    for number in from..to {
+        check_next(rt, taker, number);
     }
-    check_next(&rt, &mut taker, 2);
-    check_next(&rt, &mut taker, 3);
-    assert!(rt; taker.pop(&rt).is_none());
+    assert!(rt; taker.pop(rt).is_none());
+}
+
+// The third batch finds no room beside two others, and room behind one.
+fn check_full<R: Wait + Abort>(
+    rt: &R,
+    alloc: Global,
+    sender: &mut Sender,
+    taker: &mut Taker,
+) -> Result<(), Fault> {
+    push(rt, alloc, sender, 1)?;
+    push(rt, alloc, sender, 2)?;
+    let third = push_back(rt, alloc, sender, 3)?;
+    check_next(rt, taker, 1);
+    push_again(rt, sender, third);
+    check_all(rt, taker, 2, 4);
     Ok(())
 }
 
-// A queue with this room takes so many batches, and gives them back in order, twice.
-fn fill_and_empty<R: Wait + Abort>(rt: &R, alloc: Global, room: u32) -> Result<(), Fault> {
+#[test]
+fn a_full_queue_gives_the_batch_back(rt: HostRuntime) -> Result<(), Fail> {
+    let (mut sender, mut taker) = Activity::new(rt.alloc(), 2)?;
+    Ok(check_full(&rt, rt.alloc(), &mut sender, &mut taker)?)
+}
+
+// An empty queue takes the batches of these numbers and no other one, and gives them back in order.
+fn fill_and_empty<R: Wait + Abort>(
+    rt: &R,
+    alloc: Global,
+    sender: &mut Sender,
+    taker: &mut Taker,
+    from: u64,
+    to: u64,
+) -> Result<(), Fault> {
+    for number in from..to {
+        push(rt, alloc, sender, number)?;
+    }
+    assert!(rt; push_back(rt, alloc, sender, 0)?.is_some());
+    check_all(rt, taker, from, to);
+    Ok(())
+}
+
+// A queue with this room has it twice.
+fn check_room<R: Wait + Abort>(rt: &R, alloc: Global, room: u32) -> Result<(), Fault> {
     if room == 0 {
         return Ok(());
     }
     let (mut sender, mut taker) = Activity::new(alloc, room)?;
     let many = u64::from(room);
-    for turn in 0..2u64 {
-        for number in 0..many {
-            push(rt, alloc, &mut sender, turn * many + number)?;
-        }
-        assert!(rt; push_back(rt, alloc, &mut sender, 0)?.is_some());
-        for number in 0..many {
-            check_next(rt, &mut taker, turn * many + number);
-        }
-        assert!(rt; taker.pop(rt).is_none());
-    }
-    Ok(())
+    fill_and_empty(rt, alloc, &mut sender, &mut taker, 0, many)?;
+    fill_and_empty(rt, alloc, &mut sender, &mut taker, many, 2 * many)
 }
 
 #[test]
 fn queues_have_the_room_that_was_asked_for(rt: HostRuntime) -> Result<(), Fail> {
     for room in [1u32, 2, 64, 1_024] {
-        fill_and_empty(&rt, rt.alloc(), room)?;
+        check_room(&rt, rt.alloc(), room)?;
     }
     Ok(())
 }

@@ -13,10 +13,10 @@ pub fn job_of(
     alloc: Global,
     kernel: &Shared<Kernel>,
     uses: &Shared<Listed<(BlockId, Range)>>,
-) -> Result<Option<Job>, Fault> {
+) -> Result<Option<Box<Job>>, Fault> {
     let listed = uses.get().as_slice();
     if !are_distinct(listed) || !kernel.get().is_held_by(listed) {
         return Ok(None);
     }
-    Ok(Some(Job::new(alloc, kernel, uses)?))
+    Ok(Some(Box::new(alloc, Job::new(alloc, kernel, uses)?)?))
 }
