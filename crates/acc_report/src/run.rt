@@ -59,40 +59,42 @@ pub fn report<W: Write>(
         Ok(performed) => performed,
         Err(_) => return Err(ReportFault::Memory),
     };
-    put_report(writer, outcome, script, &retold, performed.as_slice())
-}
-
-// All lines, by a place that has told the history once more, and by counts of what was performed.
-fn put_report<W: Write>(
-    writer: &mut W,
-    outcome: &Outcome,
-    script: &Script,
-    retold: &Retold,
-    performed: &[u64],
-) -> Result<(), ReportFault>
-    requires few { length outcome.now.hosts.items ≤ MAX_HOSTS }
-    requires stands { StandsAs retold.now.place (left_by outcome.now) }
-    requires answered { AreAnswers (left_by outcome.now).config (left_by outcome.now).history (left_by outcome.now).counts retold.now.answered.items }
-    requires counted { AreCounted (left_by outcome.now).config.devices (left_by outcome.now).work performed.now }
-    ensures { ReportAnswers (W.contents writer.old) (W.contents writer.new) result (report (texts script.now.names.keys) script.now.programs.items (left_by outcome.now)) }
-{
     let mut failed = false;
-    let programs = script.programs.as_slice();
-    put_hosts(
+    put_report(
         writer,
         &mut failed,
         outcome,
-        programs,
-        retold.answered.as_slice(),
+        script,
+        &retold,
+        performed.as_slice(),
     );
-    put_presences(writer, &mut failed, script.names.as_slice(), &retold.place);
-    put_queues(writer, &mut failed, &retold.place, performed);
-    put(writer, &mut failed, b"end\n");
     if failed {
         Err(ReportFault::Write)
     } else {
         Ok(())
     }
+}
+
+// All lines, by a place that has told the history once more, and by counts of what was performed.
+fn put_report<W: Write>(
+    out: &mut W,
+    failed: &mut bool,
+    outcome: &Outcome,
+    script: &Script,
+    retold: &Retold,
+    performed: &[u64],
+)
+    requires few { length outcome.now.hosts.items ≤ MAX_HOSTS }
+    requires stands { StandsAs retold.now.place (left_by outcome.now) }
+    requires answered { AreAnswers (left_by outcome.now).config (left_by outcome.now).history (left_by outcome.now).counts retold.now.answered.items }
+    requires counted { AreCounted (left_by outcome.now).config.devices (left_by outcome.now).work performed.now }
+    ensures { Puts (sink (W.contents out.old) failed.old) (sink (W.contents out.new) failed.new) (report (texts script.now.names.keys) script.now.programs.items (left_by outcome.now)) }
+{
+    let programs = script.programs.as_slice();
+    put_hosts(out, failed, outcome, programs, retold.answered.as_slice());
+    put_presences(out, failed, script.names.as_slice(), &retold.place);
+    put_queues(out, failed, &retold.place, performed);
+    put(out, failed, b"end\n");
 }
 
 // The lines of each host.
