@@ -1,5 +1,6 @@
 mod AwaitedNumber
 pub mod Labels
+pub mod Lives
 pub mod NextOperation
 pub mod OrderedBatches
 pub mod Seats

@@ -87,12 +87,9 @@ fn ops_of(alloc: Global, labels: &[OpLabel]) -> Result<Few<Op>, Fault>
     ensures ready { IfOk result (λ ops. AllReady (reverse ops)) }
     ensures fault { IfErr result (λ f. f ≡ Fault.Memory) }
 {
-    match labels {
-        [] => Ok(Few::new(alloc)),
-        [first, rest @ ..] => {
-            let mut ops = ops_of(alloc, rest)?;
-            ops.push(Op::new(alloc, first)?)?;
-            Ok(ops)
-        }
+    let mut ops = Few::new(alloc);
+    for label in labels.iter().rev() {
+        ops.push(Op::new(alloc, label)?)?;
     }
+    Ok(ops)
 }

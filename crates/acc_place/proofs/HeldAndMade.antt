@@ -25,7 +25,8 @@ use Rattle.acc_batch.specs.Lives.{Made, blocks_made, HoldsBlock, UsesLive, AllUs
 use Rattle.acc_batch.proofs.OrderedBatches.{filter_member}
 use Rattle.acc_place.specs.inner.Noting.{HasOneMaker}
 use Rattle.acc_place.specs.Standings.{Asked, marks_after}
-use Rattle.acc_place.proofs.VisitLives.{IsHeld, marked_by, visit_is, made-append}
+use Rattle.acc_batch.proofs.Lives.{made-append}
+use Rattle.acc_place.proofs.VisitLives.{IsHeld, marked_by, visit_is}
 
 -- a block that holds a range after a visit held it before, or was opened by the visit
 pub held_before : (ms : List Mark) (a : Asked) (r : Range) (b : ℕ) → IsHeld (marked_by ms a) r b → IsHeld ms r b ⊎ (length (opened_lifetimes ms) < b)

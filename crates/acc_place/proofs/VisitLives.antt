@@ -21,28 +21,6 @@ use Rattle.acc_place.specs.Standings.{Asked, Visit, leaves_mark, one_mark, marks
 use Rattle.acc_place.specs.Batches.{ended_blocks, found_block, holding_blocks, makes}
 use Rattle.acc_batch.specs.Lives.{blocks_made, blocks_released, AllUse, Made}
 
--- what two lists of operations made
-pub made-append : (xs ys : List OpLabel) → blocks_made (xs ++ ys) ≡ blocks_made xs ++ blocks_made ys
-made-append [] ys = refl
-made-append (Make b r ∷ xs) ys = ap (λ ms. record { block = b; range = r } ∷ ms) (made-append xs ys)
-made-append (CopyIn b r ∷ xs) ys = made-append xs ys
-made-append (CopyOut b r ∷ xs) ys = made-append xs ys
-made-append (Release b ∷ xs) ys = made-append xs ys
-made-append (Run k uses ∷ xs) ys = made-append xs ys
-made-append (Await q n ∷ xs) ys = made-append xs ys
-made-append (Close ∷ xs) ys = made-append xs ys
-
--- and what they released
-pub released-append : (xs ys : List OpLabel) → blocks_released (xs ++ ys) ≡ blocks_released xs ++ blocks_released ys
-released-append [] ys = refl
-released-append (Make b r ∷ xs) ys = released-append xs ys
-released-append (CopyIn b r ∷ xs) ys = released-append xs ys
-released-append (CopyOut b r ∷ xs) ys = released-append xs ys
-released-append (Release b ∷ xs) ys = ap (λ bs. b ∷ bs) (released-append xs ys)
-released-append (Run k uses ∷ xs) ys = released-append xs ys
-released-append (Await q n ∷ xs) ys = released-append xs ys
-released-append (Close ∷ xs) ys = released-append xs ys
-
 -- two lists of operations use live blocks where each does in its place
 pub AllUse-append : (arrays : List (List ℤ)) (before xs ys : List OpLabel) → AllUse arrays before xs → AllUse arrays (before ++ xs) ys → AllUse arrays before (xs ++ ys)
 AllUse-append arrays before [] ys h k = rw (append-nil before) at k

@@ -50,10 +50,12 @@ fn has_bad_wait(directive: &Directive) -> bool
 fn one_is_bad(default: i64, values: &[i64]) -> bool
     ensures { result ≡ list_any is_bad (map (queue_of default) values.now) }
 {
-    match values {
-        [] => false,
-        [first, rest @ ..] => queue_of(default, *first).is_none() || one_is_bad(default, rest),
+    for value in values {
+        if queue_of(default, *value).is_none() {
+            return true;
+        }
     }
+    false
 }
 
 /// Whether a wait has more values than it may.
