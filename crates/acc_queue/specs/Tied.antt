@@ -1,5 +1,6 @@
 -- What was sent into a queue is what was taken out of it, followed by what it holds.
 use Rattle.std.specs.Prelude.{◌≡◌, ◌≤◌, ◌⊎◌, ℕ, List, [], ◌∷◌, ◌++◌, length}
+use Rattle.atomic_table.specs.Seated.{TableId}
 use Rattle.acc_batch.specs.declared.label.Label.{Label}
 use Rattle.acc_queue.specs.declared.rule.End.{End}
 use Rattle.acc_queue.specs.declared.rule.Role.{Role}
@@ -7,6 +8,7 @@ use Rattle.acc_queue.specs.declared.rule.Role.TheVariants.{Both, Sends, Takes}
 
 -- What a contract sees of an end: the queue's room, and the labels that were sent, or were taken, in order.
 pub record Line : Type 0 where
+  pub queue : TableId
   pub room : ℕ
   pub labels : List Label
 

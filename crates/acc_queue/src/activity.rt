@@ -1,8 +1,8 @@
 //! The two ends of an activity queue.
 
 ghost use Rattle.std.specs.Prelude.{◌≡◌, ◌<◌, ◌++◌, ◌∷◌, [], IfOk, IfErr, OnOk, IfSome, IfNone};
-ghost use Rattle.crossbeam_queue.specs.Fifo.{Held, Learns, Pops};
-ghost use Rattle.crossbeam_queue.specs.Passes.{view, IsPassOf, IsSamePass};
+ghost use Rattle.crossbeam_queue.specs.Fifo.{Held, Learns, Pops, Pushes};
+ghost use Rattle.crossbeam_queue.specs.Passes.{view, IsPassOf, IsSamePass, ruled_capacity};
 ghost use Rattle.acc_base.specs.declared.fault.Fault.TheVariants.{Memory};
 ghost use Rattle.acc_queue.specs.Tied.{WasHeld};
 
@@ -41,6 +41,7 @@ pub struct Full;
 impl Model for Sender {
     ghost use Rattle.std.specs.Prelude.{◌≡◌};
     ghost use Rattle.std.specs.Arc.{arc_value};
+    ghost use Rattle.atomic_table.specs.Seated.{table_id_coded};
     ghost use Rattle.std.specs.Coded.{codes};
     ghost use Rattle.acc_kernel.specs.contracts.expr.Expr as expr;
     ghost use Rattle.crossbeam_queue.specs.Passes.{IsPassOf, ruled_capacity};
@@ -49,9 +50,9 @@ impl Model for Sender {
 
     ghost Value = { Line };
 
-    ghost coded = { Prim.hlevel (codes, expr.the_row.coded) };
+    ghost coded = { Prim.hlevel (codes, expr.the_row.coded, table_id_coded) };
 
-    ghost view = { λ s. record { room = s.pass.me.0.client.room; labels = s.pass.me.0.client.labels } };
+    ghost view = { λ s. record { queue = s.pass.table_id; room = s.pass.me.0.client.room; labels = s.pass.me.0.client.labels } };
 
     ghost invariant = { λ s. IsPassOf (arc_value s.queue) s.pass × (s.pass.me.0.client.role ≡ Sends) × (s.pass.me.0.client.room ≡ ruled_capacity (arc_value s.queue)) };
 }
@@ -59,6 +60,7 @@ impl Model for Sender {
 impl Model for Taker {
     ghost use Rattle.std.specs.Prelude.{◌≡◌};
     ghost use Rattle.std.specs.Arc.{arc_value};
+    ghost use Rattle.atomic_table.specs.Seated.{table_id_coded};
     ghost use Rattle.std.specs.Coded.{codes};
     ghost use Rattle.acc_kernel.specs.contracts.expr.Expr as expr;
     ghost use Rattle.crossbeam_queue.specs.Passes.{IsPassOf, ruled_capacity};
@@ -67,9 +69,9 @@ impl Model for Taker {
 
     ghost Value = { Line };
 
-    ghost coded = { Prim.hlevel (codes, expr.the_row.coded) };
+    ghost coded = { Prim.hlevel (codes, expr.the_row.coded, table_id_coded) };
 
-    ghost view = { λ s. record { room = s.pass.me.0.client.room; labels = s.pass.me.0.client.labels } };
+    ghost view = { λ s. record { queue = s.pass.table_id; room = s.pass.me.0.client.room; labels = s.pass.me.0.client.labels } };
 
     ghost invariant = { λ s. IsPassOf (arc_value s.queue) s.pass × (s.pass.me.0.client.role ≡ Takes) × (s.pass.me.0.client.room ≡ ruled_capacity (arc_value s.queue)) };
 }
@@ -84,6 +86,7 @@ impl Activity {
         requires { 0 < room }
         ensures room { IfOk result (λ r. (r.0.room ≡ room) × (r.1.room ≡ room)) }
         ensures empty { IfOk result (λ r. (r.0.labels ≡ []) × (r.1.labels ≡ [])) }
+        ensures one { IfOk result (λ r. r.0.queue ≡ r.1.queue) }
         ensures fault { IfErr result (λ f. f ≡ Memory) }
     {
         opened::<Brand>(alloc, room)
@@ -96,6 +99,7 @@ fn opened<B: Room>(alloc: Global, room: u32) -> Result<(Sender, Taker), Fault>
     requires given { room ≡ B.room }
     ensures room { IfOk result (λ r. (r.0.room ≡ room) × (r.1.room ≡ room)) }
     ensures empty { IfOk result (λ r. (r.0.labels ≡ []) × (r.1.labels ≡ [])) }
+    ensures one { IfOk result (λ r. r.0.queue ≡ r.1.queue) }
     ensures fault { IfErr result (λ f. f ≡ Memory) }
 {
     let (queue, mut pass) = Line::ruled(alloc, room as usize)?;
@@ -117,12 +121,12 @@ impl Sender {
     ///
     /// The batch, whole, and `Full` where the queue held as many as it has room for.
     pub fn push<R: Wait>(&mut self, rt: &R, batch: Batch) -> Result<(), (Batch, Full)>
-        ensures room { self.new.room ≡ self.old.room }
+        ensures room { (self.new.queue ≡ self.old.queue) × (self.new.room ≡ self.old.room) }
         ensures pushed { OnOk result (self.new.labels ≡ self.old.labels ++ batch ∷ []) }
         ensures refused { IfErr result (λ r. (r.0 ≡ batch) × (self.new ≡ self.old) × WasHeld self.old.room self.old.labels) }
     {
         let Sender { queue, pass } = self;
-        match queue.push_as::<Pushed, R>(rt, pass, batch) {
+        match send_last::<InOrder, Pushed, R>(rt, queue, pass, batch) {
             Ok(()) => Ok(()),
             Err(batch) => Err((batch, Full)),
         }
@@ -132,13 +136,31 @@ impl Sender {
 impl Taker {
     /// Takes the first batch that the queue holds, if it holds one. It takes no memory, and is one step.
     pub fn pop<R: Wait>(&mut self, rt: &R) -> Option<Batch>
-        ensures room { self.new.room ≡ self.old.room }
+        ensures room { (self.new.queue ≡ self.old.queue) × (self.new.room ≡ self.old.room) }
         ensures some { IfSome result (λ batch. self.new.labels ≡ self.old.labels ++ batch ∷ []) }
         ensures none { IfNone result (self.new ≡ self.old) }
     {
         let Taker { queue, pass } = self;
         take_first::<InOrder, Popped, R>(rt, queue, pass)
     }
+}
+
+// Places a batch behind those that a queue holds, whatever its rule is and whatever is to be learned at this step (`M`). Where it gives
+// the batch back, the queue held its room at some step of the call: what the unknown rule says of that, only a look at the queue can tell.
+fn send_last<P: Protocol<Batch, End>, M: Outcome<Batch, End> + Lesson<Batch, End>, R: Wait>(
+    rt: &R,
+    queue: &RuledArrayQueue<Batch, End, P>,
+    pass: &mut Pass<Batch, End>,
+    batch: Batch,
+) -> Result<(), Batch>
+    requires queue { IsPassOf queue.now pass.old }
+    requires pushes { Pushes P.holds (ruled_capacity queue.now) pass.old.id (view pass.old) batch (M.then (view pass.old) batch) }
+    requires learns { Learns P.holds pass.old.id (view pass.old) (M.fact (view pass.old)) }
+    ensures queue { IsSamePass pass.old pass.new }
+    ensures pushed { OnOk result (M.then (view pass.old) batch (view pass.new)) }
+    ensures refused { IfErr result (λ b. (b ≡ batch) × (view pass.new ≡ view pass.old) × Held (ruled_capacity queue.now) (M.fact (view pass.old))) }
+{
+    queue.push_as::<M, R>(rt, pass, batch)
 }
 
 // Takes the first batch of a queue, whatever its rule is and whatever is to be learned at this step (`M`). Where it gives nothing, the
