@@ -4,10 +4,10 @@ ghost use Rattle.std.specs.Prelude.{◌≡◌, ◌<◌, ◌++◌, ◌∷◌, [],
 ghost use Rattle.crossbeam_queue.specs.Fifo.{Held, Learns, Pops, Pushes};
 ghost use Rattle.crossbeam_queue.specs.Passes.{view, IsPassOf, IsSamePass, ruled_capacity};
 ghost use Rattle.acc_base.specs.declared.fault.Fault.TheVariants.{Memory};
-ghost use Rattle.acc_queue.specs.Tied.{WasHeld};
+ghost use Rattle.acc_queue.specs.Tied.{IsFor, WasHeld};
 
-use crate::rule::{End, InOrder, Parts, Popped, Pushed, Room};
-use acc_base::Fault;
+use crate::rule::{End, InOrder, Named, Parts, Popped, Pushed};
+use acc_base::{Fault, QueueAt};
 use acc_batch::Batch;
 use crossbeam_queue::protocol::{Lesson, Outcome, Protocol};
 use crossbeam_queue::{Pass, RuledArrayQueue};
@@ -20,14 +20,14 @@ type Line = RuledArrayQueue<Batch, End, InOrder>;
 /// An activity queue of a device: where directives place batches, and where a worker takes them.
 pub struct Activity;
 
-/// The end that sends. A contract sees the queue's room, and the labels of the batches that were sent, in order.
+/// The end that sends. A contract sees whose queue it is, its room, and the labels of the batches that were sent, in order.
 #[derive(Drop)]
 pub struct Sender {
     queue: Arc<Line, Global>,
     pass: Pass<Batch, End>,
 }
 
-/// The end that takes. A contract sees the queue's room, and the labels of the batches that were taken, in order.
+/// The end that takes. A contract sees whose queue it is, its room, and the labels of the batches that were taken, in order.
 #[derive(Drop)]
 pub struct Taker {
     queue: Arc<Line, Global>,
@@ -52,7 +52,7 @@ impl Model for Sender {
 
     ghost coded = { Prim.hlevel (codes, expr.the_row.coded, table_id_coded) };
 
-    ghost view = { λ s. record { queue = s.pass.table_id; room = s.pass.me.0.client.room; labels = s.pass.me.0.client.labels } };
+    ghost view = { λ s. record { queue = s.pass.table_id; at = s.pass.me.0.client.at; room = s.pass.me.0.client.room; labels = s.pass.me.0.client.labels } };
 
     ghost invariant = { λ s. IsPassOf (arc_value s.queue) s.pass × (s.pass.me.0.client.role ≡ Sends) × (s.pass.me.0.client.room ≡ ruled_capacity (arc_value s.queue)) };
 }
@@ -71,37 +71,42 @@ impl Model for Taker {
 
     ghost coded = { Prim.hlevel (codes, expr.the_row.coded, table_id_coded) };
 
-    ghost view = { λ s. record { queue = s.pass.table_id; room = s.pass.me.0.client.room; labels = s.pass.me.0.client.labels } };
+    ghost view = { λ s. record { queue = s.pass.table_id; at = s.pass.me.0.client.at; room = s.pass.me.0.client.room; labels = s.pass.me.0.client.labels } };
 
     ghost invariant = { λ s. IsPassOf (arc_value s.queue) s.pass × (s.pass.me.0.client.role ≡ Takes) × (s.pass.me.0.client.room ≡ ruled_capacity (arc_value s.queue)) };
 }
 
 impl Activity {
-    /// A queue with room for so many batches, of which it has none: its two ends.
+    /// The queue of this name, with room for so many batches, of which it has none: its two ends.
     ///
     /// # Errors
     ///
     /// `Memory` where memory is refused.
-    pub fn new(alloc: Global, room: u32) -> Result<(Sender, Taker), Fault>
+    pub fn new(alloc: Global, at: QueueAt, room: u32) -> Result<(Sender, Taker), Fault>
         requires { 0 < room }
+        ensures at { IfOk result (λ r. (r.0.at ≡ at) × (r.1.at ≡ at)) }
         ensures room { IfOk result (λ r. (r.0.room ≡ room) × (r.1.room ≡ room)) }
         ensures empty { IfOk result (λ r. (r.0.labels ≡ []) × (r.1.labels ≡ [])) }
         ensures one { IfOk result (λ r. r.0.queue ≡ r.1.queue) }
         ensures fault { IfErr result (λ f. f ≡ Memory) }
     {
-        opened::<Brand>(alloc, room)
+        opened::<Brand>(alloc, at, room)
     }
 }
 
-// The two ends of a queue with this room.
-fn opened<B: Room>(alloc: Global, room: u32) -> Result<(Sender, Taker), Fault>
+// The two ends of the queue of this name, with this room.
+fn opened<B: Named>(alloc: Global, at: QueueAt, room: u32) -> Result<(Sender, Taker), Fault>
     requires room { 0 < room }
+    requires named { at ≡ B.at }
     requires given { room ≡ B.room }
+    ensures at { IfOk result (λ r. (r.0.at ≡ at) × (r.1.at ≡ at)) }
     ensures room { IfOk result (λ r. (r.0.room ≡ room) × (r.1.room ≡ room)) }
     ensures empty { IfOk result (λ r. (r.0.labels ≡ []) × (r.1.labels ≡ [])) }
     ensures one { IfOk result (λ r. r.0.queue ≡ r.1.queue) }
     ensures fault { IfErr result (λ f. f ≡ Memory) }
 {
+    // the name is for contracts alone
+    let _ = at;
     let (queue, mut pass) = Line::ruled(alloc, room as usize)?;
     let other = queue.another::<Parts<B>>(&mut pass);
     let queue = Arc::new(alloc, queue)?;
@@ -115,13 +120,14 @@ fn opened<B: Room>(alloc: Global, room: u32) -> Result<(Sender, Taker), Fault>
 }
 
 impl Sender {
-    /// Places the batch behind those that the queue holds, with its memory. It takes no memory, and is one step.
+    /// Places the batch, one of this queue, behind those that the queue holds, with its memory. It takes no memory, and is one step.
     ///
     /// # Errors
     ///
     /// The batch, whole, and `Full` where the queue held as many as it has room for.
     pub fn push<R: Wait>(&mut self, rt: &R, batch: Batch) -> Result<(), (Batch, Full)>
-        ensures room { (self.new.queue ≡ self.old.queue) × (self.new.room ≡ self.old.room) }
+        requires { IsFor self.old.at batch }
+        ensures same { (self.new.queue ≡ self.old.queue) × (self.new.at ≡ self.old.at) × (self.new.room ≡ self.old.room) }
         ensures pushed { OnOk result (self.new.labels ≡ self.old.labels ++ batch ∷ []) }
         ensures refused { IfErr result (λ r. (r.0 ≡ batch) × (self.new ≡ self.old) × WasHeld self.old.room self.old.labels) }
     {
@@ -134,10 +140,11 @@ impl Sender {
 }
 
 impl Taker {
-    /// Takes the first batch that the queue holds, if it holds one. It takes no memory, and is one step.
+    /// Takes the first batch that the queue holds, if it holds one: it is one of this queue. It takes no memory, and is one step.
     pub fn pop<R: Wait>(&mut self, rt: &R) -> Option<Batch>
-        ensures room { (self.new.queue ≡ self.old.queue) × (self.new.room ≡ self.old.room) }
+        ensures same { (self.new.queue ≡ self.old.queue) × (self.new.at ≡ self.old.at) × (self.new.room ≡ self.old.room) }
         ensures some { IfSome result (λ batch. self.new.labels ≡ self.old.labels ++ batch ∷ []) }
+        ensures for_it { IfSome result (IsFor self.old.at) }
         ensures none { IfNone result (self.new ≡ self.old) }
     {
         let Taker { queue, pass } = self;
