@@ -13,7 +13,7 @@ use Rattle.acc_work.specs.Logs.{device_ops}
 use Rattle.acc_memory.specs.Memories.{blocks_after}
 use Rattle.acc_memory.proofs.HeldBlocks.{Held, held_first, held_make, held_release}
 use Rattle.acc_core.specs.inner.Ties.{blocks_by, blocks_in}
-use Rattle.acc_place.proofs.VisitLives.{made-append, released-append}
+use Rattle.acc_batch.proofs.Lives.{made-append, released-append}
 
 -- the blocks after one more operation are what it makes of those before it
 pub blocks_by_more : (bs : List Made) (ops : List OpLabel) (op : OpLabel) → blocks_by bs (ops ++ op ∷ []) ≡ blocks_after op (blocks_by bs ops)

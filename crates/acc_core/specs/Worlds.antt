@@ -8,7 +8,7 @@ use Rattle.acc_host.specs.declared.program.HostProgram.{HostProgram}
 use Rattle.acc_host.specs.declared.state.HostState.{HostState}
 use Rattle.acc_host.specs.Hosts.{AreNumbered, ready}
 use Rattle.acc_core.specs.Following.{AllStand}
-use Rattle.acc_core.specs.Legality.{Legal, LegalCut}
+use Rattle.acc_core.specs.Legality.{AllFollow, Legal, LegalCut}
 use Rattle.acc_core.specs.Machine.{State, state_at_first, Runs}
 
 -- Each host has one program, and they come in the order of the hosts.
@@ -33,3 +33,9 @@ pub record IsWorld (w : State) (states : List HostState) (room : ℕ) : Type 0 w
 pub record Ran (old : State) (events : List Event) (replies : List Reply) (new : State) : Type 0 where
   pub runs : Runs old events replies new
   pub cuts : (first second : List Event) → first ++ second ≡ events → LegalCut old first second replies new
+
+-- Every run of the machine that begins so is legal, and each host's entries follow its program, whoever gave the events.
+abbrev pub RunsAreLegal : Type 0
+RunsAreLegal =
+    (config : Configuration) (programs : List HostProgram) (events : List Event) (replies : List Reply) (new : State)
+    → AreNumbered 0 programs → Runs (first_state config programs) events replies new → Legal new × AllFollow new 0 new.hosts

@@ -3,8 +3,19 @@
 ghost use Rattle.acc_core.specs.worked.Closes.{LateIsRefused, FullIsClosedLater, HostsGoOn};
 ghost use Rattle.acc_core.specs.worked.Programs.{EnteredTwice, OverlapRefused, StaleHostCopy, LoopRuns, LoopOnPresent};
 ghost use Rattle.acc_core.specs.Machine.{EachQueueIsCounted};
+ghost use Rattle.acc_core.specs.Worlds.{RunsAreLegal};
 ghost use Rattle.acc_core.specs.worked.Hosts.{OneHostIsRefused, LoopIsDoneAtTheWait, QuestionsTellTheirMoment};
 ghost use Rattle.acc_core.specs.worked.Queues.{UseAwaitsItsMaker, ReleaseAwaitsEachUse, AsyncValuesNameQueues, DefaultQueueRunsInOrder, WaitsAreBatches, CapacityIsOfWhatIsPresent};
+
+use acc_host::hosts_follow;
+
+/// Every run of the machine from its first state on is legal, and each host's entries follow its program, whoever gave the events:
+/// so is what a report tells.
+pub fn runs_are_legal()
+    ensures { RunsAreLegal }
+{
+    hosts_follow();
+}
 
 /// The machine computed on five programs: a range that enters twice and leaves once, a range that
 /// overlaps a present one, a host write under a present range, a loop with clauses that runs where another one is

@@ -8,6 +8,7 @@ use Rattle.acc_host.specs.declared.event.Event.{Event}
 use Rattle.acc_host.specs.declared.state.Reply.{Reply}
 use Rattle.acc_host.specs.declared.state.HostState.{HostState}
 use Rattle.acc_host.specs.declared.state.HostState.TheVariants as state
+use Rattle.acc_core.specs.Legality.{AllFollow, Legal}
 use Rattle.acc_core.specs.Machine.{State, Runs}
 use Rattle.acc_core.specs.Worlds.{first_state}
 use Rattle.acc_host.specs.Hosts.{state_of}
@@ -103,6 +104,8 @@ left_in w = record { config = w.config; history = w.history; counts = w.counts; 
 pub record Reported (options : Options) (program : Program) (events : List Event) (old new : Option (List ℕ)) (refused : Bool) : Type 0 where
   pub final : State
   pub ends : EndsIn options program events final
+  pub legal : Legal final
+  pub follow : AllFollow final 0 final.hosts
   pub written : Appends old new (report program.names program.programs (left_in final))
   pub status : refused ≡ list_any is_refused (left_in final).hosts
 
@@ -110,6 +113,8 @@ pub record Reported (options : Options) (program : Program) (events : List Event
 pub record CutOff (options : Options) (program : Program) (events : List Event) (old new : Option (List ℕ)) : Type 0 where
   pub final : State
   pub ends : EndsIn options program events final
+  pub legal : Legal final
+  pub follow : AllFollow final 0 final.hosts
   pub written : AppendsFront old new (report program.names program.programs (left_in final))
 
 -- What is answered to a program and events, and what the writer then holds.

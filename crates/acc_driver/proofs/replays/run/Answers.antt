@@ -19,6 +19,8 @@ returns-in-Ok-report-clause-answers g c =
     record {
       final = w;
       ends = record { replies = c.run_schedule.ensures.0; runs = rw c.in-Ok-open.ensures.opened at c.run_schedule.ensures.1 };
+      legal = e.legal;
+      follow = e.follow;
       written = rw (same, c.in-Ok.ensures.equal, c.as_slice.ensures.value) at c.in-Ok-report.ensures;
       status = rw (c.as_slice-in-Ok-report.ensures.value, e.hosts) at c.has_refused-refused.ensures;
     }
@@ -32,5 +34,7 @@ returns-in-Err-Write-clause-answers g c =
     record {
       final = w;
       ends = record { replies = c.run_schedule.ensures.0; runs = rw c.in-Ok-open.ensures.opened at c.run_schedule.ensures.1 };
+      legal = e.legal;
+      follow = e.follow;
       written = rw (c.in-Err-Write.field-0-is, same, c.in-Ok.ensures.equal, c.as_slice.ensures.value) at c.in-Err-Write.ensures;
     }
