@@ -1,4 +1,8 @@
-//! Batches of three kinds, told apart by their numbers.
+//! Batches of three kinds, told apart by their numbers, and the queue that they are for.
+
+ghost use Rattle.std.specs.Prelude.{◌≡◌, IfOk};
+ghost use Rattle.acc_queue.specs.Tied.{IsFor};
+ghost use Rattle.test_threads.specs.Here.{here};
 
 use acc_base::{BlockId, DeviceId, Fault, Few, HostId, Listed, QueueAt, QueueId, Range, Shared};
 use acc_batch::{Batch, Label, Op, OpLabel, Ops};
@@ -69,17 +73,26 @@ fn ops_of(alloc: Global, number: u64) -> Result<Few<OpLabel>, Fault> {
     Ok(ops)
 }
 
+/// The queue that the batches are for.
+pub fn here() -> QueueAt
+    ensures { result ≡ here }
+{
+    QueueAt {
+        device: DeviceId::new(0),
+        queue: QueueId::new(2),
+    }
+}
+
 /// The batch with this number: by turns it makes a block and copies its cells in, runs a loop, and awaits.
 ///
 /// # Errors
 ///
 /// `Memory` where memory is refused.
-pub fn batch_of(alloc: Global, number: u64) -> Result<Batch, Fault> {
+pub fn batch_of(alloc: Global, number: u64) -> Result<Batch, Fault>
+    ensures { IfOk result (IsFor here) }
+{
     let label = Label {
-        at: QueueAt {
-            device: DeviceId::new(0),
-            queue: QueueId::new(2),
-        },
+        at: here(),
         number,
         host: HostId::new(0),
         items_done: number,

@@ -1,6 +1,10 @@
 //! Both ends in one thread: room, order, and an empty queue.
 
-use crate::batches::{batch_of, is_batch};
+ghost use Rattle.std.specs.Prelude.{◌≡◌, IfOk, IfSome};
+ghost use Rattle.acc_queue.specs.Tied.{IsFor};
+ghost use Rattle.test_threads.specs.Here.{here};
+
+use crate::batches::{batch_of, here, is_batch};
 use acc_base::Fault;
 use acc_batch::Batch;
 use acc_queue::{Activity, Full, Sender, Taker};
@@ -15,7 +19,10 @@ fn push<R: Wait + Abort>(
     alloc: Global,
     sender: &mut Sender,
     number: u64,
-) -> Result<(), Fault> {
+) -> Result<(), Fault>
+    requires { sender.old.at ≡ here }
+    ensures { sender.new.at ≡ here }
+{
     let batch = batch_of(alloc, number)?;
     assert!(rt; sender.push(rt, batch).is_ok());
     Ok(())
@@ -27,7 +34,11 @@ fn push_back<R: Wait>(
     alloc: Global,
     sender: &mut Sender,
     number: u64,
-) -> Result<Option<Batch>, Fault> {
+) -> Result<Option<Batch>, Fault>
+    requires { sender.old.at ≡ here }
+    ensures same { sender.new.at ≡ here }
+    ensures back { IfOk result (λ back. IfSome back (IsFor here)) }
+{
     match sender.push(rt, batch_of(alloc, number)?) {
         Ok(()) => Ok(None),
         Err((batch, Full)) => Ok(Some(batch)),
@@ -35,7 +46,10 @@ fn push_back<R: Wait>(
 }
 
 // Pushes the batch that came back, for which there is room now.
-fn push_again<R: Wait + Abort>(rt: &R, sender: &mut Sender, back: Option<Batch>) {
+fn push_again<R: Wait + Abort>(rt: &R, sender: &mut Sender, back: Option<Batch>)
+    requires sender { sender.old.at ≡ here }
+    requires back { IfSome back (IsFor here) }
+{
     match back {
         Some(batch) => assert!(rt; sender.push(rt, batch).is_ok()),
         None => panic!(rt; "no batch came back"),
@@ -64,7 +78,9 @@ fn check_full<R: Wait + Abort>(
     alloc: Global,
     sender: &mut Sender,
     taker: &mut Taker,
-) -> Result<(), Fault> {
+) -> Result<(), Fault>
+    requires { sender.old.at ≡ here }
+{
     push(rt, alloc, sender, 1)?;
     push(rt, alloc, sender, 2)?;
     let third = push_back(rt, alloc, sender, 3)?;
@@ -76,7 +92,7 @@ fn check_full<R: Wait + Abort>(
 
 #[test]
 fn a_full_queue_gives_the_batch_back(rt: HostRuntime) -> Result<(), Fail> {
-    let (mut sender, mut taker) = Activity::new(rt.alloc(), 2)?;
+    let (mut sender, mut taker) = Activity::new(rt.alloc(), here(), 2)?;
     Ok(check_full(&rt, rt.alloc(), &mut sender, &mut taker)?)
 }
 
@@ -88,7 +104,10 @@ fn fill_and_empty<R: Wait + Abort>(
     taker: &mut Taker,
     from: u64,
     to: u64,
-) -> Result<(), Fault> {
+) -> Result<(), Fault>
+    requires { sender.old.at ≡ here }
+    ensures { sender.new.at ≡ here }
+{
     for number in from..to {
         push(rt, alloc, sender, number)?;
     }
@@ -102,7 +121,7 @@ fn check_room<R: Wait + Abort>(rt: &R, alloc: Global, room: u32) -> Result<(), F
     if room == 0 {
         return Ok(());
     }
-    let (mut sender, mut taker) = Activity::new(alloc, room)?;
+    let (mut sender, mut taker) = Activity::new(alloc, here(), room)?;
     let many = u64::from(room);
     fill_and_empty(rt, alloc, &mut sender, &mut taker, 0, many)?;
     fill_and_empty(rt, alloc, &mut sender, &mut taker, many, 2 * many)

@@ -1,7 +1,10 @@
 //! A queue is had where memory is ample, and refused at each amount that isn't enough; and what a dropped one still
 //! held is free again.
 
-use crate::batches::batch_of;
+ghost use Rattle.std.specs.Prelude.{◌≡◌};
+ghost use Rattle.test_threads.specs.Here.{here};
+
+use crate::batches::{batch_of, here};
 use acc_base::Fault;
 use acc_queue::{Activity, Sender};
 use std::alloc::Global;
@@ -15,13 +18,15 @@ const ROOM: u64 = 128;
 #[test]
 fn a_queue_is_refused_until_there_is_memory(rt: HostRuntime) -> Result<(), Fail> {
     let alloc = rt.alloc();
-    let (refusals, _ends) = at_each_amount(alloc, || Activity::new(alloc, 64))?;
+    let (refusals, _ends) = at_each_amount(alloc, || Activity::new(alloc, here(), 64))?;
     assert!(rt; 2 < refusals, "{refusals}");
     Ok(())
 }
 
 // Pushes batches until there is no memory for one more: how many.
-fn push_all<R: Wait>(rt: &R, alloc: Global, sender: &mut Sender) -> u64 {
+fn push_all<R: Wait>(rt: &R, alloc: Global, sender: &mut Sender) -> u64
+    requires { sender.old.at ≡ here }
+{
     for number in 0..ROOM {
         match batch_of(alloc, 3 * number) {
             Ok(batch) => {
@@ -35,7 +40,7 @@ fn push_all<R: Wait>(rt: &R, alloc: Global, sender: &mut Sender) -> u64 {
 
 // How many batches a new queue is given before memory is refused; then both its ends are dropped, in either order.
 fn count_pushed<R: Wait>(rt: &R, alloc: Global, is_sender_first: bool) -> Result<u64, Fault> {
-    let (mut sender, taker) = Activity::new(alloc, ROOM as u32)?;
+    let (mut sender, taker) = Activity::new(alloc, here(), ROOM as u32)?;
     let count = push_all(rt, alloc, &mut sender);
     if is_sender_first {
         drop(sender);

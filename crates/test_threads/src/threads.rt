@@ -1,6 +1,11 @@
 //! A thread that places batches, and one that takes them.
 
-use crate::batches::{batch_of, is_batch};
+ghost use Rattle.std.specs.Prelude.{◌≡◌, IfOk};
+ghost use Rattle.std.specs.List.{All};
+ghost use Rattle.acc_queue.specs.Tied.{IsFor};
+ghost use Rattle.test_threads.specs.Here.{here};
+
+use crate::batches::{batch_of, here, is_batch};
 use acc_base::Fault;
 use acc_batch::Batch;
 use acc_queue::{Activity, Full, Sender, Taker};
@@ -14,7 +19,9 @@ use std::thread::Threads;
 const MANY: u64 = 10_000;
 
 // These batches, the first one last.
-fn batches_of(alloc: Global) -> Result<Vec<Batch>, Fault> {
+fn batches_of(alloc: Global) -> Result<Vec<Batch>, Fault>
+    ensures { IfOk result (λ batches. All (IsFor here) batches.items) }
+{
     let mut batches = Vec::with_capacity(alloc, MANY as usize)?;
     for number in (0..MANY).rev() {
         batches.push(batch_of(alloc, number)?)?;
@@ -23,24 +30,26 @@ fn batches_of(alloc: Global) -> Result<Vec<Batch>, Fault> {
 }
 
 // Pushes it, as often as it takes.
-fn push<R: Wait>(rt: &R, sender: &mut Sender, batch: Batch) {
-    let mut left = Some(batch);
+fn push<R: Wait>(rt: &R, sender: &mut Sender, batch: Batch)
+    requires sender { sender.old.at ≡ here }
+    requires batch { IsFor here batch }
+    ensures { sender.new.at ≡ here }
+{
+    let mut left = batch;
     for _ in rt.forever() {
-        match left {
-            Some(batch) => match sender.push(rt, batch) {
-                Ok(()) => left = None,
-                Err((batch, Full)) => {
-                    left = Some(batch);
-                    thread::yield_now();
-                }
-            },
-            None => return,
+        match sender.push(rt, left) {
+            Ok(()) => return,
+            Err((batch, Full)) => left = batch,
         }
+        thread::yield_now();
     }
 }
 
 // Pushes these, the last one first.
-fn push_all<R: Wait>(rt: &R, mut sender: Sender, mut batches: Vec<Batch>) {
+fn push_all<R: Wait>(rt: &R, mut sender: Sender, mut batches: Vec<Batch>)
+    requires sender { sender.at ≡ here }
+    requires batches { All (IsFor here) batches.items }
+{
     for _ in 0..MANY {
         if let Some(batch) = batches.pop() {
             push(rt, &mut sender, batch);
@@ -76,7 +85,7 @@ fn exchange<R: Threads + Wait + Sync>(rt: &R, alloc: Global, room: u32) -> Resul
         return Ok(false);
     }
     let batches = batches_of(alloc)?;
-    let (sender, taker) = Activity::new(alloc, room)?;
+    let (sender, taker) = Activity::new(alloc, here(), room)?;
     let ((), in_order) = thread::join(
         rt,
         move || push_all(rt, sender, batches),
