@@ -15,30 +15,14 @@ use Rattle.acc_work.specs.Logs.{value}
 use Rattle.acc_core.specs.Machine.{State, standing_of, state_at_first}
 use Rattle.acc_memory.specs.Memories.{MemoryView, Shows, rows_on, is_held, cell_of}
 use Rattle.acc_core.specs.inner.Queues.{QueueView, IsEmptyQueue, no_queue, queue_in}
-use Rattle.acc_core.specs.inner.Ties.{HasRoom, QueueIs, Queued, Remembers, IsAccelerator}
+use Rattle.acc_core.specs.inner.Ties.{HasRoom, QueueIs, Queued, IsAccelerator}
 use Rattle.acc_memory.specs.Values.{Cell, Host_cell, Block_cell}
 use Rattle.acc_work.specs.Lanes.{LaneView, IsFresh}
 use Rattle.acc_work.specs.Works.{WorkView, HasMadeRoom, lane_at}
 use Rattle.acc_work.proofs.Lanes.{fresh_lane}
 use Rattle.acc_core.proofs.LegalSteps.{legal_start}
 use Rattle.acc_core.proofs.LeftOpen.{left_all}
-use Rattle.acc_core.proofs.Accept.{is_roomier, remembers_room}
-
--- without blocks a memory shows the values of its arrays
-shows_opening : (m : MemoryView) (arrays : List (List ℤ)) → m.arrays ≡ arrays → ((d : ℕ) → rows_on m d ≡ []) → Shows m (value arrays [])
-shows_opening m arrays e none = λ cell. cases cell
-  where
-    cases : (c : Cell) → IsTrue (is_held m c) → cell_of m c ≡ value arrays [] c
-    cases (Host_cell array cell) held = rw e refl
-    cases (Block_cell device block cell) held = rw (none device) refl
-
--- so it shows the values of the log
-remembers_opening : (config : Configuration) (v : WorkView) → v.memory.arrays ≡ config.arrays → ((d : ℕ) → rows_on v.memory d ≡ []) → Remembers (state_at_first config []) v
-remembers_opening config v e none = record {
-  shows = shows_opening v.memory config.arrays e none;
-  blocks = λ d. rw (none d) refl;
-  lengths = ap lengths_of e;
-}
+use Rattle.acc_core.proofs.Accept.{is_roomier}
 
 -- no operation waits where the queues are empty
 none_waits : (room : ℕ) (queues : List QueueView) → All (IsEmptyQueue room) queues → sum_by (λ (q : QueueView). q.waiting) queues ≡ 0
@@ -96,12 +80,12 @@ queued_opening config v v' queues no_rows fresh devices count empty no_work made
         }
 
 -- What holds of an accelerator holds before the first event.
-pub is_opening : (config : Configuration) (w : State) (v v' : WorkView) (queues : List QueueView) → w ≡ state_at_first config [] → v.memory.arrays ≡ config.arrays → ((d : ℕ) → rows_on v.memory d ≡ []) → All IsFresh v.lanes
+pub is_opening : (config : Configuration) (w : State) (v v' : WorkView) (queues : List QueueView) → w ≡ state_at_first config [] → v.arrays ≡ config.arrays → ((d : ℕ) → rows_on v.memory d ≡ []) → All IsFresh v.lanes
     → length v.memory.devices ≡ config.devices → length queues ≡ queue_count config → All (IsEmptyQueue config.room) queues → v.work ≡ [] → HasMadeRoom v v' → HasRoom v' (queue_count config) → IsAccelerator w v' queues (queue_count config)
-is_opening config w v v' queues is arrays no_rows fresh devices count empty no_work made room =
+is_opening config w v v' queues is opening no_rows fresh devices count empty no_work made room =
     rw is (record {
       legal = legal_start (state_at_first config []) refl refl;
       few_items = omega arith;
       parts = queued_opening config v v' queues no_rows fresh devices count empty no_work made room;
-      memory = remembers_room (state_at_first config []) (state_at_first config []) v v' (remembers_opening config v arrays no_rows) refl refl made;
+      opening = made.opening ∙ opening;
     })

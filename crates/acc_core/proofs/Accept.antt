@@ -28,9 +28,8 @@ use Rattle.acc_core.specs.inner.Closing.{left_open}
 use Rattle.acc_core.specs.Machine.{State, standing_of, with_directive, fault_of_place, place_fault, queue_fault, is_empty, is_full, batches_held, labels_of}
 use Rattle.acc_place.specs.Standings.{walk_of}
 use Rattle.acc_memory.specs.Memories.{rows_on, room_on}
-use Rattle.acc_memory.proofs.ShownValues.{shows_same}
 use Rattle.acc_core.specs.inner.Queues.{QueueView, no_queue, queue_in, queues_with, queue_pushed}
-use Rattle.acc_core.specs.inner.Ties.{QueueIs, Queued, Remembers, IsAccelerator}
+use Rattle.acc_core.specs.inner.Ties.{QueueIs, Queued, IsAccelerator}
 use Rattle.acc_work.specs.Lanes.{LaneView}
 use Rattle.acc_work.specs.Works.{WorkView, KeepsOrder, IsRoomier, HasMadeRoom, lane_at}
 use Rattle.acc_core.proofs.LegalSteps.{legal_accepted, labels_accepted}
@@ -160,14 +159,6 @@ queued_more w w' v v' queues b waiting waiting' s q order c e closed f k host so
       block_room = λ d low. block_room d (omega (arith, low, ap (λ x. x.devices) c, k.devices, q.devices));
     }
 
--- the memory shows the same values where room was made
-pub remembers_room : (w w' : State) (v v' : WorkView) → Remembers w v → w'.config ≡ w.config → w'.work ≡ w.work → HasMadeRoom v v' → Remembers w' v'
-remembers_room w w' v v' r c f k = record {
-  shows = rw (c, f) (shows_same v.memory v'.memory (value w.config.arrays w.work) k.arrays k.rows r.shows);
-  blocks = λ d. rw (f, k.rows d) (r.blocks d);
-  lengths = rw (c, k.arrays) r.lengths;
-}
-
 -- An accelerator that accepted a directive with an empty batch.
 pub keeps_empty : (w w' : State) (v : WorkView) (queues : List QueueView) (waiting host : ℕ) (d : Directive) → IsAccelerator w v queues waiting → refusal w.config (standing_of w) host d ≡ None
     → batch_of (standing_of w) (walk_of (standing_of w) host d) ≡ [] → w' ≡ with_directive w host d → IsAccelerator w' v queues waiting
@@ -176,7 +167,7 @@ keeps_empty w w' v queues waiting host d a e none is =
       legal = legal_accepted w host d a.legal e;
       few_items = a.few_items;
       parts = queued_same w (with_directive w host d) v queues waiting refl (labels_empty w host d none) (closed_accepted w host d) refl a.parts;
-      memory = record { shows = a.memory.shows; blocks = a.memory.blocks; lengths = a.memory.lengths };
+      opening = a.opening;
     })
 
 no_ops : (at : QueueAt) (number host items_done : ℕ) (ops : List OpLabel) → None ≡ label_for at number host items_done ops → ops ≡ []
@@ -228,7 +219,7 @@ keeps_batch w w' v v' queues b waiting waiting' host d a s e is k l low fits mor
       legal = legal_accepted w host d a.legal e;
       few_items = a.few_items;
       parts = queued_more w (with_directive w host d) v v' queues b waiting waiting' s a.parts order refl labels (closed_accepted w host d) refl k (rw l.same low) (rw l.same l.some) fits more log_room lane_room block_room;
-      memory = remembers_room w (with_directive w host d) v v' a.memory refl refl k;
+      opening = k.opening ∙ a.opening;
     })
 
 -- operations that are there aren't none

@@ -87,7 +87,7 @@ keeps_closed w v queues waiting at b a s can is fits =
       legal = legal_closed w at a.legal can;
       few_items = a.few_items;
       parts = queued_closed w v queues waiting at s a.parts can.unplaced fits;
-      memory = record { shows = a.memory.shows; blocks = a.memory.blocks; lengths = a.memory.lengths };
+      opening = a.opening;
     })
 
 pub keeps_begun : (w : State) (v : WorkView) (queues : List QueueView) (waiting : ℕ) → IsAccelerator w v queues waiting → IsAccelerator (closing_begun w) v queues waiting
@@ -96,7 +96,7 @@ keeps_begun w v queues waiting a =
       legal = legal_begins w a.legal;
       few_items = a.few_items;
       parts = queued_same w (closing_begun w) v queues waiting refl (begins_labels w) (begins_closed w) refl a.parts;
-      memory = record { shows = a.memory.shows; blocks = a.memory.blocks; lengths = a.memory.lengths };
+      opening = a.opening;
     }
 
 -- ## The closes at hand

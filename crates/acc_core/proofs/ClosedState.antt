@@ -1,5 +1,5 @@
 -- The owner closes: each entry of the history is legal behind those before it, and nothing else changes.
-use Rattle.std.proofs.Common.{subst, ◌≡◌, ℕ, zero, suc, ◌<◌, ◌≤◌, Bool, true, false, cond, List, [], ◌∷◌, length, refl, sym, ap, ◌∙◌, arith}
+use Rattle.std.proofs.Common.{subst, ◌≡◌, ℕ, zero, suc, ◌<◌, ◌≤◌, Bool, true, false, cond, List, [], ◌∷◌, ◌++◌, length, refl, sym, ap, ◌∙◌, arith}
 use Rattle.std.specs.Prelude.{not, nat_lt}
 use Rattle.std.proofs.lemmas.Bool.{and_parts}
 use Rattle.std.proofs.lemmas.List.Elements.{All-cons, All-nil}
@@ -11,11 +11,10 @@ use Rattle.acc_batch.specs.Awaits.{close_label}
 use Rattle.acc_host.specs.Hosts.{HostView}
 use Rattle.acc_place.specs.declared.directive.PlaceEntry.TheVariants as noted
 use Rattle.acc_place.specs.Histories.{is_closed, standing, CanClose, IsQueue}
-use Rattle.acc_work.proofs.AwaitedKept.{awaited_more}
+use Rattle.acc_work.proofs.Extended.{extends_behind, kept_more}
 use Rattle.acc_core.specs.Legality.{Legal, entries_of}
 use Rattle.acc_core.specs.inner.Closing.{closing_begun, can_close_now, closed_state, closes_one, closes_all}
 use Rattle.acc_core.specs.Machine.{State, batches_held, labels_of, standing_of}
-use Rattle.acc_core.proofs.HostOrder.{in_order-more, host_order-more}
 
 -- the queue at a place is there, and its seat is the place
 pub place_seat : (n : ℕ) → seat (at_seat n) ≡ n
@@ -31,10 +30,7 @@ unfolding standing
 legal_begun w l early = record {
   accepted = (early, l.accepted);
   counts = l.counts;
-  prefix = l.prefix;
-  awaited = l.awaited;
-  host_order = l.host_order;
-  live_blocks = l.live_blocks;
+  kept = l.kept;
   behind = l.behind;
 }
 
@@ -47,15 +43,12 @@ legal_closed w at l can =
     record {
       accepted = (can, l.accepted);
       counts = l.counts;
-      prefix = in_order-more labels more w.work l.prefix;
-      awaited = awaited_more labels more w.work l.awaited;
-      host_order = host_order-more w.config.arrays labels more w.work filled l.prefix l.host_order;
-      live_blocks = l.live_blocks;
+      kept = kept_more w.config.arrays labels (labels ++ more) w.work (extends_behind labels more filled) l.kept;
       behind = l.behind;
     }
 
 same_history : (w : State) → Legal w → Legal (record w { history = w.history })
-same_history w l = record { accepted = l.accepted; counts = l.counts; prefix = l.prefix; awaited = l.awaited; host_order = l.host_order; live_blocks = l.live_blocks; behind = l.behind }
+same_history w l = record { accepted = l.accepted; counts = l.counts; kept = l.kept; behind = l.behind }
 
 pub legal_begins : (w : State) → Legal w → Legal (closing_begun w)
 legal_begins w l = by_closing (standing_of w).closing refl

@@ -19,14 +19,15 @@ use Rattle.acc_core.specs.Machine.{State, labels_of, unless, told_of, can_tell, 
 use Rattle.acc_memory.specs.Memories.{rows_in, room_in}
 use Rattle.acc_base.specs.Configurations.{lengths_of}
 use Rattle.acc_core.specs.inner.Queues.{QueueView, queue_in}
-use Rattle.acc_core.specs.inner.Ties.{IsAccelerator, QueueIs, Queued, Remembers, has_cells}
+use Rattle.acc_core.specs.inner.Ties.{IsAccelerator, QueueIs, Queued, has_cells}
 use Rattle.acc_work.specs.Lanes.{LaneView, lane_in}
 use Rattle.acc_work.specs.Works.{WorkView, HasMadeRoom, HasTold, CanTell, Tells, item_fault, taken_counts, taken_labels}
 use Rattle.acc_work.specs.declared.item.ItemLabel.TheVariants as to_record
 use Rattle.acc_core.proofs.PerformOp.{with_work}
 use Rattle.acc_core.proofs.LegalSteps.{legal_item}
-use Rattle.acc_core.proofs.Accept.{is_roomier, remembers_room}
-use Rattle.acc_core.proofs.RemembersLog.{has_same, no_longer, remembers_shown}
+use Rattle.acc_work.specs.Remembering.{Remembers}
+use Rattle.acc_work.proofs.RemembersWork.{has_same, no_longer}
+use Rattle.acc_core.proofs.Accept.{is_roomier}
 
 -- more room leaves the queues what they are
 pub queued_roomier : {w : State} {v v' : WorkView} {queues : List QueueView} {waiting : ℕ} → Queued w v queues waiting → HasMadeRoom v v' → Queued w v' queues waiting
@@ -49,7 +50,7 @@ roomier {w = w} {v = v} {v' = v'} a h = record {
   legal = a.legal;
   few_items = a.few_items;
   parts = queued_roomier a.parts h;
-  memory = remembers_room w w v v' a.memory refl refl h;
+  opening = h.opening ∙ a.opening;
 }
 
 -- an item that shows what is so, and finds room
@@ -73,7 +74,7 @@ told_item w v v' queues waiting h item a same s room few truth =
         log_room = omega (arith, room, s.room, ap length same);
         block_room = λ d low. subst (λ devices. length (rows_in (slice_get devices d)) + waiting ≤ room_in (slice_get devices d)) (sym s.devices) (q.block_room d low);
       };
-      memory = remembers_shown w v v' h item a.memory s;
+      opening = s.opening ∙ a.opening;
     })
 
 -- an item leaves the batches that were taken
@@ -95,12 +96,12 @@ may_tell v arrays (to_record.Seen device counts) may same limits there = absurd 
 may_tell v arrays (to_record.Test device counts) may same limits there = tt
 
 -- What an item tells: a print the values of its cells, a test whether each queue has performed its count.
-pub told_is : (w : State) (v : WorkView) (item : ItemLabel) (what : Told) → Remembers w v
+pub told_is : (w : State) (v : WorkView) (item : ItemLabel) (what : Told) → Remembers v.arrays v.work v.memory → v.arrays ≡ w.config.arrays → v.work ≡ w.work
     → ((device : ℕ) (counts : List ℕ) → all_done (taken_labels v) v.work device 0 counts ≡ all_done (labels_of w) w.work device 0 counts) → Tells v item what → what ≡ told_of w item
-told_is w v (to_record.Write array cell new_value) what r reached t = t
-told_is w v (to_record.Print range) what r reached t = t.1 ∙ ap (told.Print range) (t.2 (value w.config.arrays w.work) r.shows)
-told_is w v (to_record.Seen device counts) what r reached t = t
-told_is w v (to_record.Test device counts) what r reached t = t ∙ ap (told.Test device counts) (reached device counts)
+told_is w v (to_record.Write array cell new_value) what r opening same reached t = t
+told_is w v (to_record.Print range) what r opening same reached t = t.1 ∙ ap (told.Print range) (t.2 (value w.config.arrays w.work) (rw (opening, same) at r.shows))
+told_is w v (to_record.Seen device counts) what r opening same reached t = t
+told_is w v (to_record.Test device counts) what r opening same reached t = t ∙ ap (told.Test device counts) (reached device counts)
 
 -- An item that can be told is answered, while the run may have one more.
 pub item_given : (w : State) (item : ItemLabel) (answer : Shown) → all_items w.work < MAX_HOST_ITEMS → can_tell w item ≡ true → answer ≡ shown_by (told_of w item) → Ok answer ≡ item_answer false w item

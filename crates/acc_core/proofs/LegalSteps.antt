@@ -18,7 +18,8 @@ use Rattle.acc_batch.specs.Labels.{on_queue, ops_of, batch_at}
 use Rattle.acc_work.specs.Orders.{ShowsTruth}
 use Rattle.acc_core.specs.Legality.{Legal}
 use Rattle.acc_work.specs.Logs.{performed, items_of, await_allows, host_allows}
-use Rattle.acc_work.proofs.AwaitedKept.{awaited_more, awaited_performed}
+use Rattle.acc_work.proofs.Extended.{extends_behind, kept_more}
+use Rattle.acc_work.proofs.KeptSteps.{kept_first, kept_next, kept_told}
 use Rattle.acc_core.specs.Machine.{State, Step, Runs, standing_of, ops_left, can_perform, with_item, with_op, with_directive}
 use Rattle.acc_place.specs.Standings.{walk_of}
 use Rattle.acc_place.specs.Sound.{is_close, CloseLast}
@@ -26,8 +27,7 @@ use Rattle.acc_place.proofs.LastClose.{closes_last}
 use Rattle.acc_core.proofs.StepChanges.{Step-by}
 use Rattle.acc_core.proofs.ClosedState.{legal_close}
 use Rattle.acc_core.proofs.Entries.{rise_accept, rise_item}
-use Rattle.acc_core.proofs.HostOrder.{in_order-more, host_order-more}
-use Rattle.acc_core.proofs.NextOfQueue.{next_of_all, in_order_performed, next_uses_live}
+use Rattle.acc_core.proofs.NextOfQueue.{next_of_all, next_uses_live}
 use Rattle.acc_core.proofs.AddedLabels.{added, added_filled, labelled_is}
 
 -- the histories are legal before the first event
@@ -35,24 +35,21 @@ pub legal_start : (w : State) → w.history ≡ [] → w.work ≡ [] → Legal w
 legal_start w no_history no_work = record {
   accepted = rw no_history tt;
   counts = λ h. rw (no_history, no_work) (omega arith);
-  prefix = λ at. (let all = ops_of (on_queue at (standing_of w).labels) in (all, ap (λ r. r ++ all) (ap (performed at) no_work)));
-  awaited = rw no_work tt;
-  host_order = rw no_work tt;
-  live_blocks = rw no_work tt;
+  kept = rw no_work (kept_first w.config.arrays (standing_of w).labels);
   behind = rw no_work tt;
 }
 
 -- other hosts leave them legal
 pub legal_hosts : (w : State) (hosts : List HostView) → Legal w → Legal (record w { hosts = hosts })
-legal_hosts w hosts l = record { accepted = l.accepted; counts = l.counts; prefix = l.prefix; awaited = l.awaited; host_order = l.host_order; live_blocks = l.live_blocks; behind = l.behind }
+legal_hosts w hosts l = record { accepted = l.accepted; counts = l.counts; kept = l.kept; behind = l.behind }
 
 -- so do other counts of batches that were taken
 pub legal_taken : (w : State) (taken : List ℕ) → Legal w → Legal (record w { taken = taken })
-legal_taken w taken l = record { accepted = l.accepted; counts = l.counts; prefix = l.prefix; awaited = l.awaited; host_order = l.host_order; live_blocks = l.live_blocks; behind = l.behind }
+legal_taken w taken l = record { accepted = l.accepted; counts = l.counts; kept = l.kept; behind = l.behind }
 
 -- so does one more item that shows what is so
 pub legal_item : (w : State) (h : ℕ) (s : Told) → Legal w → ShowsTruth w.config.arrays (standing_of w).labels s w.work → Legal (with_item w h s)
-legal_item w h s l truth = record { accepted = l.accepted; counts = rise_item w h s l.counts; prefix = l.prefix; awaited = l.awaited; host_order = (truth, l.host_order); live_blocks = l.live_blocks; behind = l.behind }
+legal_item w h s l truth = record { accepted = l.accepted; counts = rise_item w h s l.counts; kept = kept_told w.config.arrays (standing_of w).labels w.work h s l.kept truth; behind = l.behind }
 
 -- the labels that a directive adds
 abbrev pub more_labels : State → ℕ → Directive → List Label
@@ -73,10 +70,7 @@ legal_accepted w h d l e =
     record {
       accepted = (e, l.accepted);
       counts = rise_accept w h d l.counts;
-      prefix = rw same (in_order-more labels (more_labels w h d) w.work l.prefix);
-      awaited = rw same (awaited_more labels (more_labels w h d) w.work l.awaited);
-      host_order = rw same (host_order-more w.config.arrays labels (more_labels w h d) w.work (added_filled (walk_at (walk_of (standing_of w) h d)) (next_number (walk_at (walk_of (standing_of w) h d)) labels) h (items_of h w.work) (batch_of (standing_of w) (walk_of (standing_of w) h d))) l.prefix l.host_order);
-      live_blocks = l.live_blocks;
+      kept = rw same (kept_more w.config.arrays labels (labels ++ more_labels w h d) w.work (extends_behind labels (more_labels w h d) (added_filled (walk_at (walk_of (standing_of w) h d)) (next_number (walk_at (walk_of (standing_of w) h d)) labels) h (items_of h w.work) (batch_of (standing_of w) (walk_of (standing_of w) h d)))) l.kept);
       behind = l.behind;
     }
 
@@ -96,15 +90,12 @@ none_behind (o ∷ done) op later h = All-cons (λ (o : OpLabel). is_close o ≡
 pub legal_performed : (w : State) (at : QueueAt) (op : OpLabel) (ops : List OpLabel) → Legal w → ops_left w (standing_of w).labels at ≡ op ∷ ops → can_perform (standing_of w).labels w.work at op ≡ true → Legal (with_op w at op)
 legal_performed w at op ops l e allowed =
     let labels = (standing_of w).labels in
-    let next = next_of_all w at op ops l.prefix e in
+    let next = next_of_all w at op ops l.kept.prefix e in
     let both = and_parts (await_allows labels w.work at.device op) (host_allows (batch_at (on_queue at labels) (length (performed at w.work))) w.work) allowed in
     record {
       accepted = l.accepted;
       counts = l.counts;
-      prefix = in_order_performed labels w.work at op l.prefix next;
-      awaited = awaited_performed labels w.work at op l.awaited both.0;
-      host_order = (both.1, l.host_order);
-      live_blocks = (next_uses_live w at op ops l e, l.live_blocks);
+      kept = kept_next w.config.arrays labels w.work at op l.kept next both.0 both.1 (next_uses_live w at op ops l e);
       behind = (none_behind (performed at w.work) op next.later (subst CloseLast next.split (closes_last w.config w.history w.counts at l.accepted)), l.behind);
     }
 

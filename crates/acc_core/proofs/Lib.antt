@@ -2,7 +2,6 @@ mod AcceleratorNew
 mod Accept
 mod AddedLabels
 mod BatchesDone
-mod BlocksIn
 mod CloseQueue
 mod CloseStep
 mod ClosedState
@@ -12,17 +11,16 @@ mod Entries
 mod HavingItems
 mod HostCalls
 mod HostLaws
-mod HostOrder
 mod HostSteps
 mod ItemAnswer
 mod Lanes
 mod LeftOpen
 mod LegalSteps
+mod MadeRows
 mod Merged
 mod NextOfQueue
 mod PerformOp
 mod QueueTotals
-mod RemembersLog
 mod RunParts
 mod Seats
 mod StandingHosts

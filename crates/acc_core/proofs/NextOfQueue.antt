@@ -33,18 +33,8 @@ pub next_of_all : (w : State) (at : QueueAt) (op : OpLabel) (ops : List OpLabel)
     → NextOp (performed at w.work) op (ops_of (on_queue at (standing_of w).labels))
 next_of_all w at op ops h e = next_of_taken (on_queue at (standing_of w).labels) (taken_on w at) (performed at w.work) op ops (h at) e
 
--- the queue that performs it has its prefix still, and so has each other queue
-pub in_order_performed : (labels : List Label) (work : List WorkEntry) (at : QueueAt) (op : OpLabel) → InOrder labels work
-    → NextOp (performed at work) op (ops_of (on_queue at labels)) → InOrder labels (entry.Op at op ∷ work)
-in_order_performed labels work at op h next = λ other. elim (cases_Bool (same_queue at other)) [
-  | inl same ↦
-      let there : NextOp (performed other work) op (ops_of (on_queue other labels)) = rw (same_queue_is at other same) at next in
-      rw same (there.later, append_assoc (performed other work) (op ∷ []) there.later ∙ sym there.split)
-  | inr differ ↦ rw differ (h other)
-]
-
 -- The next operation of a queue uses live blocks, whatever the queues have performed.
 pub next_uses_live : (w : State) (at : QueueAt) (op : OpLabel) (ops : List OpLabel) → Legal w → ops_left w (standing_of w).labels at ≡ op ∷ ops → UsesLive w.config.arrays op (device_ops at.device w.work)
 next_uses_live w at op ops l e =
-    let next = next_of_all w at op ops l.prefix e in
-    any_order w.config.arrays (standing_of w).labels w.work at op next.later (labels_sound w.config w.history w.counts l.accepted) l.prefix l.awaited next.split
+    let next = next_of_all w at op ops l.kept.prefix e in
+    any_order w.config.arrays (standing_of w).labels w.work at op next.later (labels_sound w.config w.history w.counts l.accepted) l.kept.prefix l.kept.awaited next.split

@@ -7,7 +7,7 @@ use Rattle.acc_base.specs.Queues.{seat}
 use Rattle.acc_batch.specs.declared.label.OpLabel.{OpLabel}
 use Rattle.acc_batch.specs.declared.label.OpLabel.TheVariants.{Make, CopyIn, CopyOut, Release, Run, Await, Close}
 use Rattle.acc_batch.specs.Labels.{on_queue, batch_at}
-use Rattle.acc_batch.specs.Lives.{blocks_made}
+use Rattle.acc_batch.specs.Lives.{blocks_made, UsesLive}
 use Rattle.acc_host.specs.declared.event.Event.TheVariants as event
 use Rattle.acc_core.specs.Machine.{State, is_there, perform_step, queue_step, step, idle, did, ops_left, can_perform, with_op, labels_of, standing_of}
 use Rattle.acc_place.specs.Histories.{is_closed, IsQueue}
@@ -16,16 +16,26 @@ use Rattle.acc_core.specs.inner.Ties.{IsAccelerator, QueueIs, Queued}
 use Rattle.acc_work.specs.declared.log.WorkEntry.TheVariants as entry
 use Rattle.acc_work.specs.declared.work.Done.TheVariants as done
 use Rattle.acc_work.specs.Lanes.{lane_with_left, last_of}
-use Rattle.acc_work.specs.Logs.{performed, await_allows, host_allows}
-use Rattle.acc_work.specs.Works.{WorkView, lane_at, taken_counts, taken_labels, goes_on, KeepsOrder, Performs, PerformsNext, HasPerformed, NextMayFollow}
+use Rattle.acc_work.specs.Logs.{performed, device_ops, await_allows, host_allows}
+use Rattle.acc_memory.specs.Memories.{MemoryView, rows_on, room_on}
+use Rattle.acc_work.specs.Kept.{IsKept}
+use Rattle.acc_work.specs.Remembering.{Remembers}
+use Rattle.acc_work.specs.Works.{WorkView, lane_at, taken_counts, taken_labels, goes_on, can_go, KeepsOrder, Performs, PerformsNext, HasPerformed, HasRoomToMake, NextMayFollow}
 use Rattle.acc_work.proofs.LaneChanges.{count_kept}
 use Rattle.acc_core.proofs.BatchesDone.{awaits_taken}
 use Rattle.acc_core.proofs.LegalSteps.{legal_performed, legal_taken}
-use Rattle.acc_core.proofs.Lanes.{next_batch}
+use Rattle.acc_work.proofs.KeptSteps.{Advanced, next_batch}
+use Rattle.acc_work.proofs.RemembersWork.{can_go_on}
 use Rattle.acc_core.proofs.NextOfQueue.{next_uses_live}
-use Rattle.acc_core.proofs.RemembersLog.{may_perform, remembers_performed, length_rows}
+use Rattle.acc_core.proofs.MadeRows.{length_rows}
 use Rattle.acc_core.proofs.Seats.{IsSeated, both_changed, room_changed, waiting_changed, waiting_low}
 use Rattle.acc_core.proofs.TakeBatch.{with_taken, lane_is_rest}
+
+-- What a work side keeps, by `Work::keeps`.
+pub record KeepsWork (v : WorkView) : Type 0 where
+  pub order : KeepsOrder v
+  pub kept : IsKept v.arrays (taken_labels v) v.work
+  pub memory : Remembers v.arrays v.work v.memory
 
 -- the state with this log
 abbrev pub with_work : State → WorkView → State
@@ -45,43 +55,28 @@ makes_one Close = omega arith
 pub lane_waits : (w : State) (v : WorkView) (queues : List QueueView) (waiting : ℕ) (at : QueueAt) → IsSeated w.config.devices v queues at → Queued w v queues waiting → length (lane_at v at).left ≤ waiting
 lane_waits w v queues waiting at s q = (let h = q.each at in omega (arith, h.counted, waiting_low queues at s.queue s.held, q.all_waiting))
 
--- the next operation may follow
-pub next_may_follow : (w : State) (v : WorkView) (queues : List QueueView) (waiting : ℕ) (at : QueueAt) → IsSeated w.config.devices v queues at → IsAccelerator (with_taken w v) v queues waiting → KeepsOrder v → v.work ≡ w.work
-    → NextMayFollow v at (lane_at v at).left
-next_may_follow w v queues waiting at s a k same = may (lane_at v at).left refl
-  where
-    q : Queued (with_taken w v) v queues waiting
-    q = a.parts
+-- there is room for the block that an operation makes, where there is for one more
+room_to_make : (m : MemoryView) (d : ℕ) (op : OpLabel) → length (rows_on m d) + 1 ≤ room_on m d → HasRoomToMake m d op
+room_to_make m d (Make b r) more = omega (arith, more)
+room_to_make m d (CopyIn b r) more = tt
+room_to_make m d (CopyOut b r) more = tt
+room_to_make m d (Release b) more = tt
+room_to_make m d (Run k uses) more = tt
+room_to_make m d (Await q n) more = tt
+room_to_make m d Close more = tt
 
+-- there is room for the next operation
+pub next_may_follow : (w : State) (v : WorkView) (queues : List QueueView) (waiting : ℕ) (at : QueueAt) → IsSeated w.config.devices v queues at → Queued w v queues waiting → v.work ≡ w.work → NextMayFollow v at (lane_at v at).left
+next_may_follow w v queues waiting at s q same = may (lane_at v at).left refl
+  where
     may : (ops : List OpLabel) → (lane_at v at).left ≡ ops → NextMayFollow v at ops
     may [] e = tt
     may (op ∷ ops) e =
-        let waits : 1 ≤ waiting = omega (arith, ap length e, lane_waits (with_taken w v) v queues waiting at s q) in
-        let next = lane_is_rest (with_taken w v) v queues at (queue_in queues at) s (q.each at) k same ∙ e in
-        let uses = next_uses_live (with_taken w v) at op ops a.legal next in
+        let waits : 1 ≤ waiting = omega (arith, ap length e, lane_waits w v queues waiting at s q) in
         record {
-          allowed = may_perform (with_taken w v) v at.device op a.memory a.legal.live_blocks uses (omega (arith, q.block_room at.device s.device, makes_one op, waits));
+          block = room_to_make v.memory at.device op (omega (arith, q.block_room at.device s.device, waits));
           room = omega (arith, q.log_room, ap length same, waits);
         }
-
--- What a call to perform did, where it performed an operation.
-pub record Advanced (v v' : WorkView) (at : QueueAt) : Type 0 where
-  pub op : OpLabel
-  pub ops : List OpLabel
-  pub left : (lane_at v at).left ≡ op ∷ ops
-  pub goes : goes_on v at (op ∷ ops) ≡ true
-  pub performed : HasPerformed v v' at op ops
-
-pub has_advanced : (v v' : WorkView) (at : QueueAt) → Performs v at done.Op v' → Advanced v v' at
-has_advanced v v' at h = by_left (lane_at v at).left refl h
-  where
-    by_test : (op : OpLabel) (ops : List OpLabel) (b : Bool) → (lane_at v at).left ≡ op ∷ ops → goes_on v at (op ∷ ops) ≡ b → MatchBool b ((done.Op ≡ done.Op) × HasPerformed v v' at op ops) ((done.Op ≡ done.Idle) × (v' ≡ v)) → Advanced v v' at
-    by_test op ops true e f g = record { op = op; ops = ops; left = e; goes = f; performed = g.1 }
-    by_test op ops false e f g = absurd (let no : done.Op ≡ done.Idle = g.0 in cc)
-
-    by_left : (left : List OpLabel) → (lane_at v at).left ≡ left → PerformsNext v at left done.Op v' → Advanced v v' at
-    by_left [] e g = absurd (let no : done.Op ≡ done.Idle = g.0 in cc)
-    by_left (op ∷ ops) e g = by_test op ops (goes_on v at (op ∷ ops)) e refl g
 
 -- the machine lets the next operation be performed where the work side does
 pub goes_next : (w : State) (v : WorkView) (queues : List QueueView) (waiting : ℕ) (at : QueueAt) (op : OpLabel) (ops : List OpLabel) → Queued w v queues waiting → KeepsOrder v → (lane_at v at).left ≡ op ∷ ops → v.work ≡ w.work
@@ -95,18 +90,26 @@ goes_next w v queues waiting at op ops q k e same =
     ap (λ b. b && host_allows (batch_at (on_queue at (labels_of w)) (length (performed at w.work))) w.work) (sym (awaits_taken w v queues waiting at.device op q k same))
     ∙ ap (λ b. await_allows (taken_labels v) v.work at.device op && b) (ap (λ l. host_allows l w.work) batch ∙ ap (host_allows (last_of lane.taken)) (sym same))
 
+-- The work side performs it at the same time: as it uses live blocks, it is never held back for want of one.
+can_next : (w : State) (v : WorkView) (queues : List QueueView) (waiting : ℕ) (at : QueueAt) (op : OpLabel) (ops : List OpLabel) → IsSeated w.config.devices v queues at → IsAccelerator (with_taken w v) v queues waiting → KeepsWork v → v.work ≡ w.work
+    → (lane_at v at).left ≡ op ∷ ops → can_perform (labels_of w) w.work at op ≡ can_go v at (op ∷ ops)
+can_next w v queues waiting at op ops s a k same e =
+    let next = lane_is_rest (with_taken w v) v queues at (queue_in queues at) s (a.parts.each at) k.order same ∙ e in
+    let uses : UsesLive v.arrays op (device_ops at.device v.work) = rw (a.opening, same) (next_uses_live (with_taken w v) at op ops a.legal next) in
+    goes_next (with_taken w v) v queues waiting at op ops a.parts k.order e same ∙ sym (can_go_on v.arrays v at op ops k.memory k.kept.live_blocks uses)
+
 -- as many batches are taken where one more operation is performed
 taken_stays : (v v' : WorkView) (queues : List QueueView) (w : State) (at : QueueAt) (op : OpLabel) (ops : List OpLabel) → IsSeated w.config.devices v queues at → HasPerformed v v' at op ops → taken_counts v' ≡ taken_counts v
 taken_stays v v' queues w at op ops s h = ap (λ lanes. taken_counts (record v { lanes = lanes })) h.lanes ∙ count_kept v.lanes at (lane_with_left (lane_at v at) ops) s.queue s.lane refl
 
-pub performs_did : (w : State) (v v' : WorkView) (queues : List QueueView) (waiting : ℕ) (at : QueueAt) → IsSeated w.config.devices v queues at → IsAccelerator (with_taken w v) v queues waiting → KeepsOrder v → v.work ≡ w.work
+pub performs_did : (w : State) (v v' : WorkView) (queues : List QueueView) (waiting : ℕ) (at : QueueAt) → IsSeated w.config.devices v queues at → IsAccelerator (with_taken w v) v queues waiting → KeepsWork v → v.work ≡ w.work
     → is_there w at ≡ true → Advanced v v' at → step false (with_taken w v) (event.Perform at) ≡ did (with_work (with_taken w v') v')
 performs_did w v v' queues waiting at s a k same there d =
-    let next = lane_is_rest (with_taken w v) v queues at (queue_in queues at) s (a.parts.each at) k same ∙ d.left in
-    let allowed = goes_next (with_taken w v) v queues waiting at d.op d.ops a.parts k d.left same ∙ d.goes in
+    let next = lane_is_rest (with_taken w v) v queues at (queue_in queues at) s (a.parts.each at) k.order same ∙ d.left in
+    let allowed = can_next w v queues waiting at d.op d.ops s a k same d.left ∙ d.can in
     rw (there, next, allowed, taken_stays v v' queues w at d.op d.ops s d.performed, d.performed.work, same) refl
 
-pub performed_more : (w : State) (v v' : WorkView) (queues : List QueueView) (waiting : ℕ) (at : QueueAt) → IsSeated w.config.devices v queues at → IsAccelerator (with_taken w v) v queues waiting → KeepsOrder v → v.work ≡ w.work → Advanced v v' at
+pub performed_more : (w : State) (v v' : WorkView) (queues : List QueueView) (waiting : ℕ) (at : QueueAt) → IsSeated w.config.devices v queues at → IsAccelerator (with_taken w v) v queues waiting → KeepsWork v → v.work ≡ w.work → Advanced v v' at
     → IsAccelerator (with_work (with_taken w v') v') v' (queues_with queues at (record (queue_in queues at) { waiting = (queue_in queues at).waiting - 1 })) (waiting - 1)
 performed_more w v v' queues waiting at s a k same d =
     let w0 = with_taken w v in
@@ -115,8 +118,8 @@ performed_more w v v' queues waiting at s a k same d =
     let new : QueueView = record queue { waiting = queue.waiting - 1 } in
     let lane = lane_at v at in
     let h = q.each at in
-    let next = lane_is_rest w0 v queues at queue s h k same ∙ d.left in
-    let allowed = goes_next w0 v queues waiting at d.op d.ops q k d.left same ∙ d.goes in
+    let next = lane_is_rest w0 v queues at queue s h k.order same ∙ d.left in
+    let allowed = can_next w v queues waiting at d.op d.ops s a k same d.left ∙ d.can in
     let left : length lane.left ≡ 1 + length d.ops = omega (arith, ap length d.left) in
     let waits : 1 ≤ queue.waiting = omega (arith, h.counted, left) in
     let all : queue.waiting ≤ waiting = omega (arith, waiting_low queues at s.queue s.held, q.all_waiting) in
@@ -144,37 +147,37 @@ performed_more w v v' queues waiting at s a k same d =
         log_room = omega (arith, q.log_room, d.performed.room, waits, all);
         block_room = λ n low. (let rows = length_rows v v' at d.op d.ops n d.performed in let room = d.performed.memory.room n in omega (arith, q.block_room n low, room, rows, makes_one d.op, waits, all));
       };
-      memory = (let m = remembers_performed w0 v v' at d.op d.ops a.memory d.performed in record { shows = m.shows; blocks = m.blocks; lengths = m.lengths });
+      opening = d.performed.opening ∙ a.opening;
     })
 
 -- What a call to perform did, where it performed none.
 pub record Waited (v v' : WorkView) (at : QueueAt) : Type 0 where
   pub same : v' ≡ v
-  pub waits : (op : OpLabel) (ops : List OpLabel) → (lane_at v at).left ≡ op ∷ ops → goes_on v at (op ∷ ops) ≡ false
+  pub waits : (op : OpLabel) (ops : List OpLabel) → (lane_at v at).left ≡ op ∷ ops → can_go v at (op ∷ ops) ≡ false
 
 pub has_waited : (v v' : WorkView) (at : QueueAt) → Performs v at done.Idle v' → Waited v v' at
 has_waited v v' at h = by_left (lane_at v at).left refl h
   where
-    by_test : (op : OpLabel) (ops : List OpLabel) (b : Bool) → (lane_at v at).left ≡ op ∷ ops → goes_on v at (op ∷ ops) ≡ b → MatchBool b ((done.Idle ≡ done.Op) × HasPerformed v v' at op ops) ((done.Idle ≡ done.Idle) × (v' ≡ v)) → Waited v v' at
+    by_test : (op : OpLabel) (ops : List OpLabel) (b : Bool) → (lane_at v at).left ≡ op ∷ ops → can_go v at (op ∷ ops) ≡ b → MatchBool b ((done.Idle ≡ done.Op) × HasPerformed v v' at op ops) ((done.Idle ≡ done.Idle) × (v' ≡ v)) → Waited v v' at
     by_test op ops true e f g = absurd (let no : done.Idle ≡ done.Op = g.0 in cc)
     by_test op ops false e f g = record {
       same = g.1;
-      waits = λ x xs i. (let all : op ∷ ops ≡ x ∷ xs = sym e ∙ i in ap (goes_on v at) (sym all) ∙ f);
+      waits = λ x xs i. (let all : op ∷ ops ≡ x ∷ xs = sym e ∙ i in ap (can_go v at) (sym all) ∙ f);
     }
 
     by_left : (left : List OpLabel) → (lane_at v at).left ≡ left → PerformsNext v at left done.Idle v' → Waited v v' at
     by_left [] e g = record { same = g.1; waits = λ op ops f. (let no : [] ≡ op ∷ ops = sym e ∙ f in cc) }
-    by_left (op ∷ ops) e g = by_test op ops (goes_on v at (op ∷ ops)) e refl g
+    by_left (op ∷ ops) e g = by_test op ops (can_go v at (op ∷ ops)) e refl g
 
-pub performs_idle : (w : State) (v v' : WorkView) (queues : List QueueView) (waiting : ℕ) (at : QueueAt) → IsSeated w.config.devices v queues at → IsAccelerator (with_taken w v) v queues waiting → KeepsOrder v → v.work ≡ w.work
+pub performs_idle : (w : State) (v v' : WorkView) (queues : List QueueView) (waiting : ℕ) (at : QueueAt) → IsSeated w.config.devices v queues at → IsAccelerator (with_taken w v) v queues waiting → KeepsWork v → v.work ≡ w.work
     → is_there w at ≡ true → Waited v v' at → step false (with_taken w v) (event.Perform at) ≡ idle (with_taken w v)
 performs_idle w v v' queues waiting at s a k same there none =
-    rw (there, lane_is_rest (with_taken w v) v queues at (queue_in queues at) s (a.parts.each at) k same) (by_left (lane_at v at).left refl)
+    rw (there, lane_is_rest (with_taken w v) v queues at (queue_in queues at) s (a.parts.each at) k.order same) (by_left (lane_at v at).left refl)
   where
     by_left : (left : List OpLabel) → (lane_at v at).left ≡ left → perform_step (with_taken w v) (labels_of w) at left ≡ idle (with_taken w v)
     by_left [] e = refl
     by_left (op ∷ ops) e =
-        let allowed = goes_next (with_taken w v) v queues waiting at op ops a.parts k e same ∙ none.waits op ops e in
+        let allowed = can_next w v queues waiting at op ops s a k same e ∙ none.waits op ops e in
         rw allowed refl
 
 -- a queue that isn't there performs none

@@ -1,6 +1,6 @@
 //! The place, the queues and the work side as one: the machine without its hosts, and their engine.
 
-ghost use Rattle.std.specs.Prelude.{reverse, ◌≡◌, ◌+◌, ◌<◌, ◌≤◌, ℕ, [], length, IfOk, IfErr, OnOk, OnErr, OnSome, true, false, slice_get, IsTrue, ◌^◌, Ok};
+ghost use Rattle.std.specs.Prelude.{reverse, ◌≡◌, ◌+◌, ◌<◌, ◌≤◌, ℕ, [], length, IfOk, IfErr, IfSome, OnOk, OnErr, OnSome, true, false, is_some, slice_get, IsTrue, ◌^◌, Ok};
 ghost use Rattle.acc_base.specs.declared.config.TheConstants.{MAX_HOSTS};
 ghost use Rattle.acc_host.specs.Engines.{Wait, Record, MayRecord, without_item};
 ghost use Rattle.acc_core.specs.inner.Answers.{Makes, Places};
@@ -8,10 +8,13 @@ ghost use Rattle.acc_core.specs.Enabled.{is_enabled, is_left, SomeEnabled};
 ghost use Rattle.acc_core.specs.Legality.{AllRise};
 ghost use Rattle.acc_core.specs.inner.Ties.{has_cells, HasRoom};
 ghost use Rattle.acc_place.specs.Histories.{is_closed, IsQueue};
+ghost use Rattle.acc_base.specs.Configurations.{has_range};
 ghost use Rattle.acc_base.specs.Queues.{queue_count};
-ghost use Rattle.acc_memory.specs.Memories.{rows_on, room_on};
+ghost use Rattle.acc_memory.specs.Memories.{find_block, has_cell, rows_on, room_on};
+ghost use Rattle.acc_memory.specs.Values.{Block_cell, Host_cell};
 ghost use Rattle.acc_work.specs.Works.{HasMadeRoom, HasQueue, lane_at};
-ghost use Rattle.acc_work.specs.Logs.{all_done, performed};
+ghost use Rattle.acc_work.specs.Logs.{all_done, performed, value};
+ghost use Rattle.acc_work.specs.Remembering.{blocks_in};
 ghost use Rattle.acc_core.specs.inner.Closing.{closing_begun, closes_one};
 ghost use Rattle.acc_core.specs.Machine.{state_at_first, step, standing_of, labels_of};
 ghost use Rattle.std.specs.Option.{option_map};
@@ -19,7 +22,7 @@ ghost use Rattle.acc_present.specs.Presences.{presences, holder};
 ghost use Rattle.acc_present.specs.Tables.{entry_presence};
 
 use crate::queue::{Queue, queues_of};
-use acc_base::{Config, DeviceId, Fault, HostId, QUEUES, QueueAt, QueueCounts, Range};
+use acc_base::{BlockId, Config, DeviceId, Fault, HostId, QUEUES, QueueAt, QueueCounts, Range};
 use acc_host::{Engine, Reply};
 use acc_place::{Directive, Place, PlaceEntry, Placed};
 use acc_present::Entry;
@@ -124,10 +127,10 @@ impl Accelerator {
         ensures refused { OnErr result (self.new ≡ self.old) }
         ensures back { IfErr result (λ r. r.0 ≡ item) }
     {
-        self.work.keeps();
         if let Err(fault) = self.work.spare_item(self.waiting) {
             return Err((item, fault));
         }
+        self.work.keeps();
         let config = self.place.config();
         if !has_cells(config, item.label()) {
             return Err((item, Fault::BadRange));
@@ -169,6 +172,22 @@ impl Accelerator {
         ensures next { OnSome result (index + 1 < 2 ^ 64) }
     {
         self.place.nth(device, index)
+    }
+
+    /// What a cell of a host array holds, if the array has it.
+    pub(crate) fn host_cell(&self, array: u8, cell: u32) -> Option<i64>
+        ensures there { is_some result ≡ has_range self.now.config.arrays (record { array = array; lo = cell; len = 1 }) }
+        ensures value { IfSome result (λ x. x ≡ value self.now.config.arrays self.now.work (Host_cell array cell)) }
+    {
+        self.work.host_cell(array, cell)
+    }
+
+    /// What a cell of a block holds, if the block is there on the device and has the cell.
+    pub(crate) fn block_cell(&self, device: DeviceId, block: BlockId, cell: u32) -> Option<i64>
+        ensures there { is_some result ≡ has_cell (find_block (blocks_in device self.now.work) block) cell }
+        ensures value { IfSome result (λ x. x ≡ value self.now.config.arrays self.now.work (Block_cell device block cell)) }
+    {
+        self.work.block_cell(device, block, cell)
     }
 
     pub(crate) fn config(&self) -> &Config

@@ -1,6 +1,6 @@
 //! The hosts, and the accelerator that they share.
 
-ghost use Rattle.std.specs.Prelude.{List, ◌≡◌, ◌+◌, ◌<◌, ◌≤◌, length, map, All, reverse, slice_get, IfOk, IfErr, IsTrue, OnErr, OnSome, true, false, ◌^◌};
+ghost use Rattle.std.specs.Prelude.{List, ◌≡◌, ◌+◌, ◌<◌, ◌≤◌, length, map, All, reverse, is_some, slice_get, IfOk, IfErr, IfSome, IsTrue, OnErr, OnSome, true, false, ◌^◌};
 ghost use Rattle.std.specs.Option.{option_map};
 ghost use Rattle.acc_present.specs.Presences.{presences, holder};
 ghost use Rattle.acc_present.specs.Tables.{entry_presence};
@@ -10,11 +10,15 @@ ghost use Rattle.acc_core.specs.Legality.{AllFollow, Legal};
 ghost use Rattle.acc_core.specs.Machine.{Step, standing_of};
 ghost use Rattle.acc_host.specs.declared.state.Reply.{Reply};
 ghost use Rattle.acc_host.specs.Hosts.{ready, state_of};
-ghost use Rattle.acc_work.specs.Logs.{performed};
+ghost use Rattle.acc_base.specs.Configurations.{has_range};
+ghost use Rattle.acc_memory.specs.Memories.{find_block, has_cell};
+ghost use Rattle.acc_memory.specs.Values.{Block_cell, Host_cell};
+ghost use Rattle.acc_work.specs.Logs.{performed, value};
+ghost use Rattle.acc_work.specs.Remembering.{blocks_in};
 ghost use Rattle.acc_core.specs.Worlds.{OnePerHost, first_state, Ran};
 
 use crate::accelerator::Accelerator;
-use acc_base::{Config, DeviceId, Fault, HostId, QueueAt, Range};
+use acc_base::{BlockId, Config, DeviceId, Fault, HostId, QueueAt, Range};
 use acc_host::{Event, Host, HostProgram, HostState, Outcome, Reply, hosts_follow};
 use acc_present::Entry;
 use acc_work::WorkEntry;
@@ -123,6 +127,23 @@ impl World {
         for event in events {
             let _ = self.step(*event);
         }
+    }
+
+    /// What a cell of a host array holds, if the array has it: what the log last wrote there, or its initial value.
+    pub fn host_cell(&self, array: u8, cell: u32) -> Option<i64>
+        ensures there { is_some result ≡ has_range self.now.config.arrays (record { array = array; lo = cell; len = 1 }) }
+        ensures value { IfSome result (λ x. x ≡ value self.now.config.arrays self.now.work (Host_cell array cell)) }
+    {
+        self.accelerator.host_cell(array, cell)
+    }
+
+    /// What a cell of a block holds, if the block is there on the device and has the cell: what the log last wrote there. The cell is
+    /// named by its number in the host array.
+    pub fn block_cell(&self, device: DeviceId, block: BlockId, cell: u32) -> Option<i64>
+        ensures there { is_some result ≡ has_cell (find_block (blocks_in device self.now.work) block) cell }
+        ensures value { IfSome result (λ x. x ≡ value self.now.config.arrays self.now.work (Block_cell device block cell)) }
+    {
+        self.accelerator.block_cell(device, block, cell)
     }
 
     /// The structured and the dynamic counter of the present range that contains a range with a cell, on a device that

@@ -3,7 +3,7 @@ use Rattle.std.specs.Prelude.{◌≡◌, ℕ, ◌+◌, ◌-◌, ◌<◌, Bool, t
 use Rattle.std.specs.List.{list_all, position_or_len}
 use Rattle.acc_base.specs.declared.range.Range.{Range}
 use Rattle.acc_base.specs.Configurations.{lengths_of}
-use Rattle.acc_base.specs.Ranges.{Includes}
+use Rattle.acc_base.specs.Ranges.{Includes, range_contains}
 use Rattle.acc_batch.specs.Lives.{Made}
 use Rattle.acc_batch.specs.declared.label.OpLabel.{OpLabel}
 use Rattle.acc_batch.specs.declared.label.OpLabel.TheVariants.{Make, CopyIn, CopyOut, Release, Run, Await, Close}
@@ -101,6 +101,11 @@ blocks_after Close bs = bs
 abbrev pub find_block : List Made → ℕ → Option Made
 find_block bs block = find (λ k. k.block == block) bs
 
+-- a block is there and has the cell
+abbrev pub has_cell : Option Made → ℕ → Bool
+has_cell None cell = false
+has_cell (Some b) cell = is_in b.range cell
+
 -- the index of the first row whose number is not smaller
 abbrev pub index_of : List Row → ℕ → ℕ
 index_of rows block = position_or_len (λ row. nat_le block row.block) rows
@@ -158,6 +163,21 @@ MayPerform m device (Release b) = is_some (find_block (held_blocks m device) b) 
 MayPerform m device (Run k uses) = HasRanges (held_blocks m device) uses
 MayPerform m device (Await q n) = Unit {0}
 MayPerform m device Close = Unit {0}
+
+abbrev pub is_within : Option Made → Range → Bool
+is_within None range = false
+is_within (Some b) range = range_contains b.range range
+
+-- The blocks are as an operation needs them: what it makes isn't there, and what it copies, releases or uses is, with the range
+-- among its own cells.
+abbrev pub finds_blocks : List Made → OpLabel → Bool
+finds_blocks bs (Make b r) = not (is_some (find_block bs b))
+finds_blocks bs (CopyIn b r) = is_within (find_block bs b) r
+finds_blocks bs (CopyOut b r) = is_within (find_block bs b) r
+finds_blocks bs (Release b) = is_some (find_block bs b)
+finds_blocks bs (Run k uses) = list_all (λ (u : Use). is_within (find_block bs u.0) u.1) uses
+finds_blocks bs (Await q n) = true
+finds_blocks bs Close = true
 
 -- So an operation may be: a block that is made has its cells, all zero, and a loop has its cells.
 abbrev pub IsAllowed : MemoryView → ℕ → Op → Type 0

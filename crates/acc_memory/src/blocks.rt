@@ -1,12 +1,12 @@
 //! The blocks of one device by number, found by a binary search.
 
-ghost use Rattle.std.specs.Prelude.{◌≡◌, ◌+◌, ◌-◌, ◌<◌, ◌≤◌, ℕ, ℤ, pos, [], length, map, replicate, slice_get, is_some, true, None, IfErr, OnOk, OnErr};
+ghost use Rattle.std.specs.Prelude.{◌≡◌, ◌+◌, ◌-◌, ◌<◌, ◌≤◌, ℕ, ℤ, pos, [], length, map, replicate, slice_get, is_some, true, None, Some, IfSome, IfErr, OnOk, OnErr};
 ghost use Rattle.std.specs.Option.{option_map};
 ghost use Rattle.acc_kernel.specs.Jobs.{AreDistinct, HoldReached};
 ghost use Rattle.acc_memory.specs.Blocks.{row_of};
-ghost use Rattle.acc_memory.specs.Memories.{ShowsRows, ShowsArray, HasRange, HasRanges, IsCopy, made_of, blocks_after, find_row, find_block, index_of, is_ascending, is_whole};
+ghost use Rattle.acc_memory.specs.Memories.{ShowsRows, ShowsArray, HasRange, HasRanges, IsCopy, made_of, blocks_after, find_row, find_block, index_of, has_cell, is_ascending, is_whole, row_cell, row_has};
 ghost use Rattle.acc_memory.specs.inner.Windows.{AreIndices};
-ghost use Rattle.acc_memory.specs.Values.{Cell, after_op};
+ghost use Rattle.acc_memory.specs.Values.{Cell, after_op, is_in};
 
 use crate::window::run_over;
 use acc_base::{BlockId, Fault, Range};
@@ -66,7 +66,8 @@ impl Blocks {
 
     /// The block of this number, if it is there.
     pub(crate) fn get(&self, block: BlockId) -> Option<&Block>
-        ensures { option_map (λ b. row_of b.now) result ≡ find_row self.now.rows block }
+        ensures row { option_map (λ b. row_of b.now) result ≡ find_row self.now.rows block }
+        ensures whole { IfSome result (λ b. is_whole (row_of b.now) ≡ true) }
     {
         let index = index_of(self.blocks.as_slice(), block);
         match self.nth(index) {
@@ -78,6 +79,18 @@ impl Blocks {
                     None
                 }
             }
+        }
+    }
+
+    /// What a cell of a block holds, if the block is there and has the cell.
+    pub(crate) fn cell(&self, block: BlockId, cell: u32) -> Option<i64>
+        ensures there { is_some result ≡ has_cell (find_block (map made_of self.now.rows) block) cell }
+        ensures held { is_some result ≡ row_has (find_row self.now.rows block) cell }
+        ensures value { IfSome result (λ x. x ≡ row_cell (find_row self.now.rows block) cell) }
+    {
+        match self.get(block) {
+            None => None,
+            Some(held) => cell_in(held, cell),
         }
     }
 
@@ -156,6 +169,20 @@ impl Blocks {
     {
         let indices = indices_of(self.blocks.as_slice(), uses);
         run_over(self.blocks.as_mut_slice(), indices, kernel);
+    }
+}
+
+// What a cell of a block holds, if the block has it.
+fn cell_in(block: &Block, cell: u32) -> Option<i64>
+    requires { is_whole (row_of block.now) ≡ true }
+    ensures there { is_some result ≡ is_in block.now.range cell }
+    ensures value { IfSome result (λ x. x ≡ row_cell (Some (row_of block.now)) cell) }
+{
+    let index = cell.checked_sub(block.range.lo)? as usize;
+    if index < block.cells.len() {
+        Some(block.cells.get(index))
+    } else {
+        None
     }
 }
 

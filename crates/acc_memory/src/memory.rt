@@ -1,12 +1,14 @@
 //! The memory: performs an operation on a device, reads and writes host arrays, shows a block.
 
-ghost use Rattle.std.specs.Prelude.{◌≡◌, ◌+◌, ◌<◌, ◌≤◌, ℕ, ℤ, pos, [], length, map, replicate, slice_get, true, Some, IfOk, IfErr, OnOk, OnErr};
+ghost use Rattle.std.specs.Prelude.{◌≡◌, ◌+◌, ◌<◌, ◌≤◌, ℕ, ℤ, pos, [], length, map, replicate, slice_get, is_some, true, Some, IfOk, IfErr, IfSome, OnOk, OnErr};
 ghost use Rattle.std.specs.Option.{option_map};
 ghost use Rattle.acc_batch.specs.Ops.{op_label, HasItsCells};
 ghost use Rattle.acc_memory.specs.Blocks.{row_with};
-ghost use Rattle.acc_memory.specs.Memories.{Shows, MayPerform, IsAllowed, PerformsOn, rows_in, room_in, rows_on, room_on, cell_of, find_row, has_array};
-ghost use Rattle.acc_base.specs.Configurations.{lengths_of};
-ghost use Rattle.acc_memory.specs.Values.{Cell, Host_cell, after_write, values_of};
+ghost use Rattle.acc_memory.specs.Memories.{Shows, MayPerform, IsAllowed, PerformsOn, rows_in, room_in, rows_on, room_on, cell_of, has_cell, is_held, find_row, find_block, has_array, held_blocks, is_within, finds_blocks};
+ghost use Rattle.acc_kernel.specs.Jobs.{Use};
+ghost use Rattle.std.specs.List.{list_all};
+ghost use Rattle.acc_base.specs.Configurations.{lengths_of, has_range};
+ghost use Rattle.acc_memory.specs.Values.{Cell, Block_cell, Host_cell, after_write, values_of};
 
 use crate::blocks::Blocks;
 use acc_base::{BlockId, Config, DeviceId, Fault, Range};
@@ -150,6 +152,78 @@ impl Memory {
             Some(held) => Some((held.range, &held.cells)),
             None => None,
         }
+    }
+
+    /// What a cell of a block holds, if the block is there on the device and has the cell. It is named by its number in the host array.
+    pub fn block_cell(&self, device: DeviceId, block: BlockId, cell: u32) -> Option<i64>
+        ensures there { is_some result ≡ has_cell (find_block (held_blocks self.now device) block) cell }
+        ensures held { is_some result ≡ is_held self.now (Block_cell device block cell) }
+        ensures value { IfSome result (λ x. x ≡ cell_of self.now (Block_cell device block cell)) }
+    {
+        match self.devices.get(usize::from(device.number())) {
+            None => None,
+            Some(blocks) => blocks.cell(block, cell),
+        }
+    }
+
+    /// Whether a range has a cell, and lies in its host array.
+    pub fn has_range(&self, range: Range) -> bool
+        ensures { result ≡ has_range self.now.arrays range }
+    {
+        if range.len == 0 {
+            return false;
+        }
+        match self.arrays.get(usize::from(range.array)) {
+            None => false,
+            Some(cells) => range.end() <= cells.len() as u64,
+        }
+    }
+
+    /// Whether the blocks of a device, one that `Config::has_device` knows, are as an operation needs them.
+    pub fn finds_blocks(&self, device: DeviceId, op: &Op) -> bool
+        requires { device < length self.now.devices }
+        ensures { result ≡ finds_blocks (held_blocks self.now device) (op_label op.now) }
+    {
+        match op {
+            Op::Make { block } => self.range_of(device, block.block).is_none(),
+            Op::CopyIn { block, range } | Op::CopyOut { block, range } => {
+                self.is_within(device, *block, range)
+            }
+            Op::Release { block } => self.range_of(device, *block).is_some(),
+            Op::Run { uses, .. } => self.all_within(device, uses.get().as_slice()),
+            Op::Await { .. } | Op::Close => true,
+        }
+    }
+
+    // The range of a block, if it is there.
+    fn range_of(&self, device: DeviceId, block: BlockId) -> Option<Range>
+        requires { device < length self.now.devices }
+        ensures { result ≡ option_map (λ b. b.range) (find_block (held_blocks self.now device) block) }
+    {
+        match self.block(device, block) {
+            None => None,
+            Some((range, _)) => Some(range),
+        }
+    }
+
+    // Whether a block is there, and has each cell of a range.
+    fn is_within(&self, device: DeviceId, block: BlockId, range: &Range) -> bool
+        requires { device < length self.now.devices }
+        ensures { result ≡ is_within (find_block (held_blocks self.now device) block) range.now }
+    {
+        match self.range_of(device, block) {
+            None => false,
+            Some(whole) => whole.contains(range),
+        }
+    }
+
+    // So of all that a loop uses.
+    fn all_within(&self, device: DeviceId, uses: &[(BlockId, Range)]) -> bool
+        requires { device < length self.now.devices }
+        ensures { result ≡ list_all (λ (u : Use). is_within (find_block (held_blocks self.now device) u.0) u.1) uses.now }
+    {
+        uses.iter()
+            .all(|(block, range)| self.is_within(device, *block, range))
     }
 
     fn make(&mut self, device: DeviceId, block: Block)

@@ -30,6 +30,7 @@ pub room_made : (w : WorkView) (memory : MemoryView) (room : ℕ) (at : QueueAt)
     → HasMadeRoom w (record w { memory = memory; room = room; lanes = lanes_with w.lanes at lane })
 room_made w memory room at lane low there more wider arrays devices rows block_room = record {
   work = refl;
+  opening = refl;
   arrays = arrays;
   devices = devices;
   rows = rows;

@@ -107,6 +107,7 @@ length_from at lo (suc len) = ap suc (length_from at (lo + 1) len)
 -- an item that writes nothing leaves the memory as it is
 pub told_quiet : (w : WorkView) (host : ℕ) (what : Told) → ((was : Cell → ℤ) → after_item what was ≡ was) → HasTold w (record w { work = entry.Item host what ∷ w.work }) host what
 told_quiet w host what quiet = record {
+  opening = refl;
   shows = λ was h. subst (Shows w.memory) (sym (quiet was)) h;
   devices = refl;
   lengths = refl;

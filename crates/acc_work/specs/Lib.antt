@@ -1,9 +1,12 @@
 pub mod Counted
 pub mod Enabled
 pub mod Items
+pub mod Kept
 pub mod Lanes
 pub mod Lives
 pub mod Logs
 pub mod Orders
+pub mod Remembering
 pub mod Works
+pub mod inner
 pub mod worked

@@ -1,14 +1,18 @@
 -- Blocks that are live where a log's operations use them.
-use Rattle.std.specs.Prelude.{◌≡◌, ℤ, List, [], ◌∷◌, ◌++◌}
+use Rattle.std.specs.Prelude.{◌≡◌, ℕ, Bool, ℤ, List, [], ◌∷◌, ◌++◌, map}
 use Rattle.acc_base.specs.declared.ids.QueueAt.{QueueAt}
 use Rattle.acc_batch.specs.declared.label.Label.{Label}
 use Rattle.acc_batch.specs.declared.label.OpLabel.{OpLabel}
-use Rattle.acc_batch.specs.Labels.{on_queue, ops_of}
-use Rattle.acc_batch.specs.Lives.{UsesLive, IsSound}
+use Rattle.acc_batch.specs.Labels.{has_number, on_queue, ops_of}
+use Rattle.acc_batch.specs.Lives.{Made, blocks_made, UsesLive, IsSound}
 use Rattle.acc_work.specs.declared.log.WorkEntry.{WorkEntry}
 use Rattle.acc_work.specs.declared.log.WorkEntry.TheVariants as entry
 use Rattle.acc_work.specs.Logs.{performed, device_ops}
 use Rattle.acc_work.specs.Orders.{InOrder, AllAwaited}
+
+-- one of these operations made the block
+abbrev pub was_made : List OpLabel → ℕ → Bool
+was_made before block = has_number (map (λ (m : Made). m.block) (blocks_made before)) block
 
 abbrev pub AllLive : List (List ℤ) → List WorkEntry → Type 0
 AllLive arrays [] = Unit {0}

@@ -1,6 +1,6 @@
 -- What a work side shows: the memory, the log, and the lanes of the queues.
-use Rattle.std.specs.Prelude.{◌≡◌, ◌⊎◌, ℕ, ◌+◌, ◌*◌, ◌<◌, ◌≤◌, nat_le, Bool, true, false, ◌&&◌, not, IsTrue, MatchBool, List, [], ◌∷◌, ◌++◌, length, map, slice_index_or, Option, Some, None, ℤ, if◌then◌else◌}
-use Rattle.acc_base.specs.declared.config.TheConstants.{MAX_CELLS, MAX_HOSTS}
+use Rattle.std.specs.Prelude.{◌≡◌, ◌⊎◌, ℕ, ◌+◌, ◌*◌, ◌<◌, ◌≤◌, nat_le, Bool, true, false, ◌&&◌, not, IsTrue, MatchBool, List, [], ◌∷◌, ◌++◌, length, map, Option, Some, None, ℤ, if◌then◌else◌}
+use Rattle.acc_base.specs.declared.config.TheConstants.{MAX_CELLS}
 use Rattle.acc_base.specs.declared.fault.Fault.{Fault}
 use Rattle.acc_base.specs.declared.fault.Fault.TheVariants.{BadRange, TooMany, Memory}
 use Rattle.acc_base.specs.declared.ids.QueueAt.{QueueAt}
@@ -18,15 +18,20 @@ use Rattle.acc_work.specs.declared.log.WorkEntry.{WorkEntry}
 use Rattle.acc_work.specs.declared.log.WorkEntry.TheVariants as entry
 use Rattle.acc_work.specs.declared.work.Done.{Done}
 use Rattle.acc_work.specs.declared.work.Done.TheVariants as done
+use Rattle.acc_work.specs.Kept.{IsKept}
 use Rattle.acc_work.specs.Lanes.{LaneView, IsLane, lane_in, lanes_with, all_taken, lane_with_left, last_of}
-use Rattle.acc_work.specs.Logs.{performed, items_of, all_items, all_done, await_allows, host_allows, after_item}
-use Rattle.acc_memory.specs.Memories.{MemoryView, PerformsOn, Shows, rows_on, room_on, has_array, MayPerform}
-use Rattle.acc_base.specs.Configurations.{lengths_of}
+use Rattle.acc_work.specs.Lives.{was_made}
+use Rattle.acc_work.specs.Remembering.{Remembers}
+use Rattle.acc_work.specs.Logs.{performed, device_ops, all_items, all_done, await_allows, host_allows, after_item}
+use Rattle.acc_memory.specs.Memories.{MemoryView, PerformsOn, Shows, rows_on, room_on, has_array, held_blocks, finds_blocks}
+use Rattle.acc_base.specs.Configurations.{has_range, lengths_of}
+use Rattle.acc_batch.specs.declared.label.OpLabel.TheVariants.{Make}
 use Rattle.acc_memory.specs.Values.{Cell, values_of}
 
--- The memory; the log, the latest entry first, and how many entries there is room for; and the lanes, by device, then in queue
--- order.
+-- The host arrays with their opening values; the memory; the log, the latest entry first, and for how many entries room was made;
+-- and the lanes, by device, then in queue order.
 pub record WorkView : Type 0 where
+  pub arrays : List (List ℤ)
   pub memory : MemoryView
   pub work : List WorkEntry
   pub room : ℕ
@@ -47,24 +52,44 @@ taken_counts w = map (λ lane. length lane.taken) w.lanes
 abbrev pub HasQueue : WorkView → QueueAt → Type 0
 HasQueue w at = (at.device < length w.memory.devices) × (at.queue < QUEUES)
 
--- A queue's next operation is performed where there is one, what it awaits is performed, and the host of its batch has the items
+-- A queue's next operation goes on where there is one, what it awaits is performed, and the host of its batch has the items
 -- that stand before the batch.
 abbrev pub goes_on : WorkView → QueueAt → List OpLabel → Bool
 goes_on w at [] = false
 goes_on w at (op ∷ ops) = await_allows (taken_labels w) w.work at.device op && host_allows (last_of (lane_at w at).taken) w.work
 
--- The queue's next operation may be performed on its device, and there is room for it in the log.
+-- there is room on a device for the block that an operation makes
+abbrev pub HasRoomToMake : MemoryView → ℕ → OpLabel → Type 0
+HasRoomToMake m device (Make b r) = length (rows_on m device) < room_on m device
+HasRoomToMake m device op = Unit {0}
+
+-- There is room for a queue's next operation: in the log, and on its device.
 pub record MayFollow (w : WorkView) (at : QueueAt) (op : OpLabel) : Type 0 where
-  pub allowed : MayPerform w.memory at.device op
+  pub block : HasRoomToMake w.memory at.device op
   pub room : length w.work < w.room
 
 abbrev pub NextMayFollow : WorkView → QueueAt → List OpLabel → Type 0
 NextMayFollow w at [] = Unit {0}
 NextMayFollow w at (op ∷ ops) = MayFollow w at op
 
+-- a block that is made was never made before, and its range lies in its array
+abbrev pub is_new : WorkView → ℕ → OpLabel → Bool
+is_new w device (Make b r) = not (was_made (device_ops device w.work) b) && has_range w.memory.arrays r
+is_new w device op = true
+
+-- A queue's next operation uses live blocks.
+abbrev pub is_live : WorkView → QueueAt → List OpLabel → Bool
+is_live w at [] = false
+is_live w at (op ∷ ops) = finds_blocks (held_blocks w.memory at.device) op && is_new w at.device op
+
+-- A queue's next operation can be performed now: it goes on, and uses live blocks.
+abbrev pub can_go : WorkView → QueueAt → List OpLabel → Bool
+can_go w at ops = goes_on w at ops && is_live w at ops
+
 -- An operation of a queue was performed on its device, joined the log, and left the queue's lane, in which these are left. Every
 -- other lane is as it was.
 pub record HasPerformed (old new : WorkView) (at : QueueAt) (op : OpLabel) (ops : List OpLabel) : Type 0 where
+  pub opening : new.arrays ≡ old.arrays
   pub memory : PerformsOn at.device op old.memory new.memory
   pub work : new.work ≡ entry.Op at op ∷ old.work
   pub room : new.room ≡ old.room
@@ -74,14 +99,15 @@ pub record HasPerformed (old new : WorkView) (at : QueueAt) (op : OpLabel) (ops 
 abbrev pub PerformsNext : WorkView → QueueAt → List OpLabel → Done → WorkView → Type 0
 PerformsNext old at [] answer new = (answer ≡ done.Idle) × (new ≡ old)
 PerformsNext old at (op ∷ ops) answer new =
-    MatchBool (goes_on old at (op ∷ ops)) ((answer ≡ done.Op) × HasPerformed old new at op ops) ((answer ≡ done.Idle) × (new ≡ old))
+    MatchBool (can_go old at (op ∷ ops)) ((answer ≡ done.Op) × HasPerformed old new at op ops) ((answer ≡ done.Idle) × (new ≡ old))
 
--- What a call to perform does: the next operation of the queue's lane, if it goes on.
+-- What a call to perform does: the next operation of the queue's lane, if it can be performed.
 abbrev pub Performs : WorkView → QueueAt → Done → WorkView → Type 0
 Performs old at answer new = PerformsNext old at (lane_at old at).left answer new
 
 -- An item of a host joined the log: the memory shows what it wrote, if it did.
 pub record HasTold (old new : WorkView) (host : ℕ) (what : Told) : Type 0 where
+  pub opening : new.arrays ≡ old.arrays
   pub shows : (was : Cell → ℤ) → Shows old.memory was → Shows new.memory (after_item what was)
   pub devices : new.memory.devices ≡ old.memory.devices
   pub lengths : lengths_of new.memory.arrays ≡ lengths_of old.memory.arrays
@@ -124,6 +150,7 @@ pub record IsRoomier (old new : LaneView) : Type 0 where
 -- Room was made, and nothing else changed.
 pub record HasMadeRoom (old new : WorkView) : Type 0 where
   pub work : new.work ≡ old.work
+  pub opening : new.arrays ≡ old.arrays
   pub arrays : new.memory.arrays ≡ old.memory.arrays
   pub devices : length new.memory.devices ≡ length old.memory.devices
   pub rows : (d : ℕ) → rows_on new.memory d ≡ rows_on old.memory d
@@ -132,10 +159,6 @@ pub record HasMadeRoom (old new : WorkView) : Type 0 where
   pub lanes : (at : QueueAt) → IsRoomier (lane_at old at) (lane_at new at)
   pub room : old.room ≤ new.room
   pub block_room : (d : ℕ) → room_on old.memory d ≤ room_on new.memory d
-
--- the counters of the hosts' items
-abbrev pub AreCounted : List ℕ → List WorkEntry → Type 0
-AreCounted items work = (h : ℕ) → h < length items → slice_index_or items h 0 ≡ items_of h work
 
 -- What a queue has performed, and what is left in its lane, are the operations of the batches that it took, in order and once.
 pub record IsInOrder (work : List WorkEntry) (at : QueueAt) (lane : LaneView) : Type 0 where
@@ -149,13 +172,14 @@ pub record KeepsOrder (w : WorkView) : Type 0 where
   pub taken : (at : QueueAt) → on_queue at (taken_labels w) ≡ (lane_at w at).taken
   pub count : length w.lanes ≡ length w.memory.devices * QUEUES
 
--- What every work side keeps: running counts of items, a lane for each queue of each device, and the order.
-pub record IsWork (w : WorkView) (items : List ℕ) (all : ℕ) : Type 0 where
-  pub counters : length items ≡ MAX_HOSTS
-  pub counted : AreCounted items w.work
-  pub all_counted : all ≡ all_items w.work
+-- What every work side keeps: a lane for each queue of each device, and the order; its log keeps what every log does against the
+-- batches that were taken, and tells of the devices that are there; and the memory shows it.
+pub record IsWork (w : WorkView) (log_devices : ℕ) : Type 0 where
   pub order : (at : QueueAt) → IsInOrder w.work at (lane_at w at)
   pub count : length w.lanes ≡ length w.memory.devices * QUEUES
+  pub kept : IsKept w.arrays (taken_labels w) w.work
+  pub memory : Remembers w.arrays w.work w.memory
+  pub devices : log_devices ≡ length w.memory.devices
 
 -- the fault of an item
 abbrev pub item_fault : Bool → List WorkEntry → Bool → Option Fault

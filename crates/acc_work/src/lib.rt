@@ -6,6 +6,7 @@ mod item;
 mod lane;
 mod laws;
 mod log;
+mod makes;
 mod work;
 
 pub use counts::Counts;

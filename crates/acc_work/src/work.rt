@@ -1,33 +1,37 @@
-//! The memory, the log, a lane for each queue of each device, and the hosts' running counts of items.
+//! The memory, the log, and a lane for each queue of each device.
 
-ghost use Rattle.std.specs.Prelude.{ℕ, ℤ, ◌≡◌, ◌+◌, ◌*◌, ◌<◌, ◌≤◌, ◌==◌, nat_le, All, List, [], ◌∷◌, length, vec_capacity, slice_get, IfOk, IfErr, IfSome, OnSome, IfNone, OnOk, OnErr, IsTrue, true, Bool, Some, reverse, ◌^◌};
+ghost use Rattle.std.specs.Prelude.{ℕ, ℤ, ◌≡◌, ◌+◌, ◌*◌, ◌<◌, ◌≤◌, ◌==◌, nat_le, All, [], ◌∷◌, length, vec_capacity, is_some, IfOk, IfErr, IfSome, OnSome, IfNone, OnOk, OnErr, IsTrue, true, Bool, Some, reverse, ◌^◌};
 ghost use Rattle.std.specs.Option.{option_map};
 ghost use Rattle.acc_base.specs.Queues.{seat};
+ghost use Rattle.acc_base.specs.Configurations.{has_range};
 ghost use Rattle.acc_base.specs.declared.config.TheConstants.{MAX_HOSTS};
 ghost use Rattle.acc_base.specs.declared.ids.QueueAt.{QueueAt};
 ghost use Rattle.acc_base.specs.declared.ids.TheConstants.{QUEUES};
 ghost use Rattle.acc_work.specs.declared.log.TheConstants.{MAX_HOST_ITEMS};
 ghost use Rattle.acc_work.specs.declared.log.Told.{Told};
 ghost use Rattle.acc_work.specs.Items.{shown_by};
+ghost use Rattle.acc_work.specs.Kept.{IsKept};
 ghost use Rattle.acc_work.specs.Lanes.{IsFresh, lane_with_batch, last_of, nth_taken, lanes_with, no_lane};
-ghost use Rattle.acc_work.specs.Logs.{performed, items_of, all_items, batches_done, all_done, await_allows, host_allows};
+ghost use Rattle.acc_work.specs.Logs.{items_of, all_items, batches_done, all_done, await_allows, host_allows, after_item, value};
+ghost use Rattle.acc_work.specs.Orders.{ShowsTruth};
+ghost use Rattle.acc_work.specs.Remembering.{Remembers, blocks_in};
 ghost use Rattle.acc_batch.specs.Labels.{on_queue};
 ghost use Rattle.acc_batch.specs.Ops.{op_label};
-ghost use Rattle.acc_memory.specs.Memories.{Shows, IsAllowed, PerformsOn, has_array, rows_on, room_on};
-ghost use Rattle.acc_memory.specs.Values.{Cell, values_of};
-ghost use Rattle.acc_work.specs.Works.{lane_at, taken_labels, HasQueue, goes_on, Performs, NextMayFollow, CanTell, Tells, HasTold, HasPrinted, HasMadeRoom, LacksRoom, KeepsOrder, item_fault};
+ghost use Rattle.acc_memory.specs.Memories.{Shows, IsAllowed, PerformsOn, find_block, has_array, has_cell, rows_on, room_on};
+ghost use Rattle.acc_memory.specs.Values.{Block_cell, Cell, Host_cell, values_of};
+ghost use Rattle.acc_work.specs.Works.{lane_at, taken_labels, HasQueue, goes_on, is_live, is_new, can_go, Performs, NextMayFollow, CanTell, Tells, HasTold, HasPrinted, HasMadeRoom, LacksRoom, KeepsOrder, item_fault};
 
 use crate::item::{Form, Item, Shown};
 use crate::lane::Lane;
-use crate::log::{MAX_HOST_ITEMS, Told, WorkEntry};
+use crate::log::{Log, MAX_HOST_ITEMS, Told, WorkEntry};
 use acc_base::{
-    Config, DeviceId, Fault, HostId, Listed, MAX_HOSTS, QUEUES, QueueAt, QueueCounts, QueueId,
-    Range,
+    BlockId, Config, DeviceId, Fault, HostId, Listed, QUEUES, QueueAt, QueueCounts, QueueId, Range,
 };
 use acc_batch::{Batch, Label, Op, OpLabel};
 use acc_memory::Memory;
 use std::alloc::Global;
 use std::marker::Model;
+use std::snapshot::Snapshot;
 
 /// Whether an operation was performed.
 #[derive(Clone, Copy, Debug, PartialEq, Eq)]
@@ -39,18 +43,16 @@ pub enum Done {
 /// The work side: the memory, the log of what was done, and a lane for each queue of each device.
 #[derive(Drop)]
 pub struct Work {
+    // what the host arrays were at first: a contract's alone, and no bytes
+    opening: Snapshot<Config>,
     memory: Memory,
-    log: Vec<WorkEntry>,
+    log: Log,
     // by device, then in queue order
     lanes: Vec<Lane>,
-    // how many items each host has
-    items: [u64; MAX_HOSTS as usize],
-    all_items: u64,
 }
 
 impl Model for Work {
     ghost use Rattle.std.specs.Coded.{codes};
-    ghost use Rattle.std.specs.Prelude.{reverse, vec_capacity};
     ghost use Rattle.acc_kernel.specs.contracts.expr.Expr as expr;
     ghost use Rattle.acc_work.specs.Works.{WorkView, IsWork};
 
@@ -58,9 +60,9 @@ impl Model for Work {
 
     ghost coded = { Prim.hlevel (codes, expr.the_row.coded) };
 
-    ghost view = { λ w. record { memory = w.memory; work = reverse w.log.items; room = vec_capacity w.log; lanes = w.lanes.items } };
+    ghost view = { λ w. record { arrays = w.opening.value.arrays; memory = w.memory; work = w.log.work; room = w.log.room; lanes = w.lanes.items } };
 
-    ghost invariant = { λ w. IsWork (record { memory = w.memory; work = reverse w.log.items; room = vec_capacity w.log; lanes = w.lanes.items }) w.items w.all_items };
+    ghost invariant = { λ w. IsWork (record { arrays = w.opening.value.arrays; memory = w.memory; work = w.log.work; room = w.log.room; lanes = w.lanes.items }) w.log.devices };
 }
 
 impl Work {
@@ -74,6 +76,7 @@ impl Work {
     ///
     /// `Memory` where memory is refused.
     pub fn new(alloc: Global, config: &Config) -> Result<Work, Fault>
+        ensures opening { IfOk result (λ w. w.arrays ≡ config.now.arrays) }
         ensures arrays { IfOk result (λ w. w.memory.arrays ≡ config.now.arrays) }
         ensures devices { IfOk result (λ w. length w.memory.devices ≡ config.now.devices) }
         ensures rows { IfOk result (λ w. (d : ℕ) → rows_on w.memory d ≡ []) }
@@ -83,13 +86,14 @@ impl Work {
     {
         config.keeps();
         let memory = Memory::new(alloc, config)?;
+        let log = Log::new(alloc, config.devices())?;
         let lanes = lanes_of(alloc, config.devices())?;
+        let opening = Snapshot::of(config);
         Ok(Work {
+            opening,
             memory,
-            log: Vec::new(alloc),
+            log,
             lanes,
-            items: [0; MAX_HOSTS as usize],
-            all_items: 0,
         })
     }
 
@@ -109,8 +113,7 @@ impl Work {
     {
         self.memory.spare(count)?;
         self.lanes[at.seat()].spare(count)?;
-        self.log.reserve(count)?;
-        Ok(())
+        self.log.spare(count)
     }
 
     /// Makes room in the log for one more item of a host beside so many operations, if the run may have one more.
@@ -125,24 +128,27 @@ impl Work {
         ensures missing { IfErr result (λ f. f ≡ no_memory → self.old.room < length self.old.work + waiting + 1) }
         ensures fault { IfErr result (λ f. (lacks : Bool) × (item_fault lacks self.old.work true ≡ Some f)) }
     {
-        if self.all_items >= MAX_HOST_ITEMS {
+        self.keeps();
+        if self.log.all_items() >= MAX_HOST_ITEMS {
             return Err(Fault::TooMany);
         }
         match waiting.checked_add(1) {
-            Some(count) => {
-                self.log.reserve(count)?;
-                Ok(())
-            }
+            Some(count) => self.log.spare(count),
             None => Err(Fault::Memory),
         }
     }
 
-    /// Every work side keeps the order of its queues, and counts the entries that there is room for.
+    /// Every work side keeps the order of its queues, and counts the entries that there is room for. Its log keeps, against the
+    /// batches that were taken, what every log does: each operation stands behind all that it awaits and behind its host's items,
+    /// and uses live blocks, and each item shows what is so. The memory has the values that the log gives over the opening ones,
+    /// and the blocks that it left.
     pub fn keeps(&self)
         ensures order { KeepsOrder self.now }
         ensures room { self.now.room < 2 ^ 64 }
+        ensures kept { IsKept self.now.arrays (taken_labels self.now) self.now.work }
+        ensures memory { Remembers self.now.arrays self.now.work self.now.memory }
     {
-        let _ = &self.lanes;
+        let _ = self.log.room();
     }
 
     // The lane of a queue, if the queue is there.
@@ -176,6 +182,16 @@ impl Work {
             return None;
         }
         self.taken_on(at).get(number as usize - 1)
+    }
+
+    /// The last batch that a queue took, by its label.
+    pub fn last_taken(&self, at: QueueAt) -> Option<&Label>
+        ensures { option_map (λ l. l.now) result ≡ last_of (lane_at self.now at).taken }
+    {
+        match self.lane(at) {
+            None => None,
+            Some(lane) => lane.last(),
+        }
     }
 
     // The labels of the batches that a queue took, in their order.
@@ -236,14 +252,42 @@ impl Work {
         requires { host < MAX_HOSTS }
         ensures { result ≡ items_of host self.now.work }
     {
-        self.items[usize::from(host.number())]
+        self.log.items_of(host)
     }
 
     /// The log, the first entry first.
     pub fn log(&self) -> &[WorkEntry]
         ensures { result.now ≡ reverse self.now.work }
     {
-        self.log.as_slice()
+        self.log.entries()
+    }
+
+    /// What a cell of a host array holds, if the array has it: what the log last wrote there, or its opening value.
+    pub fn host_cell(&self, array: u8, cell: u32) -> Option<i64>
+        ensures there { is_some result ≡ has_range self.now.arrays (record { array = array; lo = cell; len = 1 }) }
+        ensures value { IfSome result (λ x. x ≡ value self.now.arrays self.now.work (Host_cell array cell)) }
+    {
+        self.keeps();
+        let range = Range {
+            array,
+            lo: cell,
+            len: 1,
+        };
+        if self.memory.has_range(range) {
+            Some(self.memory.host_get(array, cell))
+        } else {
+            None
+        }
+    }
+
+    /// What a cell of a block holds, if the block is there on the device and has the cell: what the log last wrote there. It is named by
+    /// its number in the host array.
+    pub fn block_cell(&self, device: DeviceId, block: BlockId, cell: u32) -> Option<i64>
+        ensures there { is_some result ≡ has_cell (find_block (blocks_in device self.now.work) block) cell }
+        ensures value { IfSome result (λ x. x ≡ value self.now.arrays self.now.work (Block_cell device block cell)) }
+    {
+        self.keeps();
+        self.memory.block_cell(device, block, cell)
     }
 
     /// A queue takes a batch, whose lane is empty, by `lane_empty`. It takes no memory, by `spare`.
@@ -259,13 +303,14 @@ impl Work {
         self.lanes[at.seat()].offer(batch);
     }
 
-    /// Performs the next operation of a queue's lane, if what it awaits is performed and its host's items allow it.
+    /// Performs the next operation of a queue's lane, if what it awaits is performed, its host's items allow it, and it uses live
+    /// blocks. It takes no memory, by `spare`.
     pub fn perform(&mut self, at: QueueAt) -> Done
         requires { NextMayFollow self.old at (lane_at self.old at).left }
         ensures { Performs self.old at result self.new }
     {
         let QueueAt { device, queue } = at;
-        if !self.goes_on(QueueAt { device, queue }) {
+        if !self.can_go(QueueAt { device, queue }) {
             return Done::Idle;
         }
         let seat = QueueAt { device, queue }.seat();
@@ -274,14 +319,23 @@ impl Work {
             Some(op) => {
                 let what = perform_on(&mut self.memory, device, op);
                 let at = QueueAt { device, queue };
-                self.log.push_reserved(WorkEntry::Op { at, what });
+                self.log.push_op(at, what);
                 Done::Op
             }
         }
     }
 
-    /// Whether the next operation of a queue can be performed now: there is one in its lane, what it awaits is performed, and
-    /// the host of its batch has the items that stand before it.
+    // Whether the next operation of a queue can be performed now: it goes on, and uses live blocks.
+    fn can_go(&self, at: QueueAt) -> bool
+        ensures can { result ≡ can_go self.now at (lane_at self.now at).left }
+        ensures there { IsTrue result → (seat at < length self.now.lanes) × HasQueue self.now at }
+    {
+        let QueueAt { device, queue } = at;
+        self.goes_on(QueueAt { device, queue }) && self.is_live(QueueAt { device, queue })
+    }
+
+    /// Whether the next operation of a queue goes on: there is one in its lane, what it awaits is performed, and the host of
+    /// its batch has the items that stand before it.
     pub fn goes_on(&self, at: QueueAt) -> bool
         ensures goes { result ≡ goes_on self.now at (lane_at self.now at).left }
         ensures there { IsTrue result → (seat at < length self.now.lanes) × HasQueue self.now at }
@@ -295,6 +349,41 @@ impl Work {
                 Some(op) => self.await_allows(device, op) && self.host_allows(lane),
             },
         }
+    }
+
+    /// Whether the next operation of a queue's lane uses live blocks: what it makes was never made, and lies in its array; what
+    /// it copies, releases or uses is there.
+    pub fn is_live(&self, at: QueueAt) -> bool
+        ensures { result ≡ is_live self.now at (lane_at self.now at).left }
+    {
+        let device = at.device;
+        match self.lane(at) {
+            None => false,
+            Some(lane) => match lane.first() {
+                None => false,
+                Some(op) => self.memory.finds_blocks(device, op) && self.is_new(device, op),
+            },
+        }
+    }
+
+    // Whether a block that an operation makes was never made, and lies in its array.
+    fn is_new(&self, device: DeviceId, op: &Op) -> bool
+        requires { device < length self.now.memory.devices }
+        ensures { result ≡ is_new self.now device (op_label op.now) }
+    {
+        match op {
+            Op::Make { block } => {
+                !self.log.was_made(device, block.block) && self.memory.has_range(block.range)
+            }
+            _ => true,
+        }
+    }
+
+    /// Whether a range has a cell, and lies in its host array.
+    pub fn has_range(&self, range: Range) -> bool
+        ensures { result ≡ has_range self.now.memory.arrays range }
+    {
+        self.memory.has_range(range)
     }
 
     // Whether what an operation awaits on its device is performed.
@@ -370,7 +459,7 @@ impl Work {
         ensures { HasTold self.old self.new host (told.Write array cell value) }
     {
         self.memory.host_set(array, cell, value);
-        self.push_item(host, Told::Write { array, cell, value });
+        self.log.push_item(host, Told::Write { array, cell, value });
     }
 
     fn print(&mut self, host: HostId, range: Range, values: Vec<i64>)
@@ -385,16 +474,16 @@ impl Work {
         self.push_item(host, Told::Print { range, values });
     }
 
+    // Records what changes no cell, and is so.
     fn push_item(&mut self, host: HostId, what: Told)
         requires host { host < MAX_HOSTS }
+        requires truth { ShowsTruth self.old.arrays (taken_labels self.old) what self.old.work }
+        requires quiet { (was : Cell → ℤ) → after_item what was ≡ was }
         requires room { length self.old.work < self.old.room }
         requires few { all_items self.old.work < 2 ^ 63 }
         ensures { self.new ≡ record self.old { work = entry.Item host what ∷ self.old.work } }
     {
-        let index = usize::from(host.number());
-        self.items[index] += 1;
-        self.all_items += 1;
-        self.log.push_reserved(WorkEntry::Item { host, what });
+        self.log.push_item(host, what);
     }
 
     /// The log, the latest entry last.
@@ -402,7 +491,7 @@ impl Work {
         ensures { result.items ≡ reverse self.work }
     {
         let Work { log, .. } = self;
-        log
+        log.into_entries()
     }
 }
 

@@ -4,26 +4,23 @@ use Rattle.std.specs.List.{sum_by}
 use Rattle.acc_base.specs.declared.config.TheConstants.{MAX_HOSTS}
 use Rattle.acc_base.specs.declared.ids.QueueAt.{QueueAt}
 use Rattle.acc_base.specs.declared.ids.TheConstants.{QUEUES}
-use Rattle.acc_base.specs.Configurations.{Configuration, has_range, lengths_of}
+use Rattle.acc_base.specs.Configurations.{Configuration, has_range}
 use Rattle.acc_base.specs.Queues.{queue_count}
 use Rattle.acc_work.specs.declared.item.ItemLabel.{ItemLabel}
 use Rattle.acc_work.specs.declared.item.ItemLabel.TheVariants as to_record
-use Rattle.acc_work.specs.declared.log.WorkEntry.{WorkEntry}
 use Rattle.acc_batch.specs.declared.label.Label.{Label}
-use Rattle.acc_batch.specs.declared.label.OpLabel.{OpLabel}
 use Rattle.acc_batch.specs.Labels.{on_queue, ops_of}
-use Rattle.acc_batch.specs.Lives.{Made}
 use Rattle.acc_core.specs.Legality.{Legal}
 use Rattle.acc_core.specs.inner.Closing.{left_open}
 use Rattle.acc_core.specs.Machine.{State, labels_of, standing_of}
 use Rattle.acc_core.specs.inner.Queues.{QueueView, queue_in}
-use Rattle.acc_memory.specs.Memories.{Shows, rows_on, room_on, held_blocks, blocks_after}
+use Rattle.acc_memory.specs.Memories.{rows_on, room_on}
 use Rattle.acc_place.specs.Closing.{is_at_hand}
 use Rattle.acc_place.specs.Histories.{is_closed, IsQueue}
 use Rattle.acc_place.specs.Plans.{PlaceView, standing_in}
 use Rattle.acc_work.specs.declared.log.TheConstants.{MAX_HOST_ITEMS}
 use Rattle.acc_work.specs.Lanes.{LaneView}
-use Rattle.acc_work.specs.Logs.{device_ops, value, all_items}
+use Rattle.acc_work.specs.Logs.{all_items}
 use Rattle.acc_work.specs.Works.{WorkView, lane_at, taken_counts}
 
 -- the state of the core without its hosts
@@ -36,15 +33,6 @@ has_cells arrays (to_record.Write array cell new_value) = has_range arrays (reco
 has_cells arrays (to_record.Print range) = has_range arrays range
 has_cells arrays (to_record.Seen device counts) = true
 has_cells arrays (to_record.Test device counts) = true
-
--- what these operations make of the blocks that are there
-abbrev pub blocks_by : List Made → List OpLabel → List Made
-blocks_by bs [] = bs
-blocks_by bs (op ∷ ops) = blocks_by (blocks_after op bs) ops
-
--- the blocks that are there on a device after a log
-abbrev pub blocks_in : ℕ → List WorkEntry → List Made
-blocks_in device work = blocks_by [] (device_ops device work)
 
 -- A queue's lane was filled from the first labels that were placed on it, and the queue holds the others, of which there are no
 -- more than its room. It counts the operations that wait, and the lane has room for all batches that it holds.
@@ -70,12 +58,6 @@ pub record Queued (w : State) (v : WorkView) (queues : List QueueView) (waiting 
   pub log_room : length w.work + waiting ≤ v.room
   pub block_room : (d : ℕ) → d < w.config.devices → length (rows_on v.memory d) + waiting ≤ room_on v.memory d
 
--- The memory shows the values of the log.
-pub record Remembers (w : State) (v : WorkView) : Type 0 where
-  pub shows : Shows v.memory (value w.config.arrays w.work)
-  pub blocks : (d : ℕ) → held_blocks v.memory d ≡ blocks_in d w.work
-  pub lengths : lengths_of v.memory.arrays ≡ lengths_of w.config.arrays
-
 -- There is room for so many operations beside those that were performed: in the log, in each lane, and beside the blocks of each
 -- device.
 pub record HasRoom (v : WorkView) (count : ℕ) : Type 0 where
@@ -88,9 +70,9 @@ pub record HasCloses (p : PlaceView) (unclosed : ℕ) : Type 0 where
   pub at_hand : (at : QueueAt) → IsQueue p.config at → is_at_hand p at ≡ not (is_closed (standing_in p) at)
   pub count : unclosed ≡ left_open (standing_in p) (queue_count p.config)
 
--- What holds of an accelerator between two calls.
+-- What holds of an accelerator between two calls. The work side began with the configuration's arrays.
 pub record IsAccelerator (w : State) (v : WorkView) (queues : List QueueView) (waiting : ℕ) : Type 0 where
   pub legal : Legal w
   pub few_items : all_items w.work ≤ MAX_HOST_ITEMS
   pub parts : Queued w v queues waiting
-  pub memory : Remembers w v
+  pub opening : v.arrays ≡ w.config.arrays

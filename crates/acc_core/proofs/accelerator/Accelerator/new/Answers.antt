@@ -22,7 +22,7 @@ invariant_of-result c =
     let made = c.in_ok-spare_closes.ensures in
     let waiting : c.len-waiting.result ≡ queue_count c.args.config = omega (arith, c.len-waiting.ensures, q.count, c.in_ok-queues.queues.ok.0) in (
       rw waiting
-          (is_opening c.args.config _ c.in_ok-work.work c.spare_closes.new.work c.in_ok-queues.queues.items (rw (p.config, p.history, p.counts, made.kept.work, w.work, took_none c) refl) w.arrays w.rows w.lanes w.devices q.count q.empty w.work made.kept made.room),
+          (is_opening c.args.config _ c.in_ok-work.work c.spare_closes.new.work c.in_ok-queues.queues.items (rw (p.config, p.history, p.counts, made.kept.work, w.work, took_none c) refl) w.opening w.rows w.lanes w.devices q.count q.empty w.work made.kept made.room),
       has_all c.in_ok-new.field-0 c.len-waiting.result p.history (λ at there. p.closes at (rw p.config at there)) (waiting ∙ ap queue_count (sym p.config)),
     )
 

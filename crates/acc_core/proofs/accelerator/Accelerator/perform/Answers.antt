@@ -3,7 +3,8 @@ use Rattle.acc_batch.proofs.Seats.{seat_found}
 use Rattle.acc_core.specs.Machine.{is_there}
 use Rattle.acc_core.specs.inner.Queues.{QueueView, no_queue}
 use Rattle.acc_core.specs.inner.Ties.{state_of_parts}
-use Rattle.acc_core.proofs.PerformOp.{next_may_follow, has_advanced, has_waited, performs_did, performed_more, performs_idle}
+use Rattle.acc_work.proofs.KeptSteps.{has_advanced}
+use Rattle.acc_core.proofs.PerformOp.{KeepsWork, next_may_follow, has_waited, performs_did, performed_more, performs_idle}
 use Rattle.acc_core.proofs.Seats.{seated_there}
 use Rattle.acc_core.proofs.accelerator.Accelerator.perform.Goals as goal
 
@@ -13,7 +14,7 @@ perform-requires c =
     let w = state_of_parts i.place i.work in
     let there : is_there w c.args.at ≡ true = rw c.config.ensures at (sym c.has_queue.ensures ∙ c.if-not-has_queue.false) in
     let k = c.keeps.ensures.order in
-    next_may_follow w i.work i.queues.items i.waiting c.args.at (seated_there w i.work i.queues.items i.waiting c.args.at c.self.invariant.0.parts k there) c.self.invariant.0 k refl
+    next_may_follow w i.work i.queues.items i.waiting c.args.at (seated_there w i.work i.queues.items i.waiting c.args.at c.self.invariant.0.parts k there) c.self.invariant.0.parts refl
 
 pub invariant_of-self : goal.invariant_of-self
 invariant_of-self c =
@@ -21,8 +22,8 @@ invariant_of-self c =
     let w = state_of_parts i.place i.work in
     let at = c.args.at in
     let there : is_there w at ≡ true = rw c.config.ensures at (sym c.has_queue.ensures ∙ c.if-not-has_queue.false) in
-    let k = c.keeps.ensures.order in
-    let s = seated_there w i.work i.queues.items i.waiting at c.self.invariant.0.parts k there in
+    let k : KeepsWork i.work = record { order = c.keeps.ensures.order; kept = c.keeps.ensures.kept; memory = c.keeps.ensures.memory } in
+    let s = seated_there w i.work i.queues.items i.waiting at c.self.invariant.0.parts k.order there in
     let queue = seat_found no_queue i.queues.items at c.index_mut.result.now s.queue s.held (rw c.seat-seat.ensures at c.index_mut.ensures.value) in
     let did = has_advanced i.work c.perform.new.self at (rw c.in-Op.is at c.perform.ensures) in
     let new = c.count_performed.ensures ∙ ap (λ (q : QueueView). record q { waiting = q.waiting - 1 }) queue in
@@ -39,8 +40,8 @@ returns-in-Op c =
     let w = state_of_parts i.place i.work in
     let at = c.args.at in
     let there : is_there w at ≡ true = rw c.config.ensures at (sym c.has_queue.ensures ∙ c.if-not-has_queue.false) in
-    let k = c.keeps.ensures.order in
-    let s = seated_there w i.work i.queues.items i.waiting at c.self.invariant.0.parts k there in
+    let k : KeepsWork i.work = record { order = c.keeps.ensures.order; kept = c.keeps.ensures.kept; memory = c.keeps.ensures.memory } in
+    let s = seated_there w i.work i.queues.items i.waiting at c.self.invariant.0.parts k.order there in
     let did = has_advanced i.work c.perform.new.self at (rw c.in-Op.is at c.perform.ensures) in
     rw (← c.self.view_is) (performs_did w i.work c.perform.new.self i.queues.items i.waiting at s c.self.invariant.0 k refl there did)
 
@@ -50,7 +51,7 @@ returns-in-Idle c =
     let w = state_of_parts i.place i.work in
     let at = c.args.at in
     let there : is_there w at ≡ true = rw c.config.ensures at (sym c.has_queue.ensures ∙ c.if-not-has_queue.false) in
-    let k = c.keeps.ensures.order in
-    let s = seated_there w i.work i.queues.items i.waiting at c.self.invariant.0.parts k there in
+    let k : KeepsWork i.work = record { order = c.keeps.ensures.order; kept = c.keeps.ensures.kept; memory = c.keeps.ensures.memory } in
+    let s = seated_there w i.work i.queues.items i.waiting at c.self.invariant.0.parts k.order there in
     let none = has_waited i.work c.perform.new.self at (rw c.in-Idle.is at c.perform.ensures) in
     rw (← c.self.view_is, none.same) (performs_idle w i.work c.perform.new.self i.queues.items i.waiting at s c.self.invariant.0 k refl there none)

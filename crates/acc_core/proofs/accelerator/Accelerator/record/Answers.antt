@@ -13,9 +13,9 @@ is_told c =
     let i = c.self.inside in
     let w = state_of_parts i.place i.work in
     let kept = c.in_default.ensures.kept in
-    told_is w c.spare_item.new.self c.args.item c.host_item.ensures.0 (roomier c.self.invariant.0 kept).memory
-    (λ device counts.
-    rw (kept.taken, kept.work) (all_done_taken w i.work i.queues.items i.waiting device 0 counts c.self.invariant.0.parts c.keeps.ensures.order refl))
+    let a = roomier c.self.invariant.0 kept in
+    told_is w c.spare_item.new.self c.args.item c.host_item.ensures.0 c.keeps.ensures.memory a.opening kept.work
+    (λ device counts. all_done_taken w c.spare_item.new.self i.queues.items i.waiting device 0 counts a.parts c.keeps.ensures.order kept.work)
     c.host_item.ensures.1
 
 -- and its cells are there

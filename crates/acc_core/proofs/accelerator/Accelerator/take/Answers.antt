@@ -63,7 +63,7 @@ invariant_of-self-in-Some c =
         legal = legal_taken w (taken_counts more) a.legal;
         few_items = a.few_items;
         parts = taken_more w i.work i.queues.items i.waiting at c.in-Some.batch next.0 s a.parts none (ap (λ q. q.held) (sym queue) ∙ next.1);
-        memory = record { shows = a.memory.shows; blocks = a.memory.blocks; lengths = a.memory.lengths };
+        opening = a.opening;
       },
       c.self.invariant.1,
     )

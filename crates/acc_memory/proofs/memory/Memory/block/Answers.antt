@@ -9,7 +9,7 @@ pub returns-in-Some : goal.returns-in-Some
 returns-in-Some c =
     let x = c.index-blocks.result.now in
     let held = c.in-Some.held.now in
-    let found : Some (row_of held) ≡ find_row x.rows c.args.id = c.in-Some.ensures in
+    let found : Some (row_of held) ≡ find_row x.rows c.args.id = c.in-Some.ensures.row in
     let name = find_row-name x.rows c.args.id (row_of held) (sym found) in
     let at = device_at c.self.inside.devices.items c.args.device c.from.result x (rw (← c.self.view_is) at c.requires) (c.from.ensures ∙ c.number.ensures) c.index-blocks.ensures in
     rw (← c.self.view_is) (ap (λ n. Some (row_with n held.range held.cells)) (sym name) ∙ (found ∙ ap (λ o. find_row (rows_in o) c.args.id) (sym at)))
@@ -18,4 +18,4 @@ pub returns-in-None : goal.returns-in-None
 returns-in-None c =
     let x = c.index-blocks.result.now in
     let at = device_at c.self.inside.devices.items c.args.device c.from.result x (rw (← c.self.view_is) at c.requires) (c.from.ensures ∙ c.number.ensures) c.index-blocks.ensures in
-    rw (← c.self.view_is) (c.in-None.ensures ∙ ap (λ o. find_row (rows_in o) c.args.id) (sym at))
+    rw (← c.self.view_is) (c.in-None.ensures.row ∙ ap (λ o. find_row (rows_in o) c.args.id) (sym at))

@@ -1,8 +1,6 @@
-use Rattle.acc_work.proofs.Lanes.{taken_on}
+use Rattle.acc_work.specs.contracts.work.Work.{the_view}
+use Rattle.acc_work.proofs.WorkSteps.{keeps_order}
 use Rattle.acc_work.proofs.work.Work.keeps.Goals as goal
 
 pub returns-clause-order : goal.returns-clause-order
-returns-clause-order c =
-    let i = c.self.invariant in
-    rw (← c.self.view_is)
-    (record { order = i.order; taken = taken_on c.self.inside.lanes.items _ i.count (λ at. (i.order at).on_queue); count = i.count })
+returns-clause-order c = rw (← c.self.view_is) (keeps_order (the_view c.self.inside) c.self.invariant.order c.self.invariant.count)

@@ -1,0 +1,16 @@
+use Rattle.std.proofs.Common.{◌≡◌, ◌*◌, length, sym, ap, ◌∙◌}
+use Rattle.acc_base.specs.declared.ids.TheConstants.{QUEUES}
+use Rattle.acc_work.proofs.WorkSteps.{work_first}
+use Rattle.acc_work.proofs.work.Work.new.Goals as goal
+
+pub invariant_of-result : goal.invariant_of-result
+invariant_of-result c =
+    let memory = c.in_ok-memory.memory in
+    let log = c.in_ok-log.log in
+    let lanes = c.in_ok-lanes.lanes.items in
+    let m = c.in_ok-memory.ensures in
+    let l = c.in_ok-log.ensures in
+    let same : memory.arrays ≡ c.of-opening.result.value.arrays = m.arrays ∙ sym (ap (λ config. config.arrays) c.of-opening.ensures) in
+    let devices : log.devices ≡ length memory.devices = l.devices ∙ (c.devices.ensures ∙ sym m.devices) in
+    let count : length lanes ≡ length memory.devices * QUEUES = c.in_ok-lanes.ensures.count ∙ ap (λ n. n * QUEUES) (c.devices-2.ensures ∙ sym m.devices) in
+    rw (l.work, devices) (work_first c.of-opening.result.value.arrays memory log.room lanes same m.rows c.in_ok-lanes.ensures.fresh count)
