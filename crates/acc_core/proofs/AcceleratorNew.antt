@@ -1,22 +1,20 @@
 -- An accelerator before the first event.
 use Rattle.std.proofs.Common.{◌≡◌, ℕ, zero, suc, ◌<◌, ◌≤◌, true, false, cond, List, [], ◌∷◌, length, map, refl, ap, ◌∙◌, arith}
-use Rattle.std.specs.Prelude.{ℤ, All, IsTrue, nat_lt, replicate, slice_index_or}
+use Rattle.std.specs.Prelude.{All, nat_lt, replicate, slice_index_or}
 use Rattle.std.specs.List.{sum_by}
 use Rattle.std.proofs.lemmas.List.Elements.{All-nil, All-head, All-tail, All-weaker}
 use Rattle.std.proofs.lemmas.List.Sums.{sum_by-cons}
 use Rattle.acc_base.specs.declared.config.TheConstants.{MAX_HOSTS}
 use Rattle.acc_base.specs.declared.ids.QueueAt.{QueueAt}
 use Rattle.acc_base.specs.declared.ids.TheConstants.{QUEUES}
-use Rattle.acc_base.specs.Configurations.{Configuration, lengths_of}
+use Rattle.acc_base.specs.Configurations.{Configuration}
 use Rattle.acc_base.specs.Queues.{queue_count, seat}
 use Rattle.acc_batch.specs.declared.label.Label.{Label}
 use Rattle.acc_place.specs.Histories.{standing}
-use Rattle.acc_work.specs.Logs.{value}
 use Rattle.acc_core.specs.Machine.{State, standing_of, state_at_first}
-use Rattle.acc_memory.specs.Memories.{MemoryView, Shows, rows_on, is_held, cell_of}
+use Rattle.acc_memory.specs.Memories.{rows_on}
 use Rattle.acc_core.specs.inner.Queues.{QueueView, IsEmptyQueue, no_queue, queue_in}
 use Rattle.acc_core.specs.inner.Ties.{HasRoom, QueueIs, Queued, IsAccelerator}
-use Rattle.acc_memory.specs.Values.{Cell, Host_cell, Block_cell}
 use Rattle.acc_work.specs.Lanes.{LaneView, IsFresh}
 use Rattle.acc_work.specs.Works.{WorkView, HasMadeRoom, lane_at}
 use Rattle.acc_work.proofs.Lanes.{fresh_lane}

@@ -23,7 +23,7 @@ use Rattle.acc_place.specs.Histories.{is_closed, standing, IsQueue}
 use Rattle.acc_place.specs.Plans.{PlaceView, PlanView, standing_in, Fits, label_for, label_in}
 use Rattle.acc_batch.specs.Labels.{on_queue, ops_of}
 use Rattle.acc_core.specs.Legality.{Legal}
-use Rattle.acc_work.specs.Logs.{items_of, value}
+use Rattle.acc_work.specs.Logs.{items_of}
 use Rattle.acc_core.specs.inner.Closing.{left_open}
 use Rattle.acc_core.specs.Machine.{State, standing_of, with_directive, fault_of_place, place_fault, queue_fault, is_empty, is_full, batches_held, labels_of}
 use Rattle.acc_place.specs.Standings.{walk_of}

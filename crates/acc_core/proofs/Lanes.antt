@@ -1,14 +1,11 @@
 -- The batch in the lane, among the labels of a queue.
-use Rattle.std.proofs.Common.{◌≡◌, ◌+◌, ◌-◌, ◌<◌, ◌≤◌, List, [], ◌∷◌, ◌++◌, length, take, drop, refl, sym, ap, ◌∙◌, arith, Some}
+use Rattle.std.proofs.Common.{◌≡◌, ◌<◌, ◌≤◌, List, [], ◌∷◌, ◌++◌, length, take, drop, refl, arith}
 use Rattle.std.specs.Prelude.{All}
-use Rattle.std.proofs.lemmas.List.{append_assoc, length-append, append-nil, take_at, drop_at}
+use Rattle.std.proofs.lemmas.List.{length-append, take_at, drop_at}
 use Rattle.std.proofs.lemmas.List.Elements.{All-head, All-tail}
 use Rattle.acc_batch.specs.declared.label.Label.{Label}
 use Rattle.acc_batch.specs.declared.label.OpLabel.{OpLabel}
-use Rattle.acc_batch.specs.Labels.{ops_of, batch_at}
-use Rattle.acc_batch.proofs.Labels.{ops_of-append, batch_at-append}
-use Rattle.acc_work.specs.Lanes.{IsLane, LaneView, last_of}
-use Rattle.acc_work.proofs.TakenLabels.{Last, last_is}
+use Rattle.acc_batch.specs.Labels.{ops_of}
 
 -- of what was taken and isn't performed, the lane has what is left
 pub left_is : (taken queue : List Label) (done left : List OpLabel) → done ++ left ≡ ops_of taken → drop (length done) (ops_of (take (length taken) (taken ++ queue))) ≡ left

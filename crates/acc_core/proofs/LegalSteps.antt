@@ -1,5 +1,5 @@
 -- The histories are legal at the start, and each step keeps them legal.
-use Rattle.std.proofs.Common.{inl, inr, ◌≡◌, ℕ, true, false, List, [], ◌∷◌, ◌++◌, length, ap, subst, arith, None}
+use Rattle.std.proofs.Common.{inl, inr, ◌≡◌, ℕ, true, false, List, [], ◌∷◌, ◌++◌, length, subst, arith, None}
 use Rattle.std.specs.Prelude.{All}
 use Rattle.std.proofs.lemmas.Bool.{and_parts, cases_Bool}
 use Rattle.std.proofs.lemmas.List.Elements.{All-cons, All-nil}
@@ -14,7 +14,7 @@ use Rattle.acc_host.specs.Hosts.{HostView}
 use Rattle.acc_place.specs.Accepting.{refusal}
 use Rattle.acc_place.specs.Batches.{batch_of, next_number, walk_at}
 use Rattle.acc_place.specs.Histories.{standing}
-use Rattle.acc_batch.specs.Labels.{on_queue, ops_of, batch_at}
+use Rattle.acc_batch.specs.Labels.{on_queue, batch_at}
 use Rattle.acc_work.specs.Orders.{ShowsTruth}
 use Rattle.acc_core.specs.Legality.{Legal}
 use Rattle.acc_work.specs.Logs.{performed, items_of, await_allows, host_allows}

@@ -1,11 +1,6 @@
 -- The operation that a queue performs next is the next of all that were placed there, and uses live blocks.
-use Rattle.std.proofs.Common.{inl, inr, ◌≡◌, ℕ, List, [], ◌∷◌, length, take, drop, sym, ◌∙◌}
-use Rattle.std.proofs.lemmas.Bool.{cases_Bool}
-use Rattle.std.proofs.lemmas.List.{append_assoc}
+use Rattle.std.proofs.Common.{◌≡◌, ℕ, List, ◌∷◌, length, take, drop, ◌∙◌}
 use Rattle.acc_base.specs.declared.ids.QueueAt.{QueueAt}
-use Rattle.acc_base.specs.Queues.{same_queue}
-use Rattle.acc_work.specs.declared.log.WorkEntry.{WorkEntry}
-use Rattle.acc_work.specs.declared.log.WorkEntry.TheVariants as entry
 use Rattle.acc_batch.specs.declared.label.Label.{Label}
 use Rattle.acc_batch.specs.declared.label.OpLabel.{OpLabel}
 use Rattle.acc_batch.specs.Labels.{on_queue, ops_of}
@@ -14,7 +9,6 @@ use Rattle.acc_core.specs.Legality.{Legal}
 use Rattle.acc_batch.specs.Lives.{UsesLive}
 use Rattle.acc_work.specs.Logs.{performed, device_ops}
 use Rattle.acc_core.specs.Machine.{State, standing_of, taken_on, ops_left}
-use Rattle.acc_base.proofs.SameQueue.{same_queue_is}
 use Rattle.acc_work.proofs.NextUsesLive.{any_order}
 use Rattle.acc_place.proofs.LabelsSound.{labels_sound}
 use Rattle.acc_batch.proofs.Labels.{ops_of_all}

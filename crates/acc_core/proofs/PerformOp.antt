@@ -1,6 +1,6 @@
 -- A queue performs an operation.
-use Rattle.std.proofs.Common.{◌≡◌, ℕ, ◌+◌, ◌-◌, ◌<◌, ◌≤◌, Bool, true, false, List, [], ◌∷◌, length, refl, sym, ap, subst, ◌∙◌, arith}
-use Rattle.std.specs.Prelude.{MatchBool, ◌&&◌}
+use Rattle.std.proofs.Common.{◌≡◌, ℕ, ◌+◌, ◌-◌, ◌<◌, ◌≤◌, true, false, List, [], ◌∷◌, length, refl, sym, ap, subst, ◌∙◌, arith}
+use Rattle.std.specs.Prelude.{◌&&◌}
 use Rattle.std.proofs.lemmas.List.{length-set}
 use Rattle.acc_base.specs.declared.ids.QueueAt.{QueueAt}
 use Rattle.acc_base.specs.Queues.{seat}
@@ -14,17 +14,16 @@ use Rattle.acc_place.specs.Histories.{is_closed, IsQueue}
 use Rattle.acc_core.specs.inner.Queues.{QueueView, queue_in, queues_with}
 use Rattle.acc_core.specs.inner.Ties.{IsAccelerator, QueueIs, Queued}
 use Rattle.acc_work.specs.declared.log.WorkEntry.TheVariants as entry
-use Rattle.acc_work.specs.declared.work.Done.TheVariants as done
 use Rattle.acc_work.specs.Lanes.{lane_with_left, last_of}
 use Rattle.acc_work.specs.Logs.{performed, device_ops, await_allows, host_allows}
 use Rattle.acc_memory.specs.Memories.{MemoryView, rows_on, room_on}
 use Rattle.acc_work.specs.Kept.{IsKept}
 use Rattle.acc_work.specs.Remembering.{Remembers}
-use Rattle.acc_work.specs.Works.{WorkView, lane_at, taken_counts, taken_labels, goes_on, can_go, KeepsOrder, Performs, PerformsNext, HasPerformed, HasRoomToMake, NextMayFollow}
+use Rattle.acc_work.specs.Works.{WorkView, lane_at, taken_counts, taken_labels, goes_on, can_go, KeepsOrder, HasPerformed, HasRoomToMake, NextMayFollow}
 use Rattle.acc_work.proofs.LaneChanges.{count_kept}
 use Rattle.acc_core.proofs.BatchesDone.{awaits_taken}
 use Rattle.acc_core.proofs.LegalSteps.{legal_performed, legal_taken}
-use Rattle.acc_work.proofs.KeptSteps.{Advanced, next_batch}
+use Rattle.acc_work.proofs.KeptSteps.{Advanced, Waited, next_batch}
 use Rattle.acc_work.proofs.RemembersWork.{can_go_on}
 use Rattle.acc_core.proofs.NextOfQueue.{next_uses_live}
 use Rattle.acc_core.proofs.MadeRows.{length_rows}
@@ -150,25 +149,7 @@ performed_more w v v' queues waiting at s a k same d =
       opening = d.performed.opening ∙ a.opening;
     })
 
--- What a call to perform did, where it performed none.
-pub record Waited (v v' : WorkView) (at : QueueAt) : Type 0 where
-  pub same : v' ≡ v
-  pub waits : (op : OpLabel) (ops : List OpLabel) → (lane_at v at).left ≡ op ∷ ops → can_go v at (op ∷ ops) ≡ false
-
-pub has_waited : (v v' : WorkView) (at : QueueAt) → Performs v at done.Idle v' → Waited v v' at
-has_waited v v' at h = by_left (lane_at v at).left refl h
-  where
-    by_test : (op : OpLabel) (ops : List OpLabel) (b : Bool) → (lane_at v at).left ≡ op ∷ ops → can_go v at (op ∷ ops) ≡ b → MatchBool b ((done.Idle ≡ done.Op) × HasPerformed v v' at op ops) ((done.Idle ≡ done.Idle) × (v' ≡ v)) → Waited v v' at
-    by_test op ops true e f g = absurd (let no : done.Idle ≡ done.Op = g.0 in cc)
-    by_test op ops false e f g = record {
-      same = g.1;
-      waits = λ x xs i. (let all : op ∷ ops ≡ x ∷ xs = sym e ∙ i in ap (can_go v at) (sym all) ∙ f);
-    }
-
-    by_left : (left : List OpLabel) → (lane_at v at).left ≡ left → PerformsNext v at left done.Idle v' → Waited v v' at
-    by_left [] e g = record { same = g.1; waits = λ op ops f. (let no : [] ≡ op ∷ ops = sym e ∙ f in cc) }
-    by_left (op ∷ ops) e g = by_test op ops (can_go v at (op ∷ ops)) e refl g
-
+-- Where the work side performed none, the machine is idle.
 pub performs_idle : (w : State) (v v' : WorkView) (queues : List QueueView) (waiting : ℕ) (at : QueueAt) → IsSeated w.config.devices v queues at → IsAccelerator (with_taken w v) v queues waiting → KeepsWork v → v.work ≡ w.work
     → is_there w at ≡ true → Waited v v' at → step false (with_taken w v) (event.Perform at) ≡ idle (with_taken w v)
 performs_idle w v v' queues waiting at s a k same there none =
@@ -177,7 +158,7 @@ performs_idle w v v' queues waiting at s a k same there none =
     by_left : (left : List OpLabel) → (lane_at v at).left ≡ left → perform_step (with_taken w v) (labels_of w) at left ≡ idle (with_taken w v)
     by_left [] e = refl
     by_left (op ∷ ops) e =
-        let allowed = can_next w v queues waiting at op ops s a k same e ∙ none.waits op ops e in
+        let allowed = can_next w v queues waiting at op ops s a k same e ∙ rw e at none.cannot in
         rw allowed refl
 
 -- a queue that isn't there performs none

@@ -16,7 +16,7 @@ use Rattle.acc_work.specs.declared.log.WorkEntry.TheVariants as entry
 use Rattle.acc_work.specs.Lives.{AllLive}
 use Rattle.acc_work.specs.Logs.{device_ops}
 use Rattle.acc_work.specs.Remembering.{blocks_by, blocks_in}
-use Rattle.acc_work.proofs.MadeBlocks.{made-append, released-append}
+use Rattle.acc_batch.proofs.Lives.{made-append, released-append}
 
 -- A block that is there was made and not released, and what was released was made.
 pub record OnlyHeld (makings : List Made) (gone : List ℕ) (bs : List Made) : Type 0 where

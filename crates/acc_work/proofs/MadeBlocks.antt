@@ -1,4 +1,4 @@
--- The blocks that operations made and released.
+-- The blocks that operations made.
 use Rattle.std.proofs.Common.{◌≡◌, ℕ, List, [], ◌∷◌, ◌++◌, map, refl, ap, ◌∙◌}
 use Rattle.std.specs.Prelude.{◌==◌, ◌||◌}
 use Rattle.std.specs.List.{list_any}
@@ -7,30 +7,10 @@ use Rattle.std.proofs.lemmas.List.{map-append}
 use Rattle.std.proofs.lemmas.List.Folds.{list_any-append}
 use Rattle.acc_batch.specs.declared.label.OpLabel.{OpLabel}
 use Rattle.acc_batch.specs.declared.label.OpLabel.TheVariants.{Make, CopyIn, CopyOut, Release, Run, Await, Close}
-use Rattle.acc_batch.specs.Lives.{Made, blocks_made, blocks_released}
+use Rattle.acc_batch.specs.Lives.{Made, blocks_made}
+use Rattle.acc_batch.proofs.Lives.{made-append}
 use Rattle.acc_work.specs.Lives.{was_made}
 use Rattle.acc_work.specs.inner.Records.{made_by}
-
--- what two lists of operations made, and what they released
-pub made-append : (xs ys : List OpLabel) → blocks_made (xs ++ ys) ≡ blocks_made xs ++ blocks_made ys
-made-append [] ys = refl
-made-append (Make b r ∷ xs) ys = ap (λ ms. record { block = b; range = r } ∷ ms) (made-append xs ys)
-made-append (CopyIn b r ∷ xs) ys = made-append xs ys
-made-append (CopyOut b r ∷ xs) ys = made-append xs ys
-made-append (Release b ∷ xs) ys = made-append xs ys
-made-append (Run k uses ∷ xs) ys = made-append xs ys
-made-append (Await q n ∷ xs) ys = made-append xs ys
-made-append (Close ∷ xs) ys = made-append xs ys
-
-pub released-append : (xs ys : List OpLabel) → blocks_released (xs ++ ys) ≡ blocks_released xs ++ blocks_released ys
-released-append [] ys = refl
-released-append (Make b r ∷ xs) ys = released-append xs ys
-released-append (CopyIn b r ∷ xs) ys = released-append xs ys
-released-append (CopyOut b r ∷ xs) ys = released-append xs ys
-released-append (Release b ∷ xs) ys = ap (λ bs. b ∷ bs) (released-append xs ys)
-released-append (Run k uses ∷ xs) ys = released-append xs ys
-released-append (Await q n ∷ xs) ys = released-append xs ys
-released-append (Close ∷ xs) ys = released-append xs ys
 
 -- one operation makes a block, or another, or none
 made_one : (op : OpLabel) (block : ℕ) → was_made (op ∷ []) block ≡ made_by block op

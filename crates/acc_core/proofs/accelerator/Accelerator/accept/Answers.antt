@@ -1,19 +1,17 @@
-use Rattle.std.proofs.Common.{◌≡◌, ◌+◌, ◌<◌, ◌≤◌, length, refl, sym, ap, subst, ◌∙◌, arith, nat_lt, inl, inr}
+use Rattle.std.proofs.Common.{◌≡◌, ◌+◌, ◌<◌, ◌≤◌, length, refl, ap, ◌∙◌, arith, nat_lt, inl, inr}
 use Rattle.std.proofs.lemmas.Bool.{cases_Bool, ltb-true, ltb-false}
 use Rattle.std.proofs.lemmas.List.{length-map}
 use Rattle.std.proofs.lemmas.Result.{err_from_is_err_and}
 use Rattle.acc_base.specs.Queues.{seat}
-use Rattle.acc_base.specs.declared.fault.Fault.TheVariants.{Memory, QueueFull}
+use Rattle.acc_base.specs.declared.fault.Fault.TheVariants.{QueueFull}
 use Rattle.acc_batch.specs.declared.label.Label.{Label}
 use Rattle.acc_batch.specs.Ops.{op_label}
 use Rattle.acc_batch.proofs.Seats.{seat_found}
 use Rattle.acc_core.specs.contracts.accelerator.Accelerator.{the_view}
 use Rattle.acc_core.specs.inner.Queues.{QueueView, no_queue, queue_in, queue_pushed}
-use Rattle.acc_core.specs.inner.Ties.{IsAccelerator, state_of_parts}
 use Rattle.acc_core.proofs.Accept.{planned, batch_empty, batch_goes, keeps_empty, keeps_batch, places_full, places_batch, places_memory}
 use Rattle.acc_core.proofs.CloseQueue.{has_accepted, has_planned}
 use Rattle.acc_core.proofs.Seats.{room_there, waiting_low}
-use Rattle.acc_core.proofs.ItemAnswer.{roomier}
 use Rattle.acc_core.proofs.accelerator.Accelerator.accept.Goals as goal
 
 pub invariant_of-self-in-None : goal.invariant_of-self-in-None

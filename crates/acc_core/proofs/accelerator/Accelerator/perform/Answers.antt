@@ -3,8 +3,8 @@ use Rattle.acc_batch.proofs.Seats.{seat_found}
 use Rattle.acc_core.specs.Machine.{is_there}
 use Rattle.acc_core.specs.inner.Queues.{QueueView, no_queue}
 use Rattle.acc_core.specs.inner.Ties.{state_of_parts}
-use Rattle.acc_work.proofs.KeptSteps.{has_advanced}
-use Rattle.acc_core.proofs.PerformOp.{KeepsWork, next_may_follow, has_waited, performs_did, performed_more, performs_idle}
+use Rattle.acc_work.proofs.KeptSteps.{has_advanced, has_waited}
+use Rattle.acc_core.proofs.PerformOp.{KeepsWork, next_may_follow, performs_did, performed_more, performs_idle}
 use Rattle.acc_core.proofs.Seats.{seated_there}
 use Rattle.acc_core.proofs.accelerator.Accelerator.perform.Goals as goal
 

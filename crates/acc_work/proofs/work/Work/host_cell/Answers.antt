@@ -1,5 +1,4 @@
-use Rattle.std.proofs.Common.{◌≡◌, sym, ◌∙◌}
-use Rattle.acc_base.specs.Configurations.{has_range}
+use Rattle.std.proofs.Common.{sym, ◌∙◌}
 use Rattle.acc_base.specs.declared.range.Range.{Range}
 use Rattle.acc_work.proofs.RemembersWork.{range_same}
 use Rattle.acc_work.proofs.work.Work.host_cell.Goals as goal
