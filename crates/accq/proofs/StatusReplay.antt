@@ -33,11 +33,32 @@ pub record IsSent (ended : Ended) (whole new : Option (List ℕ)) (result : Resu
 answers_sent : (options : Options) (texts : Parts) (old whole new : Option (List ℕ)) (ended : Ended) (result : Result Ended DriverFault)
     → Answers options texts old whole (Ok ended) → IsSent ended whole new result → Answers options texts old new result
 answers_sent options texts old whole new ended (Ok e) (program, events, says, run) sent =
-    rw sent.same
-    (program, events, says, record { final = run.final; ends = run.ends; written = appends_kept old whole new _ run.written sent.kept; status = run.status })
+    rw sent.same (
+      program,
+      events,
+      says,
+      record {
+        final = run.final;
+        ends = run.ends;
+        legal = run.legal;
+        follow = run.follow;
+        written = appends_kept old whole new _ run.written sent.kept;
+        status = run.status;
+      },
+    )
 answers_sent options texts old whole new ended (Err f) (program, events, says, run) sent =
-    rw sent.fault
-    (program, events, says, record { final = run.final; ends = run.ends; written = appends_front old new _ (appends_kept old whole new _ run.written sent.kept) })
+    rw sent.fault (
+      program,
+      events,
+      says,
+      record {
+        final = run.final;
+        ends = run.ends;
+        legal = run.legal;
+        follow = run.follow;
+        written = appends_front old new _ (appends_kept old whole new _ run.written sent.kept);
+      },
+    )
 
 pub input_sent : (input : Option (List ℕ)) (old whole new : Option (List ℕ)) (ended : Ended) (result : Result Ended DriverFault)
     → IfSome input (λ text. Answers defaults (parts text) old whole (Ok ended)) → IsSent ended whole new result
