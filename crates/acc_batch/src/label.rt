@@ -78,6 +78,42 @@ impl OpLabel {
             OpLabel::Await { .. } | OpLabel::Close => true,
         }
     }
+
+    /// An equal operation, which shares the loop that it runs and what that uses. It takes no memory.
+    ///
+    /// # Errors
+    ///
+    /// `Memory` where the count of their owners is full.
+    pub fn try_clone(&self) -> Result<Self, Fault>
+        ensures equal { IfOk result (λ l. l ≡ self.now) }
+        ensures fault { IfErr result (λ f. f ≡ fault.Memory) }
+    {
+        match self {
+            OpLabel::Make { block, range } => Ok(OpLabel::Make {
+                block: *block,
+                range: *range,
+            }),
+            OpLabel::CopyIn { block, range } => Ok(OpLabel::CopyIn {
+                block: *block,
+                range: *range,
+            }),
+            OpLabel::CopyOut { block, range } => Ok(OpLabel::CopyOut {
+                block: *block,
+                range: *range,
+            }),
+            OpLabel::Release { block } => Ok(OpLabel::Release { block: *block }),
+            OpLabel::Run { kernel, uses } => {
+                let kernel = kernel.try_clone()?;
+                let uses = uses.try_clone()?;
+                Ok(OpLabel::Run { kernel, uses })
+            }
+            OpLabel::Await { queue, number } => Ok(OpLabel::Await {
+                queue: *queue,
+                number: *number,
+            }),
+            OpLabel::Close => Ok(OpLabel::Close),
+        }
+    }
 }
 
 impl Label {

@@ -13,6 +13,7 @@ mod limits;
 mod operator;
 mod reach;
 mod rows;
+mod same;
 mod stack;
 mod step;
 mod uses;

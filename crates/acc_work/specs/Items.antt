@@ -1,5 +1,5 @@
 -- How a host's item is kept, and what the host gets back.
-use Rattle.std.specs.Prelude.{◌≡◌, ◌≤◌, min, [], vec_capacity}
+use Rattle.std.specs.Prelude.{◌≡◌, ◌≤◌, Bool, false, min, [], vec_capacity}
 use Rattle.acc_base.specs.declared.config.TheConstants.{MAX_CELLS}
 use Rattle.acc_work.specs.declared.item.Form.{Form}
 use Rattle.acc_work.specs.declared.item.Form.TheVariants as form
@@ -30,3 +30,22 @@ shown_by (told.Write array cell new_value) = shown.Nothing
 shown_by (told.Print range values) = shown.Nothing
 shown_by (told.Seen device counts) = shown.Nothing
 shown_by (told.Test device counts answer) = shown.Answer answer
+
+-- what a log tells of an item, without the values of a print: these are told to no host
+abbrev pub without_values : Told → Told
+without_values (told.Write array cell new_value) = told.Write array cell new_value
+without_values (told.Print range values) = told.Print range []
+without_values (told.Seen device counts) = told.Seen device counts
+without_values (told.Test device counts answer) = told.Test device counts answer
+
+-- the answer that a host got back from a test; false where it got nothing
+abbrev pub test_answer : Shown → Bool
+test_answer shown.Nothing = false
+test_answer (shown.Answer answer) = answer
+
+-- an item as its host knows it: by what it was to do, and what the host got back
+abbrev pub known_by : ItemLabel → Shown → Told
+known_by (to_record.Write array cell new_value) got = told.Write array cell new_value
+known_by (to_record.Print range) got = told.Print range []
+known_by (to_record.Seen device counts) got = told.Seen device counts
+known_by (to_record.Test device counts) got = told.Test device counts (test_answer got)

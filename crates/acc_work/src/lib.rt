@@ -3,6 +3,7 @@
 
 mod counts;
 mod item;
+mod known;
 mod lane;
 mod laws;
 mod log;

@@ -1,6 +1,6 @@
 //! The memory, the log, and a lane for each queue of each device.
 
-ghost use Rattle.std.specs.Prelude.{ℕ, ℤ, ◌≡◌, ◌+◌, ◌*◌, ◌<◌, ◌≤◌, ◌==◌, nat_le, All, [], ◌∷◌, length, vec_capacity, is_some, IfOk, IfErr, IfSome, OnSome, IfNone, OnOk, OnErr, IsTrue, true, Bool, Some, reverse, ◌^◌};
+ghost use Rattle.std.specs.Prelude.{ℕ, ℤ, ◌≡◌, ◌+◌, ◌*◌, ◌<◌, ◌≤◌, ◌==◌, nat_le, All, [], ◌∷◌, length, vec_capacity, is_some, IfOk, IfErr, IfSome, OnSome, IfNone, OnOk, OnErr, IsTrue, ◌↔◌, true, Bool, Some, reverse, ◌^◌};
 ghost use Rattle.std.specs.Option.{option_map};
 ghost use Rattle.acc_base.specs.Queues.{seat};
 ghost use Rattle.acc_base.specs.Configurations.{has_range};
@@ -27,7 +27,7 @@ use crate::log::{Log, MAX_HOST_ITEMS, Told, WorkEntry};
 use acc_base::{
     BlockId, Config, DeviceId, Fault, HostId, Listed, QUEUES, QueueAt, QueueCounts, QueueId, Range,
 };
-use acc_batch::{Batch, Label, Op, OpLabel};
+use acc_batch::{Batch, Label, Op, OpLabel, are_same_labels};
 use acc_memory::Memory;
 use std::alloc::Global;
 use std::marker::Model;
@@ -173,6 +173,16 @@ impl Work {
         }
     }
 
+    /// How many operations are left of the batches that a queue took.
+    pub fn ops_left(&self, at: QueueAt) -> usize
+        ensures { result ≡ length (lane_at self.now at).left }
+    {
+        match self.lane(at) {
+            None => 0,
+            Some(lane) => lane.ops_left(),
+        }
+    }
+
     /// The batch with this number, from 1, among those that a queue took, by its label.
     #[tactic(auto, using(crate::proofs::TakenLabels::nth_is))]
     pub fn taken(&self, at: QueueAt, number: u64) -> Option<&Label>
@@ -192,6 +202,20 @@ impl Work {
             None => None,
             Some(lane) => lane.last(),
         }
+    }
+
+    /// How many batches a queue took.
+    pub fn taken_count(&self, at: QueueAt) -> u64
+        ensures { result ≡ length (on_queue at (taken_labels self.now)) }
+    {
+        self.taken_on(at).len() as u64
+    }
+
+    /// Whether the batches that a queue took have these labels, in this order, and no other was taken. It takes no memory.
+    pub fn has_taken(&self, at: QueueAt, labels: &[Label]) -> bool
+        ensures { IsTrue result ↔ on_queue at (taken_labels self.now) ≡ labels.now }
+    {
+        are_same_labels(self.taken_on(at), labels)
     }
 
     // The labels of the batches that a queue took, in their order.
