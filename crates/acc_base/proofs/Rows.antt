@@ -1,7 +1,11 @@
--- A test of some row of an array's vectors.
-use Rattle.std.proofs.Common.{◌≡◌, ℕ, ◌+◌, ◌<◌, Bool, List, [], ◌∷◌, ◌++◌, length, take, get_or, map, refl, sym, ap, ◌∙◌}
-use Rattle.std.proofs.lemmas.List.{map-append, take-map, take_more}
-use Rattle.std.specs.Prelude.{ℤ, Vec, ◌||◌}
+-- Tests of an array's vectors: of some of them, and whether those of two arrays are equal.
+use Rattle.std.proofs.Common.{◌≡◌, Bool, List, [], ◌∷◌, refl, ap}
+use Rattle.std.proofs.lemmas.Slice.Eq.{slice_eq-Decides}
+use Rattle.std.proofs.lemmas.Bool.Decides.{Decides-int_eq}
+use Rattle.std.specs.Bool.{Decides}
+use Rattle.std.specs.Cmp.Lexicographic.{pointwise}
+use Rattle.std.specs.Ordering.{int_eq}
+use Rattle.std.specs.Prelude.{ℤ, Vec, ◌||◌, ◌&&◌}
 use Rattle.std.specs.List.{list_any}
 use Rattle.acc_base.specs.Configurations.{rows}
 
@@ -9,13 +13,15 @@ pub list_any_rows : {Z : Type 0} (p : List ℤ → Bool) (arrays : List (Vec ℤ
 list_any_rows p [] = refl
 list_any_rows p (v ∷ arrays) = ap (λ r. p v.items || r) (list_any_rows p arrays)
 
--- one more row, which has the cells of the array that stands next
-pub copied_more : {Z : Type 0} (arrays copies longer : List (Vec ℤ Z)) (i : ℕ) (x v : Vec ℤ Z) → i < length arrays → x ≡ get_or arrays i x → v.items ≡ x.items → longer ≡ copies ++ v ∷ []
-    → rows copies ≡ take i (rows arrays) → rows longer ≡ take (i + 1) (rows arrays)
-copied_more {Z} arrays copies longer i x v low is cells more so_far =
-    let cells_of : Vec ℤ Z → List ℤ = λ (w : Vec ℤ Z). w.items in
-    let here : rows (take (i + 1) arrays) ≡ rows (take i arrays) ++ x.items ∷ [] =
-    ap rows (take_more arrays i x low) ∙ (map-append cells_of (take i arrays) (get_or arrays i x ∷ []) ∙ ap (λ (w : Vec ℤ Z). rows (take i arrays) ++ w.items ∷ []) (sym is)) in
-    ap rows more
-    ∙ (map-append cells_of copies (v ∷ []) ∙ (ap (λ (c : List ℤ). rows copies ++ c ∷ []) cells
-    ∙ (ap (λ (rs : List (List ℤ)). rs ++ x.items ∷ []) (so_far ∙ take-map cells_of i arrays) ∙ (sym here ∙ sym (take-map cells_of (i + 1) arrays)))))
+pointwise_rows : {Z : Type 0} (e : List ℤ → List ℤ → Bool) (arrays others : List (Vec ℤ Z)) → pointwise (λ v w. e v.items w.items) arrays others ≡ pointwise e (rows arrays) (rows others)
+pointwise_rows e [] [] = refl
+pointwise_rows e [] (w ∷ others) = refl
+pointwise_rows e (v ∷ arrays) [] = refl
+pointwise_rows e (v ∷ arrays) (w ∷ others) = ap (λ r. e v.items w.items && r) (pointwise_rows e arrays others)
+
+cells_decide : (xs ys : List ℤ) → Decides (pointwise int_eq xs ys) (xs ≡ ys)
+cells_decide xs ys = slice_eq-Decides Decides-int_eq xs ys _ refl
+
+-- `==` of the vectors
+pub rows_decide : {Z : Type 0} (arrays others : List (Vec ℤ Z)) → Decides (pointwise (λ v w. pointwise int_eq v.items w.items) arrays others) (rows arrays ≡ rows others)
+rows_decide arrays others = slice_eq-Decides cells_decide (rows arrays) (rows others) _ (pointwise_rows (pointwise int_eq) arrays others)

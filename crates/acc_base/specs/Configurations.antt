@@ -1,9 +1,9 @@
 -- What a configuration holds, its limits, and the first fault of one that passes them.
-use Rattle.std.specs.Prelude.{ℕ, ℤ, ◌+◌, ◌≤◌, Bool, false, ◌&&◌, ◌||◌, ◌==◌, nat_lt, nat_le, List, length, map, slice_get, All, Option, Some, None, if◌then◌else◌, Vec}
+use Rattle.std.specs.Prelude.{◌≡◌, ℕ, ℤ, ◌+◌, ◌≤◌, Bool, false, ◌&&◌, ◌||◌, ◌==◌, nat_lt, nat_le, List, length, map, slice_get, All, Option, Some, None, if◌then◌else◌, Vec}
 use Rattle.std.specs.List.{list_any}
 use Rattle.acc_base.specs.declared.range.Range.{Range}
 use Rattle.acc_base.specs.declared.fault.Fault.{Fault}
-use Rattle.acc_base.specs.declared.fault.Fault.TheVariants.{BadDevice, BadRange, TooMany}
+use Rattle.acc_base.specs.declared.fault.Fault.TheVariants.{BadDevice, BadRange, Memory, TooMany}
 use Rattle.acc_base.specs.declared.config.TheConstants.{MAX_DEVICES, MAX_HOSTS, MAX_ARRAYS, MAX_CELLS, MAX_CAPACITY, MAX_ROOM}
 
 pub record Configuration : Type 0 where
@@ -63,3 +63,8 @@ fault_of c =
     if is_outside MAX_DEVICES c.devices then Some BadDevice
     else (if passes_a_limit c.hosts c.arrays c.capacity c.room then Some TooMany
     else (if has_empty_array c.arrays then Some BadRange else None))
+
+-- it is refused so: with its first fault, and where it has none for want of memory
+abbrev pub IsRefusal : Option Fault → Fault → Type 0
+IsRefusal (Some fault) f = f ≡ fault
+IsRefusal None f = f ≡ Memory

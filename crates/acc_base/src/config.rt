@@ -1,13 +1,14 @@
 //! What stays the same in a run, and its limits.
 
-ghost use Rattle.std.specs.Prelude.{◌≡◌, ◌<◌, ◌&&◌, ◌==◌, nat_lt, IfOk, OnOk, IfErr, length, None, Some, slice_get};
+ghost use Rattle.std.specs.Prelude.{◌≡◌, ◌<◌, ◌&&◌, ◌==◌, ◌↔◌, nat_lt, IfOk, OnOk, IfErr, IsTrue, length, None, Some, slice_get};
 ghost use Rattle.std.specs.List.{list_any};
 ghost use Rattle.acc_base.specs.declared.fault.Fault.TheVariants.{Memory};
-ghost use Rattle.acc_base.specs.Configurations.{configuration, rows, fault_of, passes_a_limit, is_outside, has_long_array, has_empty_array, has_range, IsWithinLimits};
+ghost use Rattle.acc_base.specs.Configurations.{configuration, rows, fault_of, passes_a_limit, is_outside, has_long_array, has_empty_array, has_range, IsRefusal, IsWithinLimits};
 
 use crate::fault::Fault;
 use crate::ids::{DeviceId, HostId, QUEUES, QueueAt};
 use crate::range::Range;
+use crate::shared::Shared;
 use std::alloc::Global;
 use std::marker::Model;
 
@@ -31,13 +32,13 @@ pub const MAX_ROOM: u32 = 1_024;
 
 /// What stays the same while directives are placed and performed.
 ///
-/// It has a number of devices and of hosts, the host arrays with their initial values, the capacity
-/// of each device in cells, and the room of each queue in batches.
+/// It has a number of devices and of hosts, the host arrays with their initial values, which all copies share, the
+/// capacity of each device in cells, and the room of each queue in batches.
 #[derive(Drop)]
 pub struct Config {
     devices: u8,
     hosts: u8,
-    arrays: Vec<Vec<i64>>,
+    arrays: Shared<Vec<Vec<i64>>>,
     capacity: u64,
     room: u32,
 }
@@ -54,13 +55,14 @@ impl Model for Config {
 }
 
 impl Config {
-    /// Holds what it is given, and takes no memory.
+    /// Holds what it is given.
     ///
     /// # Errors
     ///
     /// The first of: `BadDevice` for no device or too many, `TooMany` for another count beyond its
-    /// limit, `BadRange` for an array without cells.
+    /// limit, `BadRange` for an array without cells, `Memory` where memory is refused.
     pub fn new(
+        alloc: Global,
         devices: u8,
         hosts: u8,
         arrays: Vec<Vec<i64>>,
@@ -69,17 +71,20 @@ impl Config {
     ) -> Result<Self, Fault>
         ensures held { IfOk result (λ c. c ≡ configuration devices hosts (rows arrays.items) capacity room) }
         ensures valid { OnOk result (fault_of (configuration devices hosts (rows arrays.items) capacity room) ≡ None) }
-        ensures refused { IfErr result (λ fault. fault_of (configuration devices hosts (rows arrays.items) capacity room) ≡ Some fault) }
+        ensures refused { IfErr result (λ fault. IsRefusal (fault_of (configuration devices hosts (rows arrays.items) capacity room)) fault) }
     {
         match first_fault(devices, hosts, arrays.as_slice(), capacity, room) {
             Some(fault) => Err(fault),
-            None => Ok(Config {
-                devices,
-                hosts,
-                arrays,
-                capacity,
-                room,
-            }),
+            None => {
+                let arrays = Shared::new(alloc, arrays)?;
+                Ok(Config {
+                    devices,
+                    hosts,
+                    arrays,
+                    capacity,
+                    room,
+                })
+            }
         }
     }
 
@@ -91,16 +96,16 @@ impl Config {
         let _ = &self.devices;
     }
 
-    /// An equal configuration.
+    /// An equal configuration, which shares the arrays. It takes no memory.
     ///
     /// # Errors
     ///
-    /// `Memory` where memory is refused.
-    pub fn try_clone(&self, alloc: Global) -> Result<Self, Fault>
+    /// `Memory` where the count of their owners is full.
+    pub fn try_clone(&self) -> Result<Self, Fault>
         ensures equal { IfOk result (λ c. c ≡ self.now) }
         ensures fault { IfErr result (λ f. f ≡ Memory) }
     {
-        let arrays = copies_of(alloc, self.arrays.as_slice())?;
+        let arrays = self.arrays.try_clone()?;
         Ok(Config {
             devices: self.devices,
             hosts: self.hosts,
@@ -108,6 +113,24 @@ impl Config {
             capacity: self.capacity,
             room: self.room,
         })
+    }
+
+    /// Whether two configurations are equal: in their numbers, and in each cell of their arrays. It takes no memory.
+    pub fn is_same(&self, other: &Config) -> bool
+        ensures { IsTrue result ↔ self.now ≡ other.now }
+    {
+        self.devices == other.devices
+            && self.hosts == other.hosts
+            && self.capacity == other.capacity
+            && self.room == other.room
+            && are_same_arrays(self.rows(), other.rows())
+    }
+
+    // The arrays as they are held.
+    fn rows(&self) -> &[Vec<i64>]
+        ensures { rows result.now ≡ self.now.arrays }
+    {
+        self.arrays.get().as_slice()
     }
 
     /// How many devices there are.
@@ -128,7 +151,7 @@ impl Config {
     pub fn arrays(&self) -> usize
         ensures { result ≡ length self.now.arrays }
     {
-        self.arrays.len()
+        self.rows().len()
     }
 
     /// The initial values of an array, one that `has_array` knows.
@@ -136,7 +159,7 @@ impl Config {
         requires { array < length self.now.arrays }
         ensures { slice_get self.now.arrays array ≡ Some result.now }
     {
-        self.arrays[usize::from(array)].as_slice()
+        self.rows()[usize::from(array)].as_slice()
     }
 
     /// The capacity of each device, in cells.
@@ -178,7 +201,7 @@ impl Config {
     pub fn has_array(&self, array: u8) -> bool
         ensures { result ≡ nat_lt array (length self.now.arrays) }
     {
-        usize::from(array) < self.arrays.len()
+        usize::from(array) < self.arrays()
     }
 
     /// Whether a range has a cell, and lies in its array.
@@ -256,14 +279,9 @@ fn finds_empty(arrays: &[Vec<i64>]) -> bool
     arrays.iter().any(|cells| cells.as_slice().is_empty())
 }
 
-// Rows of the same cells.
-fn copies_of(alloc: Global, arrays: &[Vec<i64>]) -> Result<Vec<Vec<i64>>, Fault>
-    ensures equal { IfOk result (λ copies. rows copies.items ≡ rows arrays.now) }
-    ensures fault { IfErr result (λ f. f ≡ Memory) }
+// Whether both have the same arrays, in the same order.
+fn are_same_arrays(arrays: &[Vec<i64>], others: &[Vec<i64>]) -> bool
+    ensures { IsTrue result ↔ rows arrays.now ≡ rows others.now }
 {
-    let mut copies = Vec::new(alloc);
-    for cells in arrays {
-        copies.push(Vec::from_slice(alloc, cells.as_slice())?)?;
-    }
-    Ok(copies)
+    arrays == others
 }

@@ -24,7 +24,7 @@ ghost use Rattle.acc_present.specs.Tables.{entry_presence};
 use crate::queue::{Queue, queues_of};
 use acc_base::{BlockId, Config, DeviceId, Fault, HostId, QUEUES, QueueAt, QueueCounts, Range};
 use acc_host::{Engine, Reply};
-use acc_place::{Directive, Place, PlaceEntry, Placed};
+use acc_place::{Directive, Place, Placed};
 use acc_present::Entry;
 use acc_work::{Done, Item, ItemLabel, Shown, Work, WorkEntry};
 use std::alloc::Global;
@@ -324,17 +324,15 @@ impl Accelerator {
         self.waiting > self.unclosed
     }
 
-    /// The configuration, the place history with its counts, and the work log, the latest last.
-    pub(crate) fn into_histories(self) -> (Config, Vec<PlaceEntry>, Vec<u64>, Vec<WorkEntry>)
-        ensures config { result.0 ≡ self.config }
-        ensures history { result.1.items ≡ reverse self.history }
-        ensures counts { result.2.items ≡ reverse self.counts }
-        ensures counted { length self.counts ≡ (standing_of self).accepted }
-        ensures work { result.3.items ≡ reverse self.work }
+    /// The place, and the work log with the latest entry last.
+    pub(crate) fn into_parts(self) -> (Place, Vec<WorkEntry>)
+        ensures config { result.0.config ≡ self.config }
+        ensures history { result.0.history ≡ self.history }
+        ensures counts { result.0.counts ≡ self.counts }
+        ensures work { result.1.items ≡ reverse self.work }
     {
         let Accelerator { place, work, .. } = self;
-        let (config, history, counts) = place.into_histories();
-        (config, history, counts, work.into_log())
+        (place, work.into_log())
     }
 }
 

@@ -20,6 +20,7 @@ ghost use Rattle.acc_core.specs.Worlds.{OnePerHost, first_state, Ran};
 use crate::accelerator::Accelerator;
 use acc_base::{BlockId, Config, DeviceId, Fault, HostId, QueueAt, Range};
 use acc_host::{Event, Host, HostProgram, HostState, Outcome, Reply, hosts_follow};
+use acc_place::Place;
 use acc_present::Entry;
 use acc_work::WorkEntry;
 use std::alloc::Global;
@@ -223,6 +224,29 @@ impl World {
         ensures legal { Legal self }
         ensures follow { AllFollow self 0 self.hosts }
     {
+        let (place, works, hosts) = self.into_parts();
+        let (config, places, counts) = place.into_histories();
+        Outcome {
+            config,
+            places,
+            counts,
+            works,
+            hosts,
+        }
+    }
+
+    /// What the run so far leaves, its place itself: the place, the work log with the latest entry last, and where each host
+    /// stands. Takes no memory.
+    pub fn into_parts(self) -> (Place, Vec<WorkEntry>, Vec<HostState>)
+        ensures config { result.0.config ≡ self.config }
+        ensures history { result.0.history ≡ self.history }
+        ensures counts { result.0.counts ≡ self.counts }
+        ensures works { result.1.items ≡ reverse self.work }
+        ensures hosts { result.2.items ≡ map state_of self.hosts }
+        ensures few { length self.hosts ≤ MAX_HOSTS }
+        ensures legal { Legal self }
+        ensures follow { AllFollow self 0 self.hosts }
+    {
         hosts_follow();
         let World {
             alloc: _,
@@ -233,14 +257,8 @@ impl World {
         for host in hosts.iter() {
             states.push_reserved(host.state());
         }
-        let (config, places, counts, works) = accelerator.into_histories();
-        Outcome {
-            config,
-            places,
-            counts,
-            works,
-            hosts: states,
-        }
+        let (place, works) = accelerator.into_parts();
+        (place, works, states)
     }
 }
 

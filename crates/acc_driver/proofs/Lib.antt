@@ -1,4 +1,3 @@
-mod LeftByRun
 mod ReplayAnswers
 mod RunSchedule
 mod WorkedSplits

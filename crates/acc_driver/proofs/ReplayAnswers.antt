@@ -18,8 +18,8 @@ use Rattle.acc_driver.specs.declared.replays.TheConstants.{INPUT_LIMIT, TEXT_LIM
 use Rattle.acc_host.specs.declared.event.Event.{Event}
 use Rattle.acc_token.specs.Texts.{within}
 use Rattle.acc_driver.specs.Inputs.{Parts, parts}
-use Rattle.acc_driver.specs.Replays.{driver_fault, events_in, configured, IsWorldFault, IsReaderFault, RunAnswers, AnswersRun, Answers, AreUsable, IsRun, IsScript}
-use Rattle.acc_driver.specs.inner.Scripts.{AnswersEvents, IsScriptFault, ScheduleAnswers}
+use Rattle.acc_driver.specs.Replays.{driver_fault, events_in, configured, IsWorldFault, RunAnswers, AnswersRun, Answers, AreUsable, IsRun, IsScript}
+use Rattle.acc_driver.specs.inner.Scripts.{IsScriptFault, ScheduleAnswers}
 use Rattle.acc_driver.specs.declared.fault.ReplayFault.{ReplayFault}
 use Rattle.acc_driver.specs.declared.fault.ReplayFault.TheVariants as replay
 use Rattle.std.specs.Io.KnownBytes.{Appends}

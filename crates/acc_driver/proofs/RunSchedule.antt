@@ -1,5 +1,5 @@
 -- Runs behind one another.
-use Rattle.std.proofs.Common.{◌≡◌, List, [], ◌∷◌, ◌++◌, sym}
+use Rattle.std.proofs.Common.{List, [], ◌∷◌, ◌++◌, sym}
 use Rattle.acc_host.specs.declared.event.Event.{Event}
 use Rattle.acc_host.specs.declared.state.Reply.{Reply}
 use Rattle.acc_core.specs.Machine.{State, Runs}

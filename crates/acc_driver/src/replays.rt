@@ -22,7 +22,7 @@ use crate::options::{Ended, Options};
 use acc_base::{Config, Fault};
 use acc_core::World;
 use acc_host::{Event, HostProgram, HostState};
-use acc_report::{ReportFault, report};
+use acc_report::{ReportFault, Run, report_run};
 use acc_schedule::{Schedule, ScheduleLine};
 use acc_script::{ReadError, Script, read};
 use std::alloc::Global;
@@ -201,15 +201,20 @@ fn run<W: Write>(
         Err(fault) => return Err(fault),
     };
     run_schedule(schedule, &mut world);
-    let outcome = world.outcome();
+    let (place, works, hosts) = world.into_parts();
+    let left = Run {
+        place: &place,
+        works: works.as_slice(),
+        hosts: hosts.as_slice(),
+    };
     let script = Script {
         names,
         arrays: Vec::new(alloc),
         programs: copies,
     };
-    match report(alloc, &outcome, &script, writer) {
+    match report_run(alloc, &left, &script, writer) {
         Ok(()) => {
-            let refused = has_refused(outcome.hosts.as_slice());
+            let refused = has_refused(hosts.as_slice());
             Ok(Ended { refused })
         }
         Err(ReportFault::Write) => Err(ReplayFault::Output),
@@ -270,8 +275,16 @@ fn open(
     ensures refused { IfErr result (λ f. IsWorldFault (configuration options.devices (length programs.items) (rows arrays.items) options.cells options.room) (driver_fault f)) }
 {
     let hosts = programs.len() as u8;
-    let config = match Config::new(options.devices, hosts, arrays, options.cells, options.room) {
+    let config = match Config::new(
+        alloc,
+        options.devices,
+        hosts,
+        arrays,
+        options.cells,
+        options.room,
+    ) {
         Ok(config) => config,
+        Err(Fault::Memory) => return Err(ReplayFault::Memory),
         Err(fault) => return Err(ReplayFault::Runtime(fault)),
     };
     match World::new(alloc, config, programs) {

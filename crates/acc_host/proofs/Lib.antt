@@ -2,3 +2,4 @@ mod BareStatements
 mod WorkedHosts
 mod GoOn
 mod HostStands
+mod OwnRead

@@ -3,5 +3,7 @@ pub mod Entries
 pub mod Following
 pub mod Hosts
 pub mod Legality
+pub mod OwnEntries
 pub mod Steps
+pub mod inner
 pub mod worked

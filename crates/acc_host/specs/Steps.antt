@@ -1,5 +1,5 @@
 -- What a host does for a statement: the ids that it sets, what it asks of its engine, and what it owes after a directive.
-use Rattle.std.specs.Prelude.{◌≡◌, ℕ, ℤ, zero, suc, pos, negsuc, Bool, true, false, ◌==◌, nat_lt, List, map, Option, Some, None, Result, Ok, Err, if◌then◌else◌}
+use Rattle.std.specs.Prelude.{ℕ, ℤ, zero, suc, pos, negsuc, Bool, true, false, ◌==◌, nat_lt, List, map, Option, Some, None, Result, Ok, Err, if◌then◌else◌}
 use Rattle.std.specs.List.{list_all}
 use Rattle.acc_base.specs.declared.fault.Fault.{Fault}
 use Rattle.acc_base.specs.declared.fault.Fault.TheVariants.{BadDevice, BadAsync}
@@ -13,7 +13,6 @@ use Rattle.acc_work.specs.declared.item.ItemLabel.{ItemLabel}
 use Rattle.acc_work.specs.declared.item.ItemLabel.TheVariants as to_record
 use Rattle.acc_host.specs.declared.program.Act.{Act}
 use Rattle.acc_host.specs.declared.program.Act.TheVariants as act
-use Rattle.acc_host.specs.declared.program.Statement.{Statement}
 use Rattle.acc_host.specs.declared.state.Ids.{Ids}
 
 -- a directive as its host places it

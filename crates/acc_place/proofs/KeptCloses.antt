@@ -16,6 +16,7 @@ use Rattle.acc_batch.proofs.Labels.{on_queue-append}
 use Rattle.acc_batch.proofs.Seats.{one_seat}
 use Rattle.acc_place.specs.declared.closes.Close.{Close}
 use Rattle.acc_place.specs.declared.device.Device.{Device}
+use Rattle.acc_place.specs.declared.directive.Placed.{Placed}
 use Rattle.acc_place.specs.declared.directive.PlaceEntry.{PlaceEntry}
 use Rattle.acc_place.specs.declared.directive.PlaceEntry.TheVariants.{Accepted, Closing, Closed}
 use Rattle.acc_place.specs.declared.directive.Region.{Region}
@@ -226,14 +227,15 @@ closes_pushed config history history2 counts counts2 shown left q closing cs roo
 
 -- ## The place
 
-pub place_begun : (config : Configuration) (history : List PlaceEntry) (counts : List ℕ) (devices : List Device) (regions : List Region) (queues : List (List Label)) → IsPlace config history counts devices regions queues
-    → (standing config history counts).closing ≡ false → IsPlace config (Closing ∷ history) counts devices regions queues
+pub place_begun : {answers : List Placed} (config : Configuration) (history : List PlaceEntry) (counts : List ℕ) (devices : List Device) (regions : List Region) (queues : List (List Label)) → IsPlace config history counts answers devices regions queues
+    → (standing config history counts).closing ≡ false → IsPlace config (Closing ∷ history) counts answers devices regions queues
 unfolding standing
 place_begun config history counts devices regions queues h early =
     let st = standing config history counts in
     record {
       counted = h.counted;
       lawful = (early, h.lawful);
+      answered = h.answered;
       tied =
           record {
             all_devices = h.tied.all_devices;
@@ -245,14 +247,15 @@ place_begun config history counts devices regions queues h early =
           };
     }
 
-pub place_closed : (config : Configuration) (history : List PlaceEntry) (counts : List ℕ) (devices : List Device) (regions : List Region) (queues : List (List Label)) (at : QueueAt) (l : Label) → IsPlace config history counts devices regions queues
-    → CanClose config (standing config history counts) at → l ≡ close_label at (standing config history counts).labels → IsPlace config (Closed at ∷ history) counts devices regions (queues_after queues (Some l))
+pub place_closed : {answers : List Placed} (config : Configuration) (history : List PlaceEntry) (counts : List ℕ) (devices : List Device) (regions : List Region) (queues : List (List Label)) (at : QueueAt) (l : Label) → IsPlace config history counts answers devices regions queues
+    → CanClose config (standing config history counts) at → l ≡ close_label at (standing config history counts).labels → IsPlace config (Closed at ∷ history) counts answers devices regions (queues_after queues (Some l))
 unfolding standing
 place_closed config history counts devices regions queues at l h can is =
     let st = standing config history counts in
     record {
       counted = h.counted;
       lawful = (can, h.lawful);
+      answered = h.answered;
       tied =
           record {
             all_devices = h.tied.all_devices;
@@ -270,9 +273,9 @@ place_closed config history counts devices regions queues at l h can is =
 -- ## The calls
 
 -- closing begins: as the vectors say, which have the latest at their ends
-pub begun_by : (config : Configuration) (history history2 : List PlaceEntry) (counts : List ℕ) (devices : List Device) (regions : List Region) (queues : List (List Label)) (closing : Bool) (cs : List Close) (room : ℕ) (batches : List ℕ)
-    → IsPlace config (reverse history) counts devices regions queues × KeepsCloses config (standing config (reverse history) counts) closing cs (length history) room batches → closing ≡ false → history2 ≡ history ++ Closing ∷ []
-    → IsPlace config (reverse history2) counts devices regions queues × KeepsCloses config (standing config (reverse history2) counts) true cs (length history2) room batches
+pub begun_by : {answers : List Placed} (config : Configuration) (history history2 : List PlaceEntry) (counts : List ℕ) (devices : List Device) (regions : List Region) (queues : List (List Label)) (closing : Bool) (cs : List Close) (room : ℕ) (batches : List ℕ)
+    → IsPlace config (reverse history) counts answers devices regions queues × KeepsCloses config (standing config (reverse history) counts) closing cs (length history) room batches → closing ≡ false → history2 ≡ history ++ Closing ∷ []
+    → IsPlace config (reverse history2) counts answers devices regions queues × KeepsCloses config (standing config (reverse history2) counts) true cs (length history2) room batches
 begun_by config history history2 counts devices regions queues closing cs room batches h early more =
     let e : reverse history2 ≡ Closing ∷ reverse history = ap reverse more ∙ reverse-push history Closing in
     let longer : length history2 ≡ length history + 1 = ap length more ∙ length-append history (Closing ∷ []) in
@@ -283,11 +286,11 @@ begun_by config history history2 counts devices regions queues closing cs room b
     )
 
 -- a queue is closed
-pub closed_by : (config : Configuration) (history history2 : List PlaceEntry) (counts : List ℕ) (devices : List Device) (regions : List Region) (queues queues2 : List (List Label)) (closing : Bool) (cs cs2 : List Close) (room : ℕ) (batches : List ℕ)
-    (at : QueueAt) (l : Label) (new : Close) → IsPlace config (reverse history) counts devices regions queues × KeepsCloses config (standing config (reverse history) counts) closing cs (length history) room batches
+pub closed_by : {answers : List Placed} (config : Configuration) (history history2 : List PlaceEntry) (counts : List ℕ) (devices : List Device) (regions : List Region) (queues queues2 : List (List Label)) (closing : Bool) (cs cs2 : List Close) (room : ℕ) (batches : List ℕ)
+    (at : QueueAt) (l : Label) (new : Close) → IsPlace config (reverse history) counts answers devices regions queues × KeepsCloses config (standing config (reverse history) counts) closing cs (length history) room batches
     → CanClose config (standing config (reverse history) counts) at → l ≡ close_label at (standing config (reverse history) counts).labels → new ≡ no_close → history2 ≡ history ++ Closed at ∷ [] → queues2 ≡ queues_after queues (Some l)
     → cs2 ≡ slice_set cs (seat at) new
-    → IsPlace config (reverse history2) counts devices regions queues2 × KeepsCloses config (standing config (reverse history2) counts) closing cs2 (length history2) room batches
+    → IsPlace config (reverse history2) counts answers devices regions queues2 × KeepsCloses config (standing config (reverse history2) counts) closing cs2 (length history2) room batches
 unfolding standing
 closed_by config history history2 counts devices regions queues queues2 closing cs cs2 room batches at l new h can is none more more_queues set =
     let e : reverse history2 ≡ Closed at ∷ reverse history = ap reverse more ∙ reverse-push history (Closed at) in

@@ -1,5 +1,6 @@
 mod AcceptedDirective
 mod AfterClose
+mod AnswersKept
 pub mod AllVisits
 mod AwaitedNumbers
 mod BatchNotes

@@ -10,6 +10,7 @@ room_of w =
     record {
       entries = vec_capacity w.history - closing_entries w.config;
       counts = vec_capacity w.counts;
+      answers = vec_capacity w.answers;
       regions = vec_capacity w.regions;
       batches = w.labels.room;
       ranges = map (λ v. v.table.room) w.devices.items;

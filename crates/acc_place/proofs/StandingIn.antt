@@ -31,12 +31,14 @@ use Rattle.acc_place.specs.Directives.{Directive}
 use Rattle.acc_place.specs.declared.directive.DataItem.{DataItem}
 use Rattle.acc_place.specs.declared.directive.Kind.{Kind}
 use Rattle.acc_place.specs.declared.directive.Kind.TheVariants.{Data, EndData, EnterData, ExitData, Update, Loop, Wait, AsyncTest, IsPresent}
+use Rattle.acc_place.specs.declared.directive.Placed.{Placed}
 use Rattle.acc_place.specs.declared.directive.PlaceEntry.{PlaceEntry}
 use Rattle.acc_place.specs.declared.directive.PlaceEntry.TheVariants.{Accepted, Closing, Closed}
 use Rattle.acc_place.specs.declared.directive.Region.{Region}
 use Rattle.acc_place.specs.declared.directive.TheConstants.{MAX_ITEMS}
 use Rattle.acc_place.specs.declared.judge.Known.{Known}
 use Rattle.acc_place.specs.Accepting.{refusal}
+use Rattle.acc_place.specs.Answers.{answer_to}
 use Rattle.acc_place.specs.Batches.{answer_of, batch_of, count_of, counts_by, counts_queues, is_answered, next_number, operations_of, placed_batch, walk_at}
 use Rattle.acc_place.specs.Histories.{at_first, standing, after_directive, AllAccepted, IsQueue}
 use Rattle.acc_place.specs.inner.Places.{IsPlace, IsThere, IsTied, IsTiedOn, queue_in, queues_after}
@@ -45,7 +47,7 @@ use Rattle.acc_place.specs.Regions.{regions_after}
 use Rattle.acc_place.specs.Standings.{Standing, Walk, all_visits, loop_of, subject_by, walk_of}
 use Rattle.acc_place.specs.inner.Noting.{awaits_from, ended_range, last_made, last_used, note_found, notes_on, used_ranges}
 use Rattle.acc_place.specs.Targets.{is_alone, queue_by, queues_named}
-use Rattle.acc_place.specs.inner.Trials.{behind_noted, counts_in, fault_by, held_by, items_by, named_count, next_in, number_in, ops_by, steps_by, IsKnown}
+use Rattle.acc_place.specs.inner.Trials.{behind_noted, counts_in, fault_by, held_by, items_by, named_count, next_in, number_in, ops_by, placed_by, steps_by, IsKnown}
 use Rattle.acc_place.specs.inner.Judging.{Holding, device_by, holding, holding_between, holding_behind, limit_fault, fault_or, first_fault_in, past_fault, run_in, marked_ops, all_steps}
 use Rattle.acc_place.proofs.AcceptedDirective.{IsFree, IsTiedAt, accepted_device, device_in, few_for, items_in, label_at, labels_after, low_for, refused_by, is_free, tied_after, tied_beside, batch_is, ended_is, walk_known}
 use Rattle.acc_place.proofs.NotesOn.{batch_planned}
@@ -130,8 +132,8 @@ own_device p host d k h =
     ∙ (device_at p host d ∙ (subject_device st.lengths st.regions host d d.kind ∙ ap (λ rs. device_by rs host d d.kind) (sym h.regions)))
 
 -- what the place has, from its parts
-pub known_of : (p : PlaceView) (host : ℕ) (d : Directive) (k : Known) (devices : List Device) (regions : List Region) (queues : List (List Label)) (n : ℕ) (v : Device) (at_queue : QueueAt)
-    → IsPlace p.config p.history p.counts devices regions queues → (standing_in p).closing ≡ false → d.device < p.config.devices → at_queue ≡ queue_for p host d → IsQueue p.config at_queue
+pub known_of : {answers : List Placed} (p : PlaceView) (host : ℕ) (d : Directive) (k : Known) (devices : List Device) (regions : List Region) (queues : List (List Label)) (n : ℕ) (v : Device) (at_queue : QueueAt)
+    → IsPlace p.config p.history p.counts answers devices regions queues → (standing_in p).closing ≡ false → d.device < p.config.devices → at_queue ≡ queue_for p host d → IsQueue p.config at_queue
     → n ≡ at_queue.device → v ≡ slice_index_or devices n v → k.config.now ≡ p.config → k.table.now ≡ v.table → k.opened ≡ v.opened → k.regions.now ≡ regions → k.accepted ≡ length p.history → k.at ≡ at_queue
     → k.labels.now.queues ≡ queues → IsKnownOf p host d k
 known_of p host d k devices regions queues n v at_queue h early here is there device found config table blocks open_regions accepted at_k labels =
@@ -302,16 +304,17 @@ tied_all p q devices regions queues v after tied fits at_device is same noted =
     queues_count qs None = refl
     queues_count qs (Some l) = length-set qs (seat l.at) _
 
-accepted_place : (p : PlaceView) (q : PlanView) (devices : List Device) (regions : List Region) (queues : List (List Label)) (v after : Device) → IsPlace p.config p.history p.counts devices regions queues → Fits p q
+accepted_place : (p : PlaceView) (q : PlanView) (answers : List Placed) (devices : List Device) (regions : List Region) (queues : List (List Label)) (v after : Device) → IsPlace p.config p.history p.counts answers devices regions queues → Fits p q
     → slice_get devices (device_in (standing_in p) q.host q.directive) ≡ Some v
     → holding after.table.presences after.opened ≡ holding_behind q.directive.kind (holding v.table.presences v.opened) (items_in (standing_in p) q.host q.directive) → after.table.capacity ≡ v.table.capacity
     → HasNotes (notes_on (device_in (standing_in p) q.host q.directive) (after_directive (standing_in p) q.host q.items_done q.directive).labels) after.table.notes
-    → IsPlace p.config (Accepted q.host q.directive ∷ p.history) (q.items_done ∷ p.counts) (slice_set devices (device_in (standing_in p) q.host q.directive) after) (regions_after q.host q.directive q.directive.kind regions) (queues_after queues q.label)
-accepted_place p q devices regions queues v after h fits at_device is same noted =
+    → IsPlace p.config (Accepted q.host q.directive ∷ p.history) (q.items_done ∷ p.counts) (q.answer ∷ answers) (slice_set devices (device_in (standing_in p) q.host q.directive) after) (regions_after q.host q.directive q.directive.kind regions) (queues_after queues q.label)
+accepted_place p q answers devices regions queues v after h fits at_device is same noted =
     let st = standing_after p q in
     record {
       counted = omega (arith, h.counted, ap (λ (k : Standing). k.accepted) st);
       lawful = (fits.accepted, h.lawful);
+      answered = ap (λ a. a ∷ answers) fits.answered ∙ ap (λ before. answer_to (standing_in p) q.host q.directive ∷ before) h.answered;
       tied = rw st (tied_all p q devices regions queues v after h.tied fits at_device is same noted);
     }
 
@@ -326,18 +329,19 @@ pushed_view config history history2 counts counts2 closes room q more_history mo
     let f : reverse counts2 ≡ q.items_done ∷ reverse counts = ap reverse more_counts ∙ reverse-push counts q.items_done in
     rw (e, f) refl
 
-pub place_pushed : (config : Configuration) (history history2 : List PlaceEntry) (counts counts2 : List ℕ) (closes : List Bool) (room : Room) (q : PlanView) (devices devices2 : List Device) (regions regions2 : List Region) (queues queues2 : List (List Label)) (v after : Device)
-    → history2 ≡ history ++ Accepted q.host q.directive ∷ [] → counts2 ≡ counts ++ q.items_done ∷ [] → regions2 ≡ regions_after q.host q.directive q.directive.kind regions → queues2 ≡ queues_after queues q.label
+pub place_pushed : (config : Configuration) (history history2 : List PlaceEntry) (counts counts2 : List ℕ) (answers answers2 : List Placed) (closes : List Bool) (room : Room) (q : PlanView) (devices devices2 : List Device) (regions regions2 : List Region) (queues queues2 : List (List Label)) (v after : Device)
+    → history2 ≡ history ++ Accepted q.host q.directive ∷ [] → counts2 ≡ counts ++ q.items_done ∷ [] → answers2 ≡ answers ++ q.answer ∷ [] → regions2 ≡ regions_after q.host q.directive q.directive.kind regions → queues2 ≡ queues_after queues q.label
     → devices2 ≡ slice_set devices (device_in (standing_in (viewed config history counts closes room)) q.host q.directive) after
-    → IsPlace config (reverse history) (reverse counts) devices regions queues → Fits (viewed config history counts closes room) q
+    → IsPlace config (reverse history) (reverse counts) (reverse answers) devices regions queues → Fits (viewed config history counts closes room) q
     → slice_get devices (device_in (standing_in (viewed config history counts closes room)) q.host q.directive) ≡ Some v
     → holding after.table.presences after.opened ≡ holding_behind q.directive.kind (holding v.table.presences v.opened) (items_in (standing_in (viewed config history counts closes room)) q.host q.directive) → after.table.capacity ≡ v.table.capacity
     → HasNotes (notes_on (device_in (standing_in (viewed config history counts closes room)) q.host q.directive) (after_directive (standing_in (viewed config history counts closes room)) q.host q.items_done q.directive).labels) after.table.notes
-    → IsPlace config (reverse history2) (reverse counts2) devices2 regions2 queues2
-place_pushed config history history2 counts counts2 closes room q devices devices2 regions regions2 queues queues2 v after more_history more_counts more_regions more_queues more_devices h fits at_device is same noted =
+    → IsPlace config (reverse history2) (reverse counts2) (reverse answers2) devices2 regions2 queues2
+place_pushed config history history2 counts counts2 answers answers2 closes room q devices devices2 regions regions2 queues queues2 v after more_history more_counts more_answers more_regions more_queues more_devices h fits at_device is same noted =
     let e : reverse history2 ≡ Accepted q.host q.directive ∷ reverse history = ap reverse more_history ∙ reverse-push history (Accepted q.host q.directive) in
     let f : reverse counts2 ≡ q.items_done ∷ reverse counts = ap reverse more_counts ∙ reverse-push counts q.items_done in
-    rw (e, f, more_regions, more_queues, more_devices) (accepted_place (viewed config history counts closes room) q devices regions queues v after h fits at_device is same noted)
+    let g : reverse answers2 ≡ q.answer ∷ reverse answers = ap reverse more_answers ∙ reverse-push answers q.answer in
+    rw (e, f, g, more_regions, more_queues, more_devices) (accepted_place (viewed config history counts closes room) q (reverse answers) devices regions queues v after h fits at_device is same noted)
 
 -- ## The answer
 
@@ -368,20 +372,18 @@ counts_are true queues labels device named labelled =
     (λ q. ap (λ ls. if has_number named q then length ls else 0) (labelled (record { device = device; queue = q })))
 counts_are false queues labels device named labelled = refl
 
-pub answer_is : (p : PlaceView) (q : PlanView) (t : TableView) (blocks : ℕ) (queues : List (List Label)) (batch : Option (QueueAt × ℕ)) (counts : List ℕ) (present : Bool) → IsTiedAt p.config (standing_in p) q.host q.directive t blocks → Fits p q
-    → ((at : QueueAt) → queue_in queues at ≡ on_queue at (standing_in p).labels)
-    → counts ≡ counts_in (counts_queues q.directive.kind (queue_by q.directive.kind q.directive)) queues (device_in (standing_in p) q.host q.directive) (queues_named q.directive)
-    → batch ≡ option_map (λ (l : Label). (l.at, l.number)) q.label → present ≡ is_answered q.directive.kind t.presences (items_in (standing_in p) q.host q.directive)
-    → record { batch = batch; counts = counts; present = present } ≡ answer_of (standing_in p) q.directive (walk_of (standing_in p) q.host q.directive)
+answer_is : (p : PlaceView) (host items_done : ℕ) (d : Directive) (t : TableView) (blocks : ℕ) (queues : List (List Label)) (label : Option Label) (counts : List ℕ) (present : Bool) → IsTiedAt p.config (standing_in p) host d t blocks
+    → label ≡ label_in (standing_in p) host items_done (walk_of (standing_in p) host d) → ((at : QueueAt) → queue_in queues at ≡ on_queue at (standing_in p).labels)
+    → counts ≡ counts_in (counts_queues d.kind (queue_by d.kind d)) queues (device_in (standing_in p) host d) (queues_named d) → present ≡ is_answered d.kind t.presences (items_in (standing_in p) host d)
+    → record { batch = option_map (λ (l : Label). (l.at, l.number)) label; counts = counts; present = present } ≡ answer_to (standing_in p) host d
 unfolding answer_of walk_of
-answer_is p q t blocks queues batch counts present tied fits labelled counted is found =
+answer_is p host items_done d t blocks queues label counts present tied named labelled counted found =
     let st = standing_in p in
-    let d = q.directive in
-    let walk = walk_of st q.host d in
-    let told : present ≡ is_answered d.kind (presences (st.marks walk.device)) d.items = found ∙ (asked_of st.lengths st.regions q.host d d.kind t.presences ∙ ap (λ ps. is_answered d.kind ps d.items) tied.presences) in
+    let walk = walk_of st host d in
+    let told : present ≡ is_answered d.kind (presences (st.marks walk.device)) d.items = found ∙ (asked_of st.lengths st.regions host d d.kind t.presences ∙ ap (λ ps. is_answered d.kind ps d.items) tied.presences) in
     let all : counts ≡ counts_by (counts_queues d.kind walk.queue) st.labels walk.device walk.waits =
     counted ∙ counts_are (counts_queues d.kind walk.queue) queues st.labels walk.device walk.waits labelled in
-    ap (λ b. record { batch = b; counts = counts; present = present }) (is ∙ answered st q.host q.items_done walk q.label fits.labelled)
+    ap (λ b. record { batch = b; counts = counts; present = present }) (answered st host items_done walk label named)
     ∙ (ap (λ ns. record { batch = placed_batch (walk_at walk) st.labels (batch_of st walk); counts = ns; present = present }) all
     ∙ ap (λ v. record { batch = placed_batch (walk_at walk) st.labels (batch_of st walk); counts = counts_by (counts_queues d.kind walk.queue) st.labels walk.device walk.waits; present = v }) told)
 
@@ -402,14 +404,15 @@ first_tied config device t blocks none no_notes same no_blocks =
       low = rw none tt;
     }
 
-pub first_place : (config : Configuration) (history : List PlaceEntry) (counts : List ℕ) (devices : List Device) (regions : List Region) (queues : List (List Label)) → history ≡ [] → counts ≡ [] → regions ≡ []
-    → length devices ≡ config.devices → All (IsEmpty config) devices → length queues ≡ queue_count config → All (λ labels. labels ≡ []) queues → IsPlace config (reverse history) (reverse counts) devices regions queues
+pub first_place : (config : Configuration) (history : List PlaceEntry) (counts : List ℕ) (answers : List Placed) (devices : List Device) (regions : List Region) (queues : List (List Label)) → history ≡ [] → counts ≡ [] → answers ≡ [] → regions ≡ []
+    → length devices ≡ config.devices → All (IsEmpty config) devices → length queues ≡ queue_count config → All (λ labels. labels ≡ []) queues → IsPlace config (reverse history) (reverse counts) (reverse answers) devices regions queues
 unfolding standing
-first_place config history counts devices regions queues no_history no_counts no_regions all_devices empty all_queues none =
-    rw (no_history, no_counts, no_regions)
+first_place config history counts answers devices regions queues no_history no_counts no_answers no_regions all_devices empty all_queues none =
+    rw (no_history, no_counts, no_answers, no_regions)
     (record {
       counted = refl;
       lawful = tt;
+      answered = refl;
       tied =
           record {
             all_devices = all_devices;
@@ -448,8 +451,8 @@ tied_like config st device v w held notes same tied =
     }
 
 -- a device that has more room
-pub place_spared : (config : Configuration) (history : List PlaceEntry) (counts : List ℕ) (devices : List Device) (regions : List Region) (queues : List (List Label)) (n : ℕ) (v w : Device) → IsPlace config history counts devices regions queues
-    → n < config.devices → v ≡ slice_index_or devices n v → held_on w ≡ held_on v → w.table.notes ≡ v.table.notes → w.table.capacity ≡ v.table.capacity → IsPlace config history counts (slice_set devices n w) regions queues
+pub place_spared : {answers : List Placed} (config : Configuration) (history : List PlaceEntry) (counts : List ℕ) (devices : List Device) (regions : List Region) (queues : List (List Label)) (n : ℕ) (v w : Device) → IsPlace config history counts answers devices regions queues
+    → n < config.devices → v ≡ slice_index_or devices n v → held_on w ≡ held_on v → w.table.notes ≡ v.table.notes → w.table.capacity ≡ v.table.capacity → IsPlace config history counts answers (slice_set devices n w) regions queues
 place_spared config history counts devices regions queues n v w h low found held notes same =
     let st = standing config history counts in
     let there = slice_get_read devices (length devices) n v refl (omega (arith, low, h.tied.all_devices)) found in
@@ -457,6 +460,7 @@ place_spared config history counts devices regions queues n v w h low found held
     record {
       counted = h.counted;
       lawful = h.lawful;
+      answered = h.answered;
       tied =
           record {
             all_devices = length-set devices n w ∙ h.tied.all_devices;
@@ -469,26 +473,27 @@ place_spared config history counts devices regions queues n v w h low found held
     }
 
 -- what is roomy for as much as there is
-pub roomy_by : (p q : PlaceView) (at_queue : QueueAt) → q.config ≡ p.config → q.history ≡ p.history → q.counts ≡ p.counts → length p.history < q.room.entries → length p.counts < q.room.counts → length (standing_in p).regions < q.room.regions
+pub roomy_by : (p q : PlaceView) (at_queue : QueueAt) → q.config ≡ p.config → q.history ≡ p.history → q.counts ≡ p.counts → length p.history < q.room.entries → length p.counts < q.room.counts → length p.counts < q.room.answers → length (standing_in p).regions < q.room.regions
     → length (on_queue at_queue (standing_in p).labels) < slice_index_or q.room.batches (seat at_queue) 0
     → length (presences ((standing_in p).marks at_queue.device)) + 2 * MAX_ITEMS ≤ slice_index_or q.room.ranges at_queue.device 0 → IsRoomy q at_queue
-roomy_by p q at_queue config history counts entries counted regions batches ranges =
+roomy_by p q at_queue config history counts entries counted answered regions batches ranges =
     let st : standing_in q ≡ standing_in p =
     ap (λ c. standing c q.history q.counts) config ∙ (ap (λ xs. standing p.config xs q.counts) history ∙ ap (standing p.config p.history) counts) in
     record {
       entries = omega (arith, entries, ap length history);
       counts = omega (arith, counted, ap length counts);
+      answers = omega (arith, answered, ap length counts);
       regions = omega (arith, regions, ap (λ (s : Standing). length s.regions) st);
       batches = omega (arith, batches, ap (λ (s : Standing). length (on_queue at_queue s.labels)) st);
       ranges = omega (arith, ranges, ap (λ (s : Standing). length (presences (s.marks at_queue.device))) st);
     }
 
 -- what is roomy stays so where no room falls
-pub roomier : (p q : PlaceView) (at_queue : QueueAt) → q.config ≡ p.config → q.history ≡ p.history → q.counts ≡ p.counts → p.room.entries ≤ q.room.entries → p.room.counts ≤ q.room.counts → p.room.regions ≤ q.room.regions
+pub roomier : (p q : PlaceView) (at_queue : QueueAt) → q.config ≡ p.config → q.history ≡ p.history → q.counts ≡ p.counts → p.room.entries ≤ q.room.entries → p.room.counts ≤ q.room.counts → p.room.answers ≤ q.room.answers → p.room.regions ≤ q.room.regions
     → slice_index_or p.room.batches (seat at_queue) 0 ≤ slice_index_or q.room.batches (seat at_queue) 0 → slice_index_or p.room.ranges at_queue.device 0 ≤ slice_index_or q.room.ranges at_queue.device 0
     → IsRoomy p at_queue → IsRoomy q at_queue
-roomier p q at_queue config history counts entries counted regions batches ranges h =
-    roomy_by p q at_queue config history counts (omega (arith, h.entries, entries)) (omega (arith, h.counts, counted)) (omega (arith, h.regions, regions)) (omega (arith, h.batches, batches)) (omega (arith, h.ranges, ranges))
+roomier p q at_queue config history counts entries counted answered regions batches ranges h =
+    roomy_by p q at_queue config history counts (omega (arith, h.entries, entries)) (omega (arith, h.counts, counted)) (omega (arith, h.answers, answered)) (omega (arith, h.regions, regions)) (omega (arith, h.batches, batches)) (omega (arith, h.ranges, ranges))
 
 -- what is present on a device of a queue
 pub present_there : (p : PlaceView) (devices : List Device) (regions : List Region) (queues : List (List Label)) (n : ℕ) (v : Device) (at_queue : QueueAt) → IsTied p.config (standing_in p) devices regions queues
@@ -548,29 +553,35 @@ batch_known p host d k h all none =
 
 pub fits_known : (p : PlaceView) (host : ℕ) (d : Directive) (k : Known) (q : PlanView) → IsKnownOf p host d k → AllAccepted p.config p.history p.counts → fault_by k host d ≡ None
     → q.host ≡ host → q.directive ≡ d → q.region ≡ opened_region host d d.kind
-    → q.label ≡ label_for k.at (next_in k) host q.items_done (behind_noted k (notes_on (device_in (standing_in p) host d) (standing_in p).labels) d (ops_by k host d) (steps_by k host d)) → IsRoomy p (queue_for p host d) → Fits p q
-fits_known p host d k q h all none by is inside named roomy =
+    → q.label ≡ label_for k.at (next_in k) host q.items_done (behind_noted k (notes_on (device_in (standing_in p) host d) (standing_in p).labels) d (ops_by k host d) (steps_by k host d))
+    → q.answer ≡ placed_by k d q.label (is_answered d.kind k.table.now.presences (items_by k host d)) → IsRoomy p (queue_for p host d) → Fits p q
+fits_known p host d k q h all none by is inside named told roomy =
     let st = standing_in p in
     let refused = fault_known p host d k h ∙ none in
     let next : next_in k ≡ next_number (queue_for p host d) st.labels = ap (λ ls. length ls + 1) (h.labelled k.at ∙ ap (λ a. on_queue a st.labels) h.at_queue) in
+    let labelled : q.label ≡ label_in st host q.items_done (walk_of st host d) =
+    named
+    ∙ (ap (label_for k.at (next_in k) host q.items_done) (batch_known p host d k h all refused)
+    ∙ (ap (λ n. label_for k.at n host q.items_done (batch_of st (walk_of st host d))) next
+    ∙ ap (λ w. label_for w (next_number (queue_for p host d) st.labels) host q.items_done (batch_of st (walk_of st host d))) h.at_queue)) in
+    let device : k.at.device ≡ device_in st host d = ap (λ (a : QueueAt). a.device) h.at_queue ∙ device_at p host d in
+    let counted = ap (λ n. counts_in (counts_queues d.kind (queue_by d.kind d)) k.labels.now.queues n (queues_named d)) device in
+    let found = ap (is_answered d.kind k.table.now.presences) (items_known p host d k h) in
     rw (by, is)
     (record {
       accepted = refused;
       region = inside;
-      labelled =
-          named
-          ∙ (ap (label_for k.at (next_in k) host q.items_done) (batch_known p host d k h all refused)
-          ∙ (ap (λ n. label_for k.at n host q.items_done (batch_of st (walk_of st host d))) next
-          ∙ ap (λ w. label_for w (next_number (queue_for p host d) st.labels) host q.items_done (batch_of st (walk_of st host d))) h.at_queue));
+      labelled = labelled;
+      answered = told ∙ answer_is p host q.items_done d k.table.now k.opened k.labels.now.queues q.label _ _ h.tied labelled h.labelled counted found;
       roomy = roomy;
     })
 
 -- neither room nor plan depends on which closes are at hand
 roomy_then : (p : PlaceView) (at_queue : QueueAt) (closes : List Bool) → IsRoomy p at_queue → IsRoomy (record p { closes = closes }) at_queue
-roomy_then p at_queue closes h = record { entries = h.entries; counts = h.counts; regions = h.regions; batches = h.batches; ranges = h.ranges }
+roomy_then p at_queue closes h = record { entries = h.entries; counts = h.counts; answers = h.answers; regions = h.regions; batches = h.batches; ranges = h.ranges }
 
 fits_then : (p : PlaceView) (q : PlanView) (closes : List Bool) → Fits p q → Fits (record p { closes = closes }) q
-fits_then p q closes h = record { accepted = h.accepted; region = h.region; labelled = h.labelled; roomy = roomy_then p (queue_for p q.host q.directive) closes h.roomy }
+fits_then p q closes h = record { accepted = h.accepted; region = h.region; labelled = h.labelled; answered = h.answered; roomy = roomy_then p (queue_for p q.host q.directive) closes h.roomy }
 
 -- a plan that was just made
 pub plan_of_now : (p : PlaceView) (q : PlanView) → Fits p q → q.stamp ≡ length p.history → IsPlanOf p q
@@ -606,6 +617,7 @@ still_fits p q h same =
       accepted = ap (λ s. refusal p.config s q.host q.directive) st ∙ h.fitted.accepted;
       region = h.fitted.region;
       labelled = h.fitted.labelled ∙ ap (λ s. label_in s q.host q.items_done (walk_of s q.host q.directive)) (sym st);
+      answered = h.fitted.answered ∙ ap (λ s. answer_to s q.host q.directive) (sym st);
       roomy = h.roomy none;
     }
 
@@ -686,10 +698,10 @@ plan_with p q batch = (
     counts = h.counts;
     counted = h.counted;
     stamped = h.stamped;
-    fitted = record { accepted = h.fitted.accepted; region = h.fitted.region; labelled = h.fitted.labelled; roomy = h.fitted.roomy };
+    fitted = record { accepted = h.fitted.accepted; region = h.fitted.region; labelled = h.fitted.labelled; answered = h.fitted.answered; roomy = h.fitted.roomy };
     roomy = h.roomy;
   },
-  λ h. record { accepted = h.accepted; region = h.region; labelled = h.labelled; roomy = h.roomy },
+  λ h. record { accepted = h.accepted; region = h.region; labelled = h.labelled; answered = h.answered; roomy = h.roomy },
 )
 
 pub plan_without : KeptByTaking

@@ -1,5 +1,5 @@
 -- What a visit does to lifetimes, and what was made and released against them.
-use Rattle.std.proofs.Common.{inl, inr, ◌≡◌, ◌⊎◌, ℕ, ◌<◌, ◌≤◌, Bool, true, false, List, [], ◌∷◌, ◌++◌, length, map, refl, sym, ap, ◌∙◌, arith}
+use Rattle.std.proofs.Common.{inl, inr, ◌≡◌, ◌⊎◌, ℕ, ◌<◌, ◌≤◌, Bool, true, false, List, [], ◌∷◌, ◌++◌, length, map, sym, ap, ◌∙◌, arith}
 use Rattle.std.specs.Prelude.{Contains, not, filter, nat_lt, ℤ, Option, Some, None}
 use Rattle.std.proofs.lemmas.Bool.{cases_Bool, lt-ltb, ltb-true, not-true}
 use Rattle.std.proofs.lemmas.List.{append_assoc, append-nil}
@@ -15,11 +15,10 @@ use Rattle.acc_present.proofs.LifetimesApart.{apart_same}
 use Rattle.acc_present.proofs.Lives.{lives_before, ended_inside}
 use Rattle.acc_present.proofs.LifetimeNumbers.{numbered, opened_one}
 use Rattle.acc_batch.specs.declared.label.OpLabel.{OpLabel}
-use Rattle.acc_batch.specs.declared.label.OpLabel.TheVariants.{Make, CopyIn, CopyOut, Release, Run, Await, Close}
 use Rattle.acc_kernel.specs.Jobs.{Use}
 use Rattle.acc_place.specs.Standings.{Asked, Visit, leaves_mark, one_mark, marks_with}
 use Rattle.acc_place.specs.Batches.{ended_blocks, found_block, holding_blocks, makes}
-use Rattle.acc_batch.specs.Lives.{blocks_made, blocks_released, AllUse, Made}
+use Rattle.acc_batch.specs.Lives.{blocks_made, AllUse, Made}
 
 -- two lists of operations use live blocks where each does in its place
 pub AllUse-append : (arrays : List (List ℤ)) (before xs ys : List OpLabel) → AllUse arrays before xs → AllUse arrays (before ++ xs) ys → AllUse arrays before (xs ++ ys)

@@ -1,4 +1,5 @@
 pub mod Accepting
+pub mod Answers
 pub mod Batches
 pub mod Clauses
 pub mod Closing

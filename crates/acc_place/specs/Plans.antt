@@ -12,22 +12,25 @@ use Rattle.acc_present.specs.Presences.{presences}
 use Rattle.acc_place.specs.Directives.{Directive}
 use Rattle.acc_place.specs.declared.directive.Kind.{Kind}
 use Rattle.acc_place.specs.declared.directive.Kind.TheVariants as kind
+use Rattle.acc_place.specs.declared.directive.Placed.{Placed}
 use Rattle.acc_place.specs.declared.directive.PlaceEntry.{PlaceEntry}
 use Rattle.acc_place.specs.declared.directive.PlaceEntry.TheVariants.{Accepted}
 use Rattle.acc_place.specs.declared.directive.Region.{Region}
 use Rattle.acc_place.specs.declared.directive.TheConstants.{MAX_ITEMS}
 use Rattle.acc_place.specs.Accepting.{refusal}
+use Rattle.acc_place.specs.Answers.{answer_to}
 use Rattle.acc_place.specs.Batches.{batch_of, next_number, walk_at}
 use Rattle.acc_place.specs.Histories.{standing}
 use Rattle.acc_place.specs.Regions.{region_of}
 use Rattle.acc_place.specs.Standings.{Standing, Walk, walk_of}
 
--- For how many entries of the place history, but for those of closing, counts, open data constructs, batches of each queue, but
--- for its close, by device, then in queue order, and present ranges of each device there is room, those that are there among
--- them.
+-- For how many entries of the place history, but for those of closing, counts, answers, open data constructs, batches of each
+-- queue, but for its close, by device, then in queue order, and present ranges of each device there is room, those that are
+-- there among them.
 pub record Room : Type 0 where
   pub entries : ℕ
   pub counts : ℕ
+  pub answers : ℕ
   pub regions : ℕ
   pub batches : List ℕ
   pub ranges : List ℕ
@@ -44,11 +47,12 @@ pub record PlaceView : Type 0 where
 abbrev pub standing_in : PlaceView → Standing
 standing_in p = standing p.config p.history p.counts
 
--- There is room for one more directive with a batch on this queue: in the histories, among the regions and the queue's
--- batches, and in the device's table for its items and their ends.
+-- There is room for one more directive with a batch on this queue: in the histories, for its answer, among the regions and the
+-- queue's batches, and in the device's table for its items and their ends.
 pub record IsRoomy (p : PlaceView) (at : QueueAt) : Type 0 where
   pub entries : length p.history < p.room.entries
   pub counts : length p.counts < p.room.counts
+  pub answers : length p.counts < p.room.answers
   pub regions : length (standing_in p).regions < p.room.regions
   pub batches : length (on_queue at (standing_in p).labels) < slice_index_or p.room.batches (seat at) 0
   pub ranges : length (presences ((standing_in p).marks at.device)) + 2 * MAX_ITEMS ≤ slice_index_or p.room.ranges at.device 0
@@ -68,7 +72,7 @@ IsRefusal (Some fault) f = f ≡ fault
 IsRefusal None f = f ≡ Memory
 
 -- A directive of a host with so many items before it; the region that it opens, if it opens one; the label of its batch,
--- if it isn't empty, and the batch, until it is handed out; and how many entries the place history had.
+-- if it isn't empty, and the batch, until it is handed out; what it is answered; and how many entries the place history had.
 pub record PlanView : Type 0 where
   pub host : ℕ
   pub items_done : ℕ
@@ -76,6 +80,7 @@ pub record PlanView : Type 0 where
   pub region : Option Region
   pub label : Option Label
   pub batch : Option Label
+  pub answer : Placed
   pub stamp : ℕ
 
 abbrev pub label_for : QueueAt → ℕ → ℕ → ℕ → List OpLabel → Option Label
@@ -93,11 +98,12 @@ abbrev pub opened_region : ℕ → Directive → Kind → Option Region
 opened_region host d kind.Data = Some (region_of host d)
 opened_region host d k = None
 
--- The place would accept the directive now, with that region and that label, and has the room for it.
+-- The place would accept the directive now, with that region, that label and that answer, and has the room for it.
 pub record Fits (p : PlaceView) (q : PlanView) : Type 0 where
   pub accepted : refusal p.config (standing_in p) q.host q.directive ≡ None
   pub region : q.region ≡ opened_region q.host q.directive q.directive.kind
   pub labelled : q.label ≡ label_in (standing_in p) q.host q.items_done (walk_of (standing_in p) q.host q.directive)
+  pub answered : q.answer ≡ answer_to (standing_in p) q.host q.directive
   pub roomy : IsRoomy p (queue_for p q.host q.directive)
 
 -- What accepting adds. The room is the same, with less of it left.

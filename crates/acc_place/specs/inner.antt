@@ -1,4 +1,5 @@
 pub mod Devices
+pub mod Forms
 pub mod Judging
 pub mod Noting
 pub mod Places

@@ -1,6 +1,7 @@
 //! What directives mean: the marks that they leave on a device, the faults that refuse them, and their batches.
 #![tactic(auto)]
 
+mod answer;
 mod awaits;
 mod clauses;
 mod closes;
@@ -13,10 +14,12 @@ mod loops;
 mod place;
 mod plan;
 mod regions;
+mod same;
 mod subject;
 mod targets;
 mod trial;
 
+pub use answer::Answer;
 pub use directive::{
     ASYNC_NOVAL, ASYNC_SYNC, Clause, DataItem, Directive, Kind, MAX_DIRECTIVES, MAX_ITEMS,
     MAX_REGIONS, MAX_WAITS, PlaceEntry, Placed, Region, Target, Waits, Written,

@@ -13,11 +13,11 @@ ghost use Rattle.acc_place.specs.Accepting.{refusal};
 ghost use Rattle.acc_base.specs.declared.ids.TheConstants.{QUEUES};
 ghost use Rattle.acc_base.specs.declared.range.Range.{Range};
 ghost use Rattle.acc_present.specs.Notes.{Note, HasNotes};
-ghost use Rattle.acc_place.specs.Batches.{answer_of, counts_queues, is_answered, next_number};
+ghost use Rattle.acc_place.specs.Answers.{answers_of, GoTogether};
+ghost use Rattle.acc_place.specs.Batches.{answer_of, next_number};
 ghost use Rattle.acc_place.specs.inner.Devices.{held_on};
 ghost use Rattle.acc_place.specs.inner.Noting.{noted_ranges, noted_with};
-ghost use Rattle.acc_place.specs.Targets.{queue_by, queues_named};
-ghost use Rattle.acc_place.specs.inner.Trials.{counts_in, CanBeMade};
+ghost use Rattle.acc_place.specs.inner.Trials.{CanBeMade};
 ghost use Rattle.acc_place.specs.Closing.{place_after_begin, close_of, place_after_close, handed_back, handed_out, is_at_hand, ClosesQueue, IsOut};
 ghost use Rattle.acc_place.specs.declared.directive.PlaceEntry.TheVariants.{Accepted};
 ghost use Rattle.acc_place.specs.Histories.{is_closed, AllAccepted, IsQueue};
@@ -25,10 +25,10 @@ ghost use Rattle.acc_place.specs.inner.Places.{queues_after};
 ghost use Rattle.acc_place.specs.Plans.{nth_batch, standing_in, IsRefusal, IsPlanOf, IsRoomy, Fits, place_after, queue_for};
 ghost use Rattle.acc_place.specs.Standings.{walk_of};
 
-use crate::awaits::named_counts;
+use crate::answer::Answer;
 use crate::closes::{Close, closes_of};
 use crate::device::{Device, devices_of};
-use crate::directive::{DataItem, Directive, Kind, PlaceEntry, Placed, Region};
+use crate::directive::{Directive, PlaceEntry, Placed, Region};
 use crate::judge::Known;
 use crate::labels::Labels;
 use crate::plan::{Plan, batch_of};
@@ -36,9 +36,9 @@ use crate::regions::{device_by, enter_or_leave};
 use crate::subject::ends_of;
 use crate::targets::queue_by;
 use crate::trial::Trial;
-use acc_base::{Config, DeviceId, Fault, HostId, QUEUES, QueueAt, QueueCounts, QueueId, Range};
+use acc_base::{Config, DeviceId, Fault, HostId, QueueAt, Range};
 use acc_batch::{Batch, Label};
-use acc_present::{Change, Entry, Table};
+use acc_present::{Change, Entry};
 use std::alloc::Global;
 use std::marker::Model;
 
@@ -52,6 +52,8 @@ pub struct Place {
     devices: Vec<Device>,
     history: Vec<PlaceEntry>,
     counts: Vec<u64>,
+    // what was answered, one for each count
+    answers: Vec<Answer>,
     closing: bool,
     // by device, then in queue order
     closes: Vec<Close>,
@@ -74,9 +76,9 @@ impl Model for Place {
 
     ghost coded = { Prim.hlevel (codes, expr.the_row.coded) };
 
-    ghost view = { λ w. record { config = w.config; history = reverse w.history.items; counts = reverse w.counts.items; closes = map (λ c. is_some c.batch) w.closes.items; room = record { entries = vec_capacity w.history - closing_entries w.config; counts = vec_capacity w.counts; regions = vec_capacity w.regions; batches = w.labels.room; ranges = map (λ v. v.table.room) w.devices.items } } };
+    ghost view = { λ w. record { config = w.config; history = reverse w.history.items; counts = reverse w.counts.items; closes = map (λ c. is_some c.batch) w.closes.items; room = record { entries = vec_capacity w.history - closing_entries w.config; counts = vec_capacity w.counts; answers = vec_capacity w.answers; regions = vec_capacity w.regions; batches = w.labels.room; ranges = map (λ v. v.table.room) w.devices.items } } };
 
-    ghost invariant = { λ w. IsPlace w.config (reverse w.history.items) (reverse w.counts.items) w.devices.items w.regions.items w.labels.queues × KeepsCloses w.config (standing w.config (reverse w.history.items) (reverse w.counts.items)) w.closing w.closes.items (length w.history.items) (vec_capacity w.history) w.labels.room };
+    ghost invariant = { λ w. IsPlace w.config (reverse w.history.items) (reverse w.counts.items) (reverse w.answers.items) w.devices.items w.regions.items w.labels.queues × KeepsCloses w.config (standing w.config (reverse w.history.items) (reverse w.counts.items)) w.closing w.closes.items (length w.history.items) (vec_capacity w.history) w.labels.room };
 }
 
 impl Place {
@@ -103,6 +105,7 @@ impl Place {
             devices,
             history,
             counts: Vec::new(alloc),
+            answers: Vec::new(alloc),
             closing: false,
             closes,
             regions: Vec::new(alloc),
@@ -238,6 +241,7 @@ impl Place {
         let device = usize::from(at.device.number());
         self.history.reserve(self.closes.len() + 2)?;
         self.counts.reserve(1)?;
+        self.answers.reserve(1)?;
         self.regions.reserve(1)?;
         self.labels.spare(at)?;
         self.devices[device].spare()?;
@@ -256,6 +260,7 @@ impl Place {
             directive,
             region,
             label,
+            answer,
             ..
         } = plan;
         self.trial
@@ -263,9 +268,7 @@ impl Place {
         let kind = directive.kind();
         let items = self.trial.items();
         let device = device_by(self.regions.as_slice(), host, &directive);
-        let counts = counts_for(&self.labels, device, &directive);
         let there = &mut self.devices[usize::from(device.number())];
-        let present = is_answered(&there.table, kind, items);
         there.mark_all(kind.change(), items);
         note_label(there, &label);
         there.table.keeps();
@@ -274,12 +277,10 @@ impl Place {
         self.history
             .push_reserved(PlaceEntry::Accepted { host, directive });
         self.counts.push_reserved(items_done);
-        let batch = push_label(&mut self.labels, label);
-        Placed {
-            batch,
-            counts,
-            present,
-        }
+        push_label(&mut self.labels, label);
+        let placed = answer.placed();
+        self.answers.push_reserved(answer);
+        placed
     }
 
     /// Closing begins, if it hasn't: from then on no directive is accepted. Takes no memory.
@@ -386,14 +387,14 @@ impl Place {
     pub fn placed_count(&self, at: QueueAt) -> u64
         ensures { result ≡ length (on_queue at (standing_in self.now).labels) }
     {
-        self.labels.on(at).len() as u64
+        self.labels_on(at).len() as u64
     }
 
     // The number of a queue's next batch.
     fn next_number(&self, at: QueueAt) -> u64
         ensures { result ≡ next_number at (standing_in self.now).labels }
     {
-        let placed = self.labels.on(at);
+        let placed = self.labels_on(at);
         placed.len() as u64 + 1
     }
 
@@ -405,7 +406,14 @@ impl Place {
         if number == 0 {
             return None;
         }
-        self.labels.on(at).get(number as usize - 1)
+        self.labels_on(at).get(number as usize - 1)
+    }
+
+    /// The labels of the batches that were placed on a queue, in order.
+    pub fn labels_on(&self, at: QueueAt) -> &[Label]
+        ensures { result.now ≡ on_queue at (standing_in self.now).labels }
+    {
+        self.labels.on(at)
     }
 
     /// What was accepted and closed, in order: each directive after those before it, and each queue once, behind the closing.
@@ -414,6 +422,22 @@ impl Place {
         ensures accepted { AllAccepted self.now.config self.now.history self.now.counts }
     {
         self.history.as_slice()
+    }
+
+    /// How many items the host of each accepted directive had before it, in order: each goes with the directive of the same index
+    /// of the history.
+    pub fn counts(&self) -> &[u64]
+        ensures { result.now ≡ reverse self.now.counts }
+    {
+        self.counts.as_slice()
+    }
+
+    /// What was answered to the accepted directives, in order: each goes with the directive and the count of the same index.
+    pub fn answers(&self) -> &[Answer]
+        ensures answers { result.now ≡ reverse (answers_of self.now.config self.now.history self.now.counts) }
+        ensures together { GoTogether self.now.config self.now.history self.now.counts }
+    {
+        self.answers.as_slice()
     }
 
     /// The configuration that it was made for.
@@ -440,34 +464,6 @@ impl Place {
     }
 }
 
-// The answer of `acc_is_present`, and of no other directive.
-fn is_answered(table: &Table, kind: &Kind, items: &[DataItem]) -> bool
-    requires cells { All (λ i. 0 < i.range.len) items.now }
-    ensures { result ≡ is_answered kind.now table.now.presences items.now }
-{
-    matches!(kind, Kind::IsPresent)
-        && items
-            .iter()
-            .all(|item| table.counters(item.range).is_some())
-}
-
-// How many batches were placed on each queue that a wait on queue sync or a question names, else 0.
-fn counts_for(labels: &Labels, device: DeviceId, directive: &Directive) -> QueueCounts
-    ensures { result ≡ counts_in (counts_queues directive.now.kind (queue_by directive.now.kind directive.now)) labels.now.queues device (queues_named directive.now) }
-{
-    let are_asked = match directive.kind() {
-        Kind::Wait => queue_by(directive) == QueueId::SYNC,
-        Kind::AsyncTest => true,
-        Kind::Data | Kind::EndData | Kind::EnterData | Kind::Loop { .. } => false,
-        Kind::ExitData { .. } | Kind::Update { .. } | Kind::IsPresent => false,
-    };
-    if are_asked {
-        named_counts(labels, device, directive)
-    } else {
-        [0; QUEUES as usize]
-    }
-}
-
 // Notes what a batch makes and uses, if there is one.
 fn note_label(device: &mut Device, label: &Option<Label>)
     requires { IfSome label.now (λ l. (l.at.queue < QUEUES) × All (λ u. 0 < u.1.len) (flat_map noted_ranges l.ops)) }
@@ -482,19 +478,14 @@ fn note_label(device: &mut Device, label: &Option<Label>)
     }
 }
 
-// Adds the label of a batch, if there is one, and says where that batch is.
-fn push_label(labels: &mut Labels, label: Option<Label>) -> Option<(QueueAt, u64)>
+// Adds the label of a batch, if there is one.
+fn push_label(labels: &mut Labels, label: Option<Label>)
     requires { IfSome label (λ l. (seat l.at < length labels.old.queues) × (length (slice_index_or labels.old.queues (seat l.at) []) < slice_index_or labels.old.room (seat l.at) 0)) }
     ensures queues { labels.new.queues ≡ queues_after labels.old.queues label }
     ensures room { labels.new.room ≡ labels.old.room }
-    ensures result { result ≡ option_map (λ l. (l.at, l.number)) label }
 {
     match label {
-        None => None,
-        Some(label) => {
-            let placed = (label.at, label.number);
-            labels.push(label);
-            Some(placed)
-        }
+        None => {}
+        Some(label) => labels.push(label),
     }
 }

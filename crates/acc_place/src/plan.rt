@@ -10,10 +10,11 @@ ghost use Rattle.acc_base.specs.declared.range.Range.{Range};
 ghost use Rattle.acc_batch.specs.Awaits.{with_awaits};
 ghost use Rattle.acc_present.specs.Notes.{Note, HasNotes};
 ghost use Rattle.acc_place.specs.inner.Noting.{awaits_from, used_ranges};
-ghost use Rattle.acc_place.specs.inner.Trials.{behind_noted, next_in, CanBeMade};
+ghost use Rattle.acc_place.specs.inner.Trials.{behind_noted, next_in, placed_by, CanBeMade};
 ghost use Rattle.acc_place.specs.Plans.{Fits, IsPlanOf, label_for, opened_region};
 ghost use Rattle.acc_place.specs.inner.Judging.{block_of, op_of, op_for, update_for, group_ops, marked_ops};
 
+use crate::answer::{Answer, answer_by};
 use crate::awaits::{add_awaits, awaited_numbers};
 use crate::directive::{Clause, Directive, Region};
 use crate::judge::{Known, Marked};
@@ -47,6 +48,8 @@ pub struct Plan {
     pub(crate) label: Option<Label>,
     // the batch, until it is handed out
     pub(crate) batch: Option<Batch>,
+    // what it is answered, in the memory that keeps it
+    pub(crate) answer: Answer,
     // how many entries the place history had
     pub(crate) stamp: usize,
 }
@@ -60,7 +63,7 @@ impl Model for Plan {
 
     ghost coded = { Prim.hlevel (codes, expr.the_row.coded) };
 
-    ghost view = { λ q. record { host = q.host; items_done = q.items_done; directive = q.directive; region = q.region; label = q.label; batch = q.batch; stamp = q.stamp } };
+    ghost view = { λ q. record { host = q.host; items_done = q.items_done; directive = q.directive; region = q.region; label = q.label; batch = q.batch; answer = q.answer; stamp = q.stamp } };
 }
 
 impl Plan {
@@ -83,7 +86,8 @@ impl Plan {
     }
 }
 
-/// A plan for a host's directive with these steps, that runs this loop, if any. It has no batch yet.
+/// A plan for a host's directive with these steps, that runs this loop, if any, and whose question is answered so. It has no
+/// batch yet.
 pub(crate) fn plan_of(
     alloc: Global,
     known: &Known,
@@ -92,6 +96,7 @@ pub(crate) fn plan_of(
     directive: &Directive,
     steps: &[Marked],
     run: Option<OpLabel>,
+    present: bool,
 ) -> Result<Plan, Fault>
     requires run { IfSome run HasItsCells }
     requires run_cells { All (λ u. 0 < u.1.len) (flat_map used_ranges (option_to_list run)) }
@@ -102,6 +107,7 @@ pub(crate) fn plan_of(
     ensures label { (notes : Range → ℕ → Note) → HasNotes notes known.now.table.now.notes → IfOk result (λ q. q.label ≡ label_for known.now.at (next_in known.now) host items_done (behind_noted known.now notes directive.now (marked_ops (option_to_list run) steps.now) steps.now)) }
     ensures cells { IfOk result (λ q. IfSome q.label CanBeMade) }
     ensures batch { IfOk result (λ q. q.batch ≡ None) }
+    ensures answer { IfOk result (λ q. q.answer ≡ placed_by known.now directive.now q.label present) }
     ensures fault { IfErr result (λ fault. fault ≡ Fault.Memory) }
 {
     let numbers = awaited_numbers(known, directive, steps, &run);
@@ -114,8 +120,9 @@ pub(crate) fn plan_of(
         run,
     )?;
     let region = opened_region(host, directive)?;
-    let directive = directive.try_clone()?;
     let label = label_of(alloc, known, host, items_done, ops)?;
+    let answer = answer_by(alloc, known, directive, &label, present)?;
+    let directive = directive.try_clone()?;
     Ok(Plan {
         host,
         items_done,
@@ -123,6 +130,7 @@ pub(crate) fn plan_of(
         region,
         label,
         batch: None,
+        answer,
         stamp: known.accepted,
     })
 }

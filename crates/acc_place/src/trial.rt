@@ -6,11 +6,13 @@ ghost use Rattle.acc_base.specs.declared.fault.Fault.TheVariants.{Memory};
 ghost use Rattle.acc_base.specs.declared.range.Range.{Range};
 ghost use Rattle.acc_present.specs.Notes.{Note, HasNotes};
 ghost use Rattle.acc_base.specs.Configurations.{lengths_of};
+ghost use Rattle.acc_place.specs.Batches.{is_answered};
 ghost use Rattle.acc_place.specs.Plans.{label_for, opened_region};
 ghost use Rattle.acc_place.specs.Standings.{subject_by};
-ghost use Rattle.acc_place.specs.inner.Trials.{behind_noted, fault_by, next_in, ops_by, steps_by, CanBeMade, IsKnown, IsTried};
+ghost use Rattle.acc_place.specs.inner.Trials.{behind_noted, fault_by, items_by, next_in, ops_by, placed_by, steps_by, CanBeMade, IsKnown, IsTried};
 ghost use Rattle.acc_place.specs.inner.Judging.{device_by};
 
+use crate::answer::is_answered;
 use crate::directive::{DataItem, Directive, MAX_ITEMS, Region};
 use crate::judge::{Known, Marked, judge_all, leave_all, limit_fault};
 use crate::plan::{Plan, plan_of};
@@ -144,11 +146,13 @@ impl Trial {
         ensures label { (notes : Range → ℕ → Note) → HasNotes notes known.now.table.now.notes → IfOk result (λ q. q.label ≡ label_for known.now.at (next_in known.now) host items_done (behind_noted known.now notes directive.now (ops_by known.now host directive.now) (steps_by known.now host directive.now))) }
         ensures cells { IfOk result (λ q. IfSome q.label CanBeMade) }
         ensures batch { IfOk result (λ q. q.batch ≡ None) }
+        ensures answer { IfOk result (λ q. q.answer ≡ placed_by known.now directive.now q.label (is_answered directive.now.kind known.now.table.now.presences (items_by known.now host directive.now))) }
         ensures fault { IfErr result (λ fault. fault ≡ Memory) }
     {
         let kind = directive.kind();
         let items = self.items.as_slice();
         let run = run_in(alloc, known.table, &self.draft, kind, items)?;
+        let present = is_answered(known.table, kind, items);
         let ends = ends_of(kind, items);
         leave_all(known.table, &mut self.draft, ends, &mut self.steps);
         plan_of(
@@ -159,6 +163,7 @@ impl Trial {
             directive,
             self.steps.as_slice(),
             run,
+            present,
         )
     }
 }

@@ -1,7 +1,5 @@
 mod JoinedPuts
-mod LeftEntries
 mod LinesFound
-mod OwnEntries
 mod PerformedCounts
 mod PlacedTotals
 mod PrintedLines

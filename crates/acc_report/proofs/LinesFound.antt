@@ -7,10 +7,9 @@ use Rattle.acc_place.specs.declared.directive.Kind.TheVariants as kind
 use Rattle.acc_place.specs.declared.directive.Placed.{Placed}
 use Rattle.acc_host.specs.declared.program.Act.{Act}
 use Rattle.acc_host.specs.declared.program.Act.TheVariants as act
-use Rattle.acc_host.specs.declared.program.Statement.{Statement}
 use Rattle.acc_host.specs.declared.state.Ids.{Ids}
 use Rattle.acc_host.specs.Engines.{HostEntry, Gave}
-use Rattle.acc_host.specs.Following.{Ended, Ends, Settles}
+use Rattle.acc_host.specs.Following.{Ends, Settles}
 use Rattle.acc_host.specs.Steps.{Owed, nothing_owed, owes_seen, owes_test, owed_by, with_ids, ids_after}
 use Rattle.acc_report.specs.Prints.{LinesAreFound, answer_line, device_after, entries_taken, line_of, lines, size_of, test_answer}
 

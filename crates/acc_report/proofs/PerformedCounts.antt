@@ -1,15 +1,14 @@
 -- How many operations each queue has performed, its close apart: one entry of the work log after another.
-use Rattle.std.proofs.Common.{inl, inr, ◌≡◌, ℕ, zero, suc, ◌+◌, ◌*◌, ◌^◌, ◌<◌, ◌≤◌, Bool, true, false, cond, List, [], ◌∷◌, ◌++◌, length, take, get_or, reverse, refl, sym, ap, subst, ◌∙◌, arith}
-use Rattle.std.specs.Prelude.{nat_lt, not, ◌&&◌, slice_index_or, slice_set, IsTrue, replicate, if◌then◌else◌}
-use Rattle.std.specs.List.{filter}
+use Rattle.std.proofs.Common.{inl, inr, ◌≡◌, ℕ, ◌+◌, ◌*◌, ◌^◌, ◌<◌, ◌≤◌, Bool, true, false, cond, List, [], ◌∷◌, ◌++◌, length, take, get_or, reverse, refl, sym, ap, subst, ◌∙◌, arith}
+use Rattle.std.specs.Prelude.{nat_lt, not, slice_index_or, slice_set}
 use Rattle.std.proofs.lemmas.Bool.{and_from, and_parts, cases_Bool, lt-ltb, ltb-true}
-use Rattle.std.proofs.lemmas.List.{get_or-set_same, length-append, length-reverse, length-set, reverse-append, take_more}
+use Rattle.std.proofs.lemmas.List.{get_or-set_same, length-append, length-set, reverse-append, take_more}
 use Rattle.std.proofs.lemmas.List.Elements.{filter-append}
 use Rattle.acc_base.specs.declared.ids.QueueAt.{QueueAt}
 use Rattle.acc_base.specs.declared.ids.TheConstants.{QUEUES}
 use Rattle.acc_base.specs.Queues.{same_queue, seat}
 use Rattle.acc_base.proofs.SameQueue.{same_queue_is}
-use Rattle.acc_batch.proofs.Seats.{at_seat, seat_kept, seat_there}
+use Rattle.acc_batch.proofs.Seats.{seat_kept, seat_there}
 use Rattle.acc_batch.specs.declared.label.OpLabel.{OpLabel}
 use Rattle.acc_place.specs.Sound.{is_close}
 use Rattle.acc_report.specs.Totals.{plain_ops}

@@ -1,13 +1,12 @@
 -- A history that was accepted can be told once more, entry by entry.
-use Rattle.std.proofs.Common.{◌≡◌, ℕ, zero, suc, ◌+◌, ◌<◌, ◌≤◌, List, [], ◌∷◌, ◌++◌, length, drop, get_or, reverse, refl, sym, ap, subst, ◌∙◌, arith}
+use Rattle.std.proofs.Common.{◌≡◌, ℕ, ◌+◌, ◌<◌, ◌≤◌, List, [], ◌∷◌, ◌++◌, length, drop, get_or, reverse, refl, sym, ap, subst, ◌∙◌, arith}
 use Rattle.std.proofs.lemmas.List.{append_assoc, append-nil, drop_all, drop_more, length-reverse, reverse-append}
 use Rattle.acc_base.specs.Configurations.{Configuration}
 use Rattle.acc_place.specs.Histories.{AllAccepted, standing}
 use Rattle.acc_place.specs.Plans.{PlaceView, standing_in}
 use Rattle.acc_place.specs.declared.directive.PlaceEntry.{PlaceEntry}
 use Rattle.acc_place.specs.declared.directive.PlaceEntry.TheVariants as entry
-use Rattle.acc_report.specs.declared.retold.Answered.{Answered}
-use Rattle.acc_report.specs.inner.Retelling.{AllFollow, AreAnswers, CanFollow, HasCount, counts_gone, counts_left}
+use Rattle.acc_report.specs.inner.Retelling.{AllFollow, CanFollow, HasCount, counts_gone, counts_left}
 
 -- how many directives a history has
 abbrev pub directives : List PlaceEntry → ℕ
@@ -82,15 +81,14 @@ followed config (entry.Closed at ∷ es) history counts gone many all =
 -- ## In the middle
 
 -- So many entries are told, and the others can follow.
-pub record IsTold (config : Configuration) (es : List PlaceEntry) (counts : List ℕ) (i : ℕ) (p : PlaceView) (left : List ℕ) (answered : List Answered) : Type 0 where
+pub record IsTold (config : Configuration) (es : List PlaceEntry) (counts : List ℕ) (i : ℕ) (p : PlaceView) (left : List ℕ) : Type 0 where
   pub same : p.config ≡ config
   pub follow : AllFollow config p.history p.counts (drop i es) left
   pub history : reverse (drop i es) ++ p.history ≡ reverse es
   pub gone : reverse left ++ p.counts ≡ reverse counts
-  pub answers : AreAnswers config p.history p.counts answered
 
 pub nothing_told : (config : Configuration) (es : List PlaceEntry) (counts : List ℕ) (p : PlaceView) → p.config ≡ config → p.history ≡ [] → p.counts ≡ []
-    → AllAccepted config (reverse es) (reverse counts) → length counts ≡ (standing config (reverse es) (reverse counts)).accepted → IsTold config es counts 0 p counts []
+    → AllAccepted config (reverse es) (reverse counts) → length counts ≡ (standing config (reverse es) (reverse counts)).accepted → IsTold config es counts 0 p counts
 nothing_told config es counts p same history gone all counted =
     let many : length counts ≡ directives es = counted ∙ (accepted_is config (reverse es) (reverse counts) ∙ directives-reverse es) in
     let accepted : AllAccepted config (reverse es ++ []) (reverse counts ++ []) =
@@ -104,16 +102,15 @@ nothing_told config es counts p same history gone all counted =
       follow = follow;
       history = ap (λ (hs : List PlaceEntry). reverse es ++ hs) history ∙ append-nil (reverse es);
       gone = ap (λ (ns : List ℕ). reverse counts ++ ns) gone ∙ append-nil (reverse counts);
-      answers = λ h. rw history refl;
     }
 
 -- the entry that stands there, and what follows it
 here_is : (es : List PlaceEntry) (i : ℕ) (e : PlaceEntry) → i < length es → e ≡ get_or es i e → drop i es ≡ e ∷ drop (i + 1) es
 here_is es i e low is = drop_more es i e low ∙ ap (λ (x : PlaceEntry). x ∷ drop (i + 1) es) (sym is)
 
-pub next_follows : (config : Configuration) (es : List PlaceEntry) (counts : List ℕ) (i : ℕ) (p : PlaceView) (left : List ℕ) (answered : List Answered) (e : PlaceEntry) → i < length es → e ≡ get_or es i e
-    → IsTold config es counts i p left answered → CanFollow p.config (standing_in p) e × HasCount e left
-next_follows config es counts i p left answered e low is told =
+pub next_follows : (config : Configuration) (es : List PlaceEntry) (counts : List ℕ) (i : ℕ) (p : PlaceView) (left : List ℕ) (e : PlaceEntry) → i < length es → e ≡ get_or es i e
+    → IsTold config es counts i p left → CanFollow p.config (standing_in p) e × HasCount e left
+next_follows config es counts i p left e low is told =
     let all : AllFollow config p.history p.counts (e ∷ drop (i + 1) es) left = subst (λ (xs : List PlaceEntry). AllFollow config p.history p.counts xs left) (here_is es i e low is) told.follow in
     (subst (λ (k : Configuration). CanFollow k (standing k p.history p.counts) e) (sym told.same) all.0, all.1)
 
@@ -123,18 +120,16 @@ counts_turned (entry.Accepted host d) (n ∷ left) gone has = sym (turned n left
 counts_turned entry.Closing left gone has = refl
 counts_turned (entry.Closed at) left gone has = refl
 
-pub one_told : (config : Configuration) (es : List PlaceEntry) (counts : List ℕ) (i : ℕ) (p after : PlaceView) (left rest : List ℕ) (answered longer : List Answered) (e : PlaceEntry) → i < length es → e ≡ get_or es i e
+pub one_told : (config : Configuration) (es : List PlaceEntry) (counts : List ℕ) (i : ℕ) (p after : PlaceView) (left rest : List ℕ) (e : PlaceEntry) → i < length es → e ≡ get_or es i e
     → after.config ≡ p.config → after.history ≡ e ∷ p.history → after.counts ≡ counts_gone e left p.counts → rest ≡ counts_left e left
-    → (AreAnswers p.config p.history p.counts answered → AreAnswers p.config after.history after.counts longer)
-    → IsTold config es counts i p left answered → IsTold config es counts (i + 1) after rest longer
-one_told config es counts i p after left rest answered longer e low is same history gone less answers told =
+    → IsTold config es counts i p left → IsTold config es counts (i + 1) after rest
+one_told config es counts i p after left rest e low is same history gone less told =
     let here = here_is es i e low is in
     let all : AllFollow config p.history p.counts (e ∷ drop (i + 1) es) left = subst (λ (xs : List PlaceEntry). AllFollow config p.history p.counts xs left) here told.follow in
     let behind : AllFollow config after.history after.counts (drop (i + 1) es) rest =
     subst (λ (hs : List PlaceEntry). AllFollow config hs after.counts (drop (i + 1) es) rest) (sym history)
     (subst (λ (ns : List ℕ). AllFollow config (e ∷ p.history) ns (drop (i + 1) es) rest) (sym gone)
     (subst (λ (ns : List ℕ). AllFollow config (e ∷ p.history) (counts_gone e left p.counts) (drop (i + 1) es) ns) (sym less) all.2)) in
-    let given : AreAnswers p.config p.history p.counts answered = subst (λ (k : Configuration). AreAnswers k p.history p.counts answered) (sym told.same) told.answers in
     record {
       same = same ∙ told.same;
       follow = behind;
@@ -144,23 +139,18 @@ one_told config es counts i p after left rest answered longer e low is same hist
       gone =
           ap (λ (ns : List ℕ). reverse ns ++ after.counts) less
           ∙ (ap (λ (ns : List ℕ). reverse (counts_left e left) ++ ns) gone ∙ (counts_turned e left p.counts all.1 ∙ told.gone));
-      answers = subst (λ (k : Configuration). AreAnswers k after.history after.counts longer) told.same (answers given);
     }
 
 -- all of it is told
-pub record IsWhole (config : Configuration) (es : List PlaceEntry) (counts : List ℕ) (p : PlaceView) (answered : List Answered) : Type 0 where
+pub record IsWhole (es : List PlaceEntry) (counts : List ℕ) (p : PlaceView) : Type 0 where
   pub history : p.history ≡ reverse es
   pub gone : p.counts ≡ reverse counts
-  pub answers : AreAnswers config (reverse es) (reverse counts) answered
 
-pub all_told : (config : Configuration) (es : List PlaceEntry) (counts : List ℕ) (i : ℕ) (p : PlaceView) (left : List ℕ) (answered : List Answered) → length es ≤ i → IsTold config es counts i p left answered → IsWhole config es counts p answered
-all_told config es counts i p left answered past told =
+pub all_told : (config : Configuration) (es : List PlaceEntry) (counts : List ℕ) (i : ℕ) (p : PlaceView) (left : List ℕ) → length es ≤ i → IsTold config es counts i p left → IsWhole es counts p
+all_told config es counts i p left past told =
     let none = drop_all i es past in
     let no_left : left ≡ [] = subst (λ (xs : List PlaceEntry). AllFollow config p.history p.counts xs left) none told.follow in
-    let history : p.history ≡ reverse es = sym (ap (λ (xs : List PlaceEntry). reverse xs ++ p.history) none) ∙ told.history in
-    let gone : p.counts ≡ reverse counts = sym (ap (λ (ns : List ℕ). reverse ns ++ p.counts) no_left) ∙ told.gone in
     record {
-      history = history;
-      gone = gone;
-      answers = subst (λ (hs : List PlaceEntry). AreAnswers config hs (reverse counts) answered) history (subst (λ (ns : List ℕ). AreAnswers config p.history ns answered) gone told.answers);
+      history = sym (ap (λ (xs : List PlaceEntry). reverse xs ++ p.history) none) ∙ told.history;
+      gone = sym (ap (λ (ns : List ℕ). reverse ns ++ p.counts) no_left) ∙ told.gone;
     }

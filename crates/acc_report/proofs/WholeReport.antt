@@ -1,22 +1,14 @@
 -- The parts of a report, put one after the other, are the report of what a run leaves.
-use Rattle.std.proofs.Common.{◌≡◌, ℕ, zero, suc, ◌+◌, ◌<◌, List, [], ◌∷◌, ◌++◌, length, codes, refl, sym, ap, subst, ◌∙◌, arith}
-use Rattle.std.specs.Prelude.{slice_index_or}
-use Rattle.acc_base.specs.Configurations.{Configuration}
+use Rattle.std.proofs.Common.{◌≡◌, ℕ, zero, suc, ◌<◌, List, ◌++◌, length, codes, refl, ap, subst, ◌∙◌, arith}
 use Rattle.acc_base.specs.declared.ids.QueueAt.{QueueAt}
 use Rattle.acc_base.specs.declared.ids.TheConstants.{QUEUES}
-use Rattle.acc_base.specs.Queues.{seat}
 use Rattle.acc_batch.specs.Labels.{on_queue, ops_of}
 use Rattle.acc_host.specs.declared.program.HostProgram.{HostProgram}
-use Rattle.acc_place.specs.declared.directive.PlaceEntry.{PlaceEntry}
-use Rattle.acc_place.specs.Histories.{standing}
-use Rattle.acc_place.specs.Plans.{PlaceView, standing_in}
-use Rattle.acc_place.specs.Standings.{Standing}
 use Rattle.acc_report.specs.Totals.{plain_batches, plain_ops}
 use Rattle.acc_report.specs.Lines.{each_below, totals_text}
 use Rattle.acc_report.specs.Puts.{Puts, Sink}
 use Rattle.acc_report.specs.Reports.{Left, device_text, nth_host_text, queue_text, queues_text, report, standing_left}
 use Rattle.acc_report.specs.inner.Counting.{AreCounted}
-use Rattle.acc_report.specs.inner.Retelling.{StandsAs}
 use Rattle.acc_report.specs.inner.Standing.{counted_queue_text, counted_text, present_text}
 use Rattle.acc_report.proofs.JoinedPuts.{puts_then}
 
@@ -42,22 +34,9 @@ queues_same left counts h =
     (λ d device. each_same QUEUES (λ q. counted_queue_text (standing_left left) counts (record { device = d; queue = q })) (λ q. queue_text left (record { device = d; queue = q }))
     (λ q queue. queue_same left counts (record { device = d; queue = q }) h device queue))
 
-stands : (p : PlaceView) (left : Left) → StandsAs p left → standing_in p ≡ standing_left left
-stands p left s =
-    ap (λ (k : Configuration). standing k p.history p.counts) s.config
-    ∙ (ap (λ (hs : List PlaceEntry). standing left.config hs p.counts) s.history ∙ ap (standing left.config left.history) s.counts)
-
-pub whole_report : {old a b c new : Sink} (names : List (List ℕ)) (programs : List HostProgram) (left : Left) (p : PlaceView) (counts : List ℕ) → StandsAs p left → AreCounted left.config.devices left.work counts
-    → Puts old a (each_below (length left.hosts) (nth_host_text left programs)) → Puts a b (each_below p.config.devices (present_text names (standing_in p)))
-    → Puts b c (each_below p.config.devices (counted_text (standing_in p) counts)) → Puts c new (codes "end\n") → Puts old new (report names programs left)
+pub whole_report : {old a b c new : Sink} (names : List (List ℕ)) (programs : List HostProgram) (left : Left) (counts : List ℕ) → AreCounted left.config.devices left.work counts
+    → Puts old a (each_below (length left.hosts) (nth_host_text left programs)) → Puts a b (each_below left.config.devices (present_text names (standing_left left)))
+    → Puts b c (each_below left.config.devices (counted_text (standing_left left) counts)) → Puts c new (codes "end\n") → Puts old new (report names programs left)
 unfolding report
-whole_report {old} {a} {b} {c} {new} names programs left p counts s counted hosts present queues end =
-    let is = stands p left s in
-    let n : p.config.devices ≡ left.config.devices = ap (λ (k : Configuration). k.devices) s.config in
-    let present_is : each_below p.config.devices (present_text names (standing_in p)) ≡ each_below left.config.devices (device_text names left) =
-    ap (λ k. each_below k (present_text names (standing_in p))) n
-    ∙ (ap (λ (st : Standing). each_below left.config.devices (present_text names st)) is ∙ devices_same names left left.config.devices) in
-    let queues_is : each_below p.config.devices (counted_text (standing_in p) counts) ≡ each_below left.config.devices (queues_text left) =
-    ap (λ k. each_below k (counted_text (standing_in p) counts)) n
-    ∙ (ap (λ (st : Standing). each_below left.config.devices (counted_text st counts)) is ∙ queues_same left counts counted) in
-    puts_then hosts (puts_then (subst (Puts a b) present_is present) (puts_then (subst (Puts b c) queues_is queues) end))
+whole_report {old} {a} {b} {c} {new} names programs left counts counted hosts present queues end =
+    puts_then hosts (puts_then (subst (Puts a b) (devices_same names left left.config.devices) present) (puts_then (subst (Puts b c) (queues_same left counts counted) queues) end))

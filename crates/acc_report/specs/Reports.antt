@@ -22,6 +22,7 @@ use Rattle.acc_host.specs.Engines.{HostEntry}
 use Rattle.acc_host.specs.Entries.{entries_merged, items_shown, own_of}
 use Rattle.acc_report.specs.Lines.{each_below, line_text, presence_text, state_text, totals_text}
 use Rattle.acc_report.specs.Prints.{lines}
+use Rattle.acc_report.specs.declared.run.Run.{Run}
 
 -- What a run leaves: the configuration, the place history with its counts and the work log, each with its latest entry first,
 -- and where each host stands.
@@ -41,6 +42,17 @@ left_by o =
       counts = reverse o.counts.items;
       work = reverse o.works.items;
       hosts = o.hosts.items;
+    }
+
+-- what a run leaves, in these words
+abbrev pub left_after : Run → Left
+left_after r =
+    record {
+      config = r.place.now.config;
+      history = r.place.now.history;
+      counts = r.place.now.counts;
+      work = reverse r.works.now;
+      hosts = r.hosts.now;
     }
 
 abbrev pub standing_left : Left → Standing

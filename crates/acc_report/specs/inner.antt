@@ -2,4 +2,3 @@ pub mod Counting
 pub mod Pages
 pub mod Retelling
 pub mod Standing
-pub mod Unread

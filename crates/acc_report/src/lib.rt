@@ -10,8 +10,7 @@ mod performed;
 mod prints;
 mod retold;
 mod run;
-mod unread;
 
 pub use bytes::ReportFault;
 pub use laws::lines_are_found;
-pub use run::report;
+pub use run::{Run, report, report_run};

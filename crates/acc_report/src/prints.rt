@@ -9,15 +9,12 @@ ghost use Rattle.acc_host.specs.Steps.{Owed, owed_by};
 ghost use Rattle.acc_report.specs.Lines.{line_text};
 ghost use Rattle.acc_report.specs.Prints.{answer_line, device_after, entries_taken, line_of, lines, placed_line, placed_size, shown_line, size_of, test_answer, tested};
 ghost use Rattle.acc_report.specs.Puts.{Puts, sink};
-ghost use Rattle.acc_report.specs.inner.Unread.{unread};
 
 use crate::bytes::{put, put_number};
 use crate::line::put_values;
-use crate::retold::Answered;
-use crate::unread::{Histories, Next, Unread, next_of};
-use acc_host::{Act, After, Statement, owed_by};
-use acc_place::Kind;
-use acc_work::{Told, WorkEntry};
+use acc_host::{Act, After, OwnEntries, OwnEntry, Statement, owed_by};
+use acc_place::{Directive, Kind, Placed};
+use acc_work::Told;
 use std::io::Write;
 
 /// Puts the lines of statements that a host has ended one after another, whose entries are the next ones.
@@ -26,57 +23,39 @@ pub(crate) fn put_lines<W: Write>(
     failed: &mut bool,
     devices: u8,
     statements: &[Statement],
-    histories: &Histories,
-    from: Unread,
+    entries: &mut OwnEntries,
 )
-    ensures { Puts (sink (W.contents out.old) failed.old) (sink (W.contents out.new) failed.new) (flat_map line_text (lines devices 0 statements.now (unread histories.now from))) }
+    ensures { Puts (sink (W.contents out.old) failed.old) (sink (W.contents out.new) failed.new) (flat_map line_text (lines devices 0 statements.now entries.old)) }
 {
     let mut device = 0u32;
-    let mut here = from;
     for statement in statements {
-        let (behind, left) = put_statement(
-            out,
-            failed,
-            devices,
-            device,
-            &statement.act,
-            histories,
-            here,
-        );
-        device = behind;
-        here = left;
+        device = put_statement(out, failed, devices, device, &statement.act, entries);
     }
 }
 
-// Puts the line of a statement, if it has one, and gives the device and the entries behind it.
+// Puts the line of a statement, if it has one, and gives the device behind it; its entries are then read.
 fn put_statement<W: Write>(
     out: &mut W,
     failed: &mut bool,
     devices: u8,
     device: u32,
     act: &Act,
-    histories: &Histories,
-    from: Unread,
-) -> (u32, Unread)
-    ensures puts { Puts (sink (W.contents out.old) failed.old) (sink (W.contents out.new) failed.new) (flat_map line_text (line_of devices device act.now (unread histories.now from))) }
-    ensures device { result.0 ≡ device_after act.now device }
-    ensures left { unread histories.now result.1 ≡ drop (entries_taken act.now (unread histories.now from)) (unread histories.now from) }
+    entries: &mut OwnEntries,
+) -> u32
+    ensures puts { Puts (sink (W.contents out.old) failed.old) (sink (W.contents out.new) failed.new) (flat_map line_text (line_of devices device act.now entries.old)) }
+    ensures device { result ≡ device_after act.now device }
+    ensures left { entries.new ≡ drop (entries_taken act.now entries.old) entries.old }
 {
     match act {
-        Act::Place { directive: _ } => (device, put_placed(out, failed, histories, from)),
-        Act::Print { range: _ } => (device, put_shown(out, failed, histories, from)),
-        Act::Write { .. } => (device, past_one(histories, from)),
-        Act::SetDevice { device: set } => (*set, from),
-        Act::SetAsync { value: _ } => (device, from),
-        Act::ShowDevice => {
-            put_line(out, failed, device);
-            (device, from)
-        }
-        Act::ShowDevices => {
-            put_line(out, failed, u32::from(devices));
-            (device, from)
-        }
+        Act::Place { directive: _ } => put_placed(out, failed, entries),
+        Act::Print { range: _ } => put_shown(out, failed, entries),
+        Act::Write { .. } => pass_one(entries),
+        Act::SetDevice { device: set } => return *set,
+        Act::SetAsync { value: _ } => {}
+        Act::ShowDevice => put_line(out, failed, device),
+        Act::ShowDevices => put_line(out, failed, u32::from(devices)),
     }
+    device
 }
 
 // Puts a line with a number.
@@ -94,31 +73,21 @@ fn put_truth<W: Write>(out: &mut W, failed: &mut bool, answer: bool)
     put_line(out, failed, u32::from(answer));
 }
 
-// Behind the next entry, if there is one.
-fn past_one(histories: &Histories, from: Unread) -> Unread
-    ensures { unread histories.now result ≡ drop 1 (unread histories.now from) }
+// Passes the next entry, if there is one.
+fn pass_one(entries: &mut OwnEntries)
+    ensures { entries.new ≡ drop 1 entries.old }
 {
-    let (_, behind) = next_of(histories, from);
-    behind
+    let _ = entries.next();
 }
 
 // Puts the values of a print that is next.
-fn put_shown<W: Write>(
-    out: &mut W,
-    failed: &mut bool,
-    histories: &Histories,
-    from: Unread,
-) -> Unread
-    ensures puts { Puts (sink (W.contents out.old) failed.old) (sink (W.contents out.new) failed.new) (flat_map line_text (shown_line (unread histories.now from))) }
-    ensures left { unread histories.now result ≡ drop 1 (unread histories.now from) }
+fn put_shown<W: Write>(out: &mut W, failed: &mut bool, entries: &mut OwnEntries)
+    ensures puts { Puts (sink (W.contents out.old) failed.old) (sink (W.contents out.new) failed.new) (flat_map line_text (shown_line entries.old)) }
+    ensures left { entries.new ≡ drop 1 entries.old }
 {
-    let (next, behind) = next_of(histories, from);
-    if let Next::Had(index) = next
-        && let WorkEntry::Item { host: _, what } = &histories.works[index]
-    {
+    if let Some(OwnEntry::Had { what }) = entries.next() {
         put_told(out, failed, what);
     }
-    behind
 }
 
 // Puts the values of an item, if it is a print.
@@ -132,21 +101,12 @@ fn put_told<W: Write>(out: &mut W, failed: &mut bool, what: &Told)
 }
 
 // Puts the answer of a directive that is next, if it is a question.
-fn put_placed<W: Write>(
-    out: &mut W,
-    failed: &mut bool,
-    histories: &Histories,
-    from: Unread,
-) -> Unread
-    ensures puts { Puts (sink (W.contents out.old) failed.old) (sink (W.contents out.new) failed.new) (flat_map line_text (placed_line (unread histories.now from))) }
-    ensures left { unread histories.now result ≡ drop (placed_size (unread histories.now from)) (unread histories.now from) }
+fn put_placed<W: Write>(out: &mut W, failed: &mut bool, entries: &mut OwnEntries)
+    ensures puts { Puts (sink (W.contents out.old) failed.old) (sink (W.contents out.new) failed.new) (flat_map line_text (placed_line entries.old)) }
+    ensures left { entries.new ≡ drop (placed_size entries.old) entries.old }
 {
-    let (next, behind) = next_of(histories, from);
-    match next {
-        Next::Gave(index) => {
-            put_answer(out, failed, &histories.answered[index], histories, behind)
-        }
-        Next::Had(_) | Next::Nothing => behind,
+    if let Some(OwnEntry::Gave { own }) = entries.next() {
+        put_answer(out, failed, own.directive, own.placed, entries);
     }
 }
 
@@ -154,42 +114,43 @@ fn put_placed<W: Write>(
 fn put_answer<W: Write>(
     out: &mut W,
     failed: &mut bool,
-    first: &Answered,
-    histories: &Histories,
-    from: Unread,
-) -> Unread
-    ensures puts { Puts (sink (W.contents out.old) failed.old) (sink (W.contents out.new) failed.new) (flat_map line_text (answer_line first.now.directive.kind first.now.directive first.now.placed (unread histories.now from))) }
-    ensures left { unread histories.now result ≡ drop (size_of (owed_by first.now.directive first.now.placed) - 1) (unread histories.now from) }
+    directive: &Directive,
+    placed: Placed,
+    entries: &mut OwnEntries,
+)
+    ensures puts { Puts (sink (W.contents out.old) failed.old) (sink (W.contents out.new) failed.new) (flat_map line_text (answer_line directive.now.kind directive.now placed entries.old)) }
+    ensures left { entries.new ≡ drop (size_of (owed_by directive.now placed) - 1) entries.old }
 {
-    let owed = owed_by(&first.directive, first.placed);
-    match first.directive.kind() {
-        Kind::IsPresent => put_truth(out, failed, first.placed.present),
-        Kind::AsyncTest => put_truth(out, failed, answer_by(&owed, histories, from)),
+    let present = placed.present;
+    let owed = owed_by(directive, placed);
+    let answer = settle(&owed, entries);
+    match directive.kind() {
+        Kind::IsPresent => put_truth(out, failed, present),
+        Kind::AsyncTest => put_truth(out, failed, answer),
         _ => {}
-    }
-    match owed {
-        After::Waits { .. } | After::Asks { .. } => past_one(histories, from),
-        _ => from,
     }
 }
 
-// The answer of a test: where nothing was owed, nothing that it asks for was placed.
-fn answer_by(owed: &After, histories: &Histories, from: Unread) -> bool
-    ensures { (o : Owed) → owed.now ≡ owing o → truth result ≡ test_answer o (unread histories.now from) }
+// Passes what settles that which is owed, and gives the answer of a test: where nothing was owed, nothing that it asks for was
+// placed.
+fn settle(owed: &After, entries: &mut OwnEntries) -> bool
+    ensures answer { (o : Owed) → owed.now ≡ owing o → truth result ≡ test_answer o entries.old }
+    ensures left { (o : Owed) → owed.now ≡ owing o → entries.new ≡ drop (size_of o - 1) entries.old }
 {
     match owed {
-        After::Asks { .. } => is_tested(histories, from),
-        _ => true,
+        After::Waits { .. } => pass_one(entries),
+        After::Asks { .. } => return is_tested(entries),
+        _ => {}
     }
+    true
 }
 
 // The answer of the test that is next.
-fn is_tested(histories: &Histories, from: Unread) -> bool
-    ensures { truth result ≡ tested (unread histories.now from) }
+fn is_tested(entries: &mut OwnEntries) -> bool
+    ensures answer { truth result ≡ tested entries.old }
+    ensures left { entries.new ≡ drop 1 entries.old }
 {
-    let (next, _) = next_of(histories, from);
-    if let Next::Had(index) = next
-        && let WorkEntry::Item { host: _, what } = &histories.works[index]
+    if let Some(OwnEntry::Had { what }) = entries.next()
         && let Told::Test { answer, .. } = what
     {
         return *answer;

@@ -1,30 +1,14 @@
-//! A place history told once more: a place that has accepted it, and the answer to each directive.
+//! A place history told once more: a place that has accepted it.
 
 ghost use Rattle.std.specs.Prelude.{◌≡◌, ◌∷◌, length, reverse, IfOk, IfErr, OnOk};
 ghost use Rattle.acc_base.specs.declared.fault.Fault.TheVariants.{Memory};
 ghost use Rattle.acc_place.specs.Histories.{AllAccepted, standing};
 ghost use Rattle.acc_place.specs.Plans.{standing_in};
-ghost use Rattle.acc_report.specs.inner.Retelling.{AreAnswers, CanFollow, HasCount, counts_gone, counts_left};
+ghost use Rattle.acc_report.specs.inner.Retelling.{CanFollow, HasCount, counts_gone, counts_left};
 
-use acc_base::{Config, Fault, HostId};
-use acc_place::{Directive, Place, PlaceEntry, Placed};
+use acc_base::{Config, Fault};
+use acc_place::{Place, PlaceEntry};
 use std::alloc::Global;
-
-/// A directive of a host, with how many items the host had before it, and its answer.
-#[derive(Drop)]
-pub struct Answered {
-    pub host: HostId,
-    pub items_before: u64,
-    pub directive: Directive,
-    pub placed: Placed,
-}
-
-/// A place that has accepted a history, and its directives with their answers, in order.
-#[derive(Drop)]
-pub struct Retold {
-    pub place: Place,
-    pub answered: Vec<Answered>,
-}
 
 /// Tells a place history once more.
 ///
@@ -36,38 +20,30 @@ pub(crate) fn retell(
     config: Config,
     places: &[PlaceEntry],
     counts: &[u64],
-) -> Result<Retold, Fault>
+) -> Result<Place, Fault>
     requires accepted { AllAccepted config (reverse places.now) (reverse counts.now) }
     requires counted { length counts.now ≡ (standing config (reverse places.now) (reverse counts.now)).accepted }
-    ensures config { IfOk result (λ r. r.place.config ≡ config) }
-    ensures history { IfOk result (λ r. r.place.history ≡ reverse places.now) }
-    ensures counts { IfOk result (λ r. r.place.counts ≡ reverse counts.now) }
-    ensures answered { IfOk result (λ r. AreAnswers config (reverse places.now) (reverse counts.now) r.answered.items) }
+    ensures config { IfOk result (λ p. p.config ≡ config) }
+    ensures history { IfOk result (λ p. p.history ≡ reverse places.now) }
+    ensures counts { IfOk result (λ p. p.counts ≡ reverse counts.now) }
     ensures fault { IfErr result (λ f. f ≡ Memory) }
 {
     let mut place = Place::new(alloc, config)?;
-    let mut answered = Vec::new(alloc);
     let mut left = counts;
     for entry in places {
-        left = tell(&mut place, &mut answered, entry, left)?;
+        left = tell(&mut place, entry, left)?;
     }
-    Ok(Retold { place, answered })
+    Ok(place)
 }
 
 // Tells one entry, and gives the counts of those behind it.
-fn tell<'a>(
-    place: &mut Place,
-    answered: &mut Vec<Answered>,
-    entry: &PlaceEntry,
-    counts: &'a [u64],
-) -> Result<&'a [u64], Fault>
+fn tell<'a>(place: &mut Place, entry: &PlaceEntry, counts: &'a [u64]) -> Result<&'a [u64], Fault>
     requires next { CanFollow place.old.config (standing_in place.old) entry.now }
     requires counted { HasCount entry.now counts.now }
     ensures config { place.new.config ≡ place.old.config }
     ensures history { OnOk result (place.new.history ≡ entry.now ∷ place.old.history) }
     ensures counts { OnOk result (place.new.counts ≡ counts_gone entry.now counts.now place.old.counts) }
     ensures left { IfOk result (λ left. left.now ≡ counts_left entry.now counts.now) }
-    ensures answered { OnOk result (AreAnswers place.old.config place.old.history place.old.counts answered.old.items → AreAnswers place.old.config place.new.history place.new.counts answered.new.items) }
     ensures fault { IfErr result (λ f. f ≡ Memory) }
 {
     match entry {
@@ -76,15 +52,7 @@ fn tell<'a>(
                 Some((first, left)) => (*first, left),
                 None => (0, counts),
             };
-            let directive = directive.try_clone()?;
-            answered.reserve(1)?;
-            let placed = place.retell(*host, items_before, &directive)?;
-            answered.push_reserved(Answered {
-                host: *host,
-                items_before,
-                directive,
-                placed,
-            });
+            let _ = place.retell(*host, items_before, directive)?;
             Ok(left)
         }
         PlaceEntry::Closing => {

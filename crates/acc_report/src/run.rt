@@ -9,9 +9,8 @@ ghost use Rattle.acc_place.specs.Plans.{nth_batch, standing_in};
 ghost use Rattle.acc_report.specs.Totals.{plain_batches, plain_ops};
 ghost use Rattle.acc_report.specs.Lines.{each_below};
 ghost use Rattle.acc_report.specs.Puts.{ReportAnswers, Puts, sink};
-ghost use Rattle.acc_report.specs.Reports.{IsLeft, ended_in, host_text, left_by, nth_host_text, report};
+ghost use Rattle.acc_report.specs.Reports.{IsLeft, ended_in, host_text, left_by, left_after, nth_host_text, report};
 ghost use Rattle.acc_report.specs.inner.Counting.{AreCounted, plain_count};
-ghost use Rattle.acc_report.specs.inner.Retelling.{AreAnswers, StandsAs};
 ghost use Rattle.acc_report.specs.inner.Standing.{counted_queue_text, counted_text, present_text};
 ghost use Rattle.acc_script.specs.Arrays.{texts};
 
@@ -19,18 +18,25 @@ use crate::bytes::{ReportFault, put, put_number};
 use crate::line::{put_presence, put_state, put_totals};
 use crate::performed::count_performed;
 use crate::prints::put_lines;
-use crate::retold::{Answered, Retold, retell};
-use crate::unread::{Histories, Unread};
+use crate::retold::retell;
 use acc_base::{DeviceId, HostId, QUEUES, QueueAt, QueueId};
 use acc_batch::OpLabel;
-use acc_host::{HostProgram, HostState, Outcome, Statement};
+use acc_host::{HostProgram, HostState, Outcome, OwnEntries, Statement};
 use acc_place::Place;
 use acc_script::Script;
+use acc_work::WorkEntry;
 use std::alloc::Global;
 use std::io::Write;
 
-/// Writes the report of a run of a script: for each host what its ended statements printed and where it stands, then what is
-/// present, then what each queue has performed, and `end`. All of it is read off what the run leaves.
+/// A run, as its report reads it: the place that accepted its directives, its work log, and where each host stands.
+#[derive(Clone, Copy)]
+pub struct Run<'a> {
+    pub place: &'a Place,
+    pub works: &'a [WorkEntry],
+    pub hosts: &'a [HostState],
+}
+
+/// Writes the report of what a run of a script left, as `report_run` does. The place history is told once more for it.
 ///
 /// # Errors
 ///
@@ -45,29 +51,46 @@ pub fn report<W: Write>(
     requires { IsLeft (left_by outcome.now) }
     ensures { ReportAnswers (W.contents writer.old) (W.contents writer.new) result (report (texts script.now.names.keys) script.now.programs.items (left_by outcome.now)) }
 {
-    let config = match outcome.config.try_clone(alloc) {
+    let config = match outcome.config.try_clone() {
         Ok(config) => config,
         Err(_) => return Err(ReportFault::Memory),
     };
     let places = outcome.places.as_slice();
-    let retold = match retell(alloc, config, places, outcome.counts.as_slice()) {
-        Ok(retold) => retold,
+    let place = match retell(alloc, config, places, outcome.counts.as_slice()) {
+        Ok(place) => place,
         Err(_) => return Err(ReportFault::Memory),
     };
-    let devices = outcome.config.devices();
-    let performed = match count_performed(alloc, devices, outcome.works.as_slice()) {
+    let run = Run {
+        place: &place,
+        works: outcome.works.as_slice(),
+        hosts: outcome.hosts.as_slice(),
+    };
+    report_run(alloc, &run, script, writer)
+}
+
+/// Writes the report of a run of a script: for each host what its ended statements printed and where it stands, then what is
+/// present, then what each queue has performed, and `end`.
+///
+/// # Errors
+///
+/// `Memory` where memory is refused; then nothing was written. `Write` where the writer failed or took nothing; a beginning of
+/// the report was then written.
+pub fn report_run<W: Write>(
+    alloc: Global,
+    run: &Run,
+    script: &Script,
+    writer: &mut W,
+) -> Result<(), ReportFault>
+    requires { length run.now.hosts.now ≤ MAX_HOSTS }
+    ensures { ReportAnswers (W.contents writer.old) (W.contents writer.new) result (report (texts script.now.names.keys) script.now.programs.items (left_after run.now)) }
+{
+    let devices = run.place.config().devices();
+    let performed = match count_performed(alloc, devices, run.works) {
         Ok(performed) => performed,
         Err(_) => return Err(ReportFault::Memory),
     };
     let mut failed = false;
-    put_report(
-        writer,
-        &mut failed,
-        outcome,
-        script,
-        &retold,
-        performed.as_slice(),
-    );
+    put_report(writer, &mut failed, run, script, performed.as_slice());
     if failed {
         Err(ReportFault::Write)
     } else {
@@ -75,43 +98,32 @@ pub fn report<W: Write>(
     }
 }
 
-// All lines, by a place that has told the history once more, and by counts of what was performed.
+// All lines, by counts of what was performed.
 fn put_report<W: Write>(
     out: &mut W,
     failed: &mut bool,
-    outcome: &Outcome,
+    run: &Run,
     script: &Script,
-    retold: &Retold,
     performed: &[u64],
 )
-    requires few { length outcome.now.hosts.items ≤ MAX_HOSTS }
-    requires stands { StandsAs retold.now.place (left_by outcome.now) }
-    requires answered { AreAnswers (left_by outcome.now).config (left_by outcome.now).history (left_by outcome.now).counts retold.now.answered.items }
-    requires counted { AreCounted (left_by outcome.now).config.devices (left_by outcome.now).work performed.now }
-    ensures { Puts (sink (W.contents out.old) failed.old) (sink (W.contents out.new) failed.new) (report (texts script.now.names.keys) script.now.programs.items (left_by outcome.now)) }
+    requires few { length run.now.hosts.now ≤ MAX_HOSTS }
+    requires counted { AreCounted run.now.place.now.config.devices (left_after run.now).work performed.now }
+    ensures { Puts (sink (W.contents out.old) failed.old) (sink (W.contents out.new) failed.new) (report (texts script.now.names.keys) script.now.programs.items (left_after run.now)) }
 {
-    let programs = script.programs.as_slice();
-    put_hosts(out, failed, outcome, programs, retold.answered.as_slice());
-    put_presences(out, failed, script.names.as_slice(), &retold.place);
-    put_queues(out, failed, &retold.place, performed);
+    put_hosts(out, failed, run, script.programs.as_slice());
+    put_presences(out, failed, script.names.as_slice(), run.place);
+    put_queues(out, failed, run.place, performed);
     put(out, failed, b"end\n");
 }
 
 // The lines of each host.
-fn put_hosts<W: Write>(
-    out: &mut W,
-    failed: &mut bool,
-    outcome: &Outcome,
-    programs: &[HostProgram],
-    answered: &[Answered],
-)
-    requires few { length outcome.now.hosts.items ≤ MAX_HOSTS }
-    requires answered { AreAnswers (left_by outcome.now).config (left_by outcome.now).history (left_by outcome.now).counts answered.now }
-    ensures { Puts (sink (W.contents out.old) failed.old) (sink (W.contents out.new) failed.new) (each_below (length outcome.now.hosts.items) (nth_host_text (left_by outcome.now) programs.now)) }
+fn put_hosts<W: Write>(out: &mut W, failed: &mut bool, run: &Run, programs: &[HostProgram])
+    requires few { length run.now.hosts.now ≤ MAX_HOSTS }
+    ensures { Puts (sink (W.contents out.old) failed.old) (sink (W.contents out.new) failed.new) (each_below (length run.now.hosts.now) (nth_host_text (left_after run.now) programs.now)) }
 {
-    let hosts = outcome.hosts.len() as u8;
+    let hosts = run.hosts.len() as u8;
     for host in 0..hosts {
-        put_nth_host(out, failed, outcome, programs, answered, host);
+        put_nth_host(out, failed, run, programs, host);
     }
 }
 
@@ -119,18 +131,16 @@ fn put_hosts<W: Write>(
 fn put_nth_host<W: Write>(
     out: &mut W,
     failed: &mut bool,
-    outcome: &Outcome,
+    run: &Run,
     programs: &[HostProgram],
-    answered: &[Answered],
     host: u8,
 )
-    requires answered { AreAnswers (left_by outcome.now).config (left_by outcome.now).history (left_by outcome.now).counts answered.now }
-    ensures { Puts (sink (W.contents out.old) failed.old) (sink (W.contents out.new) failed.new) (nth_host_text (left_by outcome.now) programs.now host) }
+    ensures { Puts (sink (W.contents out.old) failed.old) (sink (W.contents out.new) failed.new) (nth_host_text (left_after run.now) programs.now host) }
 {
     if let Some(program) = programs.get(usize::from(host))
-        && let Some(state) = outcome.hosts.get(usize::from(host))
+        && let Some(state) = run.hosts.get(usize::from(host))
     {
-        put_host(out, failed, outcome, answered, host, program, *state);
+        put_host(out, failed, run, host, program, *state);
     }
 }
 
@@ -138,37 +148,20 @@ fn put_nth_host<W: Write>(
 fn put_host<W: Write>(
     out: &mut W,
     failed: &mut bool,
-    outcome: &Outcome,
-    answered: &[Answered],
+    run: &Run,
     host: u8,
     program: &HostProgram,
     state: HostState,
 )
-    requires answered { AreAnswers (left_by outcome.now).config (left_by outcome.now).history (left_by outcome.now).counts answered.now }
-    ensures { Puts (sink (W.contents out.old) failed.old) (sink (W.contents out.new) failed.new) (host_text (left_by outcome.now) host program.now state) }
+    ensures { Puts (sink (W.contents out.old) failed.old) (sink (W.contents out.new) failed.new) (host_text (left_after run.now) host program.now state) }
 {
     put(out, failed, b"host ");
     put_number(out, failed, host);
     put(out, failed, b"\n");
-    let histories = Histories {
-        host: HostId::new(host),
-        answered,
-        works: outcome.works.as_slice(),
-    };
-    let from = Unread {
-        gone: 0,
-        answered: 0,
-        works: 0,
-    };
+    let devices = run.place.config().devices();
     let ended = ended_of(program.statements.as_slice(), state);
-    put_lines(
-        out,
-        failed,
-        outcome.config.devices(),
-        ended,
-        &histories,
-        from,
-    );
+    let mut entries = OwnEntries::new(run.place, run.works, HostId::new(host));
+    put_lines(out, failed, devices, ended, &mut entries);
     put_state(out, failed, state);
 }
 

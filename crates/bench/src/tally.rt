@@ -69,7 +69,7 @@ fn world_of(
     statements: Vec<Statement>,
 ) -> Result<Box<World>, Fault> {
     let arrays = arrays_of(alloc, workload)?;
-    let config = Config::new(workload.devices, 1, arrays, MAX_CAPACITY, ROOM)?;
+    let config = Config::new(alloc, workload.devices, 1, arrays, MAX_CAPACITY, ROOM)?;
     let program = HostProgram {
         host: HostId::new(0),
         statements: Listed::from_vec(statements),

@@ -31,7 +31,7 @@ fn world_with(alloc: Global, program: HostProgram) -> Result<Box<World>, Fault>
     requires { program.host ≡ 0 }
 {
     let arrays = script_of(alloc, SCRIPT)?.arrays;
-    let config = Config::new(1, 1, arrays, 4, 64)?;
+    let config = Config::new(alloc, 1, 1, arrays, 4, 64)?;
     let programs = vec![in alloc; program]?;
     Ok(Box::new(alloc, World::new(alloc, config, programs)?)?)
 }

@@ -221,7 +221,7 @@ fn memory_is_refused_to_a_loop(rt: HostRuntime) -> Result<(), Fail> {
 fn memory_is_refused_to_a_new_world(rt: HostRuntime) -> Result<(), Fail> {
     let alloc = rt.alloc();
     let arrays = vec![in alloc; vec![in alloc; 0i64; 60_000]?]?;
-    let config = Config::new(1, 0, arrays, 4, 64)?;
+    let config = Config::new(alloc, 1, 0, arrays, 4, 64)?;
     let programs = Vec::new(alloc);
     let mut hoard = Hoard::new(alloc)?;
     hoard.fill(alloc);

@@ -40,7 +40,7 @@ pub fn world_of(alloc: Global, text: &[u8], room: u32) -> Result<Box<World>, Fau
         programs,
     } = script_of(alloc, text)?;
     let hosts = programs.len() as u8;
-    let config = Config::new(1, hosts, arrays, MAX_CAPACITY, room)?;
+    let config = Config::new(alloc, 1, hosts, arrays, MAX_CAPACITY, room)?;
     Ok(Box::new(alloc, World::new(alloc, config, programs)?)?)
 }
 

@@ -5,6 +5,7 @@ use acc_base::{Config, DeviceId, Fault, HostId, QueueAt, QueueId};
 use std::alloc::{AllocError, Global};
 use std::process::Abort;
 use std::test::Fail;
+use tool_scarce::at_each_amount;
 
 // As many arrays, all of one size.
 fn arrays_of(alloc: Global, count: usize, cells: usize) -> Result<Vec<Vec<i64>>, AllocError> {
@@ -46,10 +47,16 @@ const CASES: [(u8, u8, usize, usize, u64, u32, Option<Fault>); 14] = [
 fn configurations_and_their_first_fault(rt: HostRuntime) -> Result<(), Fail> {
     for (devices, hosts, arrays, cells, capacity, room, fault) in CASES {
         let arrays = arrays_of(rt.alloc(), arrays, cells)?;
-        let made = Config::new(devices, hosts, arrays, capacity, room);
+        let made = Config::new(rt.alloc(), devices, hosts, arrays, capacity, room);
         check_same(&rt, made.err(), fault);
     }
     Ok(())
+}
+
+// Two devices, three hosts, and two arrays.
+fn config_of(alloc: Global) -> Result<Config, Fault> {
+    let arrays = arrays_of(alloc, 2, 3)?;
+    Config::new(alloc, 2, 3, arrays, 40, 5)
 }
 
 fn check_numbers(rt: &impl Abort, config: &Config) {
@@ -74,9 +81,22 @@ fn check_names(rt: &impl Abort, config: &Config) {
 
 #[test]
 fn a_configuration_is_asked(rt: HostRuntime) -> Result<(), Fail> {
-    let arrays = arrays_of(rt.alloc(), 2, 3)?;
-    let config = Config::new(2, 3, arrays, 40, 5)?;
+    let config = config_of(rt.alloc())?;
     check_numbers(&rt, &config);
     check_names(&rt, &config);
+    Ok(())
+}
+
+/// A copy takes none.
+#[test]
+fn a_configuration_is_refused_until_there_is_memory(rt: HostRuntime) -> Result<(), Fail> {
+    let alloc = rt.alloc();
+    let (refusals, config) = at_each_amount(alloc, || config_of(alloc))?;
+    assert!(rt; 1 < refusals);
+    let (refusals, copy) = at_each_amount(alloc, || config.try_clone())?;
+    check_same(&rt, refusals, 0);
+    assert!(rt; copy.is_same(&config));
+    drop(config);
+    check_numbers(&rt, &copy);
     Ok(())
 }

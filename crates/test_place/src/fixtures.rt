@@ -66,7 +66,14 @@ pub fn synchronous(
 pub fn place_with(alloc: Global, devices: u8, capacity: u64) -> Result<Box<Place>, Fault> {
     let first = vec![in alloc; 0i64; 8]?;
     let second = vec![in alloc; 0i64; 4]?;
-    let config = Config::new(devices, 2, vec![in alloc; first, second]?, capacity, 64)?;
+    let config = Config::new(
+        alloc,
+        devices,
+        2,
+        vec![in alloc; first, second]?,
+        capacity,
+        64,
+    )?;
     Ok(Box::new(alloc, Place::new(alloc, config)?)?)
 }
 

@@ -20,7 +20,7 @@ use tool_loops::Body;
 use tool_scarce::{Hoard, at_each_amount};
 
 fn new_place(alloc: Global) -> Result<Place, Fault> {
-    let config = Config::new(1, 0, Vec::new(alloc), 12, 64)?;
+    let config = Config::new(alloc, 1, 0, Vec::new(alloc), 12, 64)?;
     Place::new(alloc, config)
 }
 

@@ -132,7 +132,17 @@ fn check_placed(rt: &impl Abort, place: &Place, case: &Case) {
             None => panic!(rt; "no batch {number}"),
         }
         assert!(rt; place.placed_count(at) == number, "batch {number}");
+        check_same(rt, place.labels_on(at).len() as u64, number);
     }
+}
+
+// The answer of a case is kept as the last one, beside its count.
+fn check_kept(rt: &impl Abort, place: &Place, case: &Case) {
+    match place.answers().last() {
+        Some(kept) => check_same(rt, kept.placed(), answer_of(case)),
+        None => panic!(rt; "no answer is kept"),
+    }
+    check_same(rt, place.answers().len(), place.counts().len());
 }
 
 // Accepts a case, and looks at its batch and its answer.
@@ -142,6 +152,7 @@ fn check_case(rt: &impl Abort, alloc: Global, place: &mut Place, case: &Case) ->
     let answer = place.accept(plan);
     check_same(rt, answer, answer_of(case));
     check_placed(rt, place, case);
+    check_kept(rt, place, case);
     Ok(())
 }
 

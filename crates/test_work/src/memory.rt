@@ -16,7 +16,7 @@ use tool_scarce::{Hoard, at_each_amount};
 fn config_of(alloc: Global) -> Result<Config, Fault> {
     let first = vec![in alloc; 7i64; 40]?;
     let second = vec![in alloc; -1i64; 3]?;
-    Config::new(2, 1, vec![in alloc; first, second]?, 100, 4)
+    Config::new(alloc, 2, 1, vec![in alloc; first, second]?, 100, 4)
 }
 
 #[test]

@@ -111,7 +111,7 @@ fn a_loop_runs_over_parts_of_blocks(rt: HostRuntime) -> Result<(), Fail> {
     let alloc = rt.alloc();
     let x = vec![in alloc; 0i64, 10, 20, 30, 40, 50]?;
     let y = vec![in alloc; 0i64, -1, -2, -3, -4, -5]?;
-    let config = Config::new(1, 1, vec![in alloc; x, y]?, 100, 4)?;
+    let config = Config::new(alloc, 1, 1, vec![in alloc; x, y]?, 100, 4)?;
     config.keeps();
     let mut memory = Memory::new(alloc, &config)?;
     let ops = round(&rt, alloc)?;

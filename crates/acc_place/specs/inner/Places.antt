@@ -14,9 +14,11 @@ use Rattle.acc_present.specs.Presences.{presences}
 use Rattle.acc_present.specs.Tables.{TableView}
 use Rattle.acc_place.specs.declared.closes.Close.{Close}
 use Rattle.acc_place.specs.declared.device.Device.{Device}
+use Rattle.acc_place.specs.declared.directive.Placed.{Placed}
 use Rattle.acc_place.specs.declared.directive.PlaceEntry.{PlaceEntry}
 use Rattle.acc_place.specs.declared.directive.Region.{Region}
 use Rattle.acc_place.specs.declared.directive.TheConstants.{MAX_ITEMS, MAX_DIRECTIVES}
+use Rattle.acc_place.specs.Answers.{answers_of}
 use Rattle.acc_place.specs.Closing.{ClosesQueue}
 use Rattle.acc_place.specs.Counters.{IsEnteredBy, entered_ranges}
 use Rattle.acc_place.specs.Histories.{is_closed, standing, AllAccepted, IsQueue}
@@ -65,9 +67,10 @@ pub record IsTied (config : Configuration) (st : Standing) (devices : List Devic
   pub labelled : (at : QueueAt) → queue_in labels at ≡ on_queue at st.labels
 
 -- What a place keeps of its configuration and its histories.
-pub record IsPlace (config : Configuration) (history : List PlaceEntry) (counts : List ℕ) (devices : List Device) (regions : List Region) (labels : List (List Label)) : Type 0 where
+pub record IsPlace (config : Configuration) (history : List PlaceEntry) (counts : List ℕ) (answers : List Placed) (devices : List Device) (regions : List Region) (labels : List (List Label)) : Type 0 where
   pub counted : length counts ≡ (standing config history counts).accepted
   pub lawful : AllAccepted config history counts
+  pub answered : answers ≡ answers_of config history counts
   pub tied : IsTied config (standing config history counts) devices regions labels
 
 -- ## Closes

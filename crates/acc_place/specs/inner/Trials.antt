@@ -2,6 +2,7 @@
 -- Only private contracts and proofs cite it.
 use Rattle.std.specs.Prelude.{All, ◌≡◌, ℕ, ◌+◌, ◌<◌, ◌≤◌, max, Bool, true, false, List, length, map, replicate, Option, None, if◌then◌else◌}
 use Rattle.std.specs.List.{flat_map}
+use Rattle.std.specs.Option.{option_map}
 use Rattle.acc_base.specs.declared.fault.Fault.{Fault}
 use Rattle.acc_base.specs.declared.range.Range.{Range}
 use Rattle.acc_base.specs.Queues.{every_queue}
@@ -15,16 +16,18 @@ use Rattle.acc_present.specs.declared.table.TheConstants.{COUNTER_LIMIT}
 use Rattle.acc_present.specs.Drafts.{DraftView, drafted, IsDraft}
 use Rattle.acc_place.specs.Directives.{Directive}
 use Rattle.acc_place.specs.declared.directive.DataItem.{DataItem}
+use Rattle.acc_place.specs.declared.directive.Placed.{Placed}
 use Rattle.acc_place.specs.declared.directive.TheConstants.{MAX_ITEMS}
 use Rattle.acc_place.specs.declared.judge.Known.{Known}
 use Rattle.acc_place.specs.declared.judge.Marked.{Marked}
+use Rattle.acc_place.specs.Batches.{counts_queues}
 use Rattle.acc_place.specs.Counters.{IsEnteredBy, entered_ranges}
 use Rattle.acc_base.specs.Configurations.{lengths_of}
 use Rattle.acc_place.specs.inner.Noting.{awaits_from, ended_range, last_made, last_used, note_found, used_ranges}
 use Rattle.acc_place.specs.inner.Places.{queue_in}
 use Rattle.acc_place.specs.Regions.{regions_on}
 use Rattle.acc_place.specs.Standings.{change_by, loop_of, subject_by}
-use Rattle.acc_place.specs.Targets.{is_alone, queues_named}
+use Rattle.acc_place.specs.Targets.{is_alone, queue_by, queues_named}
 use Rattle.acc_place.specs.inner.Judging.{Holding, holding, holding_between, limit_fault, fault_or, first_fault_in, past_fault, all_marked, all_steps, run_in, marked_ops, AllLow, StaysBy}
 
 -- The items of a directive, the draft with their marks, and what became of them.
@@ -69,6 +72,15 @@ named_count queues device named q = if has_number named q then length (queue_in 
 abbrev pub counts_in : Bool → List (List Label) → ℕ → List ℕ → List ℕ
 counts_in true queues device named = map (named_count queues device named) every_queue
 counts_in false queues device named = replicate 8 0
+
+-- what a directive is answered whose batch has this label, if it has one, where its question is answered so
+abbrev pub placed_by : Known → Directive → Option Label → Bool → Placed
+placed_by k d label present =
+    record {
+      batch = option_map (λ (l : Label). (l.at, l.number)) label;
+      counts = counts_in (counts_queues d.kind (queue_by d.kind d)) k.labels.now.queues k.at.device (queues_named d);
+      present = present;
+    }
 
 -- the number of the next batch on the directive's queue
 abbrev pub next_in : Known → ℕ

@@ -1,5 +1,5 @@
 -- How many operations each queue has performed, its close apart. Only private contracts and proofs cite it.
-use Rattle.std.specs.Prelude.{◌≡◌, ℕ, ◌+◌, ◌*◌, ◌<◌, nat_lt, not, ◌&&◌, ◌^◌, Bool, IsTrue, List, Option, Some, None, length, slice_index_or, slice_set, if◌then◌else◌}
+use Rattle.std.specs.Prelude.{◌≡◌, ℕ, ◌+◌, ◌*◌, ◌<◌, nat_lt, ◌&&◌, ◌^◌, Bool, IsTrue, List, Option, Some, None, length, slice_index_or, slice_set, if◌then◌else◌}
 use Rattle.acc_base.specs.declared.ids.QueueAt.{QueueAt}
 use Rattle.acc_base.specs.declared.ids.TheConstants.{QUEUES}
 use Rattle.acc_base.specs.Queues.{seat}

@@ -1,4 +1,4 @@
-use Rattle.std.proofs.Common.{◌≡◌, ◌≤◌, ℤ, pos, codes, ◌++◌, get_or, take, arith, ◌∙◌}
+use Rattle.std.proofs.Common.{◌≡◌, ℤ, pos, codes, ◌++◌, get_or, take, arith, ◌∙◌}
 use Rattle.std.specs.Fmt.{signed_decimal}
 use Rattle.std.proofs.lemmas.List.{take_all}
 use Rattle.std.proofs.lemmas.Option.{slice_get-get_or}

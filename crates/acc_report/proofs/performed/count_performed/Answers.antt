@@ -1,6 +1,6 @@
-use Rattle.std.proofs.Common.{◌≡◌, ◌+◌, ◌^◌, ◌<◌, length, take, reverse, sym, arith}
+use Rattle.std.proofs.Common.{◌+◌, ◌^◌, ◌<◌, length, take, reverse, arith}
 use Rattle.std.proofs.lemmas.List.{length-reverse, length-take}
-use Rattle.acc_report.proofs.PerformedCounts.{count_room, counted_more, one_logged}
+use Rattle.acc_report.proofs.PerformedCounts.{count_room}
 use Rattle.acc_report.proofs.performed.count_performed.Goals as goal
 
 pub count-requires : goal.count-requires

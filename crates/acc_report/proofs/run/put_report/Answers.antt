@@ -1,10 +1,10 @@
-use Rattle.acc_report.specs.Reports.{left_by}
+use Rattle.acc_report.specs.Reports.{left_after}
 use Rattle.acc_script.specs.Arrays.{texts}
 use Rattle.acc_report.proofs.WholeReport.{whole_report}
 use Rattle.acc_report.proofs.run.put_report.Goals as goal
 
 pub returns : goal.returns
 returns g c =
-    let hosts = rw c.as_slice-programs.ensures.value at c.put_hosts.ensures in
+    let hosts = rw c.as_slice.ensures.value at c.put_hosts.ensures in
     let present = rw c.as_slice-2.ensures.keys at c.put_presences.ensures in
-    whole_report (texts c.args.script.now.names.keys) c.args.script.now.programs.items (left_by c.args.outcome.now) c.args.retold.now.place c.args.performed.now c.requires.stands c.requires.counted hosts present c.put_queues.ensures c.put.ensures
+    whole_report (texts c.args.script.now.names.keys) c.args.script.now.programs.items (left_after c.args.run.now) c.args.performed.now c.requires.counted hosts present c.put_queues.ensures c.put.ensures

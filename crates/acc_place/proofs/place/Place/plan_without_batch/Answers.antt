@@ -191,5 +191,5 @@ returns-clause-fits c =
     let roomy : IsRoomy p (queue_for p host d) = subst (λ x. IsRoomy p x) is (subst (λ x. IsRoomy x at_queue) same made.ok) in
     let notes = notes_on (device_in (standing_in p) host d) (standing_in p).labels in
     let named = a.label notes known.tied.noted ∙ ap (λ m. label_for k.at (next_in k) host m (behind_noted k notes d (ops_by k host d) (steps_by k host d))) (sym a.host.1) in
-    let fits : Fits p q = fits_known p host d k q known c.self.invariant.0.lawful (sym c.in_default.ensures.fault) a.host.0 a.directive a.region named roomy in
+    let fits : Fits p q = fits_known p host d k q known c.self.invariant.0.lawful (sym c.in_default.ensures.fault) a.host.0 a.directive a.region named a.answer roomy in
     subst (λ (x : PlaceView). Fits x q × IsPlanOf x q) (sym same) (fits, plan_of_now p q fits (a.host.2 ∙ counted_by w.history.items c.len.result w.history.len c.len.ensures w.history.ok.0))

@@ -1,13 +1,14 @@
-use Rattle.std.proofs.Common.{◌≡◌, List, length, ap, ◌∙◌, arith, subst}
+use Rattle.std.proofs.Common.{◌≡◌, Bool, List, length, ap, ◌∙◌, arith, subst}
 use Rattle.std.specs.Prelude.{IfOk}
 use Rattle.std.specs.Option.{option_to_list}
 use Rattle.acc_batch.specs.declared.label.OpLabel.{OpLabel}
 use Rattle.acc_present.specs.Drafts.{drafted}
 use Rattle.acc_place.specs.declared.trial.Trial.TheInside.{Inside}
+use Rattle.acc_place.specs.Batches.{is_answered}
 use Rattle.acc_place.specs.Plans.{label_for}
 use Rattle.acc_place.specs.Standings.{change_by, loop_of}
 use Rattle.acc_place.specs.declared.judge.Marked.{Marked}
-use Rattle.acc_place.specs.inner.Trials.{behind_noted, held_by, items_by, next_in, IsTried, TrialView}
+use Rattle.acc_place.specs.inner.Trials.{behind_noted, held_by, items_by, next_in, placed_by, IsTried, TrialView}
 use Rattle.acc_place.specs.inner.Judging.{holding_between, ends_of, marked_ops, all_steps, run_in}
 use Rattle.acc_place.proofs.AcceptedDirective.{length-ends}
 use Rattle.acc_place.proofs.TrialPlan.{run_cells, steps_cells}
@@ -26,6 +27,15 @@ run_in-requires-clause-cells c =
     let tried : IsTried k host d (seen c.self.inside) = rw (← c.self.view_is) at c.requires.tried in
     let own : c.as_slice-items.result.now ≡ items_by k host d = c.as_slice-items.ensures.value ∙ tried.whole in
     rw own (is_clean k host d c.requires.known tried.draft.table tried.faultless).cells
+
+pub is_answered-present-requires : goal.is_answered-present-requires
+is_answered-present-requires c =
+    let k = c.args.known.now in
+    let host = c.args.host in
+    let d = c.args.directive.now in
+    let tried : IsTried k host d (seen c.self.inside) = rw (← c.self.view_is) at c.requires.tried in
+    let own : c.as_slice-items.result.now ≡ items_by k host d = c.as_slice-items.ensures.value ∙ tried.whole in
+    rw own (record { cells = (is_clean k host d c.requires.known tried.draft.table tried.faultless).cells })
 
 pub run_in-requires-clause-held : goal.run_in-requires-clause-held
 run_in-requires-clause-held c =
@@ -130,3 +140,14 @@ returns-clause-label c = λ notes noted.
     λ run_ops ts. IfOk c.plan_of.result (λ q. q.label ≡ label_for k.at (next_in k) host c.args.items_done (behind_noted k notes d (marked_ops run_ops ts) ts)) in
     let loop = run_in (loop_of d.kind) items (holding_between d.kind h items).presences in
     subst (λ (ts : List Marked). behind loop ts) steps (subst (λ (os : List OpLabel). behind os c.as_slice.result.now) run (c.plan_of.ensures.label notes noted))
+
+pub returns-clause-answer : goal.returns-clause-answer
+returns-clause-answer c =
+    let k = c.args.known.now in
+    let host = c.args.host in
+    let d = c.args.directive.now in
+    let tried : IsTried k host d (seen c.self.inside) = rw (← c.self.view_is) at c.requires.tried in
+    let own : c.as_slice-items.result.now ≡ items_by k host d = c.as_slice-items.ensures.value ∙ tried.whole in
+    let present : c.is_answered-present.result ≡ is_answered d.kind k.table.now.presences (items_by k host d) =
+    (rw c.kind-kind.ensures at c.is_answered-present.ensures) ∙ ap (is_answered d.kind k.table.now.presences) own in
+    subst (λ (b : Bool). IfOk c.plan_of.result (λ q. q.answer ≡ placed_by k d q.label b)) present c.plan_of.ensures.answer
