@@ -1,7 +1,7 @@
 //! Directives with each form of clauses are copied, without memory, while the contract lets a copy
 //! be refused.
 
-use crate::fixtures::{a, are_same_waits, directive_with, is_same_directive, synchronous};
+use crate::fixtures::{a, directive_with, synchronous};
 use crate::tables::Cells::{self, A, B};
 use crate::tables::Named::{self, All, Nothing, These};
 use crate::tables::Word::{self, Enter, Exit, Over, Update};
@@ -49,6 +49,16 @@ const GIVEN: &[Given] = &[
 /// Each wait clause.
 const WAITS: &[Named] = &[Nothing, All, These(&[]), These(&[5, ASYNC_NOVAL, i64::MIN])];
 
+fn are_same_waits(waits: &Waits, wanted: &Waits) -> bool {
+    match (waits, wanted) {
+        (Waits::Nothing, Waits::Nothing) | (Waits::All, Waits::All) => true,
+        (Waits::Listed { values }, Waits::Listed { values: wanted }) => {
+            values.as_slice() == wanted.as_slice()
+        }
+        _ => false,
+    }
+}
+
 fn has_clauses(directive: &Directive, items: &[DataItem], target: Target, waits: &Waits) -> bool {
     directive.items().as_slice() == items
         && directive.target() == target
@@ -67,7 +77,7 @@ fn check_copy(
     let items = items_of(alloc, items)?;
     let waits = waits_of(alloc, named)?;
     let copy = directive.try_clone()?;
-    assert!(rt; is_same_directive(&copy, directive));
+    assert!(rt; copy.is_same(directive));
     assert!(rt; has_clauses(&copy, items.as_slice(), target, &waits));
     Ok(())
 }
@@ -110,7 +120,7 @@ fn check_elsewhere(rt: &impl Abort, alloc: Global) -> Result<(), Fault> {
     let copy = copy_elsewhere(rt, alloc, WORD, ITEMS)?;
     let mut wanted = synchronous(alloc, WORD, ITEMS)?;
     wanted.set_ids(DeviceId::new(3), 7);
-    assert!(rt; is_same_directive(&copy, &wanted));
+    assert!(rt; copy.is_same(&wanted));
     Ok(())
 }
 
@@ -131,7 +141,7 @@ fn check_scarce(rt: &impl Abort, alloc: Global) -> Result<(), Fault> {
     })?;
     assert!(rt; 0 < refusals);
     let wanted = synchronous(alloc, Enter, &[(Copyin, A(1, 2)); 2])?;
-    assert!(rt; is_same_directive(&directive, &wanted));
+    assert!(rt; directive.is_same(&wanted));
     Ok(())
 }
 
@@ -145,7 +155,7 @@ fn check_scarce_copy(rt: &impl Abort, alloc: Global) -> Result<(), Fault> {
     )?;
     let (refusals, copy) = at_each_amount(alloc, || directive.try_clone())?;
     assert!(rt; refusals == 0, "{refusals} refusals");
-    assert!(rt; is_same_directive(&copy, &directive));
+    assert!(rt; copy.is_same(&directive));
     Ok(())
 }
 

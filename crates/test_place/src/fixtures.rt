@@ -8,13 +8,13 @@ use crate::tables::{
 };
 use acc_base::{BlockId, Config, DeviceId, Fault, HostId, QueueAt, Range};
 use acc_batch::{Batch, Label, Op, OpLabel, Ops};
-use acc_place::{ASYNC_NOVAL, Clause, DataItem, Directive, Place, Placed, Plan, Target, Waits};
+use acc_place::{ASYNC_NOVAL, Clause, DataItem, Directive, Place, Placed, Plan, Target};
 use acc_present::Entry;
 use acc_raw::Cells as Values;
 use std::alloc::Global;
 use std::fmt::Debug;
 use std::process::Abort;
-use tool_directives::{Operation, are_alike, directive_of, operation_of, performed_by, sync};
+use tool_directives::{Operation, directive_of, operation_of, performed_by, sync};
 
 // Stops the test where the two differ. An assertion that is written out takes as long to prove as the rest of a test.
 pub fn check_same<T: PartialEq + Debug + Copy>(rt: &impl Abort, found: T, wanted: T) {
@@ -125,24 +125,6 @@ pub fn answer(batch: Option<(QueueAt, u64)>, present: bool) -> Placed {
         counts: [0; 8],
         present,
     }
-}
-
-pub fn are_same_waits(waits: &Waits, wanted: &Waits) -> bool {
-    match (waits, wanted) {
-        (Waits::Nothing, Waits::Nothing) | (Waits::All, Waits::All) => true,
-        (Waits::Listed { values }, Waits::Listed { values: wanted }) => {
-            values.as_slice() == wanted.as_slice()
-        }
-        _ => false,
-    }
-}
-
-pub fn is_same_directive(directive: &Directive, wanted: &Directive) -> bool {
-    directive.device() == wanted.device()
-        && are_alike(directive.kind(), wanted.kind())
-        && directive.items().as_slice() == wanted.items().as_slice()
-        && directive.target() == wanted.target()
-        && are_same_waits(directive.waits(), wanted.waits())
 }
 
 fn is_labelled(label: &Label, host: u8, number: u64, before: u64) -> bool {
