@@ -19,7 +19,7 @@ use Rattle.acc_work.specs.Lanes.{LaneView, IsFresh}
 use Rattle.acc_work.specs.Works.{WorkView, HasMadeRoom, lane_at}
 use Rattle.acc_work.proofs.Lanes.{fresh_lane}
 use Rattle.acc_core.proofs.LegalSteps.{legal_start}
-use Rattle.acc_core.proofs.LeftOpen.{left_all}
+use Rattle.acc_place.proofs.LeftOpen.{left_all}
 use Rattle.acc_core.proofs.Accept.{is_roomier}
 
 -- no operation waits where the queues are empty

@@ -4,6 +4,7 @@ use Rattle.std.specs.Prelude.{◌==◌, ◌&&◌, not, All, Ok, Err}
 use Rattle.std.proofs.lemmas.Bool.{eq-eqb, ne_eqb}
 use Rattle.std.proofs.lemmas.List.{append_assoc, append-nil, length-append, length-set}
 use Rattle.std.proofs.lemmas.List.Elements.{All-head, All-push}
+use Rattle.acc_place.specs.Closing.{left_open}
 use Rattle.acc_base.proofs.Lists.{All-behind}
 use Rattle.acc_base.specs.declared.config.TheConstants.{MAX_HOSTS}
 use Rattle.acc_place.specs.Directives.{Directive}
@@ -24,7 +25,6 @@ use Rattle.acc_place.specs.Plans.{PlaceView, PlanView, standing_in, Fits, label_
 use Rattle.acc_batch.specs.Labels.{on_queue, ops_of}
 use Rattle.acc_core.specs.Legality.{Legal}
 use Rattle.acc_work.specs.Logs.{items_of}
-use Rattle.acc_core.specs.inner.Closing.{left_open}
 use Rattle.acc_core.specs.Machine.{State, standing_of, with_directive, fault_of_place, place_fault, queue_fault, is_empty, is_full, batches_held, labels_of}
 use Rattle.acc_place.specs.Standings.{walk_of}
 use Rattle.acc_memory.specs.Memories.{rows_on, room_on}
@@ -36,7 +36,7 @@ use Rattle.acc_core.proofs.LegalSteps.{legal_accepted, labels_accepted}
 use Rattle.acc_base.proofs.SameQueue.{same_queue_itself}
 use Rattle.acc_batch.proofs.Labels.{on_queue-append, ops_of-append}
 use Rattle.acc_batch.proofs.Seats.{each_seat}
-use Rattle.acc_core.proofs.LeftOpen.{left_same, left_some}
+use Rattle.acc_place.proofs.LeftOpen.{left_same, left_some}
 use Rattle.acc_core.proofs.AddedLabels.{added}
 use Rattle.acc_core.proofs.Lanes.{few_batches}
 use Rattle.acc_place.proofs.LabelsThere.{labels_there}

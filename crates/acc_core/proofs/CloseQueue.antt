@@ -15,17 +15,17 @@ use Rattle.acc_batch.specs.Labels.{on_queue, ops_of}
 use Rattle.acc_batch.proofs.Labels.{on_queue-append, ops_of-append}
 use Rattle.acc_batch.proofs.Seats.{each_seat, one_seat}
 use Rattle.acc_place.specs.declared.directive.PlaceEntry.TheVariants as noted
-use Rattle.acc_place.specs.Closing.{place_after_begin, close_of, place_after_close, handed_out, is_at_hand, IsOut}
+use Rattle.acc_place.specs.Closing.{left_open, place_after_begin, close_of, place_after_close, handed_out, is_at_hand, IsOut}
 use Rattle.acc_place.specs.Histories.{is_closed, standing, CanClose, IsQueue}
 use Rattle.acc_place.specs.Directives.{Directive}
 use Rattle.acc_place.specs.Plans.{PlaceView, standing_in}
 use Rattle.acc_work.specs.Works.{WorkView, lane_at}
-use Rattle.acc_core.specs.inner.Closing.{closing_begun, can_close_now, left_open}
+use Rattle.acc_core.specs.inner.Closing.{closing_begun, can_close_now}
 use Rattle.acc_core.specs.Machine.{State, batches_held, labels_of, standing_of}
 use Rattle.acc_core.specs.inner.Queues.{QueueView, no_queue, queue_in, queues_with, queue_pushed}
 use Rattle.acc_core.specs.inner.Ties.{HasCloses, QueueIs, Queued, IsAccelerator}
 use Rattle.acc_core.proofs.ClosedState.{legal_begins, legal_closed}
-use Rattle.acc_core.proofs.LeftOpen.{left_all, left_fewer, left_same}
+use Rattle.acc_place.proofs.LeftOpen.{left_all, left_fewer, left_same}
 use Rattle.acc_core.proofs.Accept.{queued_same}
 use Rattle.acc_core.proofs.Seats.{IsSeated, room_changed, waiting_changed}
 use Rattle.acc_core.proofs.TakeBatch.{held_is, with_taken}

@@ -3,6 +3,7 @@ use Rattle.std.proofs.Common.{inl, inr, ◌≡◌, ℕ, zero, suc, ◌+◌, ◌<
 use Rattle.std.specs.Prelude.{◌||◌}
 use Rattle.std.proofs.lemmas.Bool.{cases_Bool}
 use Rattle.std.proofs.lemmas.List.{append-nil}
+use Rattle.acc_place.specs.Closing.{left_open}
 use Rattle.acc_base.specs.declared.ids.QueueAt.{QueueAt}
 use Rattle.acc_base.specs.Queues.{queue_count, same_queue, seat, at_seat}
 use Rattle.acc_base.proofs.SameQueue.{same_queue_is}
@@ -12,9 +13,9 @@ use Rattle.acc_batch.proofs.Labels.{on_queue-append}
 use Rattle.acc_host.specs.declared.state.Reply.TheVariants as reply
 use Rattle.acc_place.specs.declared.directive.PlaceEntry.TheVariants as noted
 use Rattle.acc_place.specs.Histories.{is_closed}
-use Rattle.acc_core.specs.inner.Closing.{closing_begun, can_close_now, closes_all, closes_one, close_in_turn, left_open}
+use Rattle.acc_core.specs.inner.Closing.{closing_begun, can_close_now, closes_all, closes_one, close_in_turn}
 use Rattle.acc_core.specs.Machine.{State, can_close, close_step, closes, labels_of, standing_of, stay_open, with_closing}
-use Rattle.acc_core.proofs.ClosedState.{place_seat}
+use Rattle.acc_place.proofs.LeftOpen.{place_seat}
 use Rattle.acc_core.proofs.ClosesOne.{begins_closed, begins_labels, closed_at, closed_then, closes_did, closes_idle, is_closed_then, labels_closed, left_next}
 
 -- what stands on a queue is as before, but for the history

@@ -16,10 +16,7 @@ use Rattle.acc_core.specs.Legality.{Legal, entries_of}
 use Rattle.acc_core.specs.inner.Closing.{closing_begun, can_close_now, closed_state, closes_one, closes_all}
 use Rattle.acc_core.specs.Machine.{State, batches_held, labels_of, standing_of}
 
--- the queue at a place is there, and its seat is the place
-pub place_seat : (n : ℕ) → seat (at_seat n) ≡ n
-place_seat n = omega arith
-
+-- the queue at a place is there
 pub place_there : (config : Configuration) (n : ℕ) → n < queue_count config → IsQueue config (at_seat n)
 place_there config n low = (omega (arith, low), omega arith)
 

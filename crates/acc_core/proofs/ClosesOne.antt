@@ -1,6 +1,7 @@
 -- Queues that are closed in turn: which are closed then, and how many are left.
 use Rattle.std.proofs.Common.{◌≡◌, ℕ, zero, suc, ◌+◌, ◌<◌, ◌≤◌, Bool, true, false, cond, [], ◌∷◌, ◌++◌, refl, sym, ap, ◌∙◌, arith}
 use Rattle.std.specs.Prelude.{◌||◌}
+use Rattle.acc_place.specs.Closing.{left_open}
 use Rattle.acc_base.specs.declared.ids.QueueAt.{QueueAt}
 use Rattle.acc_base.specs.declared.ids.TheConstants.{QUEUES}
 use Rattle.acc_base.specs.Queues.{same_queue, seat, at_seat}
@@ -9,10 +10,10 @@ use Rattle.acc_batch.specs.Awaits.{close_label}
 use Rattle.acc_place.specs.declared.directive.PlaceEntry.TheVariants as noted
 use Rattle.acc_place.specs.Histories.{is_closed, standing}
 use Rattle.acc_place.specs.Standings.{Standing}
-use Rattle.acc_core.specs.inner.Closing.{closing_begun, can_close_now, closes_one, closes_all, left_open}
+use Rattle.acc_core.specs.inner.Closing.{closing_begun, can_close_now, closes_one, closes_all}
 use Rattle.acc_core.specs.Machine.{State, labels_of, standing_of}
-use Rattle.acc_core.proofs.ClosedState.{place_seat}
-use Rattle.acc_core.proofs.LeftOpen.{left_past}
+use Rattle.acc_place.proofs.LeftOpen.{place_seat}
+use Rattle.acc_place.proofs.LeftOpen.{left_past}
 
 abbrev pub closed_at : State → QueueAt → State
 closed_at w at = record w { history = noted.Closed at ∷ w.history }
@@ -63,14 +64,6 @@ pub left_next : (w : State) (n : ℕ) (b : Bool) → b ≡ is_closed (standing_o
 left_next w n b e =
     let kept = left_kept w (at_seat n) n (omega arith) (omega (arith, place_seat n)) in
     left_here (standing_of (closes_one w (at_seat n))) n b (sym e) ∙ ap (λ k. cond b k (k + 1)) kept
-
-pub left_few : (st : Standing) (n : ℕ) → left_open st n ≤ n
-left_few st zero = omega arith
-left_few st (suc n) = by_closed (is_closed st (at_seat n)) (left_few st n)
-  where
-    by_closed : (b : Bool) → left_open st n ≤ n → cond b (left_open st n) (left_open st n + 1) ≤ suc n
-    by_closed true few = omega (arith, few)
-    by_closed false few = omega (arith, few)
 
 -- how many are left behind one more turn
 pub turn_left : (w new : State) (n remaining next : ℕ) (b : Bool) (at : QueueAt) → at ≡ at_seat n → new ≡ closes_one w at → b ≡ is_closed (standing_of new) at → remaining ≡ left_open (standing_of w) n → next ≡ cond b remaining (remaining + 1)

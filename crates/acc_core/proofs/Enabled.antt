@@ -5,6 +5,7 @@ use Rattle.std.specs.List.{list_any, sum_by}
 use Rattle.std.proofs.lemmas.Bool.{and_from, cases_Bool, cases_lt, le-ltb, lt-ltb}
 use Rattle.std.proofs.lemmas.List.Elements.{All-contains}
 use Rattle.std.proofs.lemmas.List.Sums.{sum_by-cons}
+use Rattle.acc_place.specs.Closing.{left_open}
 use Rattle.acc_base.specs.declared.ids.QueueAt.{QueueAt}
 use Rattle.acc_base.specs.declared.ids.TheConstants.{QUEUES}
 use Rattle.acc_base.specs.Queues.{queue_count, same_queue, seat}
@@ -22,7 +23,6 @@ use Rattle.acc_work.proofs.NeverStuck.{passing, passes, never_stuck}
 use Rattle.acc_core.specs.Enabled.{is_did, is_enabled, is_left, SomeEnabled}
 use Rattle.acc_core.specs.Legality.{Legal}
 use Rattle.acc_core.specs.Machine.{State, is_there, labels_of, standing_of, taken_on, batches_held, ops_left, take_step, perform_step, can_perform, did, idle, with_op}
-use Rattle.acc_core.specs.inner.Closing.{left_open}
 use Rattle.acc_core.specs.inner.Queues.{QueueView, no_queue, queue_in}
 use Rattle.acc_core.specs.inner.Ties.{Queued}
 use Rattle.acc_core.proofs.PerformOp.{goes_next}

@@ -13,13 +13,13 @@ use Rattle.acc_work.specs.declared.log.Told.TheVariants as told
 use Rattle.acc_work.specs.declared.log.TheConstants.{MAX_HOST_ITEMS}
 use Rattle.acc_work.specs.declared.log.WorkEntry.TheVariants as entry
 use Rattle.acc_work.specs.Orders.{ShowsTruth}
-use Rattle.acc_work.specs.Items.{shown_by}
+use Rattle.acc_work.specs.Items.{has_cells, shown_by}
 use Rattle.acc_work.specs.Logs.{all_items, all_done, value}
 use Rattle.acc_core.specs.Machine.{State, labels_of, unless, told_of, can_tell, item_answer}
 use Rattle.acc_memory.specs.Memories.{rows_in, room_in}
 use Rattle.acc_base.specs.Configurations.{lengths_of}
 use Rattle.acc_core.specs.inner.Queues.{QueueView, queue_in}
-use Rattle.acc_core.specs.inner.Ties.{IsAccelerator, QueueIs, Queued, has_cells}
+use Rattle.acc_core.specs.inner.Ties.{IsAccelerator, QueueIs, Queued}
 use Rattle.acc_work.specs.Lanes.{LaneView, lane_in}
 use Rattle.acc_work.specs.Works.{WorkView, HasMadeRoom, HasTold, CanTell, Tells, item_fault, taken_counts, taken_labels}
 use Rattle.acc_work.specs.declared.item.ItemLabel.TheVariants as to_record
@@ -87,13 +87,6 @@ cells_tell w (to_record.Write array cell new_value) may = refl
 cells_tell w (to_record.Print range) may = refl
 cells_tell w (to_record.Seen device counts) may = absurd may
 cells_tell w (to_record.Test device counts) may = refl
-
-pub may_tell : (v : WorkView) (arrays : List (List ℤ)) (item : ItemLabel) → MayRecord item → lengths_of v.memory.arrays ≡ lengths_of arrays
-    → All (λ (cells : List ℤ). (1 ≤ length cells) × (length cells ≤ MAX_CELLS)) arrays → has_cells arrays item ≡ true → CanTell v item
-may_tell v arrays (to_record.Write array cell new_value) may same limits there = has_same v.memory arrays (record { array = array; lo = cell; len = 1 }) same there
-may_tell v arrays (to_record.Print range) may same limits there = (has_same v.memory arrays range same there, no_longer arrays range MAX_CELLS limits there)
-may_tell v arrays (to_record.Seen device counts) may same limits there = absurd may
-may_tell v arrays (to_record.Test device counts) may same limits there = tt
 
 -- What an item tells: a print the values of its cells, a test whether each queue has performed its count.
 pub told_is : (w : State) (v : WorkView) (item : ItemLabel) (what : Told) → Remembers v.arrays v.work v.memory → v.arrays ≡ w.config.arrays → v.work ≡ w.work

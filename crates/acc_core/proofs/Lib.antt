@@ -14,7 +14,6 @@ mod HostLaws
 mod HostSteps
 mod ItemAnswer
 mod Lanes
-mod LeftOpen
 mod LegalSteps
 mod MadeRows
 mod Merged

@@ -2,6 +2,7 @@
 use Rattle.std.proofs.Common.{sym, ◌≡◌, ℕ, ◌≤◌, Bool, true, false, cond, List, [], ◌∷◌, length, take, refl, ap, ◌∙◌}
 use Rattle.std.specs.Prelude.{nat_lt}
 use Rattle.std.proofs.lemmas.List.{length-map}
+use Rattle.acc_place.specs.Closing.{left_open}
 use Rattle.acc_base.specs.declared.config.TheConstants.{MAX_HOSTS}
 use Rattle.acc_base.specs.Configurations.{Configuration}
 use Rattle.acc_base.specs.declared.ids.QueueAt.{QueueAt}
@@ -17,7 +18,6 @@ use Rattle.acc_core.specs.Following.{AllStand}
 use Rattle.acc_core.specs.Legality.{Legal}
 use Rattle.acc_base.specs.Queues.{queue_count}
 use Rattle.acc_host.specs.declared.state.Reply.TheVariants as reply
-use Rattle.acc_core.specs.inner.Closing.{left_open}
 use Rattle.acc_core.specs.Machine.{State, Outcome, Step, Runs, standing_of, labels_of, is_there, batches_held, ops_left, can_perform, take_step, perform_step, queue_step, step}
 use Rattle.acc_host.specs.Hosts.{AreNumbered}
 use Rattle.acc_core.specs.Worlds.{first_state, IsWorld, Ran}

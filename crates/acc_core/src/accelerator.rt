@@ -6,7 +6,7 @@ ghost use Rattle.acc_host.specs.Engines.{Wait, Record, MayRecord, without_item};
 ghost use Rattle.acc_core.specs.inner.Answers.{Makes, Places};
 ghost use Rattle.acc_core.specs.Enabled.{is_enabled, is_left, SomeEnabled};
 ghost use Rattle.acc_core.specs.Legality.{AllRise};
-ghost use Rattle.acc_core.specs.inner.Ties.{has_cells, HasRoom};
+ghost use Rattle.acc_core.specs.inner.Ties.{HasRoom};
 ghost use Rattle.acc_place.specs.Histories.{is_closed, IsQueue};
 ghost use Rattle.acc_base.specs.Configurations.{has_range};
 ghost use Rattle.acc_base.specs.Queues.{queue_count};
@@ -131,11 +131,10 @@ impl Accelerator {
             return Err((item, fault));
         }
         self.work.keeps();
-        let config = self.place.config();
-        if !has_cells(config, item.label()) {
+        if !self.work.has_cells(item.label()) {
             return Err((item, Fault::BadRange));
         }
-        config.keeps();
+        self.place.config().keeps();
         Ok(self.work.host_item(host, item))
     }
 
@@ -372,21 +371,6 @@ impl Engine for Accelerator {
 
     fn ask(&self) -> u8 {
         self.config().devices()
-    }
-}
-
-// Whether the cells of an item are there.
-fn has_cells(config: &Config, item: ItemLabel) -> bool
-    ensures { result ≡ has_cells config.now.arrays item }
-{
-    match item {
-        ItemLabel::Write { array, cell, .. } => config.has_range(Range {
-            array,
-            lo: cell,
-            len: 1,
-        }),
-        ItemLabel::Print { range } => config.has_range(range),
-        ItemLabel::Seen { .. } | ItemLabel::Test { .. } => true,
     }
 }
 

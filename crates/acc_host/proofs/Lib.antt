@@ -2,4 +2,5 @@ mod BareStatements
 mod WorkedHosts
 mod GoOn
 mod HostStands
+pub mod MayTell
 mod OwnRead

@@ -19,6 +19,7 @@ mod KeptCloses
 pub mod LabelsSound
 pub mod LabelsThere
 pub mod LastClose
+pub mod LeftOpen
 mod LoopItems
 mod LoopReach
 mod NoteFound

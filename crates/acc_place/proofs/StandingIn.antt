@@ -11,7 +11,7 @@ use Rattle.acc_base.specs.declared.fault.Fault.{Fault}
 use Rattle.acc_base.specs.declared.fault.Fault.TheVariants.{Memory}
 use Rattle.acc_base.specs.declared.ids.QueueAt.{QueueAt}
 use Rattle.acc_base.specs.declared.range.Range.{Range}
-use Rattle.acc_base.specs.Configurations.{Configuration, lengths_of}
+use Rattle.acc_base.specs.Configurations.{IsRefusal, Configuration, lengths_of}
 use Rattle.acc_base.specs.declared.ids.TheConstants.{QUEUES}
 use Rattle.acc_base.specs.Queues.{every_queue, queue_count, seat}
 use Rattle.acc_base.specs.Ranges.{range_contains}
@@ -42,7 +42,7 @@ use Rattle.acc_place.specs.Answers.{answer_to}
 use Rattle.acc_place.specs.Batches.{answer_of, batch_of, count_of, counts_by, counts_queues, is_answered, next_number, operations_of, placed_batch, walk_at}
 use Rattle.acc_place.specs.Histories.{at_first, standing, after_directive, AllAccepted, IsQueue}
 use Rattle.acc_place.specs.inner.Places.{IsPlace, IsThere, IsTied, IsTiedOn, queue_in, queues_after}
-use Rattle.acc_place.specs.Plans.{KeptByAccepting, KeptByPlanning, KeptByTaking, PlaceView, PlanView, Room, nth_batch, standing_in, IsRefusal, IsRoomy, IsPlanOf, Fits, label_for, label_in, opened_region, place_after, queue_for}
+use Rattle.acc_place.specs.Plans.{KeptByAccepting, KeptByPlanning, KeptByTaking, PlaceView, PlanView, Room, nth_batch, standing_in, IsRoomy, IsPlanOf, Fits, label_for, label_in, opened_region, place_after, queue_for}
 use Rattle.acc_place.specs.Regions.{regions_after}
 use Rattle.acc_place.specs.Standings.{Standing, Walk, all_visits, loop_of, subject_by, walk_of}
 use Rattle.acc_place.specs.inner.Noting.{awaits_from, ended_range, last_made, last_used, note_found, notes_on, used_ranges}

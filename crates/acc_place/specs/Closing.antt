@@ -1,13 +1,14 @@
 -- What closing makes of a place: it begins once; the close of each queue is handed out, comes back, or is placed.
-use Rattle.std.specs.Prelude.{◌≡◌, Bool, true, false, ◌&&◌, nat_lt, [], ◌∷◌, slice_index_or, slice_set, Option, Some, None, if◌then◌else◌}
+use Rattle.std.specs.Prelude.{◌≡◌, ℕ, zero, suc, ◌+◌, Bool, true, false, ◌&&◌, nat_lt, [], ◌∷◌, slice_index_or, slice_set, Option, Some, None, if◌then◌else◌}
 use Rattle.acc_base.specs.declared.ids.QueueAt.{QueueAt}
 use Rattle.acc_base.specs.declared.ids.TheConstants.{QUEUES}
-use Rattle.acc_base.specs.Queues.{seat}
+use Rattle.acc_base.specs.Queues.{at_seat, seat}
 use Rattle.acc_batch.specs.Awaits.{close_label}
 use Rattle.acc_batch.specs.declared.label.Label.{Label}
 use Rattle.acc_place.specs.declared.directive.PlaceEntry.TheVariants as entry
 use Rattle.acc_place.specs.Histories.{is_closed, IsQueue}
 use Rattle.acc_place.specs.Plans.{standing_in, IsPlanOf, PlaceView, PlanView}
+use Rattle.acc_place.specs.Standings.{Standing}
 
 -- The close of a queue is at hand: it is neither out nor placed.
 abbrev pub is_at_hand : PlaceView → QueueAt → Bool
@@ -38,6 +39,11 @@ place_after_begin p = record p { history = if (standing_in p).closing then p.his
 
 abbrev pub place_after_close : PlaceView → QueueAt → PlaceView
 place_after_close p at = record p { history = entry.Closed at ∷ p.history }
+
+-- how many of the first n queues aren't closed
+abbrev pub left_open : Standing → ℕ → ℕ
+left_open st zero = 0
+left_open st (suc n) = if is_closed st (at_seat n) then left_open st n else left_open st n + 1
 
 -- A plan stays one of its place where closing begins, and where the close of a queue is handed out, comes back, or is placed.
 abbrev pub KeptByClosing : Type 0

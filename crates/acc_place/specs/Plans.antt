@@ -66,11 +66,6 @@ nth_batch labels (suc n) = slice_get labels n
 abbrev pub queue_for : PlaceView → ℕ → Directive → QueueAt
 queue_for p host d = walk_at (walk_of (standing_in p) host d)
 
--- the definition's fault, or want of memory where it has none
-abbrev pub IsRefusal : Option Fault → Fault → Type 0
-IsRefusal (Some fault) f = f ≡ fault
-IsRefusal None f = f ≡ Memory
-
 -- A directive of a host with so many items before it; the region that it opens, if it opens one; the label of its batch,
 -- if it isn't empty, and the batch, until it is handed out; what it is answered; and how many entries the place history had.
 pub record PlanView : Type 0 where

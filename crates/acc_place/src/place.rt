@@ -3,6 +3,7 @@
 ghost use Rattle.std.specs.Prelude.{ℕ, All, reverse, false, ◌≡◌, ◌+◌, ◌<◌, ◌==◌, ◌++◌, [], ◌∷◌, length, true, None, IfOk, IfErr, OnOk, OnErr, OnSome, IfSome, slice_get, slice_index_or, ◌^◌};
 ghost use Rattle.std.specs.List.{flat_map};
 ghost use Rattle.std.specs.Option.{option_map, option_to_list};
+ghost use Rattle.acc_base.specs.Configurations.{IsRefusal};
 ghost use Rattle.acc_base.specs.declared.fault.Fault.TheVariants.{Memory};
 ghost use Rattle.acc_base.specs.declared.ids.QueueAt.{QueueAt};
 ghost use Rattle.acc_base.specs.Queues.{seat};
@@ -22,7 +23,7 @@ ghost use Rattle.acc_place.specs.Closing.{place_after_begin, close_of, place_aft
 ghost use Rattle.acc_place.specs.declared.directive.PlaceEntry.TheVariants.{Accepted};
 ghost use Rattle.acc_place.specs.Histories.{is_closed, AllAccepted, IsQueue};
 ghost use Rattle.acc_place.specs.inner.Places.{queues_after};
-ghost use Rattle.acc_place.specs.Plans.{nth_batch, standing_in, IsRefusal, IsPlanOf, IsRoomy, Fits, place_after, queue_for};
+ghost use Rattle.acc_place.specs.Plans.{nth_batch, standing_in, IsPlanOf, IsRoomy, Fits, place_after, queue_for};
 ghost use Rattle.acc_place.specs.Standings.{walk_of};
 
 use crate::answer::Answer;

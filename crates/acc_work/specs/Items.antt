@@ -1,5 +1,6 @@
 -- How a host's item is kept, and what the host gets back.
-use Rattle.std.specs.Prelude.{◌≡◌, ◌≤◌, Bool, false, min, [], vec_capacity}
+use Rattle.std.specs.Prelude.{ℤ, ◌≡◌, ◌≤◌, Bool, true, false, min, List, [], vec_capacity}
+use Rattle.acc_base.specs.Configurations.{has_range}
 use Rattle.acc_base.specs.declared.config.TheConstants.{MAX_CELLS}
 use Rattle.acc_work.specs.declared.item.Form.{Form}
 use Rattle.acc_work.specs.declared.item.Form.TheVariants as form
@@ -16,6 +17,13 @@ label_of (form.Write array cell new_value) = to_record.Write array cell new_valu
 label_of (form.Print range values) = to_record.Print range
 label_of (form.Seen device counts) = to_record.Seen device counts
 label_of (form.Test device counts) = to_record.Test device counts
+
+-- the cells of an item are there
+abbrev pub has_cells : List (List ℤ) → ItemLabel → Bool
+has_cells arrays (to_record.Write array cell new_value) = has_range arrays (record { array = array; lo = cell; len = 1 })
+has_cells arrays (to_record.Print range) = has_range arrays range
+has_cells arrays (to_record.Seen device counts) = true
+has_cells arrays (to_record.Test device counts) = true
 
 -- A print has no values yet, and room for as many as an array can have of its range.
 abbrev pub HasRoom : Form → Type 0

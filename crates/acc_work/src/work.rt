@@ -9,7 +9,7 @@ ghost use Rattle.acc_base.specs.declared.ids.QueueAt.{QueueAt};
 ghost use Rattle.acc_base.specs.declared.ids.TheConstants.{QUEUES};
 ghost use Rattle.acc_work.specs.declared.log.TheConstants.{MAX_HOST_ITEMS};
 ghost use Rattle.acc_work.specs.declared.log.Told.{Told};
-ghost use Rattle.acc_work.specs.Items.{shown_by};
+ghost use Rattle.acc_work.specs.Items.{has_cells, shown_by};
 ghost use Rattle.acc_work.specs.Kept.{IsKept};
 ghost use Rattle.acc_work.specs.Lanes.{IsFresh, lane_with_batch, last_of, nth_taken, lanes_with, no_lane};
 ghost use Rattle.acc_work.specs.Logs.{items_of, all_items, batches_done, all_done, await_allows, host_allows, after_item, value};
@@ -21,7 +21,7 @@ ghost use Rattle.acc_memory.specs.Memories.{Shows, IsAllowed, PerformsOn, find_b
 ghost use Rattle.acc_memory.specs.Values.{Block_cell, Cell, Host_cell, values_of};
 ghost use Rattle.acc_work.specs.Works.{lane_at, taken_labels, HasQueue, goes_on, is_live, is_new, can_go, Performs, NextMayFollow, CanTell, Tells, HasTold, HasPrinted, HasMadeRoom, LacksRoom, KeepsOrder, item_fault};
 
-use crate::item::{Form, Item, Shown};
+use crate::item::{Form, Item, ItemLabel, Shown};
 use crate::lane::Lane;
 use crate::log::{Log, MAX_HOST_ITEMS, Told, WorkEntry};
 use acc_base::{
@@ -403,11 +403,19 @@ impl Work {
         }
     }
 
-    /// Whether a range has a cell, and lies in its host array.
-    pub fn has_range(&self, range: Range) -> bool
-        ensures { result ≡ has_range self.now.memory.arrays range }
+    /// Whether the cells of an item are there.
+    pub fn has_cells(&self, item: ItemLabel) -> bool
+        ensures { result ≡ has_cells self.now.arrays item }
     {
-        self.memory.has_range(range)
+        match item {
+            ItemLabel::Write { array, cell, .. } => self.memory.has_range(Range {
+                array,
+                lo: cell,
+                len: 1,
+            }),
+            ItemLabel::Print { range } => self.memory.has_range(range),
+            ItemLabel::Seen { .. } | ItemLabel::Test { .. } => true,
+        }
     }
 
     // Whether what an operation awaits on its device is performed.

@@ -4,6 +4,7 @@ use Rattle.acc_base.specs.declared.ids.QueueAt.{QueueAt}
 use Rattle.acc_base.specs.Queues.{queue_count, at_seat}
 use Rattle.acc_host.specs.declared.state.Reply.TheVariants as reply
 use Rattle.acc_place.specs.declared.directive.PlaceEntry.TheVariants as noted
+use Rattle.acc_place.specs.Closing.{left_open}
 use Rattle.acc_place.specs.Histories.{is_closed}
 use Rattle.acc_place.specs.Standings.{Standing}
 use Rattle.acc_core.specs.Machine.{State, Outcome, can_close, standing_of, with_closing}
@@ -21,11 +22,6 @@ closes_one w at = record w { history = if can_close_now w at then noted.Closed a
 abbrev pub closes_all : State → ℕ → State
 closes_all w zero = w
 closes_all w (suc n) = closes_one (closes_all w n) (at_seat n)
-
--- how many of them aren't closed
-abbrev pub left_open : Standing → ℕ → ℕ
-left_open st zero = 0
-left_open st (suc n) = if is_closed st (at_seat n) then left_open st n else left_open st n + 1
 
 abbrev pub closed_state : State → State
 closed_state w = closes_all (closing_begun w) (queue_count w.config)

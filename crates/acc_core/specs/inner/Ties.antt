@@ -11,11 +11,10 @@ use Rattle.acc_work.specs.declared.item.ItemLabel.TheVariants as to_record
 use Rattle.acc_batch.specs.declared.label.Label.{Label}
 use Rattle.acc_batch.specs.Labels.{on_queue, ops_of}
 use Rattle.acc_core.specs.Legality.{Legal}
-use Rattle.acc_core.specs.inner.Closing.{left_open}
 use Rattle.acc_core.specs.Machine.{State, labels_of, standing_of}
 use Rattle.acc_core.specs.inner.Queues.{QueueView, queue_in}
 use Rattle.acc_memory.specs.Memories.{rows_on, room_on}
-use Rattle.acc_place.specs.Closing.{is_at_hand}
+use Rattle.acc_place.specs.Closing.{left_open, is_at_hand}
 use Rattle.acc_place.specs.Histories.{is_closed, IsQueue}
 use Rattle.acc_place.specs.Plans.{PlaceView, standing_in}
 use Rattle.acc_work.specs.declared.log.TheConstants.{MAX_HOST_ITEMS}
@@ -26,13 +25,6 @@ use Rattle.acc_work.specs.Works.{WorkView, lane_at, taken_counts}
 -- the state of the core without its hosts
 abbrev pub state_of_parts : PlaceView → WorkView → State
 state_of_parts p v = record { config = p.config; history = p.history; counts = p.counts; work = v.work; taken = taken_counts v; hosts = [] }
-
--- the cells of an item are there
-abbrev pub has_cells : List (List ℤ) → ItemLabel → Bool
-has_cells arrays (to_record.Write array cell new_value) = has_range arrays (record { array = array; lo = cell; len = 1 })
-has_cells arrays (to_record.Print range) = has_range arrays range
-has_cells arrays (to_record.Seen device counts) = true
-has_cells arrays (to_record.Test device counts) = true
 
 -- A queue's lane was filled from the first labels that were placed on it, and the queue holds the others, of which there are no
 -- more than its room. It counts the operations that wait, and the lane has room for all batches that it holds.

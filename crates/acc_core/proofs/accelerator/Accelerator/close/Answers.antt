@@ -1,12 +1,14 @@
 use Rattle.std.proofs.Common.{◌≡◌, ◌+◌, ◌*◌, ◌<◌, cond, sym, ap, ◌∙◌, arith}
+use Rattle.acc_place.specs.Closing.{left_open}
+use Rattle.acc_place.proofs.LeftOpen.{left_few}
 use Rattle.acc_base.specs.Queues.{queue_count, at_seat}
 use Rattle.acc_base.specs.Configurations.{Configuration}
 use Rattle.acc_host.specs.declared.state.Reply.TheVariants as reply
-use Rattle.acc_core.specs.inner.Closing.{closing_begun, close_in_turn, closed_state, closes_one, closes_all, left_open}
+use Rattle.acc_core.specs.inner.Closing.{closing_begun, close_in_turn, closed_state, closes_one, closes_all}
 use Rattle.acc_core.specs.Machine.{State, standing_of}
 use Rattle.acc_core.proofs.CloseStep.{close_is}
 use Rattle.acc_core.proofs.ClosedState.{all_config, closes_closing, place_there}
-use Rattle.acc_core.proofs.ClosesOne.{all_more, left_few, turn_left}
+use Rattle.acc_core.proofs.ClosesOne.{all_more, turn_left}
 use Rattle.acc_core.proofs.accelerator.Accelerator.close.Goals as goal
 use Rattle.acc_core.proofs.accelerator.Accelerator.close.Goals.{then-not-close_queue, else-not-close_queue}
 

@@ -1,5 +1,6 @@
 use Rattle.std.proofs.Common.{◌≡◌, true}
-use Rattle.acc_core.specs.inner.Closing.{closes_all, left_open}
+use Rattle.acc_place.specs.Closing.{left_open}
+use Rattle.acc_core.specs.inner.Closing.{closes_all}
 use Rattle.acc_core.specs.Machine.{standing_of}
 use Rattle.acc_core.proofs.accelerator.Accelerator.close.Given as goal
 

@@ -1,7 +1,8 @@
 use Rattle.std.proofs.Common.{◌≡◌, true, false, refl, sym, ap, ◌∙◌}
-use Rattle.acc_work.specs.Items.{shown_by}
+use Rattle.acc_work.specs.Items.{has_cells, shown_by}
+use Rattle.acc_host.proofs.MayTell.{may_tell}
 use Rattle.acc_core.specs.Machine.{can_tell, told_of}
-use Rattle.acc_core.specs.inner.Ties.{state_of_parts, has_cells}
+use Rattle.acc_core.specs.inner.Ties.{state_of_parts}
 use Rattle.acc_core.proofs.StepChanges.{tells_truth}
 use Rattle.acc_core.proofs.BatchesDone.{all_done_taken}
 use Rattle.acc_core.proofs.ItemAnswer.{roomier, taken_kept, told_item, cells_tell, told_is, item_given}
@@ -21,8 +22,9 @@ is_told c =
 -- and its cells are there
 can_be_told : (c : goal.After-host_item) → can_tell (state_of_parts c.self.inside.place c.self.inside.work) c.args.item ≡ true
 can_be_told c =
+    let a = roomier c.self.invariant.0 c.in_default.ensures.kept in
     let there : has_cells c.self.inside.place.config.arrays c.args.item ≡ true =
-    rw (← c.config-config.ensures, ← c.label.ensures) (sym c.has_cells.ensures ∙ c.if-not-has_cells.false) in
+    rw (← c.label.ensures) (ap (λ arrays. has_cells arrays c.label.result) (sym a.opening) ∙ (sym c.has_cells.ensures ∙ c.if-not-has_cells.false)) in
     cells_tell (state_of_parts c.self.inside.place c.self.inside.work) c.args.item c.requires.item ∙ there
 
 pub invariant_of-self-2 : goal.invariant_of-self-2
@@ -48,3 +50,9 @@ returns-clause-makes c =
       item_given w c.args.item c.host_item.result spared.few (can_be_told c) (e.2 ∙ ap shown_by (is_told c)),
       rw (taken_kept i.work c.spare_item.new.self c.host_item.new.self c.args.host e.0 spared.kept e.3, e.3.work, spared.kept.work, is_told c) refl,
     )
+
+pub host_item-requires-clause-item : goal.host_item-requires-clause-item
+host_item-requires-clause-item c =
+    let a = roomier c.self.invariant.0 c.in_default.ensures.kept in
+    let there : has_cells c.spare_item.new.self.arrays c.args.item ≡ true = rw (← c.label.ensures) (sym c.has_cells.ensures ∙ c.if-not-has_cells.false) in
+    may_tell c.spare_item.new.self c.args.item c.keeps.ensures.memory (rw (a.opening, ← c.config.ensures) c.keeps-2.ensures.limits.cells) c.requires.item there

@@ -1,6 +1,7 @@
 -- How many queues aren't closed, and which.
 use Rattle.std.proofs.Common.{inl, inr, subst, ◌≡◌, ℕ, zero, suc, ◌+◌, ◌<◌, ◌≤◌, Bool, true, false, cond, [], refl, sym, ap, ◌∙◌, arith}
 use Rattle.std.proofs.lemmas.Bool.{cases_Bool, cases_lt}
+use Rattle.acc_place.specs.Closing.{left_open}
 use Rattle.acc_base.specs.declared.ids.QueueAt.{QueueAt}
 use Rattle.acc_base.specs.declared.ids.TheConstants.{QUEUES}
 use Rattle.acc_base.specs.Configurations.{Configuration}
@@ -9,8 +10,10 @@ use Rattle.acc_base.proofs.SameQueue.{same_queue_is}
 use Rattle.acc_batch.proofs.Seats.{one_seat}
 use Rattle.acc_place.specs.Histories.{after_close, is_closed, IsQueue}
 use Rattle.acc_place.specs.Standings.{Standing}
-use Rattle.acc_core.specs.inner.Closing.{left_open}
-use Rattle.acc_core.proofs.ClosedState.{place_seat}
+
+-- the seat of the queue at a place is the place
+pub place_seat : (n : ℕ) → seat (at_seat n) ≡ n
+place_seat n = omega arith
 
 -- none is closed at first
 pub left_all : (st : Standing) (n : ℕ) → st.closed ≡ [] → left_open st n ≡ n
@@ -59,3 +62,8 @@ left_fewer st at (suc n) low there early = elim (cases_Bool (same_queue at (at_s
 -- so there is one left
 pub left_some : (config : Configuration) (st : Standing) (at : QueueAt) → IsQueue config at → is_closed st at ≡ false → 1 ≤ left_open st (queue_count config)
 left_some config st at there early = (let fewer = left_fewer st at (queue_count config) there.1 (omega (arith, there.0, there.1)) early in omega (arith, fewer))
+
+-- there are no more of them than queues
+pub left_few : (st : Standing) (n : ℕ) → left_open st n ≤ n
+left_few st zero = omega arith
+left_few st (suc n) = elim (is_closed st (at_seat n)) as (λ b. cond b (left_open st n) (left_open st n + 1) ≤ suc n) [ true ↦ omega (arith, left_few st n) | false ↦ omega (arith, left_few st n) ]
