@@ -1,0 +1,149 @@
+-- Where both sides and the tokens are of one run, whose queues have performed their closes, its histories are legal.
+use Rattle.std.proofs.Common.{inl, inr, ◌≡◌, suc, ◌-◌, Bool, true, false, List, [], ◌∷◌, ◌++◌, length, refl, sym, ap, subst, ◌∙◌, arith, slice_get}
+use Rattle.std.specs.Prelude.{All, ◌==◌}
+use Rattle.std.proofs.lemmas.Bool.{and_parts, cases_Bool, eqb-true}
+use Rattle.std.proofs.lemmas.List.{append_assoc, append-nil}
+use Rattle.std.proofs.lemmas.List.Elements.{All-cons, All-nil}
+use Rattle.acc_base.specs.Configurations.{Configuration}
+use Rattle.acc_base.specs.Queues.{same_queue}
+use Rattle.acc_base.specs.declared.ids.QueueAt.{QueueAt}
+use Rattle.acc_base.proofs.SameQueue.{same_queue_itself}
+use Rattle.acc_batch.specs.declared.label.Label.{Label}
+use Rattle.acc_batch.specs.declared.label.OpLabel.{OpLabel}
+use Rattle.acc_batch.specs.declared.label.OpLabel.TheVariants.{Make, CopyIn, CopyOut, Release, Run, Await, Close}
+use Rattle.acc_batch.specs.Labels.{ops_of}
+use Rattle.acc_host.specs.Legality.{NothingBehind}
+use Rattle.acc_place.specs.Histories.{IsQueue}
+use Rattle.acc_place.specs.Plans.{standing_in}
+use Rattle.acc_place.specs.Sound.{is_close, CloseLast}
+use Rattle.acc_place.proofs.LastClose.{closes_last}
+use Rattle.acc_work.specs.declared.log.WorkEntry.{WorkEntry}
+use Rattle.acc_work.specs.declared.log.WorkEntry.TheVariants as entry
+use Rattle.acc_work.specs.Kept.{IsKept}
+use Rattle.acc_work.specs.Lanes.{LaneView, last_of}
+use Rattle.acc_work.specs.Logs.{one_more, performed}
+use Rattle.acc_work.specs.Works.{IsInOrder, lane_at, taken_labels}
+use Rattle.acc_work.proofs.Extended.{kept_alike}
+use Rattle.acc_run.specs.Finishing.{AgreeingSidesAreLegal, AllEnded, AllTook, EndsWithClose, KeepsWork, PerformedAll, TookPlaced, histories_in}
+use Rattle.acc_run.specs.PlaceSides.{PlaceSideView}
+use Rattle.acc_run.specs.WorkSides.{WorkSideView, closes, is_ended}
+use Rattle.acc_run.specs.WorkSides.{closes_last as is_last_a_close}
+use Rattle.acc_run.proofs.AllRise.{all_rise}
+use Rattle.acc_run.proofs.EachQueue.{no_lane_at, there_or_not, took_all}
+
+-- ## Nothing is performed behind a close
+
+none_left : {X : Type 0} (xs ys : List X) → xs ++ ys ≡ [] → xs ≡ []
+none_left [] ys e = refl
+none_left (x ∷ xs) ys e = cc
+
+close_last_before : (xs ys : List OpLabel) → CloseLast (xs ++ ys) → CloseLast xs
+close_last_before [] ys h = tt
+close_last_before (x ∷ xs) ys h = (λ c. none_left xs ys (h.0 c), close_last_before xs ys h.1)
+
+one_before : (b : Bool) (xs : List OpLabel) (op : OpLabel) → CloseLast (one_more b xs op) → CloseLast xs
+one_before true xs op h = close_last_before xs (op ∷ []) h
+one_before false xs op h = h
+
+-- what stands before another operation doesn't close
+none_ends : (xs : List OpLabel) (op : OpLabel) → xs ++ op ∷ [] ≡ [] → ⊥
+none_ends [] op e = cc
+none_ends (x ∷ xs) op e = cc
+
+none_closes : (done : List OpLabel) (op : OpLabel) → CloseLast (done ++ op ∷ []) → All (λ (o : OpLabel). is_close o ≡ false) done
+none_closes [] op h = All-nil (λ (o : OpLabel). is_close o ≡ false)
+none_closes (o ∷ done) op h = All-cons (λ (o : OpLabel). is_close o ≡ false) o done (goes h.0) (none_closes done op h.1)
+  where
+    goes : (is_close o ≡ true → done ++ op ∷ [] ≡ []) → is_close o ≡ false
+    goes last = elim (cases_Bool (is_close o)) [ inl ends ↦ absurd (none_ends done op (last ends)) | inr goes_on ↦ goes_on ]
+
+nothing_behind : (work : List WorkEntry) → ((at : QueueAt) → CloseLast (performed at work)) → NothingBehind work
+nothing_behind [] last = tt
+nothing_behind (entry.Op at op ∷ before) last = (
+  none_closes (performed at before) op (subst (λ b. CloseLast (one_more b (performed at before) op)) (same_queue_itself at) (last at)),
+  nothing_behind before (λ q. one_before (same_queue at q) (performed q before) op (last q)),
+)
+nothing_behind (entry.Item host what ∷ before) last = nothing_behind before last
+
+-- ## A queue that has performed its close
+
+nil_of : {X : Type 0} (xs : List X) → (length xs == 0) ≡ true → xs ≡ []
+nil_of [] e = refl
+nil_of (x ∷ xs) e = absurd (omega (arith, eqb-true (length (x ∷ xs)) 0 e))
+
+is_the_close : (op : OpLabel) → is_close op ≡ true → op ≡ Close
+is_the_close Close e = refl
+is_the_close (Make b r) e = cc
+is_the_close (CopyIn b r) e = cc
+is_the_close (CopyOut b r) e = cc
+is_the_close (Release b) e = cc
+is_the_close (Run k uses) e = cc
+is_the_close (Await q n) e = cc
+
+close_alone : (ops : List OpLabel) → closes ops ≡ true → ops ≡ Close ∷ []
+close_alone [] e = cc
+close_alone (op ∷ []) e = ap (λ o. o ∷ []) (is_the_close op e)
+close_alone (op ∷ next ∷ ops) e = cc
+
+last_more : (l next : Label) (labels : List Label) → last_of (l ∷ next ∷ labels) ≡ last_of (next ∷ labels)
+last_more l next labels =
+    let here : length (l ∷ next ∷ labels) - 1 ≡ suc (length labels) = omega arith in
+    let there : length (next ∷ labels) - 1 ≡ length labels = omega arith in
+    ap (slice_get (l ∷ next ∷ labels)) here ∙ ap (slice_get (next ∷ labels)) (sym there)
+
+-- its operations end with that
+ends_with : (labels : List Label) → is_last_a_close (last_of labels) ≡ true → EndsWithClose (ops_of labels)
+ends_with [] e = cc
+ends_with (l ∷ []) e = ([], ap (λ ops. ops ++ []) (close_alone l.ops e))
+ends_with (l ∷ next ∷ labels) e =
+    let later = ends_with (next ∷ labels) (ap is_last_a_close (sym (last_more l next labels)) ∙ e) in
+    (l.ops ++ later.0, ap (λ ops. l.ops ++ ops) later.1 ∙ sym (append_assoc l.ops later.0 (Close ∷ [])))
+
+-- what it has performed is all that it took
+record Done (work : List WorkEntry) (at : QueueAt) (lane : LaneView) : Type 0 where
+  all : performed at work ≡ ops_of lane.taken
+  last : EndsWithClose (performed at work)
+
+done_on : (work : List WorkEntry) (at : QueueAt) (lane : LaneView) → IsInOrder work at lane → is_ended lane ≡ true → Done work at lane
+done_on work at lane o ended =
+    let parts = and_parts (length lane.left == 0) (is_last_a_close (last_of lane.taken)) ended in
+    let all : performed at work ≡ ops_of lane.taken = sym (append-nil (performed at work)) ∙ (ap (λ ops. performed at work ++ ops) (sym (nil_of lane.left parts.0)) ∙ o.in_order) in
+    let last = ends_with lane.taken parts.1 in
+    record { all = all; last = (last.0, all ∙ last.1) }
+
+-- ## The law
+
+-- a queue that took no batch has performed nothing
+nothing_done : (work : List WorkEntry) (at : QueueAt) (lane : LaneView) → IsInOrder work at lane → lane.taken ≡ [] → performed at work ≡ ops_of lane.taken
+nothing_done work at lane o none = none_left (performed at work) lane.left (o.in_order ∙ ap ops_of none) ∙ sym (ap ops_of none)
+
+performed_all : (config : Configuration) (p : PlaceSideView) (w : WorkSideView) → KeepsWork w → length w.work.memory.devices ≡ config.devices → AllEnded config w → ((at : QueueAt) → TookPlaced p w at) → PerformedAll (histories_in p w)
+performed_all config p w keeps devices ended took at =
+    let lane = lane_at w.work at in
+    let order = keeps.order.order at in
+    let taken : performed at w.work.work ≡ ops_of lane.taken = elim (there_or_not config at) [
+      | inl there ↦ (done_on w.work.work at lane order (ended at there)).all
+      | inr absent ↦ nothing_done w.work.work at lane order (ap (λ (l : LaneView). l.taken) (no_lane_at config w.work at keeps.order devices absent))
+    ] in
+    taken ∙ ap ops_of (sym (keeps.order.taken at) ∙ took at)
+
+pub agreeing_legal : AgreeingSidesAreLegal
+agreeing_legal = λ config p w tokens accepted keeps ended one.
+    let h = histories_in p w in
+    let devices : length w.work.memory.devices ≡ config.devices = keeps.devices ∙ ap (λ (c : Configuration). c.devices) one.performed_for in
+    let arrays : w.work.arrays ≡ p.place.config.arrays = keeps.arrays ∙ ap (λ (c : Configuration). c.arrays) (one.performed_for ∙ sym one.placed_for) in
+    let here : AllTook p.place.config p w = subst (λ c. AllTook c p w) (sym one.placed_for) one.taken in
+    let took = took_all p w accepted keeps.order (devices ∙ ap (λ (c : Configuration). c.devices) (sym one.placed_for)) here in
+    let all = performed_all config p w keeps devices ended took in
+    let kept : IsKept p.place.config.arrays (taken_labels w.work) w.work.work = subst (λ a. IsKept a (taken_labels w.work) w.work.work) arrays keeps.kept in
+    record {
+      legal = record {
+        accepted = accepted;
+        counts = all_rise h tokens one.agree;
+        kept = kept_alike p.place.config.arrays (taken_labels w.work) (standing_in p.place).labels w.work.work (λ at. sym (took at)) kept;
+        behind = nothing_behind w.work.work (λ at. subst CloseLast (sym (all at)) (closes_last p.place.config p.place.history p.place.counts at accepted));
+      };
+      agree = one.agree;
+      performed_all = all;
+      closed_last = λ at there. (done_on w.work.work at (lane_at w.work at) (keeps.order.order at) (ended at (subst (λ c. IsQueue c at) one.placed_for there))).last;
+    }

@@ -1,0 +1,182 @@
+-- What the work lock holds, after each change.
+use Rattle.std.proofs.Common.{◌≡◌, ℕ, zero, suc, ◌+◌, ◌*◌, ◌<◌, ◌≤◌, false, List, [], ◌∷◌, ◌++◌, length, refl, sym, ap, ◌∙◌, arith, inl, inr}
+use Rattle.std.specs.Prelude.{All, ℤ, slice_index_or, slice_set}
+use Rattle.std.proofs.lemmas.Bool.{cases_lt}
+use Rattle.std.proofs.lemmas.List.{length-set, length-map}
+use Rattle.acc_base.specs.declared.ids.QueueAt.{QueueAt}
+use Rattle.acc_base.specs.declared.ids.TheConstants.{QUEUES}
+use Rattle.acc_base.specs.declared.config.TheConstants.{MAX_CELLS}
+use Rattle.acc_base.specs.Configurations.{Configuration}
+use Rattle.acc_base.specs.Queues.{same_queue, seat}
+use Rattle.acc_batch.specs.declared.label.Label.{Label}
+use Rattle.acc_batch.specs.declared.label.OpLabel.{OpLabel}
+use Rattle.acc_batch.specs.declared.label.OpLabel.TheVariants as op_label
+use Rattle.acc_batch.specs.Labels.{on_queue}
+use Rattle.acc_batch.proofs.Seats.{each_seat, seat_absent, seat_kept, seat_set, seat_there}
+use Rattle.acc_memory.specs.Memories.{MemoryView, rows_on, room_on}
+use Rattle.acc_queue.specs.Tied.{Line}
+use Rattle.acc_run.specs.WorkSides.{AreEnds, Goes, IsWorkSide, IsLine, WorkSideView, no_line, line_in}
+use Rattle.acc_work.specs.declared.log.Told.{Told}
+use Rattle.acc_work.specs.declared.work.Done.{Done}
+use Rattle.acc_work.specs.declared.work.Done.TheVariants as done
+use Rattle.acc_work.specs.Lanes.{LaneView, IsFresh, lane_in, lanes_with, lane_with_batch, lane_with_left, no_lane}
+use Rattle.acc_work.specs.Works.{WorkView, HasMadeRoom, HasRoomToMake, HasQueue, HasTold, KeepsOrder, NextMayFollow, Performs, lane_at}
+use Rattle.acc_work.proofs.KeptSteps.{Advanced, has_advanced, has_waited}
+use Rattle.acc_work.proofs.Lanes.{each_lane, fresh_lane}
+
+-- a queue that is there has a seat among the lanes, and among the ends
+pub seat_lane : (w : WorkView) (at : QueueAt) → KeepsOrder w → HasQueue w at → seat at < length w.lanes
+seat_lane w at k h = omega (arith, h.0, h.1, k.count)
+
+pub seat_line : (config : Configuration) (w : WorkView) (ends : List Line) (at : QueueAt) → IsWorkSide config w ends → KeepsOrder w → HasQueue w at → seat at < length ends
+seat_line config w ends at s k h = omega (arith, h.0, h.1, k.count, s.count)
+
+-- what stands behind the last
+past_end : (ends : List Line) (n : ℕ) → length ends ≤ n → slice_index_or ends n no_line ≡ no_line
+past_end [] n h = refl
+past_end (l ∷ ends) zero h = absurd (omega (arith, h))
+past_end (l ∷ ends) (suc n) h = past_end ends n (omega (arith, h))
+
+-- ## Room is made
+
+pub roomier : (config : Configuration) (w w' : WorkView) (ends : List Line) → IsWorkSide config w ends → HasMadeRoom w w' → IsWorkSide config w' ends
+roomier config w w' ends s m = record {
+  each = λ at. (let l = s.each at in record {
+    here = λ device queue. l.here (omega (arith, device, m.devices)) queue;
+    took = l.took ∙ sym (ap (λ (x : LaneView). x.taken) (m.lanes at).kept);
+  });
+  count = s.count ∙ (sym (length-map w.lanes (λ (x : LaneView). length x.taken)) ∙ (ap length (sym m.counts) ∙ length-map w'.lanes (λ (x : LaneView). length x.taken)));
+  limits = rw m.opening s.limits;
+  arrays = m.opening ∙ s.arrays;
+  devices = m.devices ∙ s.devices;
+}
+
+-- the queue is still there
+pub queue_kept : (w w' : WorkView) (at : QueueAt) → HasQueue w at → HasMadeRoom w w' → HasQueue w' at
+queue_kept w w' at h m = (omega (arith, h.0, m.devices), h.1)
+
+-- and there is room for its next operation
+room_to_make : (m : MemoryView) (d : ℕ) (op : OpLabel) → length (rows_on m d) + 1 ≤ room_on m d → HasRoomToMake m d op
+room_to_make m d (op_label.Make b r) h = omega (arith, h)
+room_to_make m d (op_label.CopyIn b r) h = tt
+room_to_make m d (op_label.CopyOut b r) h = tt
+room_to_make m d (op_label.Release b) h = tt
+room_to_make m d (op_label.Run k uses) h = tt
+room_to_make m d (op_label.Await q n) h = tt
+room_to_make m d op_label.Close h = tt
+
+pub may_follow : (w : WorkView) (at : QueueAt) (left : List OpLabel) → length w.work + 1 ≤ w.room → length (rows_on w.memory at.device) + 1 ≤ room_on w.memory at.device → NextMayFollow w at left
+may_follow w at [] log blocks = tt
+may_follow w at (op ∷ ops) log blocks = record { block = room_to_make w.memory at.device op blocks; room = omega (arith, log) }
+
+-- ## A queue takes a batch
+
+abbrev pub filled_with : WorkView → QueueAt → Label → WorkView
+filled_with w at b = record w { lanes = lanes_with w.lanes at (lane_with_batch (lane_at w at) b) }
+
+pub has_taken : (config : Configuration) (w w' : WorkView) (ends : List Line) (at : QueueAt) (b : Label) (new : Line) → IsWorkSide config w ends → KeepsOrder w → HasQueue w at
+    → w' ≡ filled_with w at b → new.at ≡ (line_in ends at).at → new.labels ≡ (line_in ends at).labels ++ b ∷ [] → IsWorkSide config w' (slice_set ends (seat at) new)
+has_taken config w w' ends at b new s k h is same_at more = record {
+  each = each_seat (λ q l. IsLine w q l) (λ q l. IsLine w' q l) no_line ends at new h.1 (seat_line config w ends at s k h) s.each mine others;
+  count = length-set ends (seat at) new ∙ (s.count ∙ (sym (length-set w.lanes (seat at) (lane_with_batch (lane_at w at) b)) ∙ ap (λ (v : WorkView). length v.lanes) (sym is)));
+  limits = rw is s.limits;
+  arrays = ap (λ (v : WorkView). v.arrays) is ∙ s.arrays;
+  devices = ap (λ (v : WorkView). length v.memory.devices) is ∙ s.devices;
+}
+  where
+    mine : IsLine w' at new
+    mine = rw is (record {
+      here = λ device queue. same_at ∙ (s.each at).here device queue;
+      took = more ∙ (ap (λ r. r ++ b ∷ []) (s.each at).took ∙ sym (ap (λ (x : LaneView). x.taken) (seat_set no_lane w.lanes at (lane_with_batch (lane_at w at) b) h.1 (seat_lane w at k h))));
+    })
+
+    others : (q : QueueAt) → same_queue at q ≡ false → (l : Line) → IsLine w q l → IsLine w' q l
+    others q differ l x = rw is (record {
+      here = x.here;
+      took = x.took ∙ sym (ap (λ (y : LaneView). y.taken) (seat_kept no_lane w.lanes at q (lane_with_batch (lane_at w at) b) h.1 differ));
+    })
+
+-- ## A queue performs an operation
+
+has_gone : (config : Configuration) (w w' : WorkView) (ends : List Line) (at : QueueAt) → IsWorkSide config w ends → KeepsOrder w → HasQueue w at → Advanced w w' at → IsWorkSide config w' ends
+has_gone config w w' ends at s k h a = record {
+  each = λ q. (let x = s.each q in record {
+    here = λ device queue. x.here (omega (arith, device, a.performed.memory.devices)) queue;
+    took = x.took ∙ sym (taken q);
+  });
+  count = s.count ∙ (sym (length-set w.lanes (seat at) (lane_with_left (lane_at w at) a.ops)) ∙ ap length (sym a.performed.lanes));
+  limits = rw a.performed.opening s.limits;
+  arrays = a.performed.opening ∙ s.arrays;
+  devices = a.performed.memory.devices ∙ s.devices;
+}
+  where
+    taken : (q : QueueAt) → (lane_at w' q).taken ≡ (lane_at w q).taken
+    taken q = ap (λ lanes. (lane_in lanes q).taken) a.performed.lanes
+        ∙ each_lane (λ o x. x ≡ lane_in w.lanes o) (λ o x. x.taken ≡ (lane_in w.lanes o).taken) w.lanes at (lane_with_left (lane_at w at) a.ops) h.1 (seat_lane w at k h) (λ o. refl) refl (λ o differ x e. ap (λ (y : LaneView). y.taken) e) q
+
+pub after_perform : (config : Configuration) (w w' : WorkView) (ends : List Line) (at : QueueAt) (answer : Done) → IsWorkSide config w ends → KeepsOrder w → HasQueue w at → Performs w at answer w' → IsWorkSide config w' ends
+after_perform config w w' ends at done.Op s k h p = has_gone config w w' ends at s k h (has_advanced w w' at p)
+after_perform config w w' ends at done.Idle s k h p = rw (has_waited w w' at p).same s
+
+-- what it did, from room that was made
+pub goes_after : (old : WorkSideView) (w w' : WorkView) (at : QueueAt) (answer : Done) → HasMadeRoom old.work w → Performs w at answer w' → Goes old at answer (record { config = old.config; work = w'; lines = old.lines })
+goes_after old w w' at done.Op m p =
+    let a = has_advanced w w' at p in
+    record { config = refl; op = a.op; ops = a.ops; left = sym (ap (λ (x : LaneView). x.left) (m.lanes at).kept) ∙ a.left; mid = w; room = m; can = a.can; performed = a.performed; lines = refl }
+goes_after old w w' at done.Idle m p =
+    let x = has_waited w w' at p in
+    record { room = record { config = refl; lines = refl; work = rw x.same m }; why = inl (rw x.same x.cannot) }
+
+-- the order is kept where room is made
+pub order_kept : (w w' : WorkView) → KeepsOrder w → HasMadeRoom w w' → KeepsOrder w'
+order_kept w w' k m = record {
+  order = λ at. (let o = k.order at in let l = (m.lanes at).kept in let taken = ap (λ (x : LaneView). x.taken) l in let left = ap (λ (x : LaneView). x.left) l in record {
+    in_order = rw (m.work, taken, left) o.in_order;
+    on_queue = rw taken o.on_queue;
+    batches = record { filled = rw taken o.batches.filled; hosts = rw taken o.batches.hosts; begun = rw (taken, left) o.batches.begun };
+  });
+  taken = λ at. ap (on_queue at) m.taken ∙ (k.taken at ∙ sym (ap (λ (x : LaneView). x.taken) (m.lanes at).kept));
+  count = sym (length-map w'.lanes (λ (x : LaneView). length x.taken)) ∙ (ap length m.counts ∙ (length-map w.lanes (λ (x : LaneView). length x.taken) ∙ (k.count ∙ ap (λ n. n * QUEUES) (sym m.devices))));
+}
+
+-- ## A host records an item
+
+pub has_recorded : (config : Configuration) (w w' w'' : WorkView) (ends : List Line) (host : ℕ) (what : Told) → IsWorkSide config w ends → HasMadeRoom w w' → HasTold w' w'' host what → IsWorkSide config w'' ends
+has_recorded config w w' w'' ends host what s0 m t =
+    let s = roomier config w w' ends s0 m in
+    record {
+      each = λ q. (let x = s.each q in record {
+        here = λ device queue. x.here (omega (arith, device, ap length t.devices)) queue;
+        took = x.took ∙ ap (λ lanes. (lane_in lanes q).taken) (sym t.lanes);
+      });
+      count = s.count ∙ ap length (sym t.lanes);
+      limits = rw t.opening s.limits;
+      arrays = t.opening ∙ s.arrays;
+      devices = ap length t.devices ∙ s.devices;
+    }
+
+-- ## The first of all
+
+pub first_side : (config : Configuration) (w : WorkView) (ends : List Line) → All (λ (cells : List ℤ). (1 ≤ length cells) × (length cells ≤ MAX_CELLS)) config.arrays → w.arrays ≡ config.arrays → length w.memory.devices ≡ config.devices
+    → All IsFresh w.lanes → length w.lanes ≡ length w.memory.devices * QUEUES → AreEnds config ends → IsWorkSide config w ends
+first_side config w ends limits arrays devices fresh count e = record {
+  each = each;
+  count = e.count ∙ (ap (λ n. n * QUEUES) (sym devices) ∙ sym count);
+  limits = rw arrays limits;
+  arrays = arrays;
+  devices = devices;
+}
+  where
+    lane : (at : QueueAt) → (lane_at w at).taken ≡ []
+    lane at = (fresh_lane w.lanes at fresh).taken
+
+    each : (at : QueueAt) → IsLine w at (line_in ends at)
+    each at = elim (cases_lt at.queue QUEUES) [
+      | inl low ↦ elim (cases_lt at.device config.devices) [
+        | inl device ↦ (let x = e.each at (device, low) in record { here = λ d q. x.0; took = x.2 ∙ sym (lane at) })
+        | inr past ↦
+            let none_there : line_in ends at ≡ no_line = seat_there no_line ends at low ∙ past_end ends (seat at) (omega (arith, past, e.count)) in
+            record { here = λ d q. absurd (omega (arith, d, past, devices)); took = ap (λ (l : Line). l.labels) none_there ∙ sym (lane at) }
+      ]
+      | inr past ↦ record { here = λ d q. absurd (omega (arith, q, past)); took = ap (λ (l : Line). l.labels) (seat_absent no_line ends at past) ∙ sym (lane at) }
+    ]

@@ -1,0 +1,9 @@
+pub mod Agreement
+pub mod Calling
+pub mod Finishing
+pub mod PlaceSides
+pub mod Running
+pub mod Runtimes
+pub mod Tokens
+pub mod WorkSides
+pub mod inner

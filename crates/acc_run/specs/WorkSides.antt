@@ -1,0 +1,130 @@
+-- What the work lock holds: a work side, and the end of each queue that takes.
+use Rattle.std.specs.Prelude.{◌≡◌, ◌⊎◌, ℕ, ℤ, ◌<◌, ◌≤◌, All, Bool, true, false, ◌&&◌, ◌==◌, Option, Some, None, List, [], ◌∷◌, ◌++◌, length, slice_index_or, slice_set, nat_lt, if◌then◌else◌}
+use Rattle.std.specs.Option.{option_map}
+use Rattle.atomic_table.specs.Seated.{TableId}
+use Rattle.acc_base.specs.declared.ids.QueueAt.{QueueAt}
+use Rattle.acc_base.specs.declared.ids.TheConstants.{QUEUES}
+use Rattle.acc_base.specs.Configurations.{Configuration}
+use Rattle.acc_base.specs.declared.config.TheConstants.{MAX_CELLS}
+use Rattle.acc_base.specs.Queues.{queue_count, seat}
+use Rattle.acc_place.specs.Histories.{IsQueue}
+use Rattle.acc_place.specs.Sound.{is_close}
+use Rattle.acc_work.specs.declared.item.ItemLabel.{ItemLabel}
+use Rattle.acc_work.specs.declared.item.Shown.{Shown}
+use Rattle.acc_work.specs.declared.log.Told.{Told}
+use Rattle.acc_work.specs.Items.{shown_by}
+use Rattle.acc_batch.specs.declared.label.Label.{Label}
+use Rattle.acc_batch.specs.declared.label.OpLabel.{OpLabel}
+use Rattle.acc_queue.specs.Tied.{Line, IsFor}
+use Rattle.acc_work.specs.Lanes.{LaneView, last_of, lane_with_batch, lanes_with}
+use Rattle.acc_work.specs.declared.work.Done.{Done}
+use Rattle.acc_work.specs.declared.work.Done.TheVariants as done
+use Rattle.acc_work.specs.Works.{WorkView, HasMadeRoom, HasPerformed, HasTold, LacksRoom, Tells, can_go, lane_at}
+
+-- The configuration, the work side, and of each queue what its end has taken, by device, then in queue order.
+pub record WorkSideView : Type 0 where
+  pub config : Configuration
+  pub work : WorkView
+  pub lines : List Line
+
+abbrev pub no_id : TableId
+no_id = record { words = 0; slots = 0; views_name = 0; atom = 0; block = 0; offset = 0; slot_names = [] }
+
+abbrev pub no_line : Line
+no_line = record { queue = no_id; at = record { device = 0; queue = 0 }; room = 0; labels = [] }
+
+-- the end of a queue among those of all, which stand by device, then in queue order
+abbrev pub line_in : List Line → QueueAt → Line
+line_in lines at = if nat_lt at.queue QUEUES then slice_index_or lines (seat at) no_line else no_line
+
+-- An end stands at its queue's seat, and has taken what the queue's lane was offered.
+pub record IsLine (w : WorkView) (at : QueueAt) (line : Line) : Type 0 where
+  pub here : at.device < length w.memory.devices → at.queue < QUEUES → line.at ≡ at
+  pub took : line.labels ≡ (lane_at w at).taken
+
+-- What holds of a work side and its ends whenever the lock is free: each lane was offered what the end of its queue has taken; no
+-- array was longer than the limit, or had no cell, at first; and it has the arrays and the devices of its configuration.
+pub record IsWorkSide (config : Configuration) (w : WorkView) (ends : List Line) : Type 0 where
+  pub each : (at : QueueAt) → IsLine w at (line_in ends at)
+  pub count : length ends ≡ length w.lanes
+  pub limits : All (λ (cells : List ℤ). (1 ≤ length cells) × (length cells ≤ MAX_CELLS)) w.arrays
+  pub arrays : w.arrays ≡ config.arrays
+  pub devices : length w.memory.devices ≡ config.devices
+
+-- The ends of all queues of a configuration, before anything was sent or taken.
+pub record AreEnds (config : Configuration) (ends : List Line) : Type 0 where
+  pub count : length ends ≡ queue_count config
+  pub each : (at : QueueAt) → IsQueue config at → ((line_in ends at).at ≡ at) × ((line_in ends at).room ≡ config.room) × ((line_in ends at).labels ≡ [])
+
+-- Room was made on the work side, and nothing else changed.
+pub record HasRoomMade (old new : WorkSideView) : Type 0 where
+  pub config : new.config ≡ old.config
+  pub lines : new.lines ≡ old.lines
+  pub work : HasMadeRoom old.work new.work
+
+-- the ends, where that of a queue has taken a batch
+abbrev pub lines_taken : List Line → QueueAt → Label → List Line
+lines_taken ends at label = slice_set ends (seat at) (record (line_in ends at) { labels = (line_in ends at).labels ++ label ∷ [] })
+
+-- A queue took a batch with this number, whose label its end took behind the others: room was made, nothing was left in the queue's
+-- lane, and now the whole batch is.
+pub record HasTaken (old new : WorkSideView) (at : QueueAt) (number : ℕ) : Type 0 where
+  pub config : new.config ≡ old.config
+  pub label : Label
+  pub numbered : label.number ≡ number
+  pub for_it : IsFor at label
+  pub empty : (lane_at old.work at).left ≡ []
+  pub mid : WorkView
+  pub room : HasMadeRoom old.work mid
+  pub work : new.work ≡ record mid { lanes = lanes_with mid.lanes at (lane_with_batch (lane_at mid at) label) }
+  pub lines : new.lines ≡ lines_taken old.lines at label
+
+-- A queue performed an operation: room was made, and the lane's next operation, which could be performed, joined the log.
+pub record HasGone (old new : WorkSideView) (at : QueueAt) : Type 0 where
+  pub config : new.config ≡ old.config
+  pub op : OpLabel
+  pub ops : List OpLabel
+  pub left : (lane_at old.work at).left ≡ op ∷ ops
+  pub mid : WorkView
+  pub room : HasMadeRoom old.work mid
+  pub can : can_go mid at (op ∷ ops) ≡ true
+  pub performed : HasPerformed mid new.work at op ops
+  pub lines : new.lines ≡ old.lines
+
+-- A queue performed none: its next operation can't be performed, or room was missing and memory was refused.
+pub record HasStayed (old new : WorkSideView) (at : QueueAt) : Type 0 where
+  pub room : HasRoomMade old new
+  pub why : (can_go new.work at (lane_at new.work at).left ≡ false) ⊎ LacksRoom old.work at 1
+
+abbrev pub Goes : WorkSideView → QueueAt → Done → WorkSideView → Type 0
+Goes old at done.Op new = HasGone old new at
+Goes old at done.Idle new = HasStayed old new at
+
+-- A host's item was recorded: room was made, and it joined the log with what it tells, which is its answer.
+pub record HasRecorded (old new : WorkSideView) (host : ℕ) (item : ItemLabel) (answer : Shown) : Type 0 where
+  pub config : new.config ≡ old.config
+  pub what : Told
+  pub mid : WorkView
+  pub room : HasMadeRoom old.work mid
+  pub tells : Tells mid item what
+  pub answered : answer ≡ shown_by what
+  pub told : HasTold mid new.work host what
+  pub lines : new.lines ≡ old.lines
+
+-- the number of the batch of which something is left in a lane
+abbrev pub number_left : LaneView → Option ℕ
+number_left lane = if length lane.left == 0 then None else option_map (λ (l : Label). l.number) (last_of lane.taken)
+
+-- the operations of a close
+abbrev pub closes : List OpLabel → Bool
+closes [] = false
+closes (op ∷ []) = is_close op
+closes (op ∷ next ∷ ops) = false
+
+abbrev pub closes_last : Option Label → Bool
+closes_last None = false
+closes_last (Some l) = closes l.ops
+
+-- A queue has performed its close: it was the last batch, and nothing is left of it.
+abbrev pub is_ended : LaneView → Bool
+is_ended lane = (length lane.left == 0) && closes_last (last_of lane.taken)

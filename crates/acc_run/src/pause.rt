@@ -1,0 +1,85 @@
+//! How a thread waits that found nothing to do.
+
+ghost use Rattle.std.specs.Prelude.{◌≡◌, ◌≤◌};
+ghost use Rattle.acc_run.specs.declared.pause.TheConstants.{LONGEST_SLEEP, SHORTEST_SLEEP};
+
+use crossbeam_utils::Backoff;
+use std::marker::Model;
+use std::sync::Wait;
+use std::thread::Parker;
+use std::time::Duration;
+
+/// The shortest sleep, in microseconds.
+pub(crate) const SHORTEST_SLEEP: u64 = 16;
+
+/// The longest sleep, in microseconds: a millisecond.
+pub(crate) const LONGEST_SLEEP: u64 = 1_000;
+
+/// How long a thread sleeps that is woken where there is something for it, in microseconds.
+pub(crate) const LONGEST_REST: u64 = 50_000;
+
+/// Pauses between looks in vain, each with a limit: the thread spins, then yields its processor, then sleeps, each time longer. A contract
+/// sees for how many microseconds it sleeps next.
+#[derive(Drop)]
+pub(crate) struct Pause {
+    backoff: Backoff,
+    // nothing unparks it
+    parker: Parker,
+    sleep: u64,
+}
+
+impl Model for Pause {
+    ghost use Rattle.std.specs.Prelude.{ℕ, ◌≤◌};
+    ghost use Rattle.acc_run.specs.declared.pause.TheConstants.{LONGEST_SLEEP};
+
+    ghost Value = { ℕ };
+
+    ghost view = { λ p. p.sleep };
+
+    ghost invariant = { λ p. p.sleep ≤ LONGEST_SLEEP };
+}
+
+impl Pause {
+    /// The first pause is the shortest.
+    pub(crate) fn new() -> Self
+        ensures { result ≡ SHORTEST_SLEEP }
+    {
+        Pause {
+            backoff: Backoff::new(),
+            parker: Parker::new(),
+            sleep: SHORTEST_SLEEP,
+        }
+    }
+
+    /// Something was done: the next pause is the shortest again.
+    pub(crate) fn begin_anew(&mut self)
+        ensures { self.new ≡ SHORTEST_SLEEP }
+    {
+        self.backoff.reset();
+        self.sleep = SHORTEST_SLEEP;
+    }
+
+    /// Pauses once, for a millisecond at most.
+    pub(crate) fn wait<R: Wait>(&mut self, rt: &R)
+        ensures { self.new ≤ LONGEST_SLEEP }
+    {
+        if !self.backoff.is_completed() {
+            self.backoff.snooze();
+            return;
+        }
+        self.parker
+            .park_timeout(rt, Duration::from_micros(self.sleep));
+        self.sleep = LONGEST_SLEEP.min(self.sleep * 2);
+    }
+
+    /// Pauses once, until it is woken at the parker, and for fifty milliseconds at most.
+    pub(crate) fn rest<R: Wait>(&mut self, rt: &R, parker: &Parker)
+        ensures { self.new ≡ self.old }
+    {
+        if !self.backoff.is_completed() {
+            self.backoff.snooze();
+            return;
+        }
+        parker.park_timeout(rt, Duration::from_micros(LONGEST_REST));
+    }
+}

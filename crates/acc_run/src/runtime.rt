@@ -1,0 +1,419 @@
+//! Two locks: directives are placed under one, performed and told under the other.
+
+ghost use Rattle.acc_base.specs.declared.config.TheConstants.{MAX_HOSTS};
+ghost use Rattle.std.specs.Prelude.{◌<◌, ◌≤◌, ◌≡◌, ◌⊎◌, ◌++◌, ◌∷◌, [], IfOk, IfErr, OnErr, false, length};
+ghost use Rattle.acc_base.specs.declared.fault.Fault.TheVariants.{BadRange, HostsDiffer, Memory, TooMany, Unfinished};
+ghost use Rattle.acc_host.specs.Engines.{MayRecord};
+ghost use Rattle.acc_run.specs.Calling.{IsAnswerTo};
+ghost use Rattle.acc_run.specs.Finishing.{Finished, HasCounts, histories_of};
+ghost use Rattle.acc_run.specs.PlaceSides.{is_of_ending};
+ghost use Rattle.acc_run.specs.Tokens.{AreTokens};
+ghost use Rattle.acc_run.specs.declared.token.TokenEntry.TheVariants as listed;
+ghost use Rattle.acc_work.specs.declared.item.ItemLabel.TheVariants as to_record;
+ghost use Rattle.acc_work.specs.declared.item.Shown.TheVariants as shown;
+
+use crate::ends::ends_of;
+use crate::finish::{Sides, SidesRefused, finish_sides};
+use crate::pause::Pause;
+use crate::place_side::PlaceSide;
+use crate::token::HostToken;
+use crate::work_side::WorkSide;
+use crate::workers::Crew;
+use acc_base::{Config, DeviceId, Fault, HostId, QUEUES, QueueAt, QueueCounts};
+use acc_host::Outcome;
+use acc_place::{Directive, Placed};
+use acc_work::{Done, Item, ItemLabel, Shown};
+use std::alloc::Global;
+use std::marker::Model;
+use std::sync::{Mutex, Wait};
+use std::thread::Parker;
+
+/// A place and a work side for threads, each under a lock of its own. A contract sees the configuration that it was made for.
+#[derive(Drop)]
+pub struct Runtime {
+    config: Config,
+    place: Mutex<PlaceSide>,
+    work: Mutex<WorkSide>,
+    // where the worker of each queue sleeps that finds it empty, by device, then in queue order
+    parkers: Vec<Parker>,
+}
+
+impl Model for Runtime {
+    ghost use Rattle.acc_run.specs.Runtimes.{RuntimeView};
+
+    ghost Value = { RuntimeView };
+
+    ghost view = { λ r. record { config = r.config } };
+}
+
+/// A runtime that can't be finished, and the tokens of its hosts, as they were, and why.
+#[derive(Drop)]
+pub struct FinishRefused {
+    pub fault: Fault,
+    pub runtime: Runtime,
+    pub tokens: Vec<HostToken>,
+}
+
+/// What a worker passes with each batch, and a host before its first step.
+pub trait Gate {
+    /// Called after a worker took batch n of its queue and before it performs the batch's first operation, with no lock held. Where
+    /// it answers false the worker ends, and the batch stays in its lane.
+    fn pass(&self, at: QueueAt, n: u64) -> bool;
+
+    /// Called by the thread of a host before the host's first step, with no lock held.
+    fn host(&self, _host: HostId) {}
+}
+
+// What a worker did under the work lock.
+enum Turn {
+    Did,
+    // The next operation can't go on yet.
+    Blocked,
+    // Nothing is in the lane, and the queue gave nothing.
+    Idle,
+    // A batch with this number is in the lane, which hasn't passed the gate.
+    Holds { number: u64 },
+    Ended,
+}
+
+impl Runtime {
+    /// Nothing is accepted or performed yet. With it comes a token for each host.
+    ///
+    /// # Errors
+    ///
+    /// `Memory` where memory is refused.
+    pub fn new(alloc: Global, config: &Config) -> Result<(Runtime, Vec<HostToken>), Fault>
+        ensures config { IfOk result (λ r. r.0.config ≡ config.now) }
+        ensures tokens { IfOk result (λ r. AreTokens 0 r.1.items) }
+        ensures count { IfOk result (λ r. length r.1.items ≡ config.now.hosts) }
+        ensures fault { IfErr result (λ f. f ≡ Memory) }
+    {
+        let copy = config.try_clone()?;
+        let tokens = tokens_of(alloc, config)?;
+        let parkers = parkers_of(alloc, config)?;
+        let (place, work) = sides_of(alloc, config)?;
+        let runtime = Runtime {
+            config: copy,
+            place: Mutex::new(place),
+            work: Mutex::new(work),
+            parkers,
+        };
+        Ok((runtime, tokens))
+    }
+
+    /// How many devices there are.
+    pub fn devices(&self) -> u8
+        ensures { result ≡ self.now.config.devices }
+    {
+        self.config.devices()
+    }
+
+    /// Places a directive of a host.
+    ///
+    /// # Errors
+    ///
+    /// The directive's first fault; else `Memory` where memory is refused; else `QueueFull` where its queue holds its room of batches.
+    #[tactic(auto, using(crate::proofs::Refusals::refused_fault))]
+    pub fn place<R: Wait>(
+        &self,
+        rt: &R,
+        token: &mut HostToken,
+        directive: &Directive,
+    ) -> Result<Placed, Fault>
+        ensures host { token.new.host ≡ token.old.host }
+        ensures noted { IfOk result (λ placed. token.new.entries ≡ token.old.entries ++ listed.Placed directive.now placed ∷ []) }
+        ensures refused { OnErr result (token.new.entries ≡ token.old.entries) }
+        ensures fault { IfErr result (λ fault. is_of_ending fault ≡ false) }
+    {
+        let host = token.host();
+        let items_done = token.items();
+        match token.copy(directive) {
+            Err(_) => Err(
+                self.place
+                    .lock(rt)
+                    .fault_without_memory(host, items_done, directive),
+            ),
+            Ok(copy) => {
+                let placed = self.place.lock(rt).place(rt, host, items_done, directive)?;
+                token.note_directive(copy, &placed);
+                self.wake(&placed);
+                Ok(placed)
+            }
+        }
+    }
+
+    /// Waits until each queue of a device has performed so many batches, and records that it has seen it.
+    ///
+    /// # Errors
+    ///
+    /// `Memory` for want of memory, `TooMany` behind the last item of a run.
+    pub fn wait_for<R: Wait>(
+        &self,
+        rt: &R,
+        token: &mut HostToken,
+        device: DeviceId,
+        counts: QueueCounts,
+    ) -> Result<(), Fault>
+        ensures host { token.new.host ≡ token.old.host }
+        ensures noted { IfOk result (λ done. token.new.entries ≡ token.old.entries ++ listed.Item (to_record.Seen device counts) shown.Nothing ∷ []) }
+        ensures refused { OnErr result (token.new.entries ≡ token.old.entries) }
+        ensures fault { IfErr result (λ fault. (fault ≡ Memory) ⊎ (fault ≡ TooMany)) }
+    {
+        let host = token.host();
+        token.spare()?;
+        self.until_seen(rt, host, device, counts)?;
+        token.note_item(ItemLabel::Seen { device, counts }, Shown::Nothing);
+        Ok(())
+    }
+
+    // Tries again until the item is recorded, with a pause behind each look in vain.
+    #[tactic(auto, using(crate::proofs::Refusals::seen_faults))]
+    fn until_seen<R: Wait>(
+        &self,
+        rt: &R,
+        host: HostId,
+        device: DeviceId,
+        counts: QueueCounts,
+    ) -> Result<(), Fault>
+        requires { host < MAX_HOSTS }
+        ensures { IfErr result (λ fault. (fault ≡ Memory) ⊎ (fault ≡ TooMany)) }
+    {
+        let mut pause = Pause::new();
+        for _ in rt.forever() {
+            if self.work.lock(rt).see(host, device, counts)? {
+                return Ok(());
+            }
+            pause.wait(rt);
+        }
+        unreachable!()
+    }
+
+    /// Records an item of a host, any but a Seen, and answers a test. An item that is refused comes back.
+    ///
+    /// # Errors
+    ///
+    /// `Memory` for want of memory, `TooMany` behind the last item of a run, `BadRange` for cells that aren't there.
+    #[tactic(auto, using(crate::proofs::Refusals::item_faults, crate::proofs::AnsweredItems::is_answer))]
+    pub fn item<R: Wait>(
+        &self,
+        rt: &R,
+        token: &mut HostToken,
+        item: Item,
+    ) -> Result<Shown, (Item, Fault)>
+        requires item { MayRecord item }
+        ensures host { token.new.host ≡ token.old.host }
+        ensures noted { IfOk result (λ answer. token.new.entries ≡ token.old.entries ++ listed.Item item answer ∷ []) }
+        ensures answer { IfOk result (λ answer. IsAnswerTo item answer) }
+        ensures refused { OnErr result (token.new.entries ≡ token.old.entries) }
+        ensures back { IfErr result (λ r. r.0 ≡ item) }
+        ensures fault { IfErr result (λ r. (r.1 ≡ Memory) ⊎ ((r.1 ≡ TooMany) ⊎ (r.1 ≡ BadRange))) }
+    {
+        let host = token.host();
+        if let Err(fault) = token.spare() {
+            return Err((item, fault));
+        }
+        let label = item.label();
+        match self.work.lock(rt).item(host, item) {
+            Err(refused) => Err(refused),
+            Ok(answer) => {
+                token.note_item(label, answer);
+                Ok(answer)
+            }
+        }
+    }
+
+    /// Closing begins, if it hasn't, and each queue without Close is closed that has room. Answers how many are without Close then.
+    pub fn close<R: Wait>(&self, rt: &R) -> u32 {
+        let remaining = self.place.lock(rt).close(rt);
+        self.wake_all();
+        remaining
+    }
+
+    // The same, and tells whether each queue is closed then, or its worker has ended.
+    pub(crate) fn close_again<R: Wait>(&self, rt: &R, crew: &Crew) -> bool {
+        let settled = self.close_and_look(rt, crew);
+        self.wake_all();
+        settled
+    }
+
+    // The same, under the place lock.
+    fn close_and_look<R: Wait>(&self, rt: &R, crew: &Crew) -> bool {
+        let mut place = self.place.lock(rt);
+        let _ = place.close(rt);
+        for seat in 0..self.queues() {
+            if !place.is_closed(QueueAt::at_seat(seat)) && !crew.has_ended(seat) {
+                return false;
+            }
+        }
+        true
+    }
+
+    // How many queues all devices have.
+    pub(crate) fn queues(&self) -> u16
+        ensures few { result ≤ 32 }
+    {
+        self.config.keeps();
+        u16::from(self.config.devices()) * u16::from(QUEUES)
+    }
+
+    // Each worker is woken that sleeps.
+    pub(crate) fn wake_all(&self) {
+        for parker in &self.parkers {
+            parker.unpark();
+        }
+    }
+
+    // Pauses once, until the worker of the queue with this seat is woken, and for fifty milliseconds at most.
+    pub(crate) fn rest_at<R: Wait>(&self, rt: &R, seat: u16, pause: &mut Pause) {
+        match self.parkers.get(usize::from(seat)) {
+            None => pause.wait(rt),
+            Some(parker) => pause.rest(rt, parker),
+        }
+    }
+
+    // Wakes the worker of the queue on which a directive placed its batch, if it placed one.
+    fn wake(&self, placed: &Placed) {
+        if let Some((at, _)) = placed.batch
+            && let Some(parker) = self.parkers.get(at.seat())
+        {
+            parker.unpark();
+        }
+    }
+
+    /// A worker of a queue: takes its batches, passes the gate with each, and performs them, one operation for each time that the lock
+    /// is got. Where its next operation can't go on it pauses, each time longer, for a millisecond at most; where it finds nothing it
+    /// sleeps until a batch is placed, for fifty milliseconds at most. Ends behind the queue's close, where the gate answers false, or
+    /// where there is no such queue.
+    pub fn serve<R: Wait, G: Gate>(&self, rt: &R, at: QueueAt, gate: &G) {
+        let QueueAt { device, queue } = at;
+        let Some(parker) = self.parkers.get(QueueAt { device, queue }.seat()) else {
+            return;
+        };
+        // the last batch that passed the gate
+        let mut passed = 0u64;
+        let mut pause = Pause::new();
+        for _ in rt.forever() {
+            match self.turn(rt, QueueAt { device, queue }, passed) {
+                Turn::Did => pause.begin_anew(),
+                Turn::Blocked => pause.wait(rt),
+                Turn::Idle => pause.rest(rt, parker),
+                Turn::Holds { number } => {
+                    if !gate.pass(QueueAt { device, queue }, number) {
+                        return;
+                    }
+                    passed = number;
+                    pause.begin_anew();
+                }
+                Turn::Ended => return,
+            }
+        }
+    }
+
+    /// What a run leaves, whose queues have performed all that was placed on them: legal histories of the runtime's configuration, with
+    /// which the tokens agree. No host's state is among it. Takes no memory.
+    ///
+    /// # Errors
+    ///
+    /// `Unfinished` where a queue hasn't performed its close; else `HostsDiffer` where the tokens aren't those of the runtime's hosts, in
+    /// their order, or list something else than the histories do. The runtime and the tokens come back as they were.
+    pub fn finish(self, tokens: Vec<HostToken>) -> Result<Outcome, FinishRefused>
+        ensures config { IfOk result (λ o. o.config ≡ self.config) }
+        ensures finished { IfOk result (λ o. Finished tokens.items (histories_of o)) }
+        ensures counted { IfOk result (λ o. HasCounts o) }
+        ensures hosts { IfOk result (λ o. o.hosts.items ≡ []) }
+        ensures fault { IfErr result (λ r. (r.fault ≡ Unfinished) ⊎ (r.fault ≡ HostsDiffer)) }
+        ensures runtime { IfErr result (λ r. r.runtime ≡ self) }
+        ensures tokens { IfErr result (λ r. r.tokens ≡ tokens) }
+    {
+        let Runtime {
+            config,
+            place,
+            work,
+            parkers,
+        } = self;
+        let sides = Sides {
+            place: place.into_inner(),
+            work: work.into_inner(),
+        };
+        match finish_sides(&config, sides, tokens) {
+            Ok(outcome) => Ok(outcome),
+            Err(
+                SidesRefused {
+                    fault,
+                    sides,
+                    tokens,
+                },
+            ) => Err(FinishRefused {
+                fault,
+                runtime: Runtime {
+                    config,
+                    place: Mutex::new(sides.place),
+                    work: Mutex::new(sides.work),
+                    parkers,
+                },
+                tokens,
+            }),
+        }
+    }
+
+    // One turn of a worker, under the work lock.
+    fn turn<R: Wait>(&self, rt: &R, at: QueueAt, passed: u64) -> Turn {
+        let QueueAt { device, queue } = at;
+        let mut work = self.work.lock(rt);
+        if !work.has_queue(QueueAt { device, queue }) || work.is_closed(QueueAt { device, queue }) {
+            return Turn::Ended;
+        }
+        match work.in_lane(QueueAt { device, queue }) {
+            None => match work.take(rt, QueueAt { device, queue }) {
+                None => Turn::Idle,
+                Some(number) => Turn::Holds { number },
+            },
+            Some(number) => {
+                if passed < number {
+                    return Turn::Holds { number };
+                }
+                match work.perform(QueueAt { device, queue }) {
+                    Done::Op => Turn::Did,
+                    Done::Idle => Turn::Blocked,
+                }
+            }
+        }
+    }
+}
+
+// What both locks hold at first.
+fn sides_of(alloc: Global, config: &Config) -> Result<(PlaceSide, WorkSide), Fault>
+    ensures { IfErr result (λ f. f ≡ Memory) }
+{
+    let (senders, takers) = ends_of(alloc, config)?;
+    let copy = config.try_clone()?;
+    let place = PlaceSide::new(alloc, copy, senders)?;
+    let work = WorkSide::new(alloc, config, takers)?;
+    Ok((place, work))
+}
+
+// A parker for each queue, at which nobody sleeps.
+fn parkers_of(alloc: Global, config: &Config) -> Result<Vec<Parker>, Fault>
+    ensures { IfErr result (λ f. f ≡ Memory) }
+{
+    let mut parkers = Vec::new(alloc);
+    for _ in 0..u16::from(config.devices()) * u16::from(QUEUES) {
+        parkers.push(Parker::new())?;
+    }
+    Ok(parkers)
+}
+
+// A token for each host, that has nothing yet.
+#[tactic(auto, using(crate::proofs::MoreTokens::tokens_more))]
+fn tokens_of(alloc: Global, config: &Config) -> Result<Vec<HostToken>, Fault>
+    ensures tokens { IfOk result (λ tokens. AreTokens 0 tokens.items) }
+    ensures count { IfOk result (λ tokens. length tokens.items ≡ config.now.hosts) }
+    ensures fault { IfErr result (λ f. f ≡ Memory) }
+{
+    config.keeps();
+    let mut tokens = Vec::new(alloc);
+    for host in 0..config.hosts() {
+        tokens.push(HostToken::new(alloc, HostId::new(host)))?;
+    }
+    Ok(tokens)
+}

@@ -1,0 +1,249 @@
+//! What the work lock holds: a work side, and the end of each queue that takes.
+
+ghost use Rattle.std.specs.Prelude.{Bool, ◌≡◌, ◌<◌, IfOk, IfErr, IfSome, IfNone, OnOk, OnErr, Some, Ok, None, true, false, [], length, OnSome, IsTrue, ◌⊎◌, ◌==◌};
+ghost use Rattle.acc_base.specs.declared.fault.Fault.TheVariants.{Memory};
+ghost use Rattle.acc_base.specs.declared.config.TheConstants.{MAX_HOSTS};
+ghost use Rattle.acc_base.specs.declared.ids.QueueAt.{QueueAt};
+ghost use Rattle.acc_host.specs.Engines.{MayRecord};
+ghost use Rattle.acc_run.specs.WorkSides.{AreEnds, HasRoomMade, HasTaken, HasRecorded, Goes, IsLine, closes, is_ended, line_in, number_left};
+ghost use Rattle.acc_work.specs.declared.item.ItemLabel.TheVariants as to_record;
+ghost use Rattle.acc_work.specs.declared.item.Shown.TheVariants as shown;
+ghost use Rattle.acc_work.specs.Items.{has_cells};
+ghost use Rattle.acc_work.specs.Logs.{all_done};
+ghost use Rattle.acc_work.specs.Kept.{IsKept};
+ghost use Rattle.acc_work.specs.Remembering.{Remembers};
+ghost use Rattle.acc_work.specs.Works.{HasQueue, KeepsOrder, lane_at, taken_labels, item_fault};
+ghost use Rattle.acc_work.specs.Lanes.{last_of};
+
+use acc_base::{Config, DeviceId, Fault, HostId, QUEUES, QueueAt, QueueCounts, Range};
+use acc_batch::OpLabel;
+use acc_queue::Taker;
+use acc_work::{Done, Item, ItemLabel, Shown, Work};
+use std::alloc::Global;
+use std::marker::Model;
+use std::sync::Wait;
+
+/// The work side, with the end of each queue that takes.
+#[derive(Drop)]
+pub struct WorkSide {
+    alloc: Global,
+    config: Config,
+    work: Work,
+    // by device, then in queue order
+    takers: Vec<Taker>,
+}
+
+impl Model for WorkSide {
+    ghost use Rattle.std.specs.Coded.{codes};
+    ghost use Rattle.acc_kernel.specs.contracts.expr.Expr as expr;
+    ghost use Rattle.acc_run.specs.WorkSides.{WorkSideView, IsWorkSide};
+
+    ghost Value = { WorkSideView };
+
+    ghost coded = { Prim.hlevel (codes, expr.the_row.coded) };
+
+    ghost view = { λ s. record { config = s.config; work = s.work; lines = s.takers.items } };
+
+    ghost invariant = { λ s. IsWorkSide s.config s.work s.takers.items };
+}
+
+impl WorkSide {
+    /// What holds of every work side: it is of its configuration, the log keeps what every log does against the batches that were
+    /// taken, the memory shows it, and each lane was offered what the end of its queue has taken.
+    pub fn keeps(&self)
+        ensures arrays { self.now.work.arrays ≡ self.now.config.arrays }
+        ensures devices { length self.now.work.memory.devices ≡ self.now.config.devices }
+        ensures kept { IsKept self.now.work.arrays (taken_labels self.now.work) self.now.work.work }
+        ensures memory { Remembers self.now.work.arrays self.now.work.work self.now.work.memory }
+        ensures order { KeepsOrder self.now.work }
+        ensures lines { (at : QueueAt) → IsLine self.now.work at (line_in self.now.lines at) }
+    {
+        self.work.keeps();
+        let _ = &self.takers;
+    }
+
+    /// Nothing is taken, performed or shown yet. The ends are those of the queues, which have taken nothing.
+    ///
+    /// # Errors
+    ///
+    /// `Memory` where memory is refused.
+    pub fn new(alloc: Global, config: &Config, takers: Vec<Taker>) -> Result<Self, Fault>
+        requires ends { AreEnds config.now takers.items }
+        ensures config { IfOk result (λ s. s.config ≡ config.now) }
+        ensures arrays { IfOk result (λ s. s.work.arrays ≡ config.now.arrays) }
+        ensures devices { IfOk result (λ s. length s.work.memory.devices ≡ config.now.devices) }
+        ensures work { IfOk result (λ s. s.work.work ≡ []) }
+        ensures lines { IfOk result (λ s. s.lines ≡ takers.items) }
+        ensures fault { IfErr result (λ f. f ≡ Memory) }
+    {
+        config.keeps();
+        let copy = config.try_clone()?;
+        let work = Work::new(alloc, config)?;
+        work.keeps();
+        Ok(WorkSide {
+            alloc,
+            config: copy,
+            work,
+            takers,
+        })
+    }
+
+    /// The configuration that it was made for.
+    pub(crate) fn config(&self) -> &Config
+        ensures { result.now ≡ self.now.config }
+    {
+        &self.config
+    }
+
+    /// The work, without the ends of the queues.
+    pub(crate) fn as_work(&self) -> &Work
+        ensures { result.now ≡ self.now.work }
+    {
+        &self.work
+    }
+
+    /// The work itself, and the allocator that it was made with.
+    pub(crate) fn into_work(self) -> (Global, Work)
+        ensures { result.1 ≡ self.work }
+    {
+        let WorkSide { alloc, work, .. } = self;
+        (alloc, work)
+    }
+
+    /// Whether there is such a queue.
+    pub fn has_queue(&self, at: QueueAt) -> bool
+        ensures { IsTrue result → HasQueue self.now.work at }
+    {
+        self.work.keeps();
+        at.queue.number() < QUEUES && at.seat() < self.takers.len()
+    }
+
+    /// The number of the batch of which something is left in a queue's lane.
+    pub fn in_lane(&self, at: QueueAt) -> Option<u64>
+        ensures { result ≡ number_left (lane_at self.now.work at) }
+    {
+        let QueueAt { device, queue } = at;
+        if self.work.lane_empty(QueueAt { device, queue }) {
+            return None;
+        }
+        match self.work.last_taken(QueueAt { device, queue }) {
+            None => None,
+            Some(label) => Some(label.number),
+        }
+    }
+
+    /// Whether a queue has performed its close.
+    pub fn is_closed(&self, at: QueueAt) -> bool
+        ensures { result ≡ is_ended (lane_at self.now.work at) }
+    {
+        let QueueAt { device, queue } = at;
+        if !self.work.lane_empty(QueueAt { device, queue }) {
+            return false;
+        }
+        match self.work.last_taken(QueueAt { device, queue }) {
+            None => false,
+            Some(label) => closes(label.ops.get().as_slice()),
+        }
+    }
+
+    /// A queue takes the first batch that it holds, if nothing is left of the one before it, and answers its number. Where memory
+    /// is refused it takes none.
+    pub fn take<R: Wait>(&mut self, rt: &R, at: QueueAt) -> Option<u64>
+        requires queue { HasQueue self.old.work at }
+        ensures taken { IfSome result (λ number. HasTaken self.old self.new at number) }
+        ensures none { IfNone result (HasRoomMade self.old self.new) }
+    {
+        let QueueAt { device, queue } = at;
+        self.work.keeps();
+        if !self.work.lane_empty(QueueAt { device, queue }) {
+            return None;
+        }
+        let Ok(()) = self.work.spare(QueueAt { device, queue }, 1) else {
+            return None;
+        };
+        let seat = QueueAt { device, queue }.seat();
+        match self.takers[seat].pop(rt) {
+            None => None,
+            Some(batch) => {
+                let number = batch.label().number;
+                self.work.keeps();
+                self.work.offer(QueueAt { device, queue }, batch);
+                self.work.keeps();
+                Some(number)
+            }
+        }
+    }
+
+    /// A queue performs the next operation of its lane, if what it awaits is performed, its host's items allow it, and it uses live
+    /// blocks. Where memory is refused it performs none.
+    pub fn perform(&mut self, at: QueueAt) -> Done
+        requires queue { HasQueue self.old.work at }
+        ensures { Goes self.old at result self.new }
+    {
+        let QueueAt { device, queue } = at;
+        self.work.keeps();
+        let Ok(()) = self.work.spare(QueueAt { device, queue }, 1) else {
+            return Done::Idle;
+        };
+        self.work.perform(QueueAt { device, queue })
+    }
+
+    /// Records an item of a host, any but a Seen, and answers a test. An item that is refused comes back.
+    ///
+    /// # Errors
+    ///
+    /// `Memory` for want of memory, `TooMany` behind the last item of a run, `BadRange` for cells that aren't there.
+    pub fn item(&mut self, host: HostId, item: Item) -> Result<Shown, (Item, Fault)>
+        requires host { host < MAX_HOSTS }
+        requires item { MayRecord item }
+        ensures told { IfOk result (λ shown. HasRecorded self.old self.new host item shown) }
+        ensures back { IfErr result (λ r. r.0 ≡ item) }
+        ensures kept { OnErr result (HasRoomMade self.old self.new) }
+        ensures fault { IfErr result (λ r. (lacks : Bool) × (item_fault lacks self.old.work.work (has_cells self.old.work.arrays item) ≡ Some r.1)) }
+    {
+        if let Err(fault) = self.work.spare_item(0) {
+            return Err((item, fault));
+        }
+        self.work.keeps();
+        if !self.work.has_cells(item.label()) {
+            return Err((item, Fault::BadRange));
+        }
+        Ok(self.work.host_item(host, item))
+    }
+
+    /// Records that each queue of a device has performed so many batches, if it has.
+    ///
+    /// # Errors
+    ///
+    /// `Memory` for want of memory, `TooMany` behind the last item of a run.
+    pub fn see(
+        &mut self,
+        host: HostId,
+        device: DeviceId,
+        counts: QueueCounts,
+    ) -> Result<bool, Fault>
+        requires host { host < MAX_HOSTS }
+        ensures seen { result ≡ Ok true → HasRecorded self.old self.new host (to_record.Seen device counts) shown.Nothing }
+        ensures not_yet { result ≡ Ok false → (self.new ≡ self.old) × (all_done (taken_labels self.old.work) self.old.work.work device 0 counts ≡ false) }
+        ensures kept { OnErr result (HasRoomMade self.old self.new) }
+        ensures fault { IfErr result (λ f. (lacks : Bool) × (item_fault lacks self.old.work.work true ≡ Some f)) }
+    {
+        if !self.work.all_reached(device, &counts) {
+            return Ok(false);
+        }
+        let item = Item::seen(self.alloc, device, counts)?;
+        self.work.spare_item(0)?;
+        let _ = self.work.host_item(host, item);
+        Ok(true)
+    }
+}
+
+// Whether these are the operations of a close.
+fn closes(ops: &[OpLabel]) -> bool
+    ensures { result ≡ closes ops.now }
+{
+    match ops {
+        [OpLabel::Close] => true,
+        _ => false,
+    }
+}

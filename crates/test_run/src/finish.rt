@@ -1,0 +1,142 @@
+//! What a finished run leaves, and when it can't be finished.
+
+use crate::fixtures::{Open, config_of, entry_of, queue};
+use acc_base::{Fault, QUEUES, Range};
+use acc_place::Clause;
+use acc_run::{HostToken, Runtime};
+use acc_work::Item;
+use std::alloc::Global;
+use std::sync::Wait;
+use std::test::Fail;
+
+// What is wrong with the tokens of two hosts.
+#[derive(Clone, Copy)]
+enum Wrong {
+    Nothing,
+    Missing,
+    Exchanged,
+    // They are those of another runtime, whose hosts have done nothing.
+    Others,
+}
+
+// How many entries the place history and the work log have, or why they couldn't be had.
+type Left = Result<(usize, usize), Fault>;
+
+fn print<R: Wait>(
+    rt: &R,
+    alloc: Global,
+    runtime: &Runtime,
+    token: &mut HostToken,
+    array: u8,
+) -> Result<(), Fault> {
+    let range = Range {
+        array,
+        lo: 0,
+        len: 2,
+    };
+    let item = Item::print(alloc, range)?;
+    match runtime.item(rt, token, item) {
+        Ok(_) => Ok(()),
+        Err((_, fault)) => Err(fault),
+    }
+}
+
+// A runtime of two hosts, each of which enters an array on a queue of its own, and prints it.
+fn acted<R: Wait>(rt: &R, alloc: Global) -> Result<(Runtime, Vec<HostToken>), Fault> {
+    let config = config_of(alloc, 1, 2, 64)?;
+    let (runtime, mut tokens) = Runtime::new(alloc, &config)?;
+    for token in tokens.as_mut_slice() {
+        let array = token.host().number();
+        let create = entry_of(alloc, Clause::Create, array, i64::from(array))?;
+        let _ = runtime.place(rt, token, &create)?;
+        print(rt, alloc, &runtime, token, array)?;
+    }
+    Ok((runtime, tokens))
+}
+
+// The queues of the device are closed, and each performs all that was placed on it.
+fn perform_all<R: Wait>(rt: &R, runtime: &Runtime) {
+    let _ = runtime.close(rt);
+    for number in 0..QUEUES {
+        runtime.serve(rt, queue(number), &Open);
+    }
+}
+
+fn made_wrong(
+    alloc: Global,
+    mut tokens: Vec<HostToken>,
+    wrong: Wrong,
+) -> Result<Vec<HostToken>, Fault> {
+    match wrong {
+        Wrong::Nothing => {}
+        Wrong::Missing => {
+            let _ = tokens.pop();
+        }
+        Wrong::Exchanged => tokens.reverse(),
+        Wrong::Others => {
+            let config = config_of(alloc, 1, 2, 64)?;
+            let (_, others) = Runtime::new(alloc, &config)?;
+            tokens = others;
+        }
+    }
+    Ok(tokens)
+}
+
+fn finish(runtime: Runtime, tokens: Vec<HostToken>) -> Left {
+    match runtime.finish(tokens) {
+        Ok(outcome) => Ok((outcome.places.len(), outcome.works.len())),
+        Err(refused) => Err(refused.fault),
+    }
+}
+
+// What finishing answers with these tokens, once all is performed, or before.
+fn left<R: Wait>(rt: &R, alloc: Global, wrong: Wrong, performed: bool) -> Result<Left, Fault> {
+    let (runtime, tokens) = acted(rt, alloc)?;
+    if performed {
+        perform_all(rt, &runtime);
+    }
+    let tokens = made_wrong(alloc, tokens, wrong)?;
+    Ok(finish(runtime, tokens))
+}
+
+// Two directives, the closing and eight closes are accepted; two arrays are made and printed, and eight closes performed.
+#[test]
+fn a_finished_run_leaves_both_histories(rt: HostRuntime) -> Result<(), Fail> {
+    assert!(rt; left(&rt, rt.alloc(), Wrong::Nothing, true)? == Ok((11, 12)));
+    Ok(())
+}
+
+#[test]
+fn other_tokens_are_refused(rt: HostRuntime) -> Result<(), Fail> {
+    for wrong in [Wrong::Missing, Wrong::Exchanged, Wrong::Others] {
+        assert!(rt; left(&rt, rt.alloc(), wrong, true)? == Err(Fault::HostsDiffer));
+    }
+    Ok(())
+}
+
+// Also where the tokens are wrong.
+#[test]
+fn an_unfinished_run_is_told_first(rt: HostRuntime) -> Result<(), Fail> {
+    for wrong in [Wrong::Nothing, Wrong::Missing, Wrong::Exchanged] {
+        assert!(rt; left(&rt, rt.alloc(), wrong, false)? == Err(Fault::Unfinished));
+    }
+    Ok(())
+}
+
+// What comes back from a run that isn't finished can be finished later.
+fn finished_later<R: Wait>(rt: &R, alloc: Global) -> Result<Left, Fault> {
+    let (runtime, tokens) = acted(rt, alloc)?;
+    match runtime.finish(tokens) {
+        Ok(_) => Ok(Err(Fault::TooMany)),
+        Err(refused) => {
+            perform_all(rt, &refused.runtime);
+            Ok(finish(refused.runtime, refused.tokens))
+        }
+    }
+}
+
+#[test]
+fn a_run_comes_back_and_is_finished_later(rt: HostRuntime) -> Result<(), Fail> {
+    assert!(rt; finished_later(&rt, rt.alloc())? == Ok((11, 12)));
+    Ok(())
+}

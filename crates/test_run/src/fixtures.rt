@@ -1,0 +1,97 @@
+//! Configurations, directives and gates that the tests share.
+
+ghost use Rattle.std.specs.Prelude.{◌≡◌, IfOk};
+
+use acc_base::{Config, DeviceId, Fault, QueueAt, QueueId, Range};
+use acc_place::{Clause, DataItem, Directive, Target, Waits};
+use acc_run::{Gate, Runtime};
+use std::alloc::Global;
+use std::sync::Wait;
+use std::thread;
+use tool_directives::{Form, directive_of};
+
+/// Each batch passes.
+#[derive(Drop)]
+pub struct Open;
+
+impl Gate for Open {
+    fn pass(&self, _at: QueueAt, _number: u64) -> bool {
+        true
+    }
+}
+
+/// No batch passes.
+#[derive(Drop)]
+pub struct Shut;
+
+impl Gate for Shut {
+    fn pass(&self, _at: QueueAt, _number: u64) -> bool {
+        false
+    }
+}
+
+/// A queue of the first device; `0` to `5` have the numbers 2 to 7.
+pub fn queue(number: u8) -> QueueAt {
+    queue_on(0, number)
+}
+
+pub fn queue_on(device: u8, number: u8) -> QueueAt {
+    QueueAt {
+        device: DeviceId::new(device),
+        queue: QueueId::new(number),
+    }
+}
+
+/// Two cells in each of eight arrays.
+pub fn config_of(alloc: Global, devices: u8, hosts: u8, room: u32) -> Result<Config, Fault>
+    ensures { IfOk result (λ config. config.hosts ≡ hosts) }
+{
+    let mut arrays = Vec::new(alloc);
+    for _ in 0..8u8 {
+        arrays.push(vec![in alloc; 0i64; 2]?)?;
+    }
+    Config::new(alloc, devices, hosts, arrays, 4_194_304, room)
+}
+
+/// A directive with one item, the whole of an array.
+pub fn directive_with(
+    alloc: Global,
+    form: Form,
+    clause: Clause,
+    array: u8,
+    target: Target,
+) -> Result<Directive, Fault> {
+    let range = Range {
+        array,
+        lo: 0,
+        len: 2,
+    };
+    directive_of(
+        alloc,
+        form,
+        &[DataItem { clause, range }],
+        target,
+        Waits::Nothing,
+    )
+}
+
+/// An array is entered on a queue.
+pub fn entry_of(alloc: Global, clause: Clause, array: u8, value: i64) -> Result<Directive, Fault> {
+    directive_with(
+        alloc,
+        Form::EnterData,
+        clause,
+        array,
+        Target::Value { value },
+    )
+}
+
+/// Closes until no queue is without Close.
+pub fn close_all<R: Wait>(rt: &R, runtime: &Runtime) {
+    for _ in rt.forever() {
+        if runtime.close(rt) == 0 {
+            return;
+        }
+        thread::yield_now();
+    }
+}

@@ -1,0 +1,17 @@
+//! Tests of running threads: what no contract says.
+#![tactic(auto)]
+
+#[cfg(test)]
+mod closes;
+#[cfg(test)]
+mod finish;
+#[cfg(test)]
+mod fixtures;
+#[cfg(test)]
+mod meeting;
+#[cfg(test)]
+mod memory;
+#[cfg(test)]
+mod runs;
+#[cfg(test)]
+mod stops;

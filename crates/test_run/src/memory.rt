@@ -1,0 +1,84 @@
+//! Each call is refused for want of memory, at each amount in turn, until there is enough; a token then lists what was done, once.
+
+use crate::fixtures::{config_of, entry_of, queue};
+use acc_base::{DeviceId, Fault, Range};
+use acc_place::Clause;
+use acc_run::{HostToken, Runtime};
+use acc_work::Item;
+use std::alloc::Global;
+use std::sync::Wait;
+use std::test::Fail;
+use tool_scarce::at_each_amount;
+
+// A runtime whose queues have room for two batches, with the token of its one host.
+fn runtime_of(alloc: Global) -> Result<(Runtime, HostToken), Fault> {
+    let config = config_of(alloc, 1, 1, 2)?;
+    let (runtime, mut tokens) = Runtime::new(alloc, &config)?;
+    match tokens.pop() {
+        Some(token) => Ok((runtime, token)),
+        None => Err(Fault::Unfinished),
+    }
+}
+
+#[test]
+fn a_runtime_is_refused_until_there_is_memory(rt: HostRuntime) -> Result<(), Fail> {
+    let alloc = rt.alloc();
+    let (refusals, (_, token)) = at_each_amount(alloc, || runtime_of(alloc))?;
+    assert!(rt; 1 < refusals);
+    assert!(rt; token.entries().is_empty());
+    Ok(())
+}
+
+#[test]
+fn a_directive_is_refused_until_there_is_memory(rt: HostRuntime) -> Result<(), Fail> {
+    let alloc = rt.alloc();
+    let (runtime, mut token) = runtime_of(alloc)?;
+    let create = entry_of(alloc, Clause::Create, 0, 1)?;
+    let (refusals, placed) = at_each_amount(alloc, || runtime.place(&rt, &mut token, &create))?;
+    assert!(rt; 1 < refusals);
+    assert!(rt; placed.batch == Some((queue(3), 1)));
+    assert!(rt; token.entries().len() == 1);
+    Ok(())
+}
+
+#[test]
+fn a_wait_is_refused_until_there_is_memory(rt: HostRuntime) -> Result<(), Fail> {
+    let alloc = rt.alloc();
+    let (runtime, mut token) = runtime_of(alloc)?;
+    let device = DeviceId::new(0);
+    let (refusals, ()) = at_each_amount(alloc, || {
+        runtime.wait_for(&rt, &mut token, device, [0; 8])
+    })?;
+    assert!(rt; 0 < refusals);
+    assert!(rt; token.items() == 1);
+    Ok(())
+}
+
+// Prints the cells of an array.
+fn print<R: Wait>(
+    rt: &R,
+    alloc: Global,
+    runtime: &Runtime,
+    token: &mut HostToken,
+) -> Result<(), Fault> {
+    let range = Range {
+        array: 0,
+        lo: 0,
+        len: 2,
+    };
+    let item = Item::print(alloc, range)?;
+    match runtime.item(rt, token, item) {
+        Ok(_) => Ok(()),
+        Err((_, fault)) => Err(fault),
+    }
+}
+
+#[test]
+fn an_item_is_refused_until_there_is_memory(rt: HostRuntime) -> Result<(), Fail> {
+    let alloc = rt.alloc();
+    let (runtime, mut token) = runtime_of(alloc)?;
+    let (refusals, ()) = at_each_amount(alloc, || print(&rt, alloc, &runtime, &mut token))?;
+    assert!(rt; 1 < refusals);
+    assert!(rt; token.items() == 1);
+    Ok(())
+}
