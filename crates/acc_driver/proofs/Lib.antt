@@ -1,4 +1,5 @@
 mod ReplayAnswers
 mod RunSchedule
+mod ThreadRuns
 mod WorkedSplits
 mod SplitText

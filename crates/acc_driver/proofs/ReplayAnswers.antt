@@ -99,7 +99,7 @@ answers_whole options text old new result answers =
 text_limit : TEXT_LIMIT ≡ MAX_TEXT + 1
 text_limit = refl
 
-capped_script : (text : List ℕ) → script_of (take TEXT_LIMIT text) ≡ script_of text
+pub capped_script : (text : List ℕ) → script_of (take TEXT_LIMIT text) ≡ script_of text
 unfolding script_of
 capped_script text =
     ap (λ (limit : ℕ). script_of (take limit text)) text_limit

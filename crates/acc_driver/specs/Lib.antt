@@ -1,4 +1,5 @@
 pub mod Inputs
 pub mod Replays
+pub mod Runs
 pub mod inner
 pub mod worked

@@ -124,7 +124,7 @@ fn behind_split_line(bytes: &[u8]) -> &[u8]
 /// The script and the schedule of one text: it is split at its first line that is exactly `%%`, and without such a
 /// line it is all script.
 #[tactic(auto, unfolding(crate::specs::Inputs::parts))]
-pub(crate) fn split(text: &[u8]) -> (&[u8], &[u8])
+pub fn split(text: &[u8]) -> (&[u8], &[u8])
     ensures script { result.0.now ≡ (parts text.now).script }
     ensures schedule { result.1.now ≡ (parts text.now).schedule }
 {

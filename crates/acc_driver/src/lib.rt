@@ -1,16 +1,21 @@
-//! From bytes to bytes: a script and a schedule are read, run, and reported.
+//! From bytes to bytes: a script and a schedule are read, run, and reported; or a script alone, which threads run.
 #![tactic(auto)]
 
 mod fault;
 mod input;
 mod laws;
 mod options;
+mod program;
 mod replays;
+mod runs;
 
+pub use acc_run::Gate;
 pub use acc_script::{ReadFault, ReadKind};
 pub use fault::{DriverFault, ReplayFault};
+pub use input::split;
 pub use laws::{worked_replays, worked_splits};
 pub use options::{Ended, Options};
 pub use replays::{
     INPUT_LIMIT, INPUT_TURNS, TEXT_LIMIT, TEXT_TURNS, replay, replay_one, replay_texts,
 };
+pub use runs::{OpenGate, run_script};

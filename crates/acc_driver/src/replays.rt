@@ -10,7 +10,7 @@ ghost use Rattle.acc_driver.specs.Inputs.{parts};
 ghost use Rattle.acc_core.specs.Machine.{Runs};
 ghost use Rattle.acc_host.specs.declared.state.Reply.{Reply};
 ghost use Rattle.acc_driver.specs.Replays.{Answers, RunAnswers, AreUsable, IsOfScript, IsRun, IsScript, IsWorldFault, driver_fault, of_input, is_refused};
-ghost use Rattle.acc_driver.specs.inner.Scripts.{IsScriptFault, ScheduleAnswers};
+ghost use Rattle.acc_driver.specs.inner.Scripts.{ScheduleAnswers};
 ghost use Rattle.std.specs.List.{list_any};
 ghost use Rattle.acc_base.specs.declared.fault.Fault.TheVariants.{Memory};
 ghost use Rattle.acc_schedule.specs.Schedules.{kept_events};
@@ -19,12 +19,12 @@ ghost use Rattle.acc_script.specs.Scripts.{program_of, script_of};
 use crate::fault::{DriverFault, ReplayFault};
 use crate::input::{read_text, split};
 use crate::options::{Ended, Options};
-use acc_base::{Config, Fault};
+use crate::program::{config_of, copies_of, has_refused, hosts_of, read_script};
 use acc_core::World;
-use acc_host::{Event, HostProgram, HostState};
+use acc_host::{Event, HostProgram};
 use acc_report::{ReportFault, Run, report_run};
 use acc_schedule::{Schedule, ScheduleLine};
-use acc_script::{ReadError, Script, read};
+use acc_script::{ReadError, Script};
 use std::alloc::Global;
 use std::io::{Read, Write};
 
@@ -136,21 +136,6 @@ pub fn replay_texts<W: Write>(
     }
 }
 
-// What a script says.
-fn read_script<'a>(alloc: Global, text: &'a [u8]) -> Result<Script<'a>, ReplayFault>
-    ensures found { IfOk result (λ s. script_of text.now ≡ Ok (program_of s)) }
-    ensures declared { IfOk result (λ s. IsDeclared (record { names = texts s.names.keys; cells = rows s.arrays.items })) }
-    ensures numbered { IfOk result (λ s. AreNumbered 0 s.programs.items) }
-    ensures few { IfOk result (λ s. length s.programs.items ≤ MAX_HOSTS) }
-    ensures refused { IfErr result (IsScriptFault text.now) }
-{
-    match read(alloc, text) {
-        Ok(script) => Ok(script),
-        Err(ReadError::Memory) => Err(ReplayFault::Memory),
-        Err(ReadError::Fault(fault)) => Err(ReplayFault::Script(fault)),
-    }
-}
-
 // Runs a schedule on what a script says, and writes the report.
 fn replay_script<W: Write>(
     alloc: Global,
@@ -222,18 +207,6 @@ fn run<W: Write>(
     }
 }
 
-// Equal programs.
-fn copies_of(alloc: Global, programs: &[HostProgram]) -> Result<Vec<HostProgram>, Fault>
-    ensures equal { IfOk result (λ copies. copies.items ≡ programs.now) }
-    ensures fault { IfErr result (λ f. f ≡ Memory) }
-{
-    let mut copies = Vec::new(alloc);
-    for program in programs {
-        copies.push(program.try_clone(alloc)?)?;
-    }
-    Ok(copies)
-}
-
 // A world takes a step for each event of a schedule, in order.
 fn run_schedule(schedule: &Schedule, world: &mut World)
     ensures { (replies : List Reply) × Runs world.old schedule.now replies world.new }
@@ -254,14 +227,6 @@ fn run_line(round: &[Event], line: &ScheduleLine, world: &mut World)
     }
 }
 
-// How many hosts there are.
-fn hosts_of(programs: &Vec<HostProgram>) -> u8
-    requires few { length programs.now.items ≤ MAX_HOSTS }
-    ensures { result ≡ length programs.now.items }
-{
-    programs.len() as u8
-}
-
 // The world of these arrays and programs, before the first event.
 fn open(
     alloc: Global,
@@ -274,30 +239,12 @@ fn open(
     ensures opened { IfOk result (λ w. w ≡ first_state (configuration options.devices (length programs.items) (rows arrays.items) options.cells options.room) programs.items) }
     ensures refused { IfErr result (λ f. IsWorldFault (configuration options.devices (length programs.items) (rows arrays.items) options.cells options.room) (driver_fault f)) }
 {
-    let hosts = programs.len() as u8;
-    let config = match Config::new(
-        alloc,
-        options.devices,
-        hosts,
-        arrays,
-        options.cells,
-        options.room,
-    ) {
+    let config = match config_of(alloc, options, &programs, arrays) {
         Ok(config) => config,
-        Err(Fault::Memory) => return Err(ReplayFault::Memory),
-        Err(fault) => return Err(ReplayFault::Runtime(fault)),
+        Err(fault) => return Err(fault),
     };
     match World::new(alloc, config, programs) {
         Ok(world) => Ok(world),
         Err(_) => Err(ReplayFault::Memory),
     }
-}
-
-// Whether a host was refused.
-fn has_refused(hosts: &[HostState]) -> bool
-    ensures { result ≡ list_any is_refused hosts.now }
-{
-    hosts
-        .iter()
-        .any(|host| matches!(host, HostState::Refused { .. }))
 }

@@ -2,3 +2,4 @@ mod NumberWords
 mod StatusReplay
 mod WordsMean
 mod WordsRead
+mod WordsRefused

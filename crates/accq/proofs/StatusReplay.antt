@@ -10,8 +10,9 @@ use Rattle.acc_driver.specs.declared.options.Options.{Options}
 use Rattle.acc_driver.specs.Inputs.{Parts, parts}
 use Rattle.acc_report.specs.Puts.{AppendsFront}
 use Rattle.acc_driver.specs.Replays.{Answers, defaults}
+use Rattle.acc_driver.specs.Runs.{ScriptAnswers}
 use Rattle.accq.specs.Statuses.{FilesAnswer}
-use Rattle.accq.specs.Words.{Asked}
+use Rattle.accq.specs.Words.{AskedReplay}
 
 appends_kept : (a b c : Option (List ℕ)) (text : List ℕ) → Appends a b text → Keeps b c → Appends a c text
 appends_kept None b c text first kept = tt
@@ -86,14 +87,45 @@ texts_held options None schedule of_script of_schedule old new answer is_script 
 texts_held options (Some s) None of_script of_schedule old new answer is_script is_schedule answers = tt
 texts_held options (Some s) (Some e) of_script of_schedule old new answer is_script is_schedule answers = rw (is_script, is_schedule) at answers
 
-pub files_answered : (holds : List ℕ → Option (List ℕ)) (asked : Asked) (of_script of_schedule : Option (List ℕ)) (old new : Option (List ℕ)) (answer : Result Ended DriverFault)
+pub files_answered : (holds : List ℕ → Option (List ℕ)) (asked : AskedReplay) (of_script of_schedule : Option (List ℕ)) (old new : Option (List ℕ)) (answer : Result Ended DriverFault)
     → IfSome (holds asked.script) (λ bytes. of_script ≡ Some bytes) → IfSome (holds asked.schedule) (λ bytes. of_schedule ≡ Some bytes)
     → IfSome of_script (λ script. IfSome of_schedule (λ schedule. Answers asked.options (record { script = script; schedule = schedule }) old new answer))
     → FilesAnswer holds asked old new answer
 files_answered holds asked of_script of_schedule old new answer is_script is_schedule answers =
     texts_held asked.options (holds asked.script) (holds asked.schedule) of_script of_schedule old new answer is_script is_schedule answers
 
-pub files_sent : (holds : List ℕ → Option (List ℕ)) (asked : Asked) (old whole new : Option (List ℕ)) (ended : Ended) (result : Result Ended DriverFault)
+pub files_sent : (holds : List ℕ → Option (List ℕ)) (asked : AskedReplay) (old whole new : Option (List ℕ)) (ended : Ended) (result : Result Ended DriverFault)
     → FilesAnswer holds asked old whole (Ok ended) → IsSent ended whole new result → FilesAnswer holds asked old new result
 files_sent holds asked old whole new ended result answers sent =
     texts_sent asked.options (holds asked.script) (holds asked.schedule) old whole new ended result answers sent
+
+-- ## A script that is run
+
+run_sent : (options : Options) (script : List ℕ) (old whole new : Option (List ℕ)) (ended : Ended) (result : Result Ended DriverFault)
+    → ScriptAnswers options script old whole (Ok ended) → IsSent ended whole new result → ScriptAnswers options script old new result
+run_sent options script old whole new ended (Ok e) (program, says, run) sent =
+    rw sent.same (
+      program,
+      says,
+      record { left = run.left; ran = run.ran; written = appends_kept old whole new _ run.written sent.kept; status = run.status },
+    )
+run_sent options script old whole new ended (Err f) (program, says, run) sent =
+    rw sent.fault (
+      program,
+      says,
+      record { left = run.left; ran = run.ran; written = appends_front old new _ (appends_kept old whole new _ run.written sent.kept) },
+    )
+
+-- what is answered to the script that a file holds, by what the opened file gives
+pub file_sent : (options : Options) (held given : Option (List ℕ)) (old whole new : Option (List ℕ)) (ended : Ended) (result : Result Ended DriverFault)
+    → IfSome held (λ bytes. given ≡ Some bytes) → IfSome given (λ script. ScriptAnswers options script old whole (Ok ended)) → IsSent ended whole new result
+    → IfSome held (λ script. ScriptAnswers options script old new result)
+file_sent options None given old whole new ended result is answers sent = tt
+file_sent options (Some script) given old whole new ended result is answers sent =
+    run_sent options script old whole new ended result (rw is at answers) sent
+
+pub file_refused : (options : Options) (held given : Option (List ℕ)) (old new : Option (List ℕ)) (result : Result Ended DriverFault)
+    → IfSome held (λ bytes. given ≡ Some bytes) → IfSome given (λ script. ScriptAnswers options script old new result)
+    → IfSome held (λ script. ScriptAnswers options script old new result)
+file_refused options None given old new result is answers = tt
+file_refused options (Some script) given old new result is answers = rw is at answers

@@ -5,7 +5,7 @@ use Rattle.accq.specs.worked.Words.{AreAsked, AreRefused}
 
 pub are_asked : AreAsked
 unfolding clap_on_literals
-are_asked = record { names = refl; before = refl; between = refl; behind = refl; all = refl; behind_dashes = refl }
+are_asked = record { names = refl; before = refl; between = refl; behind = refl; all = refl; one_name = refl; around = refl; behind_dashes = refl }
 
 pub are_refused : AreRefused
 unfolding clap_on_literals
@@ -18,6 +18,9 @@ are_refused = record {
   twice = refl;
   without_a_number = refl;
   one_name = refl;
+  no_name = refl;
+  a_schedule = refl;
+  no_room = refl;
   three_names = refl;
   unknown = refl;
   no_subcommand = refl;

@@ -6,7 +6,8 @@ use Rattle.acc_driver.specs.declared.fault.DriverFault.TheVariants as fault
 use Rattle.acc_driver.specs.declared.options.Ended.{Ended}
 use Rattle.acc_driver.specs.Inputs.{parts}
 use Rattle.acc_driver.specs.Replays.{Answers, IsRun, defaults}
-use Rattle.accq.specs.Words.{Asked}
+use Rattle.acc_driver.specs.Runs.{IsConfigured, ScriptAnswers}
+use Rattle.accq.specs.Words.{Asked, AskedReplay, AskedRun, ToReplay, ToRun}
 
 abbrev pub status_for : DriverFault → ℕ
 status_for (fault.Script f) = 2
@@ -27,8 +28,8 @@ pub record InputReplayed (input old new : Option (List ℕ)) (status : ℕ) : Ty
   pub run : IsRun answer
   pub follows : status ≡ status_after answer
 
--- What is answered where two files are asked for, if it is known what they hold.
-abbrev pub FilesAnswer : (List ℕ → Option (List ℕ)) → Asked → Option (List ℕ) → Option (List ℕ) → Result Ended DriverFault → Type 0
+-- What is answered where two files are to be replayed, if it is known what they hold.
+abbrev pub FilesAnswer : (List ℕ → Option (List ℕ)) → AskedReplay → Option (List ℕ) → Option (List ℕ) → Result Ended DriverFault → Type 0
 FilesAnswer holds asked old new answer =
     IfSome (holds asked.script) (λ script. IfSome (holds asked.schedule) (λ schedule.
     Answers asked.options (record { script = script; schedule = schedule }) old new answer))
@@ -38,7 +39,7 @@ abbrev pub AsksForOpen : Option Bool → Result Ended DriverFault → Type 0
 AsksForOpen can answer = can ≡ Some false → answer ≡ Err fault.Input
 
 -- The two files that are asked for were replayed, with the options that are, and the status follows.
-pub record FilesReplayed (asked : Asked) (holds : List ℕ → Option (List ℕ)) (opens : List ℕ → Option Bool) (old new : Option (List ℕ)) (status : ℕ) : Type 0 where
+pub record FilesReplayed (asked : AskedReplay) (holds : List ℕ → Option (List ℕ)) (opens : List ℕ → Option Bool) (old new : Option (List ℕ)) (status : ℕ) : Type 0 where
   pub answer : Result Ended DriverFault
   pub answers : FilesAnswer holds asked old new answer
   pub script : AsksForOpen (opens asked.script) answer
@@ -46,8 +47,21 @@ pub record FilesReplayed (asked : Asked) (holds : List ℕ → Option (List ℕ)
   pub run : IsRun answer
   pub follows : status ≡ status_after answer
 
--- What words come to. Where they ask for nothing, nothing is written, and the status is 2, or 3 for want of memory. Where they ask for two files, these
--- are replayed, unless there is no memory to read the words.
+-- The script of the file that is asked for was run, with the options that are, and the status follows.
+pub record FileRun (asked : AskedRun) (holds : List ℕ → Option (List ℕ)) (opens : List ℕ → Option Bool) (old new : Option (List ℕ)) (status : ℕ) : Type 0 where
+  pub answer : Result Ended DriverFault
+  pub answers : IfSome (holds asked.script) (λ script. ScriptAnswers asked.options script old new answer)
+  pub script : AsksForOpen (opens asked.script) answer
+  pub configured : IsConfigured answer
+  pub follows : status ≡ status_after answer
+
+-- It was done.
+abbrev pub IsDone : Asked → (List ℕ → Option (List ℕ)) → (List ℕ → Option Bool) → Option (List ℕ) → Option (List ℕ) → ℕ → Type 0
+IsDone (ToReplay asked) holds opens old new status = FilesReplayed asked holds opens old new status
+IsDone (ToRun asked) holds opens old new status = FileRun asked holds opens old new status
+
+-- What words come to. Where they ask for nothing, nothing is written, and the status is 2, or 3 for want of memory. What they ask for is done, unless there
+-- is no memory to read the words.
 abbrev pub TellsWords : Option Asked → (List ℕ → Option (List ℕ)) → (List ℕ → Option Bool) → Option (List ℕ) → Option (List ℕ) → ℕ → Type 0
 TellsWords None holds opens old new status = Appends old new [] × ((status ≡ 2) ⊎ (status ≡ 3))
-TellsWords (Some asked) holds opens old new status = (Appends old new [] × (status ≡ 3)) ⊎ FilesReplayed asked holds opens old new status
+TellsWords (Some asked) holds opens old new status = (Appends old new [] × (status ≡ 3)) ⊎ IsDone asked holds opens old new status

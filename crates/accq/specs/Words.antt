@@ -1,6 +1,6 @@
 -- What the words of a command line ask for. How a parser goes over words is told by the crate clap (`subcommand_of` gives what they say, `fault_of`
 -- what is wrong with them); which words there are, and what they mean, stands here.
-use Rattle.std.specs.Prelude.{◌&&◌, ℕ, List, [], ◌∷◌, Option, Some, None, option_and_then, option_map, codes, nat_le, true, if◌then◌else◌}
+use Rattle.std.specs.Prelude.{◌&&◌, ℕ, List, [], ◌∷◌, Option, Some, None, option_and_then, option_map, bytes_eq, codes, nat_le, true, if◌then◌else◌}
 use Rattle.std.specs.Char.{is_ascii_digit}
 use Rattle.std.specs.List.{list_all}
 use Rattle.std.specs.Str.Parse.{digits_value}
@@ -8,6 +8,9 @@ use Rattle.acc_base.specs.declared.config.TheConstants.{MAX_DEVICES, MAX_CAPACIT
 use Rattle.acc_driver.specs.declared.options.Options.{Options}
 use Rattle.clap.specs.Words.{App, Kinds, Row, Rule, Text, fault_of, first_of, new_app, new_rule, subcommand_of, with_rule, with_subcommand}
 use Rattle.accq.specs.declared.command.Replay.{Replay}
+use Rattle.accq.specs.declared.command.Run.{Run}
+use Rattle.accq.specs.declared.command.Task.{Task}
+use Rattle.accq.specs.declared.command.Task.TheVariants as task
 use Rattle.clap.specs.Simple.{on_top}
 use Rattle.clap.specs.declared.builder.ArgAction.TheVariants.{Set}
 use Rattle.clap.specs.declared.builder.value_parser.ValueParser.TheVariants.{Unsigned}
@@ -23,22 +26,41 @@ abbrev pub number_rule : Text → Text → ℕ → Rule
 number_rule id default most =
     record (new_rule id) { long = Some id; value_names = 1; defaults = default ∷ []; parser = Some (Unsigned 1 most) }
 
--- accq replay [--devices N] [--cells N] [--room N] SCRIPT SCHEDULE
+-- [--devices N] [--cells N] [--room N]
+abbrev pub with_options : App → App
+with_options app =
+    with_rule (with_rule (with_rule app (number_rule (codes "devices") (codes "1") MAX_DEVICES))
+    (number_rule (codes "cells") (codes "4194304") MAX_CAPACITY)) (number_rule (codes "room") (codes "64") MAX_ROOM)
+
+-- accq replay SCRIPT SCHEDULE, with options
 abbrev pub replay_app : App
-replay_app =
-    with_rule (with_rule (with_rule (with_rule (with_rule (new_app (codes "replay")) (name_rule (codes "SCRIPT"))) (name_rule (codes "SCHEDULE")))
-    (number_rule (codes "devices") (codes "1") MAX_DEVICES)) (number_rule (codes "cells") (codes "4194304") MAX_CAPACITY)) (number_rule (codes "room") (codes "64") MAX_ROOM)
+replay_app = with_options (with_rule (with_rule (new_app (codes "replay")) (name_rule (codes "SCRIPT"))) (name_rule (codes "SCHEDULE")))
+
+-- accq run SCRIPT, with options
+abbrev pub run_app : App
+run_app = with_options (with_rule (new_app (codes "run")) (name_rule (codes "SCRIPT")))
 
 abbrev pub accq_app : App
-accq_app = with_subcommand (on_top (λ s. record s { has_version = true; subcommand_required = true }) (new_app (codes "accq"))) replay_app.top
+accq_app =
+    with_subcommand (with_subcommand (on_top (λ s. record s { has_version = true; subcommand_required = true }) (new_app (codes "accq"))) replay_app.top) run_app.top
 
 -- ## What they mean
 
--- Two files are asked for, by their names, and options.
-pub record Asked : Type 0 where
+-- Two files are to be replayed, by their names, under options.
+pub record AskedReplay : Type 0 where
   pub script : Text
   pub schedule : Text
   pub options : Options
+
+-- The script of a file is to be run, by its name, under options.
+pub record AskedRun : Type 0 where
+  pub script : Text
+  pub options : Options
+
+-- What words can ask for.
+pub data Asked : Type 0 where
+  ToReplay : AskedReplay → Asked
+  ToRun : AskedRun → Asked
 
 -- a number that is written in digits alone, from 1 to the most
 abbrev pub number_in : ℕ → Text → Option ℕ
@@ -54,10 +76,18 @@ options_in rows =
     option_and_then (λ devices. option_and_then (λ cells. option_map (λ room. record { devices = devices; cells = cells; room = room })
     (number_of rows (codes "room") MAX_ROOM)) (number_of rows (codes "cells") MAX_CAPACITY)) (number_of rows (codes "devices") MAX_DEVICES)
 
-abbrev pub asked_in : List Row → Option Asked
-asked_in rows =
+abbrev pub replay_in : List Row → Option AskedReplay
+replay_in rows =
     option_and_then (λ options. option_and_then (λ script. option_map (λ schedule. record { script = script; schedule = schedule; options = options })
     (first_of (codes "SCHEDULE") rows)) (first_of (codes "SCRIPT") rows)) (options_in rows)
+
+abbrev pub run_in : List Row → Option AskedRun
+run_in rows =
+    option_and_then (λ options. option_map (λ script. record { script = script; options = options }) (first_of (codes "SCRIPT") rows)) (options_in rows)
+
+-- what is asked for behind the name of a subcommand
+abbrev pub asked_behind : Text → List Row → Option Asked
+asked_behind name rows = if bytes_eq name (codes "run") then option_map ToRun (run_in rows) else option_map ToReplay (replay_in rows)
 
 -- what was found, unless there is an error of some kind
 abbrev pub unless_any : {A : Type 0} → Kinds → Option A → Option A
@@ -66,8 +96,22 @@ unless_any (k ∷ kinds) found = None
 
 -- What words ask for, the program's own name among them; nothing where they are at fault, or ask for help or the version.
 abbrev pub asked_of : List Text → Option Asked
-asked_of words = unless_any (fault_of accq_app words) (option_and_then (λ p. asked_in p.1) (subcommand_of accq_app words))
+asked_of words = unless_any (fault_of accq_app words) (option_and_then (λ p. asked_behind p.0 p.1) (subcommand_of accq_app words))
 
 -- what is replayed
-abbrev pub asked_by : Replay → Asked
-asked_by r = record { script = r.script.now; schedule = r.schedule.now; options = r.options }
+abbrev pub replay_by : Replay → AskedReplay
+replay_by r = record { script = r.script.now; schedule = r.schedule.now; options = r.options }
+
+-- what is run
+abbrev pub run_by : Run → AskedRun
+run_by r = record { script = r.script.now; options = r.options }
+
+-- what is done
+abbrev pub asked_by : Task → Asked
+asked_by (task.Replay r) = ToReplay (replay_by r)
+asked_by (task.Run r) = ToRun (run_by r)
+
+-- the options of what is done
+abbrev pub options_of : Task → Options
+options_of (task.Replay r) = r.options
+options_of (task.Run r) = r.options

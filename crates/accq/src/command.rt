@@ -1,12 +1,12 @@
 //! The words of a command line.
 
-ghost use Rattle.std.specs.Prelude.{◌≡◌, ◌<◌, ◌≤◌, ◌^◌, ◌⊎◌, false, map, option_and_then, option_map, Some, None, IfOk, IfErr, IfSome};
+ghost use Rattle.std.specs.Prelude.{◌≡◌, ◌<◌, ◌≤◌, ◌^◌, ◌⊎◌, bytes_eq, codes, false, map, option_and_then, option_map, Some, None, IfOk, IfErr, IfSome};
 ghost use Rattle.std.specs.Char.{is_ascii_digit};
 ghost use Rattle.std.specs.List.{list_all};
 ghost use Rattle.clap.specs.Words.{app_of, first_of, found_of, kind_of, rows_of, rule_of, subcommand_rows_of};
 ghost use Rattle.clap.specs.declared.error.kind.ErrorKind.TheVariants.{OutOfMemory};
 ghost use Rattle.clap.specs.declared.builder.command.Command.TheViews.{out-Command as fields_of};
-ghost use Rattle.accq.specs.Words.{accq_app, asked_by, asked_in, asked_of, name_rule, number_in, number_of, number_rule, options_in, replay_app};
+ghost use Rattle.accq.specs.Words.{accq_app, asked_behind, asked_by, asked_of, name_rule, number_in, number_of, number_rule, options_in, options_of, replay_app, replay_by, replay_in, run_app, run_by, run_in, with_options};
 ghost use Rattle.acc_driver.specs.Replays.{AreUsable};
 
 use acc_base::{MAX_CAPACITY, MAX_DEVICES, MAX_ROOM};
@@ -17,10 +17,13 @@ use std::alloc::{AllocError, Global};
 use std::convert::AsStr;
 
 const ABOUT: &str =
-    "accq replays a script of hosts and OpenACC directives under a schedule, and reports what it\nmeans: what is present with its counters, and what each queue has performed.";
+    "accq replays a script of hosts and OpenACC directives under a schedule, or runs it by threads, and\nreports what it means: what is present with its counters, and what each queue has performed.";
 
 const EXAMPLE: &str =
-    "Example: a script in question.acc, and a schedule `round 20` in question.schedule\n    accq replay question.acc question.schedule\n\nWithout words accq replays standard input: a script, a line %%, and a schedule.\n\nStatus: 0; 1 where a host was refused; 2 for a fault of the script, the schedule or the words;\n3 for a fault of a file, of memory or of the run. docs/GUIDE.md tells how to ask a question and\nto read the report, docs/LANGUAGE.md all that scripts, schedules and reports can say.";
+    "Example: a script in question.acc, and a schedule `round 20` in question.schedule\n    accq replay question.acc question.schedule\n    accq run question.acc\n\nWithout words accq replays standard input: a script, a line %%, and a schedule.\n\nStatus: 0; 1 where a host was refused; 2 for a fault of the script, the schedule or the words;\n3 for a fault of a file, of memory or of the run. docs/GUIDE.md tells how to ask a question and\nto read the report, docs/LANGUAGE.md all that scripts, schedules and reports can say.";
+
+const RUN_HELP: &str =
+    "A replay does what its schedule says, and so always gives the same report. In a run each host and\neach queue has a thread of its own, and the system decides who is first: what depends on that may\nbe reported in another way each time. A directive that a full queue refuses is tried again, and at\nthe end all that was placed is performed.\n\nExample: accq run question.acc --devices 2";
 
 /// Two files to be replayed, by their names, and under which options.
 #[derive(Clone, Copy)]
@@ -28,6 +31,20 @@ pub struct Replay<'a> {
     pub script: &'a str,
     pub schedule: &'a str,
     pub options: Options,
+}
+
+/// A file whose script is to be run by threads, by its name, and under which options.
+#[derive(Clone, Copy)]
+pub struct Run<'a> {
+    pub script: &'a str,
+    pub options: Options,
+}
+
+/// What words ask for.
+#[derive(Clone, Copy)]
+pub enum Task<'a> {
+    Replay(Replay<'a>),
+    Run(Run<'a>),
 }
 
 // An option with a number from 1 to the most that a run may have.
@@ -55,16 +72,13 @@ fn name<'a>(alloc: Global, id: &'a str, help: &'a str) -> Arg<'a>
         .help(help)
 }
 
-// The words behind `replay`.
-fn replay_words<'a>(alloc: Global) -> Result<Command<'a>, AllocError>
-    ensures app { IfOk result (λ c. app_of c ≡ replay_app) }
+// The options of a replay or a run, behind the words that there are already.
+fn with_options<'a>(alloc: Global, words: Command<'a>) -> Result<Command<'a>, AllocError>
+    requires { (fields_of words).has_globals ≡ false }
+    ensures app { IfOk result (λ c. app_of c ≡ with_options (app_of words.entry)) }
     ensures local { IfOk result (λ c. (fields_of c).has_globals ≡ false) }
 {
-    Command::new(alloc, "replay")
-        .about("Replays a script under a schedule")
-        .after_help(EXAMPLE)
-        .arg(name(alloc, "SCRIPT", "The file of the script"))?
-        .arg(name(alloc, "SCHEDULE", "The file of the schedule"))?
+    words
         .arg(number(
             alloc,
             "devices",
@@ -88,6 +102,31 @@ fn replay_words<'a>(alloc: Global) -> Result<Command<'a>, AllocError>
         ))
 }
 
+// The words behind `replay`.
+fn replay_words<'a>(alloc: Global) -> Result<Command<'a>, AllocError>
+    ensures app { IfOk result (λ c. app_of c ≡ replay_app) }
+    ensures local { IfOk result (λ c. (fields_of c).has_globals ≡ false) }
+{
+    let words = Command::new(alloc, "replay")
+        .about("Replays a script under a schedule")
+        .after_help(EXAMPLE)
+        .arg(name(alloc, "SCRIPT", "The file of the script"))?
+        .arg(name(alloc, "SCHEDULE", "The file of the schedule"))?;
+    with_options(alloc, words)
+}
+
+// The words behind `run`.
+fn run_words<'a>(alloc: Global) -> Result<Command<'a>, AllocError>
+    ensures app { IfOk result (λ c. app_of c ≡ run_app) }
+    ensures local { IfOk result (λ c. (fields_of c).has_globals ≡ false) }
+{
+    let words = Command::new(alloc, "run")
+        .about("Runs a script by threads")
+        .after_help(RUN_HELP)
+        .arg(name(alloc, "SCRIPT", "The file of the script"))?;
+    with_options(alloc, words)
+}
+
 // The words that there can be.
 fn accq_words<'a>(alloc: Global) -> Result<Command<'a>, AllocError>
     ensures { IfOk result (λ c. app_of c ≡ accq_app) }
@@ -97,7 +136,8 @@ fn accq_words<'a>(alloc: Global) -> Result<Command<'a>, AllocError>
         .about(ABOUT)
         .after_help(EXAMPLE)
         .subcommand_required(true)
-        .subcommand(replay_words(alloc)?)
+        .subcommand(replay_words(alloc)?)?
+        .subcommand(run_words(alloc)?)
 }
 
 // Whether a text has digits alone.
@@ -154,9 +194,9 @@ fn options_in(matches: &ArgMatches) -> Option<Options>
     })
 }
 
-// What the words of the subcommand ask for, unless a number isn't written in digits.
-fn asked_in<'a>(matches: &ArgMatches<'a>) -> Option<Replay<'a>>
-    ensures value { option_map asked_by result ≡ asked_in (rows_of (found_of matches.now)) }
+// The replay that the words behind `replay` ask for, unless a number isn't written in digits.
+fn replay_in<'a>(matches: &ArgMatches<'a>) -> Option<Replay<'a>>
+    ensures value { option_map replay_by result ≡ replay_in (rows_of (found_of matches.now)) }
     ensures usable { IfSome result (λ r. AreUsable r.options) }
 {
     let options = options_in(matches)?;
@@ -169,27 +209,52 @@ fn asked_in<'a>(matches: &ArgMatches<'a>) -> Option<Replay<'a>>
     })
 }
 
-// What the words asked for, if they named the subcommand.
-fn asked_in_subcommand<'a>(matches: &ArgMatches<'a>) -> Option<Replay<'a>>
-    ensures value { option_map asked_by result ≡ option_and_then (λ p. asked_in p.1) (subcommand_rows_of matches.now) }
+// The run that the words behind `run` ask for, unless a number isn't written in digits.
+fn run_in<'a>(matches: &ArgMatches<'a>) -> Option<Run<'a>>
+    ensures value { option_map run_by result ≡ run_in (rows_of (found_of matches.now)) }
     ensures usable { IfSome result (λ r. AreUsable r.options) }
 {
+    let options = options_in(matches)?;
+    let file = text_of(matches, "SCRIPT")?;
+    Some(Run {
+        script: file,
+        options,
+    })
+}
+
+// What the words behind the name of a subcommand ask for, unless a number isn't written in digits.
+fn asked_behind<'a>(name: &str, matches: &ArgMatches<'a>) -> Option<Task<'a>>
+    ensures value { option_map asked_by result ≡ asked_behind name.now (rows_of (found_of matches.now)) }
+    ensures usable { IfSome result (λ t. AreUsable (options_of t)) }
+{
+    if name == "run" {
+        Some(Task::Run(run_in(matches)?))
+    } else {
+        Some(Task::Replay(replay_in(matches)?))
+    }
+}
+
+// What the words asked for, if they named a subcommand.
+fn asked_in_subcommand<'a>(matches: &ArgMatches<'a>) -> Option<Task<'a>>
+    ensures value { option_map asked_by result ≡ option_and_then (λ p. asked_behind p.0 p.1) (subcommand_rows_of matches.now) }
+    ensures usable { IfSome result (λ t. AreUsable (options_of t)) }
+{
     match matches.subcommand() {
-        Some((_, found)) => asked_in(found),
+        Some((name, found)) => asked_behind(name, found),
         None => None,
     }
 }
 
 // What words ask for, by a parser that knows what there can be.
-fn asked_of<'a, N: AsStr>(parser: &mut Command<'a>, words: &'a [N]) -> Result<Replay<'a>, Error>
+fn asked_of<'a, N: AsStr>(parser: &mut Command<'a>, words: &'a [N]) -> Result<Task<'a>, Error>
     requires { app_of parser.old ≡ accq_app }
-    ensures asked { IfOk result (λ r. asked_of (map N.text words.entry.now) ≡ Some (asked_by r)) }
-    ensures usable { IfOk result (λ r. AreUsable r.options) }
+    ensures asked { IfOk result (λ t. asked_of (map N.text words.entry.now) ≡ Some (asked_by t)) }
+    ensures usable { IfOk result (λ t. AreUsable (options_of t)) }
     ensures refused { IfErr result (λ e. (kind_of e ≡ OutOfMemory) ⊎ (asked_of (map N.text words.entry.now) ≡ None)) }
 {
     match parser.try_get_matches_from_mut(words) {
         Ok(matches) => match asked_in_subcommand(&matches) {
-            Some(replay) => Ok(replay),
+            Some(task) => Ok(task),
             None => Err(parser.error(
                 ErrorKind::InvalidValue,
                 "a number is written in digits alone",
@@ -205,9 +270,9 @@ fn asked_of<'a, N: AsStr>(parser: &mut Command<'a>, words: &'a [N]) -> Result<Re
 ///
 /// The parser's, with its text: a word that has no place, an option that stands twice or is beyond its limit, a name
 /// that is missing, a request for help or for the version; and want of memory.
-pub fn replay_of<'a, N: AsStr>(alloc: Global, words: &'a [N]) -> Result<Replay<'a>, Error>
-    ensures asked { IfOk result (λ r. asked_of (map N.text words.entry.now) ≡ Some (asked_by r)) }
-    ensures usable { IfOk result (λ r. AreUsable r.options) }
+pub fn task_of<'a, N: AsStr>(alloc: Global, words: &'a [N]) -> Result<Task<'a>, Error>
+    ensures asked { IfOk result (λ t. asked_of (map N.text words.entry.now) ≡ Some (asked_by t)) }
+    ensures usable { IfOk result (λ t. AreUsable (options_of t)) }
     ensures refused { IfErr result (λ e. (kind_of e ≡ OutOfMemory) ⊎ (asked_of (map N.text words.entry.now) ≡ None)) }
 {
     let mut parser = accq_words(alloc)?;

@@ -1,4 +1,4 @@
-//! `accq`: replays a script of hosts and OpenACC directives under a schedule, and reports what it means.
+//! `accq`: replays a script of hosts and OpenACC directives under a schedule, or runs it by threads, and reports what it means.
 #![tactic(auto)]
 
 mod command;
@@ -32,6 +32,7 @@ fn main(rt: HostRuntime) -> ExitCode {
         Err(_) => return ExitCode::from(told(DriverFault::Memory, &mut errors)),
     };
     let status = status_of(
+        &rt,
         rt.alloc(),
         words.as_slice(),
         &Disk { rt: &rt },

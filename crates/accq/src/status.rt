@@ -5,25 +5,38 @@ ghost use Rattle.std.specs.Io.KnownBytes.{Keeps};
 ghost use Rattle.acc_driver.specs.Inputs.{parts};
 ghost use Rattle.acc_driver.specs.Replays.{Answers, AreUsable, IsRun, defaults};
 ghost use Rattle.acc_driver.specs.declared.fault.DriverFault.TheVariants.{Output};
+ghost use Rattle.acc_driver.specs.Runs.{IsConfigured, ScriptAnswers};
 ghost use Rattle.accq.specs.Statuses.{AsksForOpen, FilesAnswer, InputReplayed, TellsWords, status_after, status_for};
-ghost use Rattle.accq.specs.Words.{asked_by, asked_of};
+ghost use Rattle.accq.specs.Words.{asked_of, replay_by};
 ghost use Rattle.clap.specs.Words.{kind_of};
 ghost use Rattle.clap.specs.declared.error.kind.ErrorKind.TheVariants.{OutOfMemory};
 
-use crate::command::{Replay, replay_of};
+use crate::command::{Replay, Run, Task, task_of};
 use crate::store::Store;
-use acc_driver::{DriverFault, Ended, Options, replay, replay_one};
+use acc_driver::{DriverFault, Ended, OpenGate, Options, replay, replay_one, run_script};
 use clap::Error;
 use clap::error::ErrorKind;
 use std::alloc::Global;
 use std::convert::AsStr;
 use std::io::{Read, Write};
+use std::sync::Wait;
+use std::thread::Threads;
 
 /// What the program does, for its words behind its own name. Without words it replays the input with the default
-/// options; the words `replay SCRIPT SCHEDULE`, with options, replay two files. The report goes to the output, and the
-/// answer is 0, or 1 where a host was refused. A fault of a text or of the words is answered by 2, all else by 3, and
-/// told to the errors: by one line, or for the words by the parser's own text.
-pub fn status_of<F: Read + Drop, S: Store<F>, N: AsStr, R: Read, W: Write, E: Write>(
+/// options; the words `replay SCRIPT SCHEDULE`, with options, replay two files, and `run SCRIPT`, with options, runs the
+/// script of a file by threads. The report goes to the output, and the answer is 0, or 1 where a host was refused. A
+/// fault of a text or of the words is answered by 2, all else by 3, and told to the errors: by one line, or for the words
+/// by the parser's own text.
+pub fn status_of<
+    T: Threads + Wait + Sync,
+    F: Read + Drop,
+    S: Store<F>,
+    N: AsStr,
+    R: Read,
+    W: Write,
+    E: Write,
+>(
+    rt: &T,
     alloc: Global,
     words: &[N],
     files: &S,
@@ -39,8 +52,9 @@ pub fn status_of<F: Read + Drop, S: Store<F>, N: AsStr, R: Read, W: Write, E: Wr
     if words.len() <= 1 {
         return status_after(replay_input(alloc, input, output), errors);
     }
-    match replay_of(alloc, words) {
-        Ok(asked) => status_after(replay_files(alloc, &asked, files, output), errors),
+    match task_of(alloc, words) {
+        Ok(Task::Replay(asked)) => status_after(replay_files(alloc, &asked, files, output), errors),
+        Ok(Task::Run(asked)) => status_after(run_file(rt, alloc, &asked, files, output), errors),
         Err(error) => told_words(&error, errors),
     }
 }
@@ -77,7 +91,7 @@ fn replay_files<F: Read + Drop, S: Store<F>, W: Write>(
     output: &mut W,
 ) -> Result<Ended, DriverFault>
     requires { AreUsable asked.now.options }
-    ensures answers { FilesAnswer (S.holds files.now) (asked_by asked.now) (W.contents output.old) (W.contents output.new) result }
+    ensures answers { FilesAnswer (S.holds files.now) (replay_by asked.now) (W.contents output.old) (W.contents output.new) result }
     ensures script { AsksForOpen (S.opens files.now asked.now.script.now) result }
     ensures schedule { AsksForOpen (S.opens files.now asked.now.schedule.now) result }
     ensures run { IsRun result }
@@ -89,6 +103,26 @@ fn replay_files<F: Read + Drop, S: Store<F>, W: Write>(
         return Err(DriverFault::Input);
     };
     let ended = replay(alloc, &mut script, &mut schedule, asked.options, output)?;
+    sent(ended, output)
+}
+
+// Runs the script of a file by threads, where each batch passes.
+fn run_file<T: Threads + Wait + Sync, F: Read + Drop, S: Store<F>, W: Write>(
+    rt: &T,
+    alloc: Global,
+    asked: &Run,
+    files: &S,
+    output: &mut W,
+) -> Result<Ended, DriverFault>
+    requires { AreUsable asked.now.options }
+    ensures answers { IfSome (S.holds files.now asked.now.script.now) (λ script. ScriptAnswers asked.now.options script (W.contents output.old) (W.contents output.new) result) }
+    ensures script { AsksForOpen (S.opens files.now asked.now.script.now) result }
+    ensures configured { IsConfigured result }
+{
+    let Some(mut file) = files.open(asked.script) else {
+        return Err(DriverFault::Input);
+    };
+    let ended = run_script(rt, alloc, &mut file, asked.options, &OpenGate, output)?;
     sent(ended, output)
 }
 

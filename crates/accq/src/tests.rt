@@ -8,7 +8,9 @@ use acc_driver::DriverFault;
 use std::alloc::Global;
 use std::io::{Error, ErrorKind, Read, Result, Write};
 use std::process::Abort;
+use std::sync::Wait;
 use std::test::Fail;
+use std::thread::Threads;
 
 /// A reader, or a writer, that fails.
 #[derive(Drop)]
@@ -86,6 +88,10 @@ impl Read for Sheet {
 const SCRIPT: &[u8] =
     b"long a[2];\nhost {\n#pragma acc enter data create(a) async(1)\n#pragma acc update device(a) async(1)\nacc_set_device_num(1);\nprint(acc_get_num_devices());\n}\n";
 
+/// A loop doubles an array that is present, and the array is copied out.
+const DOUBLED: &[u8] =
+    b"long a[4] = {1,2,3,4};\nhost {\n#pragma acc enter data copyin(a)\n#pragma acc parallel loop present(a)\nfor (i = 0; i < 4; i++) a[i] = a[i] * 2;\n#pragma acc exit data copyout(a)\nprint(a);\n}\n";
+
 const SCHEDULE: &[u8] = b"host 0 4\nround 5\n";
 
 /// A few files.
@@ -101,6 +107,7 @@ impl Store<Sheet> for Shelf {
         match name {
             "script" => Some(Sheet::Bytes(SCRIPT)),
             "schedule" => Some(Sheet::Bytes(SCHEDULE)),
+            "doubled" => Some(Sheet::Bytes(DOUBLED)),
             "faulty" => Some(Sheet::Bytes(b"long a[01];\n")),
             "empty" => Some(Sheet::Bytes(b"")),
             "folder" => Some(Sheet::Unreadable),
@@ -250,6 +257,67 @@ const FILES: &[Told] = &[
     },
 ];
 
+/// Runs, and files that aren't run: one that holds no script, one that isn't there, and one that can't be read. With room for one
+/// batch a directive that finds the queue full is tried again.
+const RUNS: &[Told] = &[
+    Told {
+        words: &["accq", "run", "doubled"],
+        input: b"",
+        status: 0,
+        output: b"host 0\n2 4 6 8\ndone\nqueue 0 sync batches 3 operations 5 of 5\nend\n",
+        errors: b"",
+    },
+    Told {
+        words: &["accq", "run", "script"],
+        input: b"",
+        status: 1,
+        output: ON_ONE,
+        errors: b"",
+    },
+    Told {
+        words: &["accq", "run", "--devices=2", "script", "--room", "1"],
+        input: b"",
+        status: 0,
+        output: ON_TWO,
+        errors: b"",
+    },
+    Told {
+        words: &["accq", "run", "script", "--cells", "01"],
+        input: b"",
+        status: 1,
+        output: IN_ONE_CELL,
+        errors: b"",
+    },
+    Told {
+        words: &["accq", "run", "empty"],
+        input: b"",
+        status: 0,
+        output: b"end\n",
+        errors: b"",
+    },
+    Told {
+        words: &["accq", "run", "faulty"],
+        input: b"",
+        status: 2,
+        output: b"",
+        errors: b"accq: script line 1: Form\n",
+    },
+    Told {
+        words: &["accq", "run", "missing"],
+        input: b"",
+        status: 3,
+        output: b"",
+        errors: b"accq: cannot read\n",
+    },
+    Told {
+        words: &["accq", "run", "folder"],
+        input: b"",
+        status: 3,
+        output: b"",
+        errors: b"accq: cannot read\n",
+    },
+];
+
 /// Words that are refused with the parser's text, which begins so.
 const FAULTY_WORDS: &[(&[&str], &[u8])] = &[
     (
@@ -319,15 +387,37 @@ const FAULTY_WORDS: &[(&[&str], &[u8])] = &[
         &["accq", "replay", "-h"],
         b"Replays a script under a schedule",
     ),
+    (&["accq", "run", "-h"], b"Runs a script by threads"),
+    (
+        &["accq", "run"],
+        b"error: the following required arguments were not provided:\n  <SCRIPT>",
+    ),
+    (
+        &["accq", "run", "script", "schedule"],
+        b"error: unexpected argument 'schedule' found",
+    ),
+    (
+        &["accq", "run", "script", "--room", "0"],
+        b"error: invalid value '0' for '--room <N>'",
+    ),
+    (
+        &["accq", "run", "script", "--devices", "+1"],
+        b"error: a number is written in digits alone",
+    ),
     (&["accq", "--version"], b"accq 0.1.0"),
 ];
 
 // What the program answers and writes.
-fn answered(alloc: Global, case: &Told) -> (u8, Vec<u8>, Vec<u8>) {
+fn answered<T: Threads + Wait + Sync>(
+    rt: &T,
+    alloc: Global,
+    case: &Told,
+) -> (u8, Vec<u8>, Vec<u8>) {
     let mut input = case.input;
     let mut output = Vec::new(alloc);
     let mut errors = Vec::new(alloc);
     let status = status_of(
+        rt,
         alloc,
         case.words,
         &Shelf,
@@ -343,15 +433,15 @@ fn check_told(rt: &impl Abort, status: u8, written: &[u8], wanted: u8, text: &[u
     assert_eq!(rt; (status, written), (wanted, text));
 }
 
-fn check_case(rt: &impl Abort, alloc: Global, case: &Told) {
-    let (status, output, errors) = answered(alloc, case);
+fn check_case<T: Abort + Threads + Wait + Sync>(rt: &T, alloc: Global, case: &Told) {
+    let (status, output, errors) = answered(rt, alloc, case);
     check_told(rt, status, output.as_slice(), case.status, case.output);
     check_told(rt, status, errors.as_slice(), case.status, case.errors);
 }
 
 #[test]
 fn words_and_inputs_have_their_status(rt: HostRuntime) -> std::result::Result<(), Fail> {
-    for cases in [INPUTS, FILES] {
+    for cases in [INPUTS, FILES, RUNS] {
         for case in cases {
             check_case(&rt, rt.alloc(), case);
         }
@@ -364,7 +454,12 @@ fn check_begin(rt: &impl Abort, text: &[u8], begin: &[u8]) {
     assert!(rt; text.starts_with(begin));
 }
 
-fn check_faulty(rt: &impl Abort, alloc: Global, words: &'static [&'static str], begin: &[u8]) {
+fn check_faulty<T: Abort + Threads + Wait + Sync>(
+    rt: &T,
+    alloc: Global,
+    words: &'static [&'static str],
+    begin: &[u8],
+) {
     let case = Told {
         words,
         input: b"",
@@ -372,7 +467,7 @@ fn check_faulty(rt: &impl Abort, alloc: Global, words: &'static [&'static str], 
         output: b"",
         errors: b"",
     };
-    let (status, output, errors) = answered(alloc, &case);
+    let (status, output, errors) = answered(rt, alloc, &case);
     check_told(rt, status, output.as_slice(), 2, b"");
     check_begin(rt, errors.as_slice(), begin);
 }
@@ -387,11 +482,13 @@ fn faulty_words_are_told_by_the_parser(rt: HostRuntime) -> std::result::Result<(
 
 const NAMED: &[&str] = &["accq", "replay", "script", "schedule"];
 
+const RUN: &[&str] = &["accq", "run", "script"];
+
 const CANNOT_WRITE: &[u8] = b"accq: cannot write\n";
 
 // With these words and streams the status is 3, and this is told.
-fn check_streams<R: Read, W: Write>(
-    rt: &impl Abort,
+fn check_streams<T: Abort + Threads + Wait + Sync, R: Read, W: Write>(
+    rt: &T,
     alloc: Global,
     words: &[&str],
     input: &mut R,
@@ -399,15 +496,20 @@ fn check_streams<R: Read, W: Write>(
     text: &[u8],
 ) {
     let mut errors = Vec::new(alloc);
-    let status = status_of(alloc, words, &Shelf, input, output, &mut errors);
+    let status = status_of(rt, alloc, words, &Shelf, input, output, &mut errors);
     check_told(rt, status, errors.as_slice(), 3, text);
 }
 
 // A writer that takes so many bytes of a report has taken them.
-fn check_narrow(rt: &impl Abort, alloc: Global, room: usize) {
+fn check_narrow<T: Abort + Threads + Wait + Sync>(
+    rt: &T,
+    alloc: Global,
+    words: &[&str],
+    room: usize,
+) {
     let mut input: &[u8] = b"";
     let mut output = Narrow { room, taken: 0 };
-    check_streams(rt, alloc, NAMED, &mut input, &mut output, CANNOT_WRITE);
+    check_streams(rt, alloc, words, &mut input, &mut output, CANNOT_WRITE);
     assert_eq!(rt; output.taken, room);
 }
 
@@ -415,16 +517,17 @@ fn check_narrow(rt: &impl Abort, alloc: Global, room: usize) {
 /// reader that fails.
 #[test]
 fn streams_that_fail_have_status_three(rt: HostRuntime) -> std::result::Result<(), Fail> {
-    let alloc = rt.alloc();
     for room in [0, 40, ON_ONE.len().saturating_sub(1)] {
-        check_narrow(&rt, alloc, room);
+        check_narrow(&rt, rt.alloc(), NAMED, room);
+        check_narrow(&rt, rt.alloc(), RUN, room);
     }
     let mut input: &[u8] = b"";
-    check_streams(&rt, alloc, NAMED, &mut input, &mut Stuck, CANNOT_WRITE);
-    check_streams(&rt, alloc, &[], &mut input, &mut Stuck, CANNOT_WRITE);
+    for words in [NAMED, RUN, &[]] {
+        check_streams(&rt, rt.alloc(), words, &mut input, &mut Stuck, CANNOT_WRITE);
+    }
     let mut output = Narrow { room: 0, taken: 0 };
     let text = b"accq: cannot read\n";
-    check_streams(&rt, alloc, &[], &mut Broken, &mut output, text);
+    check_streams(&rt, rt.alloc(), &[], &mut Broken, &mut output, text);
     Ok(())
 }
 
@@ -435,6 +538,7 @@ fn errors_that_fail_change_no_status(rt: HostRuntime) -> std::result::Result<(),
     let mut output = Narrow { room: 0, taken: 0 };
     for (words, wanted) in CASES {
         let status = status_of(
+            &rt,
             rt.alloc(),
             words,
             &Shelf,

@@ -1,7 +1,10 @@
-//! Replays each example, and compares what is answered with its report.
+//! Replays each example, or runs it with threads, and compares what is answered with its report.
 #![tactic(auto)]
 
-use acc_driver::{Options, replay, replay_one};
+use acc_driver::{DriverFault, Ended, OpenGate, Options, replay, replay_one, run_script, split};
+use std::alloc::Global;
+use std::sync::Wait;
+use std::thread::Threads;
 use std::{fs, io};
 
 const TWO_DEVICES: Options = Options {
@@ -58,6 +61,33 @@ const EXAMPLES: [(&str, Option<Options>); 32] = [
     ("queue-full", Some(ROOM_FOR_TWO)),
 ];
 
+// Each example whose report no schedule changes that lets all end: threads give it, too. The last has no schedule at all.
+const RUNS: [(&str, Options); 23] = [
+    ("ranges", Options::DEFAULT),
+    ("stale", Options::DEFAULT),
+    ("counting", Options::DEFAULT),
+    ("parts", Options::DEFAULT),
+    ("finalize", Options::DEFAULT),
+    ("nested", Options::DEFAULT),
+    ("updates", Options::DEFAULT),
+    ("implicit", Options::DEFAULT),
+    ("shifted", Options::DEFAULT),
+    ("async", Options::DEFAULT),
+    ("queues", Options::DEFAULT),
+    ("release", Options::DEFAULT),
+    ("ordered", Options::DEFAULT),
+    ("devices", TWO_DEVICES),
+    ("no-device", Options::DEFAULT),
+    ("bad-async", Options::DEFAULT),
+    ("outside-array", Options::DEFAULT),
+    ("too-many", Options::DEFAULT),
+    ("refusal", Options::DEFAULT),
+    ("absent", Options::DEFAULT),
+    ("device-full", EIGHT_CELLS),
+    ("outside-range", Options::DEFAULT),
+    ("threads", TWO_DEVICES),
+];
+
 // The bytes of an example's file.
 fn read(rt: &HostRuntime, name: &str, kind: &str) -> io::Result<Vec<u8>> {
     fs::read(rt, format!(in rt.alloc(); "{name}.{kind}")?)
@@ -77,21 +107,62 @@ fn answer(rt: &HostRuntime, name: &str, options: Option<Options>) -> io::Result<
             replay(alloc, &mut script, &mut schedule, options, &mut written)
         }
     };
+    told(alloc, answered, written)
+}
+
+// What the program answers to an example's script alone, which it runs with threads.
+fn run_answer<R: Threads + Wait + Sync>(
+    rt: &HostRuntime,
+    threads: &R,
+    name: &str,
+    options: Options,
+) -> io::Result<Vec<u8>> {
+    let alloc = rt.alloc();
+    let text = read(rt, name, "acc")?;
+    let (mut script, _) = split(text.as_slice());
+    let mut written = Vec::new(alloc);
+    let answered = run_script(
+        threads,
+        alloc,
+        &mut script,
+        options,
+        &OpenGate,
+        &mut written,
+    );
+    told(alloc, answered, written)
+}
+
+// The report that was written, or the line of the fault.
+fn told(
+    alloc: Global,
+    answered: Result<Ended, DriverFault>,
+    written: Vec<u8>,
+) -> io::Result<Vec<u8>> {
     match answered {
         Ok(_) => Ok(written),
         Err(fault) => Ok(format!(in alloc; "accq: {fault}\n")?.into_bytes()),
     }
 }
 
+// Says whether what was answered to an example is its report.
+fn print_compared(rt: &HostRuntime, name: &str, how: &str, answered: &[u8]) -> io::Result<()> {
+    let report = read(rt, name, "report")?;
+    let not = if answered == report.as_slice() {
+        ""
+    } else {
+        "NOT "
+    };
+    println!(rt; "{name}{how}: {not}as its report says")
+}
+
 fn main(rt: HostRuntime) -> io::Result<()> {
     for (name, options) in &EXAMPLES {
-        let report = read(&rt, name, "report")?;
         let answered = answer(&rt, name, *options)?;
-        if answered.as_slice() == report.as_slice() {
-            println!(rt; "{name}: as its report says")?;
-        } else {
-            println!(rt; "{name}: NOT as its report says")?;
-        }
+        print_compared(&rt, name, "", answered.as_slice())?;
+    }
+    for (name, options) in &RUNS {
+        let answered = run_answer(&rt, &rt, name, *options)?;
+        print_compared(&rt, name, ", run", answered.as_slice())?;
     }
     Ok(())
 }

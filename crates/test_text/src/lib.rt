@@ -15,3 +15,5 @@ mod runs;
 mod schedules;
 #[cfg(test)]
 mod streams;
+#[cfg(test)]
+mod threads;

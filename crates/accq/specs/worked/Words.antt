@@ -2,23 +2,34 @@
 use Rattle.std.specs.Prelude.{◌≡◌, ℕ, List, [], ◌∷◌, Option, Some, None, codes}
 use Rattle.clap.specs.Words.{Text}
 use Rattle.acc_driver.specs.Replays.{defaults}
-use Rattle.accq.specs.Words.{Asked, asked_of}
+use Rattle.accq.specs.Words.{Asked, ToReplay, ToRun, asked_of}
 
--- the files a and b, with these options
+-- a replay of the files a and b, with these options
 abbrev pub asks : ℕ → ℕ → ℕ → Option Asked
-asks devices cells room = Some (record { script = codes "a"; schedule = codes "b"; options = record { devices = devices; cells = cells; room = room } })
+asks devices cells room =
+    Some (ToReplay (record { script = codes "a"; schedule = codes "b"; options = record { devices = devices; cells = cells; room = room } }))
+
+-- a run of the file a, with these options
+abbrev pub asks_to_run : ℕ → ℕ → ℕ → Option Asked
+asks_to_run devices cells room = Some (ToRun (record { script = codes "a"; options = record { devices = devices; cells = cells; room = room } }))
 
 -- behind `accq replay`
 abbrev pub replay : List Text → Option Asked
 replay words = asked_of (codes "accq" ∷ codes "replay" ∷ words)
 
--- Two names alone ask for the default options. An option stands before, between or behind them, with `=` or without.
+-- behind `accq run`
+abbrev pub run : List Text → Option Asked
+run words = asked_of (codes "accq" ∷ codes "run" ∷ words)
+
+-- Two names behind `replay` alone, or one behind `run`, ask for the default options. An option stands before, between or behind them, with `=` or without.
 pub record AreAsked : Type 0 where
-  pub names : replay (codes "a" ∷ codes "b" ∷ []) ≡ Some (record { script = codes "a"; schedule = codes "b"; options = defaults })
+  pub names : replay (codes "a" ∷ codes "b" ∷ []) ≡ Some (ToReplay (record { script = codes "a"; schedule = codes "b"; options = defaults }))
   pub before : replay (codes "--devices" ∷ codes "4" ∷ codes "a" ∷ codes "b" ∷ []) ≡ asks 4 4194304 64
   pub between : replay (codes "a" ∷ codes "--cells=4294967296" ∷ codes "b" ∷ []) ≡ asks 1 4294967296 64
   pub behind : replay (codes "a" ∷ codes "b" ∷ codes "--room" ∷ codes "1024" ∷ []) ≡ asks 1 4194304 1024
   pub all : replay (codes "--room=1" ∷ codes "a" ∷ codes "--cells" ∷ codes "01" ∷ codes "--devices=2" ∷ codes "b" ∷ []) ≡ asks 2 1 1
+  pub one_name : run (codes "a" ∷ []) ≡ Some (ToRun (record { script = codes "a"; options = defaults }))
+  pub around : run (codes "--room=1" ∷ codes "a" ∷ codes "--devices" ∷ codes "2" ∷ []) ≡ asks_to_run 2 4194304 1
   pub behind_dashes : replay (codes "--devices=3" ∷ codes "--" ∷ codes "a" ∷ codes "b" ∷ []) ≡ asks 3 4194304 64
 
 -- What asks for nothing: an option beyond its limits, not in digits alone or written twice, a name too few or too many, a word that there isn't, and
@@ -32,6 +43,9 @@ pub record AreRefused : Type 0 where
   pub twice : replay (codes "a" ∷ codes "b" ∷ codes "--room=1" ∷ codes "--room=1" ∷ []) ≡ None
   pub without_a_number : replay (codes "a" ∷ codes "b" ∷ codes "--room" ∷ []) ≡ None
   pub one_name : replay (codes "a" ∷ []) ≡ None
+  pub no_name : run [] ≡ None
+  pub a_schedule : run (codes "a" ∷ codes "b" ∷ []) ≡ None
+  pub no_room : run (codes "a" ∷ codes "--room=0" ∷ []) ≡ None
   pub three_names : replay (codes "a" ∷ codes "b" ∷ codes "c" ∷ []) ≡ None
   pub unknown : replay (codes "a" ∷ codes "b" ∷ codes "--hosts=1" ∷ []) ≡ None
   pub no_subcommand : asked_of (codes "accq" ∷ codes "a" ∷ codes "b" ∷ []) ≡ None

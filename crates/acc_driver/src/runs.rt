@@ -1,0 +1,174 @@
+//! The path from a script's bytes to its report, by threads, with the faults in their order.
+
+ghost use Rattle.std.specs.Prelude.{◌≡◌, ◌≤◌, ◌⊎◌, IfOk, IfErr, IfSome, length, map};
+ghost use Rattle.acc_base.specs.Configurations.{rows};
+ghost use Rattle.acc_base.specs.declared.config.TheConstants.{MAX_HOSTS};
+ghost use Rattle.acc_base.specs.declared.fault.Fault.TheVariants.{Memory};
+ghost use Rattle.acc_host.specs.Hosts.{AreNumbered, ready, state_of};
+ghost use Rattle.acc_run.specs.Finishing.{HasCounts};
+ghost use Rattle.acc_report.specs.Reports.{left_by};
+ghost use Rattle.acc_script.specs.Arrays.{IsDeclared, texts};
+ghost use Rattle.acc_script.specs.Scripts.{program_of};
+ghost use Rattle.acc_driver.specs.Replays.{AreUsable};
+ghost use Rattle.acc_driver.specs.Runs.{IsConfigured, IsUnfinished, LeftByThreads, ProgramAnswers, ScriptAnswers};
+
+use crate::fault::DriverFault;
+use crate::input::read_text;
+use crate::options::{Ended, Options};
+use crate::program::{config_of, copies_of, has_refused, read_script};
+use crate::replays::{TEXT_LIMIT, TEXT_TURNS};
+use acc_base::{Config, Fault, QueueAt};
+use acc_host::{Host, HostProgram, HostState, Outcome};
+use acc_report::{ReportFault, report};
+use acc_run::laws::{new_hosts_are_paired, tokens_follow};
+use acc_run::{Gate, Runtime};
+use acc_script::Script;
+use std::alloc::Global;
+use std::io::{Read, Write};
+use std::sync::Wait;
+use std::thread::Threads;
+
+/// A gate that each batch passes.
+#[derive(Drop)]
+pub struct OpenGate;
+
+impl Gate for OpenGate {
+    fn pass(&self, _at: QueueAt, _number: u64) -> bool {
+        true
+    }
+}
+
+/// Reads a script, runs its hosts and its queues, each in a thread of its own, and writes the report. What two threads do at
+/// once may come in either order, so the same script may be reported in another way the next time.
+///
+/// # Errors
+///
+/// The first of: `Input` where the reader failed or gave its bytes in too many turns; `Script`; `Runtime` where the options are
+/// refused, with their fault, or where the run can't be finished, as the gate kept a queue from its batches, with `Unfinished`;
+/// `Output` where the writer failed or took nothing, which may have taken a beginning of the report; and `Memory` for want of
+/// memory, or of a thread for each queue. A host that gets no thread is refused `Memory`, and reported so. Nothing is written but
+/// for `Output`.
+pub fn run_script<R: Threads + Wait + Sync, S: Read, G: Gate + Sync, W: Write>(
+    rt: &R,
+    alloc: Global,
+    script: &mut S,
+    options: Options,
+    gate: &G,
+    writer: &mut W,
+) -> Result<Ended, DriverFault>
+    ensures answers { IfSome (S.remaining script.old) (λ script. ScriptAnswers options script (W.contents writer.old) (W.contents writer.new) result) }
+    ensures configured { AreUsable options → IsConfigured result }
+{
+    let text = match read_text(alloc, script, TEXT_LIMIT, TEXT_TURNS) {
+        Ok(text) => text,
+        Err(fault) => return Err(fault.of_reader()),
+    };
+    match read_script(alloc, text.as_slice()) {
+        Ok(script) => run(rt, alloc, script, options, gate, writer),
+        Err(fault) => Err(fault.of_input()),
+    }
+}
+
+// Runs what a script says by threads, and writes the report.
+fn run<R: Threads + Wait + Sync, G: Gate + Sync, W: Write>(
+    rt: &R,
+    alloc: Global,
+    script: Script,
+    options: Options,
+    gate: &G,
+    writer: &mut W,
+) -> Result<Ended, DriverFault>
+    requires declared { IsDeclared (record { names = texts script.names.keys; cells = rows script.arrays.items }) }
+    requires numbered { AreNumbered 0 script.programs.items }
+    requires few { length script.programs.items ≤ MAX_HOSTS }
+    ensures answers { ProgramAnswers options (program_of script.entry) (W.contents writer.old) (W.contents writer.new) result }
+    ensures configured { AreUsable options → IsConfigured result }
+{
+    let Script {
+        names,
+        arrays,
+        programs,
+    } = script;
+    let copies = match copies_of(alloc, programs.as_slice()) {
+        Ok(copies) => copies,
+        Err(_) => return Err(DriverFault::Memory),
+    };
+    let config = match config_of(alloc, options, &programs, arrays) {
+        Ok(config) => config,
+        Err(fault) => return Err(fault.of_input()),
+    };
+    let outcome = match run_threads(rt, alloc, &config, programs, gate) {
+        Ok(outcome) => outcome,
+        Err(Fault::Memory) => return Err(DriverFault::Memory),
+        Err(fault) => return Err(DriverFault::Runtime(fault)),
+    };
+    let script = Script {
+        names,
+        arrays: Vec::new(alloc),
+        programs: copies,
+    };
+    match report(alloc, &outcome, &script, writer) {
+        Ok(()) => {
+            let refused = has_refused(outcome.hosts.as_slice());
+            Ok(Ended { refused })
+        }
+        Err(ReportFault::Write) => Err(DriverFault::Output),
+        Err(ReportFault::Memory) => Err(DriverFault::Memory),
+    }
+}
+
+// Runs programs by threads to their end, and tells what they leave.
+fn run_threads<R: Threads + Wait + Sync, G: Gate + Sync>(
+    rt: &R,
+    alloc: Global,
+    config: &Config,
+    programs: Vec<HostProgram>,
+    gate: &G,
+) -> Result<Outcome, Fault>
+    requires numbered { AreNumbered 0 programs.items }
+    requires count { length programs.items ≡ config.now.hosts }
+    ensures left { IfOk result (λ o. LeftByThreads config.now programs.items (left_by o)) }
+    ensures counted { IfOk result (λ o. HasCounts o) }
+    ensures fault { IfErr result (λ f. (f ≡ Memory) ⊎ IsUnfinished f) }
+{
+    new_hosts_are_paired();
+    tokens_follow();
+    let (runtime, tokens) = Runtime::new(alloc, config)?;
+    let hosts = ready_hosts(alloc, programs)?;
+    let (hosts, tokens) = match runtime.run(rt, alloc, gate, hosts, tokens) {
+        Ok(back) => back,
+        Err((fault, _, _)) => return Err(fault),
+    };
+    let states = states_of(alloc, hosts.as_slice())?;
+    match runtime.finish(tokens) {
+        Ok(mut outcome) => {
+            outcome.hosts = states;
+            Ok(outcome)
+        }
+        Err(refused) => Err(refused.fault),
+    }
+}
+
+// The hosts of these programs, each ready for its first statement.
+fn ready_hosts(alloc: Global, programs: Vec<HostProgram>) -> Result<Vec<Host>, Fault>
+    ensures hosts { IfOk result (λ hosts. hosts.items ≡ map ready programs.items) }
+    ensures fault { IfErr result (λ f. f ≡ Memory) }
+{
+    let mut hosts = Vec::with_capacity(alloc, programs.len())?;
+    for program in programs {
+        hosts.push_reserved(Host::new(program));
+    }
+    Ok(hosts)
+}
+
+// Where each host stands.
+fn states_of(alloc: Global, hosts: &[Host]) -> Result<Vec<HostState>, Fault>
+    ensures states { IfOk result (λ states. states.items ≡ map state_of hosts.now) }
+    ensures fault { IfErr result (λ f. f ≡ Memory) }
+{
+    let mut states = Vec::with_capacity(alloc, hosts.len())?;
+    for host in hosts {
+        states.push_reserved(host.state());
+    }
+    Ok(states)
+}
