@@ -1,5 +1,5 @@
 -- A queue is closed: its last batch joins the queue, for which there is room.
-use Rattle.std.proofs.Common.{inl, inr, ◌≡◌, ℕ, ◌+◌, ◌<◌, Bool, true, false, cond, List, [], ◌∷◌, ◌++◌, length, Some, None, refl, sym, ap, subst, ◌∙◌, arith}
+use Rattle.std.proofs.Common.{inl, inr, ◌≡◌, ℕ, ◌+◌, ◌<◌, Bool, true, false, cond, List, [], ◌∷◌, ◌++◌, length, refl, sym, ap, subst, ◌∙◌, arith}
 use Rattle.std.specs.Prelude.{not, nat_lt, ◌&&◌, ◌||◌, slice_index_or, slice_set}
 use Rattle.std.proofs.lemmas.Bool.{cases_Bool, lt-ltb}
 use Rattle.std.proofs.lemmas.List.{append_assoc, append-nil, get_or-set_other, length-append, length-set}
@@ -15,7 +15,7 @@ use Rattle.acc_batch.specs.Labels.{on_queue, ops_of}
 use Rattle.acc_batch.proofs.Labels.{on_queue-append, ops_of-append}
 use Rattle.acc_batch.proofs.Seats.{each_seat, one_seat}
 use Rattle.acc_place.specs.declared.directive.PlaceEntry.TheVariants as noted
-use Rattle.acc_place.specs.Closing.{left_open, place_after_begin, close_of, place_after_close, handed_out, is_at_hand, IsOut}
+use Rattle.acc_place.specs.Closing.{left_open, place_after_begin, place_after_close, handed_out, is_at_hand, IsOut}
 use Rattle.acc_place.specs.Histories.{is_closed, standing, CanClose, IsQueue}
 use Rattle.acc_place.specs.Directives.{Directive}
 use Rattle.acc_place.specs.Plans.{PlaceView, standing_in}
@@ -168,11 +168,3 @@ can_now w v queues waiting at s q early fits =
     let e = held_is w v queues at (queue_in queues at) s (q.each at) in
     let yes : nat_lt (batches_held (with_taken w v) (labels_of w) at) w.config.room ≡ true = lt-ltb (batches_held (with_taken w v) (labels_of w) at) w.config.room (omega (arith, e, fits)) in
     rw (early, yes) refl
-
--- what was handed out
-pub close_some : (p : PlaceView) (at : QueueAt) (b : Label) → Some b ≡ close_of p at → (is_at_hand p at ≡ true) × (b ≡ close_label at (standing_in p).labels)
-close_some p at b e = by_hand (is_at_hand p at) e
-  where
-    by_hand : (hand : Bool) → Some b ≡ cond hand (Some (close_label at (standing_in p).labels)) None → (hand ≡ true) × (b ≡ close_label at (standing_in p).labels)
-    by_hand true e = (refl, cc)
-    by_hand false e = absurd cc

@@ -1,8 +1,7 @@
 -- An item of a host joins the log of an accelerator.
 use Rattle.std.proofs.Common.{◌≡◌, ℕ, ◌+◌, ◌<◌, ◌≤◌, true, false, cond, List, ◌∷◌, length, map, refl, sym, ap, subst, ◌∙◌, arith, Some, None, Ok, Err}
-use Rattle.std.specs.Prelude.{ℤ, All, Bool, not, nat_le, slice_get}
+use Rattle.std.specs.Prelude.{Bool, not, nat_le, slice_get}
 use Rattle.std.proofs.lemmas.Bool.{lt-leb}
-use Rattle.acc_base.specs.declared.config.TheConstants.{MAX_CELLS}
 use Rattle.acc_base.specs.declared.fault.Fault.{Fault}
 use Rattle.acc_base.specs.declared.fault.Fault.TheVariants.{BadRange, TooMany, Memory}
 use Rattle.acc_host.specs.Engines.{MayRecord}
@@ -17,16 +16,14 @@ use Rattle.acc_work.specs.Items.{has_cells, shown_by}
 use Rattle.acc_work.specs.Logs.{all_items, all_done, value}
 use Rattle.acc_core.specs.Machine.{State, labels_of, unless, told_of, can_tell, item_answer}
 use Rattle.acc_memory.specs.Memories.{rows_in, room_in}
-use Rattle.acc_base.specs.Configurations.{lengths_of}
 use Rattle.acc_core.specs.inner.Queues.{QueueView, queue_in}
 use Rattle.acc_core.specs.inner.Ties.{IsAccelerator, QueueIs, Queued}
 use Rattle.acc_work.specs.Lanes.{LaneView, lane_in}
-use Rattle.acc_work.specs.Works.{WorkView, HasMadeRoom, HasTold, CanTell, Tells, item_fault, taken_counts, taken_labels}
+use Rattle.acc_work.specs.Works.{WorkView, HasMadeRoom, HasTold, Tells, item_fault, taken_counts, taken_labels}
 use Rattle.acc_work.specs.declared.item.ItemLabel.TheVariants as to_record
 use Rattle.acc_core.proofs.PerformOp.{with_work}
 use Rattle.acc_core.proofs.LegalSteps.{legal_item}
 use Rattle.acc_work.specs.Remembering.{Remembers}
-use Rattle.acc_work.proofs.RemembersWork.{has_same, no_longer}
 use Rattle.acc_core.proofs.Accept.{is_roomier}
 
 -- more room leaves the queues what they are

@@ -19,7 +19,7 @@ ghost use Rattle.acc_core.specs.Worlds.{OnePerHost, first_state, Ran};
 
 use crate::accelerator::Accelerator;
 use acc_base::{BlockId, Config, DeviceId, Fault, HostId, QueueAt, Range};
-use acc_host::{Event, Host, HostProgram, HostState, Outcome, Reply, hosts_follow};
+use acc_host::{Event, Host, HostProgram, HostState, Outcome, Reply, hosts_follow, ready_hosts};
 use acc_place::Place;
 use acc_present::Entry;
 use acc_work::WorkEntry;
@@ -260,16 +260,4 @@ impl World {
         let (place, works) = accelerator.into_parts();
         (place, works, states)
     }
-}
-
-// The hosts of these programs, each ready for its first statement.
-fn ready_hosts(alloc: Global, programs: Vec<HostProgram>) -> Result<Vec<Host>, Fault>
-    ensures hosts { IfOk result (λ hosts. hosts.items ≡ map ready programs.items) }
-    ensures refused { IfErr result (λ fault. fault ≡ Fault.Memory) }
-{
-    let mut hosts = Vec::with_capacity(alloc, programs.len())?;
-    for program in programs {
-        hosts.push_reserved(Host::new(program));
-    }
-    Ok(hosts)
 }

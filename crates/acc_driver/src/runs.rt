@@ -4,7 +4,7 @@ ghost use Rattle.std.specs.Prelude.{◌≡◌, ◌≤◌, ◌⊎◌, IfOk, IfErr
 ghost use Rattle.acc_base.specs.Configurations.{rows};
 ghost use Rattle.acc_base.specs.declared.config.TheConstants.{MAX_HOSTS};
 ghost use Rattle.acc_base.specs.declared.fault.Fault.TheVariants.{Memory};
-ghost use Rattle.acc_host.specs.Hosts.{AreNumbered, ready, state_of};
+ghost use Rattle.acc_host.specs.Hosts.{AreNumbered, state_of};
 ghost use Rattle.acc_run.specs.Finishing.{HasCounts};
 ghost use Rattle.acc_report.specs.Reports.{left_by};
 ghost use Rattle.acc_script.specs.Arrays.{IsDeclared, texts};
@@ -18,7 +18,7 @@ use crate::options::{Ended, Options};
 use crate::program::{config_of, copies_of, has_refused, read_script};
 use crate::replays::{TEXT_LIMIT, TEXT_TURNS};
 use acc_base::{Config, Fault, QueueAt};
-use acc_host::{Host, HostProgram, HostState, Outcome};
+use acc_host::{Host, HostProgram, HostState, Outcome, ready_hosts};
 use acc_report::{ReportFault, report};
 use acc_run::laws::{new_hosts_are_paired, tokens_follow};
 use acc_run::{Gate, Runtime};
@@ -147,18 +147,6 @@ fn run_threads<R: Threads + Wait + Sync, G: Gate + Sync>(
         }
         Err(refused) => Err(refused.fault),
     }
-}
-
-// The hosts of these programs, each ready for its first statement.
-fn ready_hosts(alloc: Global, programs: Vec<HostProgram>) -> Result<Vec<Host>, Fault>
-    ensures hosts { IfOk result (λ hosts. hosts.items ≡ map ready programs.items) }
-    ensures fault { IfErr result (λ f. f ≡ Memory) }
-{
-    let mut hosts = Vec::with_capacity(alloc, programs.len())?;
-    for program in programs {
-        hosts.push_reserved(Host::new(program));
-    }
-    Ok(hosts)
 }
 
 // Where each host stands.

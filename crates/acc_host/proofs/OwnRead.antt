@@ -3,13 +3,14 @@ use Rattle.std.proofs.Common.{◌≡◌, ◌⊎◌, inl, inr, ℕ, zero, suc, �
 use Rattle.std.specs.Borrow.{Bor}
 use Rattle.std.specs.Prelude.{All, ◌==◌, ◌^◌, Option, Some, None, option_copied, option_map, if◌then◌else◌}
 use Rattle.std.proofs.lemmas.List.{append_assoc, append-nil, length-reverse, length-take-le, reverse-append, reverse-reverse, take-append-drop}
-use Rattle.std.proofs.lemmas.List.Elements.{All-append, All-cons, All-head, All-nil, All-tail}
+use Rattle.std.proofs.lemmas.List.Elements.{All-head, All-tail}
 use Rattle.acc_base.specs.Configurations.{Configuration}
 use Rattle.acc_place.specs.Answers.{answers_of, is_directive, GoTogether}
 use Rattle.acc_place.specs.Histories.{standing}
 use Rattle.acc_place.specs.declared.directive.Placed.{Placed}
 use Rattle.acc_place.specs.declared.directive.PlaceEntry.{PlaceEntry}
 use Rattle.acc_place.specs.declared.directive.PlaceEntry.TheVariants.{Accepted, Closing, Closed}
+use Rattle.acc_place.proofs.AnswersKept.{All-reversed}
 use Rattle.acc_work.specs.declared.log.Told.{Told}
 use Rattle.acc_work.specs.declared.log.WorkEntry.{WorkEntry}
 use Rattle.acc_work.specs.declared.log.WorkEntry.TheVariants as entry
@@ -91,11 +92,6 @@ owned_all config host (Accepted h d ∷ before) (n ∷ counts) all many =
     (owned-append host (reverse before) (reverse counts) (reverse told) (Accepted h d) n o.placed counted answered
     ∙ (ap (λ (os : List Own). os ++ own_by host (Accepted h d) n o.placed) (owned_all config host before counts directives (omega (arith, many)))
     ∙ one_owned (h == host) (own_of config host before counts) o))
-
-All-reversed : {X : Type 0} (P : X → Type 0) (xs : List X) → All P xs → All P (reverse xs)
-All-reversed P [] all = All-nil P
-All-reversed P (x ∷ xs) all =
-    rw (reverse-append (x ∷ []) xs) (All-append P (reverse xs) (x ∷ []) (All-reversed P xs (All-tail P x xs all)) (All-cons P x [] (All-head P x xs all) (All-nil P)))
 
 -- The directives of a host, found by their places in the history's order.
 pub owned_are : (config : Configuration) (host : ℕ) (history : List PlaceEntry) (counts : List ℕ) → GoTogether config history counts

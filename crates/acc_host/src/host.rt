@@ -1,6 +1,7 @@
 //! A host.
 
-ghost use Rattle.std.specs.Prelude.{◌≡◌, ◌+◌, ◌<◌, ◌^◌, map, slice_get, Some};
+ghost use Rattle.std.specs.Prelude.{◌≡◌, ◌+◌, ◌<◌, ◌^◌, IfErr, IfOk, map, slice_get, Some};
+ghost use Rattle.acc_base.specs.declared.fault.Fault.TheVariants.{Memory};
 ghost use Rattle.acc_host.specs.Following.{Stands};
 ghost use Rattle.acc_host.specs.Engines.{Keeps};
 ghost use Rattle.acc_host.specs.Hosts.{ready, bare, Steps, host_after, reply_to, state_of, line_of, refused_at, ended_after, ids_gone, phase_after};
@@ -168,4 +169,20 @@ fn move_on(ended: &mut usize, ids: &mut Ids, phase: &mut Phase, goes: Result<Aft
             Reply::Refused(fault)
         }
     }
+}
+
+/// The hosts of these programs in their order, each before its first statement.
+///
+/// # Errors
+///
+/// `Memory` where memory is refused.
+pub fn ready_hosts(alloc: Global, programs: Vec<HostProgram>) -> Result<Vec<Host>, Fault>
+    ensures hosts { IfOk result (λ hosts. hosts.items ≡ map ready programs.items) }
+    ensures fault { IfErr result (λ f. f ≡ Memory) }
+{
+    let mut hosts = Vec::with_capacity(alloc, programs.len())?;
+    for program in programs {
+        hosts.push_reserved(Host::new(program));
+    }
+    Ok(hosts)
 }

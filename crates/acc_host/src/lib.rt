@@ -13,7 +13,7 @@ mod turn;
 
 pub use engine::Engine;
 pub use event::Event;
-pub use host::Host;
+pub use host::{Host, ready_hosts};
 pub use laws::{hosts_follow, worked_hosts};
 pub use outcome::Outcome;
 pub use own_entries::{OwnDirective, OwnDirectives, OwnEntries, OwnEntry, OwnItems};

@@ -85,7 +85,7 @@ parted config (Closed at ∷ before) counts all =
       early = λ begun. (let w : true ≡ false = sym all.0.begun ∙ begun in absurd cc);
     }
 
-All-reversed : {X : Type 0} (P : X → Type 0) (xs : List X) → All P xs → All P (reverse xs)
+pub All-reversed : {X : Type 0} (P : X → Type 0) (xs : List X) → All P xs → All P (reverse xs)
 All-reversed P [] all = All-nil P
 All-reversed P (x ∷ xs) all =
     rw (reverse-append (x ∷ []) xs) (All-append P (reverse xs) (x ∷ []) (All-reversed P xs (All-tail P x xs all)) (All-cons P x [] (All-head P x xs all) (All-nil P)))

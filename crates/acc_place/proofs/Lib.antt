@@ -1,9 +1,10 @@
 mod AcceptedDirective
 mod AfterClose
-mod AnswersKept
+pub mod AnswersKept
 pub mod AllVisits
 mod AwaitedNumbers
 mod BatchNotes
+pub mod CloseOut
 mod DeviceNotes
 mod DirectivesCounted
 mod EnteredRanges

@@ -4,11 +4,9 @@ use Rattle.std.proofs.lemmas.List.{append_assoc, length-append}
 use Rattle.std.specs.Prelude.{slice_set}
 use lib.ListN.{get_elem?}
 use mathlib.Core.Option.{some}
-use Rattle.acc_base.specs.declared.config.TheConstants.{MAX_HOSTS}
 use Rattle.acc_base.specs.declared.ids.QueueAt.{QueueAt}
 use Rattle.acc_batch.specs.declared.label.Label.{Label}
 use Rattle.acc_queue.specs.declared.rule.End.{End}
-use Rattle.acc_queue.specs.declared.rule.Role.{Role}
 use Rattle.acc_queue.specs.declared.rule.Role.TheVariants.{Both, Sends, Takes}
 use Rattle.acc_queue.specs.Tied.{AllFor, IsFor, Tied, end, no_queue}
 

@@ -2,8 +2,8 @@
 use Rattle.std.proofs.Common.{inl, inr, ◌≡◌, ℕ, ◌<◌, ◌≤◌, Bool, true, false, List, [], ◌∷◌, ◌++◌, drop, reverse, refl, sym, ap, subst, ◌∙◌, arith}
 use Rattle.std.specs.Prelude.{All, ◌==◌, slice_index_or}
 use Rattle.std.proofs.lemmas.Bool.{cases_lt, eq-eqb, ne_eqb}
-use Rattle.std.proofs.lemmas.List.{reverse-append, reverse-reverse}
-use Rattle.std.proofs.lemmas.List.Elements.{All-append, All-cons, All-head, All-nil, All-tail}
+use Rattle.std.proofs.lemmas.List.{reverse-reverse}
+use Rattle.std.proofs.lemmas.List.Elements.{All-cons, All-head, All-nil, All-tail}
 use Rattle.acc_base.specs.Configurations.{Configuration}
 use Rattle.acc_host.specs.Engines.{Had}
 use Rattle.acc_host.specs.Entries.{items_shown, own_after, own_of}
@@ -11,6 +11,7 @@ use Rattle.acc_place.specs.Histories.{standing}
 use Rattle.acc_place.specs.Plans.{PlaceView}
 use Rattle.acc_place.specs.declared.directive.PlaceEntry.{PlaceEntry}
 use Rattle.acc_place.specs.declared.directive.PlaceEntry.TheVariants as noted
+use Rattle.acc_place.proofs.AnswersKept.{All-reversed}
 use Rattle.acc_work.specs.Logs.{one_more}
 use Rattle.acc_work.specs.declared.log.WorkEntry.{WorkEntry}
 use Rattle.acc_work.specs.declared.log.WorkEntry.TheVariants as entry
@@ -74,18 +75,14 @@ shown_below hosts (entry.Item h what ∷ before) none =
 
 -- ## Both, from the first entry on
 
-All-turned : {X : Type 0} (P : X → Type 0) (xs : List X) → All P xs → All P (reverse xs)
-All-turned P [] all = All-nil P
-All-turned P (x ∷ xs) all = rw (reverse-append (x ∷ []) xs) (All-append P (reverse xs) (x ∷ []) (All-turned P xs (All-tail P x xs all)) (All-cons P x [] (All-head P x xs all) (All-nil P)))
-
 pub no_others : (p : PlaceView) (works : List WorkEntry) (hosts : ℕ) → All (IsPlacedBelow hosts) (reverse p.history) → All (IsShownBelow hosts) works → HasNoOthers (histories_by p works) hosts
 no_others p works hosts placed shown = λ host past. (
-  placed_none p.config host hosts p.history p.counts past (subst (All (IsPlacedBelow hosts)) (reverse-reverse p.history) (All-turned (IsPlacedBelow hosts) (reverse p.history) placed)),
-  shown_none host hosts (reverse works) past (All-turned (IsShownBelow hosts) works shown),
+  placed_none p.config host hosts p.history p.counts past (subst (All (IsPlacedBelow hosts)) (reverse-reverse p.history) (All-reversed (IsPlacedBelow hosts) (reverse p.history) placed)),
+  shown_none host hosts (reverse works) past (All-reversed (IsShownBelow hosts) works shown),
 )
 
 pub all_below : (p : PlaceView) (works : List WorkEntry) (hosts : ℕ) → HasNoOthers (histories_by p works) hosts → All (IsPlacedBelow hosts) (reverse p.history) × All (IsShownBelow hosts) works
 all_below p works hosts none = (
-  All-turned (IsPlacedBelow hosts) p.history (placed_below p.config hosts p.history p.counts (λ host past. (none host past).0)),
-  subst (All (IsShownBelow hosts)) (reverse-reverse works) (All-turned (IsShownBelow hosts) (reverse works) (shown_below hosts (reverse works) (λ host past. (none host past).1))),
+  All-reversed (IsPlacedBelow hosts) p.history (placed_below p.config hosts p.history p.counts (λ host past. (none host past).0)),
+  subst (All (IsShownBelow hosts)) (reverse-reverse works) (All-reversed (IsShownBelow hosts) (reverse works) (shown_below hosts (reverse works) (λ host past. (none host past).1))),
 )

@@ -204,14 +204,6 @@ hand_back [] n h = cc
 hand_back (b ∷ closes) zero h = refl
 hand_back (b ∷ closes) (suc n) h = hand_back closes n h
 
--- what is handed out
-pub close_some : (p : PlaceView) (at : QueueAt) (b : Label) → Some b ≡ close_of p at → (is_at_hand p at ≡ true) × (b ≡ close_label at (standing_in p).labels)
-close_some p at b e = by_hand (is_at_hand p at) e
-  where
-    by_hand : (hand : Bool) → Some b ≡ cond hand (Some (close_label at (standing_in p).labels)) None → (hand ≡ true) × (b ≡ close_label at (standing_in p).labels)
-    by_hand true e = (refl, cc)
-    by_hand false e = absurd cc
-
 pub close_none : (p : PlaceView) (at : QueueAt) → None ≡ close_of p at → is_at_hand p at ≡ false
 close_none p at e = by_hand (is_at_hand p at) e
   where

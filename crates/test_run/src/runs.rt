@@ -7,7 +7,7 @@ ghost use Rattle.acc_run.specs.Running.{Paired};
 
 use crate::fixtures::{Open, config_of, directive_with, queue};
 use acc_base::{Config, Fault, HostId, Listed, QueueAt, Range};
-use acc_host::{Act, Host, HostProgram, HostState, Statement};
+use acc_host::{Act, Host, HostProgram, HostState, Statement, ready_hosts};
 use acc_place::{Clause, Target, Waits};
 use acc_run::laws::new_hosts_are_paired;
 use acc_run::{Gate, HostToken, Runtime, TokenEntry};
@@ -92,17 +92,6 @@ fn programs_of(alloc: Global, hosts: u8) -> Result<Vec<HostProgram>, Fault>
         programs.push(program_of(alloc, host)?)?;
     }
     Ok(programs)
-}
-
-// The hosts of these programs, each ready for its first statement.
-fn ready_hosts(alloc: Global, programs: Vec<HostProgram>) -> Result<Vec<Host>, Fault>
-    ensures { IfOk result (λ hosts. hosts.items ≡ map ready programs.items) }
-{
-    let mut hosts = Vec::with_capacity(alloc, programs.len())?;
-    for program in programs {
-        hosts.push_reserved(Host::new(program));
-    }
-    Ok(hosts)
 }
 
 // How many directives of its own program a token lists in their order, and how many writes and prints.

@@ -1,12 +1,10 @@
 -- What closing makes of a state, queue by queue. Only private contracts and proofs cite it: `close_step` says it of all at once.
-use Rattle.std.specs.Prelude.{ℕ, zero, suc, ◌+◌, Bool, ◌∷◌, if◌then◌else◌}
+use Rattle.std.specs.Prelude.{ℕ, zero, suc, Bool, ◌∷◌, if◌then◌else◌}
 use Rattle.acc_base.specs.declared.ids.QueueAt.{QueueAt}
 use Rattle.acc_base.specs.Queues.{queue_count, at_seat}
 use Rattle.acc_host.specs.declared.state.Reply.TheVariants as reply
 use Rattle.acc_place.specs.declared.directive.PlaceEntry.TheVariants as noted
 use Rattle.acc_place.specs.Closing.{left_open}
-use Rattle.acc_place.specs.Histories.{is_closed}
-use Rattle.acc_place.specs.Standings.{Standing}
 use Rattle.acc_core.specs.Machine.{State, Outcome, can_close, standing_of, with_closing}
 
 abbrev pub closing_begun : State → State

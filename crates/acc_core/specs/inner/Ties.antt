@@ -1,13 +1,11 @@
 -- How the running parts of the core stand to its histories. Only private contracts and proofs cite it.
-use Rattle.std.specs.Prelude.{◌≡◌, ℕ, ℤ, ◌+◌, ◌<◌, ◌≤◌, Bool, true, false, not, List, [], ◌++◌, length, All}
+use Rattle.std.specs.Prelude.{◌≡◌, ℕ, ◌+◌, ◌<◌, ◌≤◌, false, not, List, [], ◌++◌, length, All}
 use Rattle.std.specs.List.{sum_by}
 use Rattle.acc_base.specs.declared.config.TheConstants.{MAX_HOSTS}
 use Rattle.acc_base.specs.declared.ids.QueueAt.{QueueAt}
 use Rattle.acc_base.specs.declared.ids.TheConstants.{QUEUES}
-use Rattle.acc_base.specs.Configurations.{Configuration, has_range}
+use Rattle.acc_base.specs.Configurations.{Configuration}
 use Rattle.acc_base.specs.Queues.{queue_count}
-use Rattle.acc_work.specs.declared.item.ItemLabel.{ItemLabel}
-use Rattle.acc_work.specs.declared.item.ItemLabel.TheVariants as to_record
 use Rattle.acc_batch.specs.declared.label.Label.{Label}
 use Rattle.acc_batch.specs.Labels.{on_queue, ops_of}
 use Rattle.acc_core.specs.Legality.{Legal}

@@ -6,8 +6,9 @@ use Rattle.acc_core.specs.Machine.{standing_of}
 use Rattle.acc_core.specs.inner.Queues.{QueueView, no_queue, queue_pushed, queue_in}
 use Rattle.acc_core.specs.inner.Ties.{state_of_parts}
 use Rattle.acc_core.proofs.ClosesOne.{closes_did, is_closed_then}
-use Rattle.acc_core.proofs.CloseQueue.{can_now, close_some, has_closed, keeps_closed}
+use Rattle.acc_core.proofs.CloseQueue.{can_now, has_closed, keeps_closed}
 use Rattle.acc_place.proofs.LeftOpen.{left_some}
+use Rattle.acc_place.proofs.CloseOut.{close_some}
 use Rattle.acc_core.proofs.Seats.{seated, waiting_low}
 use Rattle.acc_core.proofs.accelerator.Accelerator.close_queue.Goals as goal
 

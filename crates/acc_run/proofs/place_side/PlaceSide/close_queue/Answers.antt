@@ -1,5 +1,6 @@
 use Rattle.std.proofs.Common.{sym, ◌∙◌}
-use Rattle.acc_run.proofs.PlaceSideSteps.{close_some, close_returned, closed_sent, closes_one}
+use Rattle.acc_place.proofs.CloseOut.{close_some}
+use Rattle.acc_run.proofs.PlaceSideSteps.{close_returned, closed_sent, closes_one}
 use Rattle.acc_run.proofs.place_side.PlaceSide.close_queue.Goals as goal
 
 pub invariant_of-self-in-Err : goal.invariant_of-self-in-Err

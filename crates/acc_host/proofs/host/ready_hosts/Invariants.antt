@@ -1,7 +1,7 @@
 use Rattle.std.proofs.Common.{◌≡◌, ◌≤◌, ◌++◌, length, map}
 use Rattle.std.specs.Prelude.{vec_capacity}
 use Rattle.acc_host.specs.Hosts.{ready}
-use Rattle.acc_core.proofs.world.ready_hosts.Given as goal
+use Rattle.acc_host.proofs.host.ready_hosts.Given as goal
 
 abbrev pub invariant-loop-program : goal.invariant-loop-program
 invariant-loop-program l = record {
