@@ -1,6 +1,6 @@
 //! The hosts, and the accelerator that they share.
 
-ghost use Rattle.std.specs.Prelude.{List, ◌≡◌, ◌+◌, ◌<◌, ◌≤◌, length, map, All, reverse, is_some, slice_get, IfOk, IfErr, IfSome, IsTrue, OnErr, OnSome, true, false, ◌^◌};
+ghost use Rattle.std.specs.Prelude.{[], List, ◌≡◌, ◌+◌, ◌<◌, ◌≤◌, length, map, All, reverse, is_some, slice_get, IfOk, IfErr, IfSome, IsTrue, OnErr, OnSome, true, false, ◌^◌};
 ghost use Rattle.std.specs.Option.{option_map};
 ghost use Rattle.acc_present.specs.Presences.{presences, holder};
 ghost use Rattle.acc_present.specs.Tables.{entry_presence};
@@ -211,19 +211,21 @@ impl World {
         Some(host.state())
     }
 
-    /// What the run so far leaves. A host that was refused has the line of the statement that it stands at.
-    /// Takes no memory.
+    /// What the run so far leaves; nothing is discarded. A host that was refused has the line of the statement that it stands
+    /// at. Takes no memory.
     pub fn outcome(self) -> Outcome
         ensures config { result.config ≡ self.config }
         ensures places { result.places.items ≡ reverse self.history }
         ensures counts { result.counts.items ≡ reverse self.counts }
         ensures works { result.works.items ≡ reverse self.work }
         ensures hosts { result.hosts.items ≡ map state_of self.hosts }
+        ensures discarded { result.discarded.items ≡ [] }
         ensures few { length self.hosts ≤ MAX_HOSTS }
         ensures counted { length self.counts ≡ (standing_of self).accepted }
         ensures legal { Legal self }
         ensures follow { AllFollow self 0 self.hosts }
     {
+        let alloc = self.alloc;
         let (place, works, hosts) = self.into_parts();
         let (config, places, counts) = place.into_histories();
         Outcome {
@@ -232,6 +234,7 @@ impl World {
             counts,
             works,
             hosts,
+            discarded: Vec::new(alloc),
         }
     }
 

@@ -98,7 +98,7 @@ is_refused (state.Refused ended line f) = true
 
 -- what is left of the machine: both histories, and where each host stands
 abbrev pub left_in : State → Left
-left_in w = record { config = w.config; history = w.history; counts = w.counts; work = w.work; hosts = map state_of w.hosts }
+left_in w = record { config = w.config; history = w.history; counts = w.counts; work = w.work; hosts = map state_of w.hosts; discarded = [] }
 
 -- the whole report of a run, and whether a host was refused
 pub record Reported (options : Options) (program : Program) (events : List Event) (old new : Option (List ℕ)) (refused : Bool) : Type 0 where

@@ -5,14 +5,16 @@ use Rattle.std.specs.Io.KnownBytes.{Appends}
 use Rattle.std.specs.List.{list_any}
 use Rattle.acc_base.specs.Configurations.{Configuration, fault_of}
 use Rattle.acc_base.specs.declared.fault.Fault.{Fault}
-use Rattle.acc_base.specs.declared.fault.Fault.TheVariants.{HostsDiffer, Unfinished}
+use Rattle.acc_base.specs.declared.fault.Fault.TheVariants.{HostsDiffer}
+use Rattle.acc_host.specs.Discards.{discarded_on}
 use Rattle.acc_host.specs.Following.{Follows}
 use Rattle.acc_host.specs.Hosts.{ready}
 use Rattle.acc_host.specs.Legality.{Histories, Legal, entries_of}
+use Rattle.acc_host.specs.declared.outcome.Discarded.{Discarded}
 use Rattle.acc_host.specs.declared.program.HostProgram.{HostProgram}
 use Rattle.acc_host.specs.declared.state.HostState.{HostState}
 use Rattle.acc_run.specs.Calling.{HasStopped}
-use Rattle.acc_run.specs.Finishing.{AllClosedLast, PerformedAll}
+use Rattle.acc_run.specs.Finishing.{AllClosedLast, Leaves, PerformedAll}
 use Rattle.acc_report.specs.Puts.{AppendsFront}
 use Rattle.acc_report.specs.Reports.{Left, report}
 use Rattle.acc_script.specs.Scripts.{Program, script_of}
@@ -40,13 +42,22 @@ AllStopped h n (program ∷ programs) (here ∷ others) = StoppedIn h n program 
 AllStopped h n [] (here ∷ others) = ⊥
 AllStopped h n (program ∷ programs) [] = ⊥
 
--- What a run of programs by threads leaves, under this configuration: legal histories; each queue has performed all that was placed
--- on it, its close last; and each host has stopped.
+-- The queues of a finished run: each has performed all that was placed on it, its close last, and nothing is discarded.
+pub record AreFinished (h : Histories) (list : List Discarded) : Type 0 where
+  pub performed_all : PerformedAll h
+  pub closed_last : AllClosedLast h
+  pub nothing : list ≡ []
+
+-- Those of an abandoned run: what was placed on a queue and it hasn't performed is discarded, in its order.
+abbrev pub AreAbandoned : Histories → List Discarded → Type 0
+AreAbandoned h list = Leaves h (λ at. discarded_on at list)
+
+-- What a run of programs by threads leaves, under this configuration: legal histories; queues of a finished run, or of an abandoned one;
+-- and each host has stopped.
 pub record LeftByThreads (config : Configuration) (programs : List HostProgram) (left : Left) : Type 0 where
   pub configured : left.config ≡ config
   pub legal : Legal (histories_left left)
-  pub performed_all : PerformedAll (histories_left left)
-  pub closed_last : AllClosedLast (histories_left left)
+  pub queues : AreFinished (histories_left left) left.discarded ⊎ AreAbandoned (histories_left left) left.discarded
   pub stopped : AllStopped (histories_left left) 0 programs left.hosts
 
 -- ## What is answered
@@ -64,14 +75,10 @@ pub record RunCutOff (options : Options) (program : Program) (old new : Option (
   pub ran : LeftByThreads (configured options program) program.programs left
   pub written : AppendsFront old new (report program.names program.programs left)
 
--- A run can't be finished: a queue hasn't performed its close, or what the hosts list differs from the histories.
-abbrev pub IsUnfinished : Fault → Type 0
-IsUnfinished f = (f ≡ Unfinished) ⊎ (f ≡ HostsDiffer)
-
--- Why there is no run to report: the fault of the configuration; where it has none, the run can't be finished.
+-- Why there is no run to report: the fault of the configuration; where it has none, what the hosts list differs from the histories.
 abbrev pub IsRunFault : Option Fault → Fault → Type 0
 IsRunFault (Some fault) f = f ≡ fault
-IsRunFault None f = IsUnfinished f
+IsRunFault None f = f ≡ HostsDiffer
 
 -- What is answered to a program, and what the writer then holds.
 abbrev pub ProgramAnswers : Options → Program → Option (List ℕ) → Option (List ℕ) → Result Ended DriverFault → Type 0
@@ -98,7 +105,7 @@ ScriptAnswers options script old new (Err fault.Input) = Appends old new []
 ScriptAnswers options script old new (Err fault.Memory) = Appends old new []
 ScriptAnswers options script old new (Err (fault.Schedule f)) = ⊥
 
--- The configuration was not refused: where the run as a whole was, it can't be finished.
+-- The configuration was not refused: where the run as a whole was, what the hosts list differs from the histories.
 abbrev pub IsConfigured : Result Ended DriverFault → Type 0
 IsConfigured (Ok ended) = Unit {0}
 IsConfigured (Err (fault.Script f)) = Unit {0}
@@ -106,4 +113,4 @@ IsConfigured (Err (fault.Schedule f)) = Unit {0}
 IsConfigured (Err fault.Input) = Unit {0}
 IsConfigured (Err fault.Output) = Unit {0}
 IsConfigured (Err fault.Memory) = Unit {0}
-IsConfigured (Err (fault.Runtime f)) = IsUnfinished f
+IsConfigured (Err (fault.Runtime f)) = f ≡ HostsDiffer

@@ -191,6 +191,7 @@ fn run<W: Write>(
         place: &place,
         works: works.as_slice(),
         hosts: hosts.as_slice(),
+        discarded: &[],
     };
     let script = Script {
         names,

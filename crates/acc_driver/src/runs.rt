@@ -3,14 +3,16 @@
 ghost use Rattle.std.specs.Prelude.{◌≡◌, ◌≤◌, ◌⊎◌, IfOk, IfErr, IfSome, length, map};
 ghost use Rattle.acc_base.specs.Configurations.{rows};
 ghost use Rattle.acc_base.specs.declared.config.TheConstants.{MAX_HOSTS};
-ghost use Rattle.acc_base.specs.declared.fault.Fault.TheVariants.{Memory};
+ghost use Rattle.acc_base.specs.declared.fault.Fault.TheVariants.{HostsDiffer, Memory};
 ghost use Rattle.acc_host.specs.Hosts.{AreNumbered, state_of};
-ghost use Rattle.acc_run.specs.Finishing.{HasCounts};
+ghost use Rattle.acc_host.specs.Legality.{Legal};
+ghost use Rattle.acc_run.specs.Agreement.{Agree};
+ghost use Rattle.acc_run.specs.Finishing.{HasCounts, histories_of};
 ghost use Rattle.acc_report.specs.Reports.{left_by};
 ghost use Rattle.acc_script.specs.Arrays.{IsDeclared, texts};
 ghost use Rattle.acc_script.specs.Scripts.{program_of};
 ghost use Rattle.acc_driver.specs.Replays.{AreUsable};
-ghost use Rattle.acc_driver.specs.Runs.{IsConfigured, IsUnfinished, LeftByThreads, ProgramAnswers, ScriptAnswers};
+ghost use Rattle.acc_driver.specs.Runs.{AreAbandoned, AreFinished, IsConfigured, LeftByThreads, ProgramAnswers, ScriptAnswers};
 
 use crate::fault::DriverFault;
 use crate::input::read_text;
@@ -21,7 +23,7 @@ use acc_base::{Config, Fault, QueueAt};
 use acc_host::{Host, HostProgram, HostState, Outcome, ready_hosts};
 use acc_report::{ReportFault, report};
 use acc_run::laws::{new_hosts_are_paired, tokens_follow};
-use acc_run::{Gate, Runtime};
+use acc_run::{FinishRefused, Gate, HostToken, Runtime};
 use acc_script::Script;
 use std::alloc::Global;
 use std::io::{Read, Write};
@@ -39,13 +41,13 @@ impl Gate for OpenGate {
 }
 
 /// Reads a script, runs its hosts and its queues, each in a thread of its own, and writes the report. What two threads do at
-/// once may come in either order, so the same script may be reported in another way the next time.
+/// once may come in either order, so the same script may be reported in another way the next time. Where the gate kept a queue from
+/// its batches, what it hasn't performed is discarded, and reported so.
 ///
 /// # Errors
 ///
 /// The first of: `Input` where the reader failed or gave its bytes in too many turns; `Script`; `Runtime` where the options are
-/// refused, with their fault, or where the run can't be finished, as the gate kept a queue from its batches, with `Unfinished`;
-/// `Output` where the writer failed or took nothing, which may have taken a beginning of the report; and `Memory` for want of
+/// refused, with their fault, or with `HostsDiffer` where what hosts list differs from what was done; `Output` where the writer failed or took nothing, which may have taken a beginning of the report; and `Memory` for want of
 /// memory, or of a thread for each queue. A host that gets no thread is refused `Memory`, and reported so. Nothing is written but
 /// for `Output`.
 pub fn run_script<R: Threads + Wait + Sync, S: Read, G: Gate + Sync, W: Write>(
@@ -129,7 +131,7 @@ fn run_threads<R: Threads + Wait + Sync, G: Gate + Sync>(
     requires count { length programs.items ≡ config.now.hosts }
     ensures left { IfOk result (λ o. LeftByThreads config.now programs.items (left_by o)) }
     ensures counted { IfOk result (λ o. HasCounts o) }
-    ensures fault { IfErr result (λ f. (f ≡ Memory) ⊎ IsUnfinished f) }
+    ensures fault { IfErr result (λ f. (f ≡ HostsDiffer) ⊎ (f ≡ Memory)) }
 {
     new_hosts_are_paired();
     tokens_follow();
@@ -140,11 +142,34 @@ fn run_threads<R: Threads + Wait + Sync, G: Gate + Sync>(
         Err((fault, _, _)) => return Err(fault),
     };
     let states = states_of(alloc, hosts.as_slice())?;
-    match runtime.finish(tokens) {
-        Ok(mut outcome) => {
-            outcome.hosts = states;
-            Ok(outcome)
-        }
+    let mut outcome = end(alloc, runtime, tokens)?;
+    outcome.hosts = states;
+    Ok(outcome)
+}
+
+// What a run leaves whose threads have ended: it is finished, or else abandoned.
+fn end(alloc: Global, runtime: Runtime, tokens: Vec<HostToken>) -> Result<Outcome, Fault>
+    ensures config { IfOk result (λ o. o.config ≡ runtime.config) }
+    ensures legal { IfOk result (λ o. Legal (histories_of o)) }
+    ensures agree { IfOk result (λ o. Agree tokens.items (histories_of o)) }
+    ensures queues { IfOk result (λ o. AreFinished (histories_of o) o.discarded.items ⊎ AreAbandoned (histories_of o) o.discarded.items) }
+    ensures counted { IfOk result (λ o. HasCounts o) }
+    ensures fault { IfErr result (λ f. (f ≡ HostsDiffer) ⊎ (f ≡ Memory)) }
+{
+    let refused = match runtime.finish(tokens) {
+        Ok(outcome) => return Ok(outcome),
+        Err(refused) => refused,
+    };
+    let FinishRefused {
+        fault,
+        runtime,
+        tokens,
+    } = refused;
+    if fault != Fault::Unfinished {
+        return Err(fault);
+    }
+    match runtime.abandon(alloc, tokens) {
+        Ok(outcome) => Ok(outcome),
         Err(refused) => Err(refused.fault),
     }
 }

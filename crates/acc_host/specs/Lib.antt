@@ -1,3 +1,4 @@
+pub mod Discards
 pub mod Engines
 pub mod Entries
 pub mod Following

@@ -15,7 +15,7 @@ pub use engine::Engine;
 pub use event::Event;
 pub use host::{Host, ready_hosts};
 pub use laws::{hosts_follow, worked_hosts};
-pub use outcome::Outcome;
+pub use outcome::{Discarded, Outcome};
 pub use own_entries::{OwnDirective, OwnDirectives, OwnEntries, OwnEntry, OwnItems};
 pub use program::{Act, HostProgram, Statement};
 pub use state::{After, Awaited, HostState, Ids, Reply};

@@ -1,6 +1,6 @@
+mod CountedQueues
 mod JoinedPuts
 mod LinesFound
-mod PerformedCounts
 mod PlacedTotals
 mod PrintedLines
 mod PutPages

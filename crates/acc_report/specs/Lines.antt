@@ -46,10 +46,14 @@ queue_name zero = codes "sync"
 queue_name (suc zero) = codes "noval"
 queue_name (suc (suc value)) = decimal value
 
--- queue D Q batches B operations P of O
-unfoldable pub totals_text : QueueAt → ℕ → ℕ → ℕ → List ℕ
-totals_text at batches performed operations =
+-- what of a queue was discarded, if anything was
+unfoldable pub discarded_text : ℕ → List ℕ
+discarded_text count = if count == 0 then [] else codes " discarded " ++ decimal count
+
+-- queue D Q batches B operations P of O, and where there is one, discarded X
+unfoldable pub totals_text : QueueAt → ℕ → ℕ → ℕ → ℕ → List ℕ
+totals_text at batches performed operations discarded =
     if batches == 0 then []
     else codes "queue " ++ (decimal at.device ++ (codes " " ++ (queue_name at.queue
     ++ (codes " batches " ++ (decimal batches ++ (codes " operations " ++ (decimal performed
-    ++ (codes " of " ++ (decimal operations ++ codes "\n")))))))))
+    ++ (codes " of " ++ (decimal operations ++ (discarded_text discarded ++ codes "\n"))))))))))

@@ -13,25 +13,28 @@ use Rattle.acc_report.specs.Totals.{plain_batches, plain_ops}
 use Rattle.acc_place.specs.Standings.{Standing}
 use Rattle.acc_work.specs.declared.log.WorkEntry.{WorkEntry}
 use Rattle.acc_work.specs.Logs.{performed}
+use Rattle.acc_host.specs.declared.outcome.Discarded.{Discarded}
 use Rattle.acc_host.specs.declared.outcome.Outcome.{Outcome}
 use Rattle.acc_host.specs.declared.program.HostProgram.{HostProgram}
 use Rattle.acc_host.specs.declared.program.Statement.{Statement}
 use Rattle.acc_host.specs.declared.state.HostState.{HostState}
 use Rattle.acc_host.specs.declared.state.HostState.TheVariants as state
+use Rattle.acc_host.specs.Discards.{discarded_on}
 use Rattle.acc_host.specs.Engines.{HostEntry}
 use Rattle.acc_host.specs.Entries.{entries_merged, items_shown, own_of}
 use Rattle.acc_report.specs.Lines.{each_below, line_text, presence_text, state_text, totals_text}
 use Rattle.acc_report.specs.Prints.{lines}
 use Rattle.acc_report.specs.declared.run.Run.{Run}
 
--- What a run leaves: the configuration, the place history with its counts and the work log, each with its latest entry first,
--- and where each host stands.
+-- What a run leaves: the configuration, the place history with its counts and the work log, each with its latest entry first;
+-- where each host stands; and what was discarded.
 pub record Left : Type 0 where
   pub config : Configuration
   pub history : List PlaceEntry
   pub counts : List ℕ
   pub work : List WorkEntry
   pub hosts : List HostState
+  pub discarded : List Discarded
 
 -- what an outcome tells, in these words
 abbrev pub left_by : Outcome → Left
@@ -42,6 +45,7 @@ left_by o =
       counts = reverse o.counts.items;
       work = reverse o.works.items;
       hosts = o.hosts.items;
+      discarded = o.discarded.items;
     }
 
 -- what a run leaves, in these words
@@ -53,6 +57,7 @@ left_after r =
       counts = r.place.now.counts;
       work = reverse r.works.now;
       hosts = r.hosts.now;
+      discarded = r.discarded.now;
     }
 
 abbrev pub standing_left : Left → Standing
@@ -91,11 +96,11 @@ nth_host_text left programs h = host_text_by left h (slice_get programs h) (slic
 unfoldable pub device_text : List (List ℕ) → Left → ℕ → List ℕ
 device_text names left device = flat_map (presence_text names device) (presences ((standing_left left).marks device))
 
--- the batches of directives placed on a queue, if there is one, and how many of their operations are performed
+-- the batches of directives placed on a queue, if there is one, and how many of their operations are performed and discarded
 unfoldable pub queue_text : Left → QueueAt → List ℕ
 queue_text left at =
     let labels = on_queue at (standing_left left).labels in
-    totals_text at (length (plain_batches labels)) (length (plain_ops (performed at left.work))) (length (plain_ops (ops_of labels)))
+    totals_text at (length (plain_batches labels)) (length (plain_ops (performed at left.work))) (length (plain_ops (ops_of labels))) (length (plain_ops (discarded_on at left.discarded)))
 
 unfoldable pub queues_text : Left → ℕ → List ℕ
 queues_text left device = each_below QUEUES (λ q. queue_text left (record { device = device; queue = q }))

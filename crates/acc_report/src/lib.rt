@@ -1,12 +1,12 @@
 //! The report of a run, read off what it leaves: what hosts printed and where they stand, what is present, and what queues have
-//! performed.
+//! performed and what of it was discarded.
 #![tactic(auto)]
 
 mod bytes;
+mod counted;
 mod laws;
 mod line;
 mod page;
-mod performed;
 mod prints;
 mod retold;
 mod run;

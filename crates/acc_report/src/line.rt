@@ -5,7 +5,7 @@ ghost use Rattle.std.specs.Fmt.{signed_decimal};
 ghost use Rattle.std.specs.List.{flat_map};
 ghost use Rattle.acc_present.specs.Tables.{entry_presence};
 ghost use Rattle.acc_script.specs.Arrays.{texts};
-ghost use Rattle.acc_report.specs.Lines.{values_text, refusal_text, state_text, presence_text, queue_name, totals_text};
+ghost use Rattle.acc_report.specs.Lines.{values_text, refusal_text, state_text, presence_text, queue_name, totals_text, discarded_text};
 ghost use Rattle.acc_report.specs.Puts.{Puts, sink};
 
 use crate::bytes::{put, put_number, put_signed};
@@ -103,7 +103,7 @@ fn name_at<'a>(names: &[&'a [u8]], array: u8) -> &'a [u8]
     }
 }
 
-/// What a queue has performed; one that has no batch has no line.
+/// What a queue has performed, and what of it was discarded; one that has no batch has no line.
 pub(crate) fn put_totals<W: Write>(
     out: &mut W,
     failed: &mut bool,
@@ -111,8 +111,9 @@ pub(crate) fn put_totals<W: Write>(
     batches: u64,
     performed: u64,
     operations: u128,
+    discarded: u64,
 )
-    ensures { Puts (sink (W.contents out.old) failed.old) (sink (W.contents out.new) failed.new) (totals_text at.now batches performed operations) }
+    ensures { Puts (sink (W.contents out.old) failed.old) (sink (W.contents out.new) failed.new) (totals_text at.now batches performed operations discarded) }
 {
     if batches > 0 {
         put(out, failed, b"queue ");
@@ -125,7 +126,18 @@ pub(crate) fn put_totals<W: Write>(
         put_number(out, failed, performed);
         put(out, failed, b" of ");
         put_number(out, failed, operations);
+        put_discarded(out, failed, discarded);
         put(out, failed, b"\n");
+    }
+}
+
+// How many operations were discarded, if there is one.
+fn put_discarded<W: Write>(out: &mut W, failed: &mut bool, count: u64)
+    ensures { Puts (sink (W.contents out.old) failed.old) (sink (W.contents out.new) failed.new) (discarded_text count) }
+{
+    if count > 0 {
+        put(out, failed, b" discarded ");
+        put_number(out, failed, count);
     }
 }
 

@@ -10,30 +10,32 @@ ghost use Rattle.acc_report.specs.Totals.{plain_batches, plain_ops};
 ghost use Rattle.acc_report.specs.Lines.{each_below};
 ghost use Rattle.acc_report.specs.Puts.{ReportAnswers, Puts, sink};
 ghost use Rattle.acc_report.specs.Reports.{IsLeft, ended_in, host_text, left_by, left_after, nth_host_text, report};
-ghost use Rattle.acc_report.specs.inner.Counting.{AreCounted, plain_count};
+ghost use Rattle.acc_report.specs.inner.Counting.{IsCounted, plain_count};
 ghost use Rattle.acc_report.specs.inner.Standing.{counted_queue_text, counted_text, present_text};
 ghost use Rattle.acc_script.specs.Arrays.{texts};
 
 use crate::bytes::{ReportFault, put, put_number};
+use crate::counted::{Counted, count_run};
 use crate::line::{put_presence, put_state, put_totals};
-use crate::performed::count_performed;
 use crate::prints::put_lines;
 use crate::retold::retell;
 use acc_base::{DeviceId, HostId, QUEUES, QueueAt, QueueId};
 use acc_batch::OpLabel;
-use acc_host::{HostProgram, HostState, Outcome, OwnEntries, Statement};
+use acc_host::{Discarded, HostProgram, HostState, Outcome, OwnEntries, Statement};
 use acc_place::Place;
 use acc_script::Script;
 use acc_work::WorkEntry;
 use std::alloc::Global;
 use std::io::Write;
 
-/// A run, as its report reads it: the place that accepted its directives, its work log, and where each host stands.
+/// A run, as its report reads it: the place that accepted its directives, its work log, where each host stands, and what was
+/// discarded.
 #[derive(Clone, Copy)]
 pub struct Run<'a> {
     pub place: &'a Place,
     pub works: &'a [WorkEntry],
     pub hosts: &'a [HostState],
+    pub discarded: &'a [Discarded],
 }
 
 /// Writes the report of what a run of a script left, as `report_run` does. The place history is told once more for it.
@@ -64,12 +66,13 @@ pub fn report<W: Write>(
         place: &place,
         works: outcome.works.as_slice(),
         hosts: outcome.hosts.as_slice(),
+        discarded: outcome.discarded.as_slice(),
     };
     report_run(alloc, &run, script, writer)
 }
 
 /// Writes the report of a run of a script: for each host what its ended statements printed and where it stands, then what is
-/// present, then what each queue has performed, and `end`.
+/// present, then what each queue has performed and what of it was discarded, and `end`.
 ///
 /// # Errors
 ///
@@ -84,13 +87,12 @@ pub fn report_run<W: Write>(
     requires { length run.now.hosts.now ≤ MAX_HOSTS }
     ensures { ReportAnswers (W.contents writer.old) (W.contents writer.new) result (report (texts script.now.names.keys) script.now.programs.items (left_after run.now)) }
 {
-    let devices = run.place.config().devices();
-    let performed = match count_performed(alloc, devices, run.works) {
-        Ok(performed) => performed,
+    let counted = match count_run(alloc, run) {
+        Ok(counted) => counted,
         Err(_) => return Err(ReportFault::Memory),
     };
     let mut failed = false;
-    put_report(writer, &mut failed, run, script, performed.as_slice());
+    put_report(writer, &mut failed, run, script, &counted);
     if failed {
         Err(ReportFault::Write)
     } else {
@@ -98,21 +100,21 @@ pub fn report_run<W: Write>(
     }
 }
 
-// All lines, by counts of what was performed.
+// All lines, by the counts of each queue.
 fn put_report<W: Write>(
     out: &mut W,
     failed: &mut bool,
     run: &Run,
     script: &Script,
-    performed: &[u64],
+    counted: &Counted,
 )
     requires few { length run.now.hosts.now ≤ MAX_HOSTS }
-    requires counted { AreCounted run.now.place.now.config.devices (left_after run.now).work performed.now }
+    requires counted { IsCounted (left_after run.now) counted.now }
     ensures { Puts (sink (W.contents out.old) failed.old) (sink (W.contents out.new) failed.new) (report (texts script.now.names.keys) script.now.programs.items (left_after run.now)) }
 {
     put_hosts(out, failed, run, script.programs.as_slice());
     put_presences(out, failed, script.names.as_slice(), run.place);
-    put_queues(out, failed, run.place, performed);
+    put_queues(out, failed, run.place, counted);
     put(out, failed, b"end\n");
 }
 
@@ -215,12 +217,12 @@ fn put_device<W: Write>(
     }
 }
 
-// What each queue has performed, by these counts.
-fn put_queues<W: Write>(out: &mut W, failed: &mut bool, place: &Place, performed: &[u64])
-    ensures { Puts (sink (W.contents out.old) failed.old) (sink (W.contents out.new) failed.new) (each_below place.now.config.devices (counted_text (standing_in place.now) performed.now)) }
+// What each queue has performed, and what of it was discarded, by these counts.
+fn put_queues<W: Write>(out: &mut W, failed: &mut bool, place: &Place, counted: &Counted)
+    ensures { Puts (sink (W.contents out.old) failed.old) (sink (W.contents out.new) failed.new) (each_below place.now.config.devices (counted_text (standing_in place.now) counted.now)) }
 {
     for device in 0..place.config().devices() {
-        put_queues_of(out, failed, place, performed, DeviceId::new(device));
+        put_queues_of(out, failed, place, counted, DeviceId::new(device));
     }
 }
 
@@ -228,14 +230,14 @@ fn put_queues_of<W: Write>(
     out: &mut W,
     failed: &mut bool,
     place: &Place,
-    performed: &[u64],
+    counted: &Counted,
     device: DeviceId,
 )
-    ensures { Puts (sink (W.contents out.old) failed.old) (sink (W.contents out.new) failed.new) (counted_text (standing_in place.now) performed.now device) }
+    ensures { Puts (sink (W.contents out.old) failed.old) (sink (W.contents out.new) failed.new) (counted_text (standing_in place.now) counted.now device) }
 {
     for queue in 0..QUEUES {
         let queue = QueueId::new(queue);
-        put_queue(out, failed, place, performed, QueueAt { device, queue });
+        put_queue(out, failed, place, counted, QueueAt { device, queue });
     }
 }
 
@@ -243,15 +245,16 @@ fn put_queue<W: Write>(
     out: &mut W,
     failed: &mut bool,
     place: &Place,
-    performed: &[u64],
+    counted: &Counted,
     at: QueueAt,
 )
-    ensures { Puts (sink (W.contents out.old) failed.old) (sink (W.contents out.new) failed.new) (counted_queue_text (standing_in place.now) performed.now at) }
+    ensures { Puts (sink (W.contents out.old) failed.old) (sink (W.contents out.new) failed.new) (counted_queue_text (standing_in place.now) counted.now at) }
 {
     let QueueAt { device, queue } = at;
     let (batches, operations) = placed_on(place, QueueAt { device, queue });
-    let done = count_at(performed, &at);
-    put_totals(out, failed, &at, batches, done, operations);
+    let performed = count_at(counted.performed.as_slice(), &at);
+    let discarded = count_at(counted.discarded.as_slice(), &at);
+    put_totals(out, failed, &at, batches, performed, operations, discarded);
 }
 
 // The count of a queue, or 0 where there is none.

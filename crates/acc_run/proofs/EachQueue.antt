@@ -1,9 +1,10 @@
 -- What was compared queue by queue holds of every queue; and one that isn't there has no batch.
-use Rattle.std.proofs.Common.{inl, inr, ◌≡◌, ◌⊎◌, ℕ, ◌<◌, ◌≤◌, List, [], ◌∷◌, length, refl, sym, ap, subst, ◌∙◌, arith}
+use Rattle.std.proofs.Common.{inl, inr, ◌≡◌, ◌⊎◌, ℕ, ◌<◌, ◌≤◌, List, [], ◌∷◌, ◌++◌, length, take, drop, refl, sym, ap, subst, ◌∙◌, arith}
 use Rattle.std.specs.Prelude.{All}
 use Rattle.std.proofs.lemmas.Bool.{cases_Bool, cases_lt}
-use Rattle.std.proofs.lemmas.List.{get_or_past}
-use Rattle.std.proofs.lemmas.List.Elements.{All-head, All-tail}
+use Rattle.std.proofs.lemmas.List.{get_or_past, take-append-drop}
+use Rattle.std.proofs.Math.Seq.{take-append_seam}
+use Rattle.std.proofs.lemmas.List.Elements.{All-drop, All-filter, All-head, All-tail, All-weaker}
 use Rattle.acc_base.specs.declared.ids.QueueAt.{QueueAt}
 use Rattle.acc_base.specs.declared.ids.TheConstants.{QUEUES}
 use Rattle.acc_base.specs.Configurations.{Configuration}
@@ -16,8 +17,8 @@ use Rattle.acc_place.specs.Plans.{standing_in}
 use Rattle.acc_place.specs.Histories.{AllAccepted, IsQueue}
 use Rattle.acc_place.proofs.LabelsThere.{labels_there}
 use Rattle.acc_work.specs.Lanes.{LaneView, no_lane}
-use Rattle.acc_work.specs.Works.{WorkView, KeepsOrder, lane_at}
-use Rattle.acc_run.specs.Finishing.{AllTook, TookPlaced}
+use Rattle.acc_work.specs.Works.{WorkView, KeepsOrder, lane_at, taken_labels}
+use Rattle.acc_run.specs.Finishing.{AllTookFirst, TookFirst, held_on}
 use Rattle.acc_run.specs.PlaceSides.{PlaceSideView}
 use Rattle.acc_run.specs.WorkSides.{WorkSideView}
 
@@ -60,12 +61,32 @@ no_lane_at config w at keeps devices absent = elim (cases_lt at.queue QUEUES) [
   ])
 ]
 
--- So each queue took what was placed on it, where each that is there did.
-pub took_all : (p : PlaceSideView) (w : WorkSideView) → AllAccepted p.place.config p.place.history p.place.counts → KeepsOrder w.work → length w.work.memory.devices ≡ p.place.config.devices → AllTook p.place.config p w
-    → (at : QueueAt) → TookPlaced p w at
-took_all p w accepted keeps devices took at = elim (there_or_not p.place.config at) [
+-- a queue that isn't there has no batch placed on it
+pub none_placed : (p : PlaceSideView) (at : QueueAt) → AllAccepted p.place.config p.place.history p.place.counts → (IsQueue p.place.config at → ⊥) → on_queue at (standing_in p.place).labels ≡ []
+none_placed p at accepted absent = none_on p.place.config at (standing_in p.place).labels absent (labels_there p.place.config p.place.history p.place.counts accepted)
+
+-- So each queue took the first of what was placed on it, where each that is there did.
+pub took_first : (p : PlaceSideView) (w : WorkSideView) → AllAccepted p.place.config p.place.history p.place.counts → KeepsOrder w.work → length w.work.memory.devices ≡ p.place.config.devices → AllTookFirst p.place.config p w
+    → (at : QueueAt) → TookFirst p w at
+took_first p w accepted keeps devices took at = elim (there_or_not p.place.config at) [
   | inl there ↦ took at there
   | inr absent ↦
-      let placed : on_queue at (standing_in p.place).labels ≡ [] = none_on p.place.config at (standing_in p.place).labels absent (labels_there p.place.config p.place.history p.place.counts accepted) in
-      keeps.taken at ∙ (ap (λ (l : LaneView). l.taken) (no_lane_at p.place.config w.work at keeps devices absent) ∙ sym placed)
+      let placed = none_placed p at accepted absent in
+      let taken : on_queue at (taken_labels w.work) ≡ [] = keeps.taken at ∙ ap (λ (l : LaneView). l.taken) (no_lane_at p.place.config w.work at keeps devices absent) in
+      rw (placed, taken) refl
 ]
+
+-- the first are those of a comparison with as many of what was placed
+pub are_first : (taken placed : List Label) → taken ≡ take (length taken) placed → placed ≡ taken ++ drop (length taken) placed
+are_first taken placed same = sym (take-append-drop (length taken) placed) ∙ ap (λ (ls : List Label). ls ++ drop (length taken) placed) (sym same)
+
+pub first_are : (taken placed : List Label) → placed ≡ taken ++ drop (length taken) placed → taken ≡ take (length taken) placed
+first_are taken placed split = sym (ap (take (length taken)) split ∙ take-append_seam taken (drop (length taken) placed))
+
+-- what was placed behind these batches has operations
+pub held_filled : (p : PlaceSideView) (w : WorkSideView) (at : QueueAt) → AllAccepted p.place.config p.place.history p.place.counts → All (λ (l : Label). 0 < length l.ops) (held_on p w at)
+held_filled p w at accepted =
+    let filled = λ (l : Label). 0 < length l.ops in
+    let all : All filled (standing_in p.place).labels =
+    All-weaker (IsThere p.place.config) filled (λ (l : Label) (there : IsThere p.place.config l). there.2) (standing_in p.place).labels (labels_there p.place.config p.place.history p.place.counts accepted) in
+    All-drop filled (length (on_queue at (taken_labels w.work))) (on_queue at (standing_in p.place).labels) (All-filter (λ (l : Label). same_queue l.at at) filled (standing_in p.place).labels all)

@@ -1,4 +1,5 @@
--- Where both sides and the tokens are of one run, whose queues have performed their closes, its histories are legal.
+-- Where both sides and the tokens are of one run, its histories are legal, wherever it stops; and it is finished where its queues have
+-- performed their closes.
 use Rattle.std.proofs.Common.{inl, inr, ◌≡◌, suc, ◌-◌, Bool, true, false, List, [], ◌∷◌, ◌++◌, length, refl, sym, ap, subst, ◌∙◌, arith, slice_get}
 use Rattle.std.specs.Prelude.{All, ◌==◌}
 use Rattle.std.proofs.lemmas.Bool.{and_parts, cases_Bool, eqb-true}
@@ -11,25 +12,27 @@ use Rattle.acc_base.proofs.SameQueue.{same_queue_itself}
 use Rattle.acc_batch.specs.declared.label.Label.{Label}
 use Rattle.acc_batch.specs.declared.label.OpLabel.{OpLabel}
 use Rattle.acc_batch.specs.declared.label.OpLabel.TheVariants.{Make, CopyIn, CopyOut, Release, Run, Await, Close}
-use Rattle.acc_batch.specs.Labels.{ops_of}
+use Rattle.acc_batch.specs.Labels.{on_queue, ops_of}
+use Rattle.acc_batch.proofs.Labels.{ops_of-append}
 use Rattle.acc_host.specs.Legality.{NothingBehind}
-use Rattle.acc_place.specs.Histories.{IsQueue}
+use Rattle.acc_place.specs.Histories.{AllAccepted, IsQueue}
 use Rattle.acc_place.specs.Plans.{standing_in}
 use Rattle.acc_place.specs.Sound.{is_close, CloseLast}
 use Rattle.acc_place.proofs.LastClose.{closes_last}
 use Rattle.acc_work.specs.declared.log.WorkEntry.{WorkEntry}
 use Rattle.acc_work.specs.declared.log.WorkEntry.TheVariants as entry
-use Rattle.acc_work.specs.Kept.{IsKept}
+use Rattle.acc_work.specs.Kept.{Extends, IsKept}
 use Rattle.acc_work.specs.Lanes.{LaneView, last_of}
 use Rattle.acc_work.specs.Logs.{one_more, performed}
 use Rattle.acc_work.specs.Works.{IsInOrder, lane_at, taken_labels}
-use Rattle.acc_work.proofs.Extended.{kept_alike}
-use Rattle.acc_run.specs.Finishing.{AgreeingSidesAreLegal, AllEnded, AllTook, EndsWithClose, KeepsWork, PerformedAll, TookPlaced, histories_in}
+use Rattle.acc_work.proofs.Extended.{kept_more}
+use Rattle.acc_run.specs.Finishing.{AllTookFirst, AreOfOneRun, EndedSidesAreFinished, EndsWithClose, KeepsWork, Leaves, StoppedSidesAreLegal, TookFirst, held_on, histories_in, left_on}
 use Rattle.acc_run.specs.PlaceSides.{PlaceSideView}
+use Rattle.acc_run.specs.Tokens.{TokenView}
 use Rattle.acc_run.specs.WorkSides.{WorkSideView, closes, is_ended}
 use Rattle.acc_run.specs.WorkSides.{closes_last as is_last_a_close}
 use Rattle.acc_run.proofs.AllRise.{all_rise}
-use Rattle.acc_run.proofs.EachQueue.{no_lane_at, there_or_not, took_all}
+use Rattle.acc_run.proofs.EachQueue.{held_filled, none_placed, there_or_not, took_first}
 
 -- ## Nothing is performed behind a close
 
@@ -99,51 +102,81 @@ ends_with (l ∷ next ∷ labels) e =
     let later = ends_with (next ∷ labels) (ap is_last_a_close (sym (last_more l next labels)) ∙ e) in
     (l.ops ++ later.0, ap (λ ops. l.ops ++ ops) later.1 ∙ sym (append_assoc l.ops later.0 (Close ∷ [])))
 
--- what it has performed is all that it took
-record Done (work : List WorkEntry) (at : QueueAt) (lane : LaneView) : Type 0 where
-  all : performed at work ≡ ops_of lane.taken
-  last : EndsWithClose (performed at work)
-
-done_on : (work : List WorkEntry) (at : QueueAt) (lane : LaneView) → IsInOrder work at lane → is_ended lane ≡ true → Done work at lane
-done_on work at lane o ended =
+-- so does what it has performed
+ended_with : (work : List WorkEntry) (at : QueueAt) (lane : LaneView) → IsInOrder work at lane → is_ended lane ≡ true → EndsWithClose (performed at work)
+ended_with work at lane o ended =
     let parts = and_parts (length lane.left == 0) (is_last_a_close (last_of lane.taken)) ended in
     let all : performed at work ≡ ops_of lane.taken = sym (append-nil (performed at work)) ∙ (ap (λ ops. performed at work ++ ops) (sym (nil_of lane.left parts.0)) ∙ o.in_order) in
     let last = ends_with lane.taken parts.1 in
-    record { all = all; last = (last.0, all ∙ last.1) }
+    (last.0, all ∙ last.1)
 
--- ## The law
+-- nothing is behind a close
+none_behind : (before rest : List OpLabel) → CloseLast ((before ++ Close ∷ []) ++ rest) → rest ≡ []
+none_behind [] rest h = h.0 refl
+none_behind (op ∷ before) rest h = none_behind before rest h.1
 
--- a queue that took no batch has performed nothing
-nothing_done : (work : List WorkEntry) (at : QueueAt) (lane : LaneView) → IsInOrder work at lane → lane.taken ≡ [] → performed at work ≡ ops_of lane.taken
-nothing_done work at lane o none = none_left (performed at work) lane.left (o.in_order ∙ ap ops_of none) ∙ sym (ap ops_of none)
+-- ## A run that stops anywhere
 
-performed_all : (config : Configuration) (p : PlaceSideView) (w : WorkSideView) → KeepsWork w → length w.work.memory.devices ≡ config.devices → AllEnded config w → ((at : QueueAt) → TookPlaced p w at) → PerformedAll (histories_in p w)
-performed_all config p w keeps devices ended took at =
-    let lane = lane_at w.work at in
-    let order = keeps.order.order at in
-    let taken : performed at w.work.work ≡ ops_of lane.taken = elim (there_or_not config at) [
-      | inl there ↦ (done_on w.work.work at lane order (ended at there)).all
-      | inr absent ↦ nothing_done w.work.work at lane order (ap (λ (l : LaneView). l.taken) (no_lane_at config w.work at keeps.order devices absent))
-    ] in
-    taken ∙ ap ops_of (sym (keeps.order.taken at) ∙ took at)
+leaves : (p : PlaceSideView) (w : WorkSideView) → KeepsWork w → ((at : QueueAt) → TookFirst p w at) → Leaves (histories_in p w) (left_on p w)
+leaves p w keeps took at =
+    let taken = on_queue at (taken_labels w.work) in
+    let held = held_on p w at in
+    let left = (lane_at w.work at).left in
+    let done : ops_of taken ≡ performed at w.work.work ++ left = ap ops_of (keeps.order.taken at) ∙ sym (keeps.order.order at).in_order in
+    ap ops_of (took at) ∙ (ops_of-append taken held ∙ (ap (λ (ops : List OpLabel). ops ++ ops_of held) done ∙ append_assoc (performed at w.work.work) left (ops_of held)))
 
-pub agreeing_legal : AgreeingSidesAreLegal
-agreeing_legal = λ config p w tokens accepted keeps ended one.
+-- what was compared holds of every queue
+took : (config : Configuration) (p : PlaceSideView) (w : WorkSideView) (tokens : List TokenView) → AllAccepted p.place.config p.place.history p.place.counts → KeepsWork w → AreOfOneRun config p w tokens → (at : QueueAt) → TookFirst p w at
+took config p w tokens accepted keeps one =
+    let devices : length w.work.memory.devices ≡ p.place.config.devices = keeps.devices ∙ ap (λ (c : Configuration). c.devices) (one.performed_for ∙ sym one.placed_for) in
+    took_first p w accepted keeps.order devices (subst (λ c. AllTookFirst c p w) (sym one.placed_for) one.taken)
+
+pub stopped_legal : StoppedSidesAreLegal
+stopped_legal = λ config p w tokens accepted keeps one.
     let h = histories_in p w in
-    let devices : length w.work.memory.devices ≡ config.devices = keeps.devices ∙ ap (λ (c : Configuration). c.devices) one.performed_for in
+    let firsts = took config p w tokens accepted keeps one in
+    let rest = leaves p w keeps firsts in
     let arrays : w.work.arrays ≡ p.place.config.arrays = keeps.arrays ∙ ap (λ (c : Configuration). c.arrays) (one.performed_for ∙ sym one.placed_for) in
-    let here : AllTook p.place.config p w = subst (λ c. AllTook c p w) (sym one.placed_for) one.taken in
-    let took = took_all p w accepted keeps.order (devices ∙ ap (λ (c : Configuration). c.devices) (sym one.placed_for)) here in
-    let all = performed_all config p w keeps devices ended took in
     let kept : IsKept p.place.config.arrays (taken_labels w.work) w.work.work = subst (λ a. IsKept a (taken_labels w.work) w.work.work) arrays keeps.kept in
-    record {
-      legal = record {
+    let more : Extends (taken_labels w.work) (standing_in p.place).labels = λ at. record { more = held_on p w at; is = firsts at; filled = held_filled p w at accepted } in
+    let last : (at : QueueAt) → CloseLast (performed at w.work.work) =
+    λ at. close_last_before (performed at w.work.work) (left_on p w at) (subst CloseLast (rest at) (closes_last p.place.config p.place.history p.place.counts at accepted)) in (
+      record {
         accepted = accepted;
         counts = all_rise h tokens one.agree;
-        kept = kept_alike p.place.config.arrays (taken_labels w.work) (standing_in p.place).labels w.work.work (λ at. sym (took at)) kept;
-        behind = nothing_behind w.work.work (λ at. subst CloseLast (sym (all at)) (closes_last p.place.config p.place.history p.place.counts at accepted));
-      };
+        kept = kept_more p.place.config.arrays (taken_labels w.work) (standing_in p.place).labels w.work.work more kept;
+        behind = nothing_behind w.work.work last;
+      },
+      rest,
+    )
+
+none_behind_it : {X : Type 0} (xs ys : List X) → xs ++ ys ≡ [] → ys ≡ []
+none_behind_it [] ys e = e
+none_behind_it (x ∷ xs) ys e = cc
+
+-- nothing is left of a queue that isn't there
+pub nothing_left : (p : PlaceSideView) (w : WorkSideView) → AllAccepted p.place.config p.place.history p.place.counts → Leaves (histories_in p w) (left_on p w) → (at : QueueAt) → (IsQueue p.place.config at → ⊥) → left_on p w at ≡ []
+nothing_left p w accepted rest at absent = none_behind_it (performed at w.work.work) (left_on p w at) (sym (rest at) ∙ ap ops_of (none_placed p at accepted absent))
+
+-- ## A run whose queues have performed their closes
+
+pub ended_finished : EndedSidesAreFinished
+ended_finished = λ config p w tokens accepted keeps ended one.
+    let both = stopped_legal config p w tokens accepted keeps one in
+    let rest = both.1 in
+    let here : (at : QueueAt) → IsQueue p.place.config at → EndsWithClose (performed at w.work.work) =
+    λ at there. ended_with w.work.work at (lane_at w.work at) (keeps.order.order at) (ended at (subst (λ c. IsQueue c at) one.placed_for there)) in
+    let none : (at : QueueAt) → left_on p w at ≡ [] =
+    λ at.
+    elim (there_or_not p.place.config at) [
+      | inl there ↦
+          let last = here at there in
+          none_behind last.0 (left_on p w at) (subst CloseLast (rest at ∙ ap (λ ops. ops ++ left_on p w at) last.1) (closes_last p.place.config p.place.history p.place.counts at accepted))
+      | inr absent ↦ nothing_left p w accepted rest at absent
+    ] in
+    record {
+      legal = both.0;
       agree = one.agree;
-      performed_all = all;
-      closed_last = λ at there. (done_on w.work.work at (lane_at w.work at) (keeps.order.order at) (ended at (subst (λ c. IsQueue c at) one.placed_for there))).last;
+      performed_all = λ at. sym (rest at ∙ (ap (λ ops. performed at w.work.work ++ ops) (none at) ∙ append-nil (performed at w.work.work)));
+      closed_last = here;
     }

@@ -1,7 +1,9 @@
+mod Abandoning
 mod AllRise
 mod AnsweredItems
 mod CalledTokens
 pub mod Crossing
+mod Discards
 mod EachQueue
 mod FirstEnds
 mod GoingHosts

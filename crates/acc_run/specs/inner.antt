@@ -1,1 +1,2 @@
+pub mod Discarding
 pub mod Reading

@@ -1,7 +1,7 @@
 //! What is compared at the end of a run, and what the run leaves.
 
 ghost use Rattle.std.specs.Prelude.{IfErr, IfOk, IsTrue, OnOk, [], ◌↔◌, ◌≡◌};
-ghost use Rattle.acc_run.specs.Finishing.{AllEnded, AllTook, AreOfOneRun, CannotFinish, Finished, HasCounts, TookPlaced, histories_in, histories_of};
+ghost use Rattle.acc_run.specs.Finishing.{AllEnded, AllTookFirst, AreOfOneRun, CannotFinish, Finished, HasCounts, TookFirst, histories_in, histories_of};
 
 use crate::agreement::all_agree;
 use crate::place_side::PlaceSide;
@@ -17,7 +17,7 @@ pub struct Sides {
     pub work: WorkSide,
 }
 
-/// Both sides of a run that can't be finished, and the tokens of its hosts, as they were, and why.
+/// Both sides of a run that can't be finished or abandoned, and the tokens of its hosts, as they were, and why.
 #[derive(Drop)]
 pub struct SidesRefused {
     pub fault: Fault,
@@ -25,13 +25,14 @@ pub struct SidesRefused {
     pub tokens: Vec<HostToken>,
 }
 
-/// What a run of this configuration leaves, whose queues have performed all that was placed on them. No host's state is among it. Takes
-/// no memory.
+/// What a run of this configuration leaves, whose queues have performed all that was placed on them. No host's state is among it, and
+/// nothing is discarded. Takes no memory.
 ///
 /// # Errors
 ///
 /// `Unfinished` where a queue hasn't performed its close; else `HostsDiffer` where a side was made for another configuration, where
-/// the batches that were placed and those that were taken differ, or the tokens and the histories do. Then all comes back.
+/// the batches that a queue took aren't the first that were placed on it, or the tokens and the histories differ. Then all comes
+/// back.
 pub fn finish_sides(
     config: &Config,
     sides: Sides,
@@ -42,6 +43,7 @@ pub fn finish_sides(
     ensures finished { IfOk result (λ o. Finished tokens.items (histories_of o)) }
     ensures counted { IfOk result (λ o. HasCounts o) }
     ensures hosts { IfOk result (λ o. o.hosts.items ≡ []) }
+    ensures discarded { IfOk result (λ o. o.discarded.items ≡ []) }
     ensures fault { IfErr result (λ r. CannotFinish config.now sides.place sides.work tokens.items r.fault) }
     ensures sides { IfErr result (λ r. r.sides ≡ sides) }
     ensures tokens { IfErr result (λ r. r.tokens ≡ tokens) }
@@ -58,12 +60,13 @@ pub fn finish_sides(
     }
 }
 
-// What both sides leave.
-fn outcome_of(sides: Sides) -> Outcome
+/// What both sides leave. What their queues hold is freed.
+pub(crate) fn outcome_of(sides: Sides) -> Outcome
     ensures config { result.config ≡ sides.place.place.config }
     ensures histories { histories_of result ≡ histories_in sides.place sides.work }
     ensures counted { HasCounts result }
     ensures hosts { result.hosts.items ≡ [] }
+    ensures discarded { result.discarded.items ≡ [] }
 {
     let Sides { place, work } = sides;
     let (config, places, counts) = place.into_place().into_histories();
@@ -74,6 +77,7 @@ fn outcome_of(sides: Sides) -> Outcome
         counts,
         works: work.into_log(),
         hosts: Vec::new(alloc),
+        discarded: Vec::new(alloc),
     }
 }
 
@@ -97,13 +101,18 @@ fn compare(
     Ok(())
 }
 
-// Whether both sides and the tokens are of one run of this configuration.
-fn are_of_one_run(config: &Config, place: &PlaceSide, work: &WorkSide, tokens: &[HostToken]) -> bool
+/// Whether both sides and the tokens are of one run of this configuration.
+pub(crate) fn are_of_one_run(
+    config: &Config,
+    place: &PlaceSide,
+    work: &WorkSide,
+    tokens: &[HostToken],
+) -> bool
     ensures { IsTrue result ↔ AreOfOneRun config.now place.now work.now tokens.now }
 {
     place.as_place().config().is_same(config)
         && work.config().is_same(config)
-        && all_took(config, place, work)
+        && all_took_first(config, place, work)
         && all_agree(place.as_place(), work.as_work().log(), tokens)
 }
 
@@ -119,23 +128,27 @@ fn all_ended(config: &Config, work: &WorkSide) -> bool
     true
 }
 
-// Whether each queue of a configuration took the batches that were placed on it.
-fn all_took(config: &Config, place: &PlaceSide, work: &WorkSide) -> bool
-    ensures { IsTrue result ↔ AllTook config.now place.now work.now }
+// Whether each queue of a configuration took the first of what was placed on it.
+fn all_took_first(config: &Config, place: &PlaceSide, work: &WorkSide) -> bool
+    ensures { IsTrue result ↔ AllTookFirst config.now place.now work.now }
 {
     for index in 0..u16::from(config.devices()) * u16::from(QUEUES) {
-        if !took_placed(place, work, QueueAt::at_seat(index)) {
+        if !took_first(place, work, QueueAt::at_seat(index)) {
             return false;
         }
     }
     true
 }
 
-// Whether a queue took the batches that were placed on it.
-fn took_placed(place: &PlaceSide, work: &WorkSide, at: QueueAt) -> bool
-    ensures { IsTrue result ↔ TookPlaced place.now work.now at }
+// Whether the batches that a queue took are the first that were placed on it.
+fn took_first(place: &PlaceSide, work: &WorkSide, at: QueueAt) -> bool
+    ensures { IsTrue result ↔ TookFirst place.now work.now at }
 {
     let QueueAt { device, queue } = at;
     let placed = place.as_place().labels_on(QueueAt { device, queue });
-    work.as_work().has_taken(QueueAt { device, queue }, placed)
+    let count = work.as_work().taken_count(QueueAt { device, queue }) as usize;
+    count <= placed.len()
+        && work
+            .as_work()
+            .has_taken(QueueAt { device, queue }, &placed[..count])
 }

@@ -1,6 +1,7 @@
 //! What the locks of running threads hold, and the runtime over them.
 #![tactic(auto)]
 
+mod abandon;
 mod agreement;
 mod calling;
 mod ends;

@@ -5,13 +5,14 @@ ghost use Rattle.std.specs.Prelude.{◌<◌, ◌≤◌, ◌≡◌, ◌⊎◌, �
 ghost use Rattle.acc_base.specs.declared.fault.Fault.TheVariants.{BadRange, HostsDiffer, Memory, TooMany, Unfinished};
 ghost use Rattle.acc_host.specs.Engines.{MayRecord};
 ghost use Rattle.acc_run.specs.Calling.{IsAnswerTo};
-ghost use Rattle.acc_run.specs.Finishing.{Finished, HasCounts, histories_of};
+ghost use Rattle.acc_run.specs.Finishing.{Abandoned, Finished, HasCounts, histories_of};
 ghost use Rattle.acc_run.specs.PlaceSides.{is_of_ending};
 ghost use Rattle.acc_run.specs.Tokens.{AreTokens};
 ghost use Rattle.acc_run.specs.declared.token.TokenEntry.TheVariants as listed;
 ghost use Rattle.acc_work.specs.declared.item.ItemLabel.TheVariants as to_record;
 ghost use Rattle.acc_work.specs.declared.item.Shown.TheVariants as shown;
 
+use crate::abandon::abandon_sides;
 use crate::ends::ends_of;
 use crate::finish::{Sides, SidesRefused, finish_sides};
 use crate::pause::Pause;
@@ -46,7 +47,7 @@ impl Model for Runtime {
     ghost view = { λ r. record { config = r.config } };
 }
 
-/// A runtime that can't be finished, and the tokens of its hosts, as they were, and why.
+/// A runtime that can't be finished or abandoned, and the tokens of its hosts, as they were, and why.
 #[derive(Drop)]
 pub struct FinishRefused {
     pub fault: Fault,
@@ -310,7 +311,7 @@ impl Runtime {
     }
 
     /// What a run leaves, whose queues have performed all that was placed on them: legal histories of the runtime's configuration, with
-    /// which the tokens agree. No host's state is among it. Takes no memory.
+    /// which the tokens agree. No host's state is among it, and nothing is discarded. Takes no memory.
     ///
     /// # Errors
     ///
@@ -321,6 +322,7 @@ impl Runtime {
         ensures finished { IfOk result (λ o. Finished tokens.items (histories_of o)) }
         ensures counted { IfOk result (λ o. HasCounts o) }
         ensures hosts { IfOk result (λ o. o.hosts.items ≡ []) }
+        ensures discarded { IfOk result (λ o. o.discarded.items ≡ []) }
         ensures fault { IfErr result (λ r. (r.fault ≡ Unfinished) ⊎ (r.fault ≡ HostsDiffer)) }
         ensures runtime { IfErr result (λ r. r.runtime ≡ self) }
         ensures tokens { IfErr result (λ r. r.tokens ≡ tokens) }
@@ -337,22 +339,40 @@ impl Runtime {
         };
         match finish_sides(&config, sides, tokens) {
             Ok(outcome) => Ok(outcome),
-            Err(
-                SidesRefused {
-                    fault,
-                    sides,
-                    tokens,
-                },
-            ) => Err(FinishRefused {
-                fault,
-                runtime: Runtime {
-                    config,
-                    place: Mutex::new(sides.place),
-                    work: Mutex::new(sides.work),
-                    parkers,
-                },
-                tokens,
-            }),
+            Err(refused) => Err(runtime_of(config, parkers, refused)),
+        }
+    }
+
+    /// What a run leaves whose queues haven't performed all, or have: legal histories of the runtime's configuration, with which the
+    /// tokens agree. Nothing more is performed; what was placed on a queue and it hasn't performed is discarded, and listed, by device,
+    /// then by queue, then in its order. No host's state is among it.
+    ///
+    /// # Errors
+    ///
+    /// `HostsDiffer` where the tokens aren't those of the runtime's hosts, in their order, or list something else than the histories do;
+    /// else `Memory` where memory for the list is refused. The runtime and the tokens come back as they were.
+    pub fn abandon(self, alloc: Global, tokens: Vec<HostToken>) -> Result<Outcome, FinishRefused>
+        ensures config { IfOk result (λ o. o.config ≡ self.config) }
+        ensures abandoned { IfOk result (λ o. Abandoned tokens.items (histories_of o) o.discarded.items) }
+        ensures counted { IfOk result (λ o. HasCounts o) }
+        ensures hosts { IfOk result (λ o. o.hosts.items ≡ []) }
+        ensures fault { IfErr result (λ r. (r.fault ≡ HostsDiffer) ⊎ (r.fault ≡ Memory)) }
+        ensures runtime { IfErr result (λ r. r.runtime ≡ self) }
+        ensures tokens { IfErr result (λ r. r.tokens ≡ tokens) }
+    {
+        let Runtime {
+            config,
+            place,
+            work,
+            parkers,
+        } = self;
+        let sides = Sides {
+            place: place.into_inner(),
+            work: work.into_inner(),
+        };
+        match abandon_sides(alloc, &config, sides, tokens) {
+            Ok(outcome) => Ok(outcome),
+            Err(refused) => Err(runtime_of(config, parkers, refused)),
         }
     }
 
@@ -378,6 +398,29 @@ impl Runtime {
                 }
             }
         }
+    }
+}
+
+// The runtime that was refused, with both sides behind their locks again.
+fn runtime_of(config: Config, parkers: Vec<Parker>, refused: SidesRefused) -> FinishRefused
+    ensures fault { result.fault ≡ refused.fault }
+    ensures runtime { result.runtime.config ≡ config }
+    ensures tokens { result.tokens ≡ refused.tokens }
+{
+    let SidesRefused {
+        fault,
+        sides,
+        tokens,
+    } = refused;
+    FinishRefused {
+        fault,
+        runtime: Runtime {
+            config,
+            place: Mutex::new(sides.place),
+            work: Mutex::new(sides.work),
+            parkers,
+        },
+        tokens,
     }
 }
 

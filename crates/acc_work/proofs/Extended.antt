@@ -117,7 +117,3 @@ kept_more arrays old new work e k = record {
   host_order = host_order-more arrays old new work e k.prefix k.host_order;
   live_blocks = k.live_blocks;
 }
-
--- So it is of other labels that are the same on each queue, as those that were placed are once all were taken.
-pub kept_alike : (arrays : List (List ℤ)) (old new : List Label) (work : List WorkEntry) → ((at : QueueAt) → on_queue at new ≡ on_queue at old) → IsKept arrays old work → IsKept arrays new work
-kept_alike arrays old new work same k = kept_more arrays old new work (λ at. rw (same at) (extended_same (on_queue at old))) k

@@ -1,7 +1,10 @@
 //! Replays each example, or runs it with threads, and compares what is answered with its report.
 #![tactic(auto)]
 
-use acc_driver::{DriverFault, Ended, OpenGate, Options, replay, replay_one, run_script, split};
+use acc_base::QueueAt;
+use acc_driver::{
+    DriverFault, Ended, Gate, OpenGate, Options, replay, replay_one, run_script, split,
+};
 use std::alloc::Global;
 use std::sync::Wait;
 use std::thread::Threads;
@@ -88,6 +91,17 @@ const RUNS: [(&str, Options); 23] = [
     ("threads", TWO_DEVICES),
 ];
 
+// Keeps queue `2` from its batches.
+#[derive(Drop)]
+struct SecondShut;
+
+impl Gate for SecondShut {
+    fn pass(&self, at: QueueAt, _number: u64) -> bool {
+        // `2` has number 4
+        at.queue.number() != 4
+    }
+}
+
 // The bytes of an example's file.
 fn read(rt: &HostRuntime, name: &str, kind: &str) -> io::Result<Vec<u8>> {
     fs::read(rt, format!(in rt.alloc(); "{name}.{kind}")?)
@@ -110,25 +124,19 @@ fn answer(rt: &HostRuntime, name: &str, options: Option<Options>) -> io::Result<
     told(alloc, answered, written)
 }
 
-// What the program answers to an example's script alone, which it runs with threads.
-fn run_answer<R: Threads + Wait + Sync>(
+// What the program answers to an example's script alone, which it runs with threads, whose batches pass this gate.
+fn run_answer<R: Threads + Wait + Sync, G: Gate + Sync>(
     rt: &HostRuntime,
     threads: &R,
     name: &str,
     options: Options,
+    gate: &G,
 ) -> io::Result<Vec<u8>> {
     let alloc = rt.alloc();
     let text = read(rt, name, "acc")?;
     let (mut script, _) = split(text.as_slice());
     let mut written = Vec::new(alloc);
-    let answered = run_script(
-        threads,
-        alloc,
-        &mut script,
-        options,
-        &OpenGate,
-        &mut written,
-    );
+    let answered = run_script(threads, alloc, &mut script, options, gate, &mut written);
     told(alloc, answered, written)
 }
 
@@ -161,8 +169,10 @@ fn main(rt: HostRuntime) -> io::Result<()> {
         print_compared(&rt, name, "", answered.as_slice())?;
     }
     for (name, options) in &RUNS {
-        let answered = run_answer(&rt, &rt, name, *options)?;
+        let answered = run_answer(&rt, &rt, name, *options, &OpenGate)?;
         print_compared(&rt, name, ", run", answered.as_slice())?;
     }
+    let answered = run_answer(&rt, &rt, "discarded", Options::DEFAULT, &SecondShut)?;
+    print_compared(&rt, "discarded", ", run", answered.as_slice())?;
     Ok(())
 }

@@ -9,9 +9,9 @@ use std::alloc::Global;
 use std::sync::Wait;
 use std::test::Fail;
 
-// What is wrong with the tokens of two hosts.
+/// What is wrong with the tokens of two hosts.
 #[derive(Clone, Copy)]
-enum Wrong {
+pub enum Wrong {
     Nothing,
     Missing,
     Exchanged,
@@ -41,8 +41,8 @@ fn print<R: Wait>(
     }
 }
 
-// A runtime of two hosts, each of which enters an array on a queue of its own, and prints it.
-fn acted<R: Wait>(rt: &R, alloc: Global) -> Result<(Runtime, Vec<HostToken>), Fault> {
+/// A runtime of two hosts, each of which enters an array on a queue of its own, and prints it.
+pub fn acted<R: Wait>(rt: &R, alloc: Global) -> Result<(Runtime, Vec<HostToken>), Fault> {
     let config = config_of(alloc, 1, 2, 64)?;
     let (runtime, mut tokens) = Runtime::new(alloc, &config)?;
     for token in tokens.as_mut_slice() {
@@ -62,7 +62,8 @@ fn perform_all<R: Wait>(rt: &R, runtime: &Runtime) {
     }
 }
 
-fn made_wrong(
+/// Tokens that are wrong in this way, in place of these.
+pub fn made_wrong(
     alloc: Global,
     mut tokens: Vec<HostToken>,
     wrong: Wrong,

@@ -2,6 +2,8 @@
 #![tactic(auto)]
 
 #[cfg(test)]
+mod abandon;
+#[cfg(test)]
 mod closes;
 #[cfg(test)]
 mod finish;

@@ -345,7 +345,7 @@ fn the_texts_of_driver_faults(rt: HostRuntime) -> Result<(), Fail> {
         (DriverFault::Input, "cannot read"),
         (DriverFault::Output, "cannot write"),
         (DriverFault::Memory, "out of memory"),
-        (DriverFault::Runtime(Fault::Unfinished), "F13 Unfinished"),
+        (DriverFault::Runtime(Fault::HostsDiffer), "F14 HostsDiffer"),
     ];
     for (fault, text) in TEXTS {
         check_fault(&rt, rt.alloc(), *fault, text)?;

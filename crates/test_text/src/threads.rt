@@ -184,6 +184,44 @@ fn hosts_and_workers_meet_at_the_gate(rt: HostRuntime) -> Result<(), Fail> {
     Ok(())
 }
 
+/// A gate that so many batches of queue `2` pass, and all others.
+#[derive(Drop)]
+struct Second {
+    passes: u64,
+}
+
+impl Gate for Second {
+    fn pass(&self, at: QueueAt, number: u64) -> bool {
+        // `2` has number 4
+        at.queue.number() != 4 || number <= self.passes
+    }
+}
+
+/// The first batch of queue `2` doesn't pass, and what queue `2` has is discarded.
+const SECOND_DISCARDED: &[u8] =
+    b"host 0\ndone\nhost 1\ndone\npresent 0 a[0:2] s 0 d 1\npresent 0 b[0:2] s 0 d 1\nqueue 0 1 batches 1 operations 2 of 2\nqueue 0 2 batches 1 operations 0 of 2 discarded 2\nend\n";
+
+/// Where a gate keeps a queue from its batches, the run is reported all the same. A close isn't counted.
+#[test]
+fn what_a_gate_keeps_back_is_discarded(rt: HostRuntime) -> Result<(), Fail> {
+    for (passes, report) in [
+        (0u64, SECOND_DISCARDED),
+        (1, TWO_HOSTS_REPORT),
+        (2, TWO_HOSTS_REPORT),
+    ] {
+        check_run(
+            &rt,
+            rt.alloc(),
+            TWO_HOSTS,
+            Options::DEFAULT,
+            &Second { passes },
+            ENDED,
+            report,
+        );
+    }
+    Ok(())
+}
+
 /// A gate that no batch passes.
 #[derive(Drop)]
 struct Shut;
@@ -194,18 +232,17 @@ impl Gate for Shut {
     }
 }
 
-/// Where a gate keeps the queues from their batches, the run can't be finished. Nothing is written.
+/// Hosts that wait for no queue end without them.
 #[test]
-fn a_shut_gate_leaves_a_run_unfinished(rt: HostRuntime) -> Result<(), Fail> {
-    let wanted = Err(DriverFault::Runtime(Fault::Unfinished));
+fn a_shut_gate_discards_all(rt: HostRuntime) -> Result<(), Fail> {
     check_run(
         &rt,
         rt.alloc(),
         TWO_HOSTS,
         Options::DEFAULT,
         &Shut,
-        wanted,
-        b"",
+        ENDED,
+        b"host 0\ndone\nhost 1\ndone\npresent 0 a[0:2] s 0 d 1\npresent 0 b[0:2] s 0 d 1\nqueue 0 1 batches 1 operations 0 of 2 discarded 2\nqueue 0 2 batches 1 operations 0 of 2 discarded 2\nend\n",
     );
     Ok(())
 }

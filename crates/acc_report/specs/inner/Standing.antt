@@ -7,16 +7,17 @@ use Rattle.acc_base.specs.Queues.{seat}
 use Rattle.acc_batch.specs.Labels.{on_queue, ops_of}
 use Rattle.acc_place.specs.Standings.{Standing}
 use Rattle.acc_report.specs.Totals.{plain_batches, plain_ops}
+use Rattle.acc_report.specs.declared.counted.Counted.{Counted}
 use Rattle.acc_present.specs.Presences.{presences}
 use Rattle.acc_report.specs.Lines.{each_below, presence_text, totals_text}
 
 unfoldable pub present_text : List (List ℕ) → Standing → ℕ → List ℕ
 present_text names st device = flat_map (presence_text names device) (presences (st.marks device))
 
-unfoldable pub counted_queue_text : Standing → List ℕ → QueueAt → List ℕ
-counted_queue_text st performed at =
+unfoldable pub counted_queue_text : Standing → Counted → QueueAt → List ℕ
+counted_queue_text st counted at =
     let labels = on_queue at st.labels in
-    totals_text at (length (plain_batches labels)) (slice_index_or performed (seat at) 0) (length (plain_ops (ops_of labels)))
+    totals_text at (length (plain_batches labels)) (slice_index_or counted.performed.items (seat at) 0) (length (plain_ops (ops_of labels))) (slice_index_or counted.discarded.items (seat at) 0)
 
-unfoldable pub counted_text : Standing → List ℕ → ℕ → List ℕ
-counted_text st performed device = each_below QUEUES (λ q. counted_queue_text st performed (record { device = device; queue = q }))
+unfoldable pub counted_text : Standing → Counted → ℕ → List ℕ
+counted_text st counted device = each_below QUEUES (λ q. counted_queue_text st counted (record { device = device; queue = q }))

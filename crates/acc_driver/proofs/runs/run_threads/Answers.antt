@@ -4,17 +4,16 @@ use Rattle.acc_run.specs.Finishing.{histories_of}
 use Rattle.acc_driver.proofs.ThreadRuns.{hosts_stopped}
 use Rattle.acc_driver.proofs.runs.run_threads.Goals as goal
 
-pub returns-in-Ok-finish-clause-left : goal.returns-in-Ok-finish-clause-left
-returns-in-Ok-finish-clause-left g c =
-    let outcome = c.in-Ok-finish.outcome in
-    let end = c.in-Ok-finish.ensures in
+pub returns-clause-left : goal.returns-clause-left
+returns-clause-left g c =
+    let outcome = c.in_ok-outcome.outcome in
+    let left = c.in_ok-outcome.ensures in
     record {
-      configured = end.config ∙ c.in_ok-runtime.ensures.config;
-      legal = end.finished.legal;
-      performed_all = end.finished.performed_all;
-      closed_last = end.finished.closed_last;
+      configured = left.config ∙ c.in_ok-runtime.ensures.config;
+      legal = left.legal;
+      queues = left.queues;
       stopped = hosts_stopped c.tokens_follow.ensures (histories_of outcome) c.args.programs.items c.in_ok-runtime.runtime.config.devices c.in_ok-hosts.hosts.items c.in_ok-runtime.tokens.items
           c.in-Ok.back.0.items c.in-Ok.back.1.items c.in_ok-states.states.items
-          c.in_ok-runtime.ensures.tokens (ap (λ config. config.devices) (sym end.config)) c.in_ok-hosts.ensures.hosts c.in-Ok.ensures.ran end.finished.agree.each
+          c.in_ok-runtime.ensures.tokens (ap (λ config. config.devices) (sym left.config)) c.in_ok-hosts.ensures.hosts c.in-Ok.ensures.ran left.agree.each
           (c.in_ok-states.ensures.states ∙ ap (map state_of) c.as_slice.ensures.value);
     }

@@ -12,7 +12,7 @@ returns-then-batches-gt0 g c =
     rw some (puts_then c.put.ensures (puts_then device (puts_then c.put-then-batches-gt0.ensures
     (puts_then c.put_queue_name.ensures (puts_then c.put-then-batches-gt0-2.ensures (puts_then c.put_number-then-batches-gt0.ensures
     (puts_then c.put-then-batches-gt0-3.ensures (puts_then c.put_number-then-batches-gt0-2.ensures (puts_then c.put-then-batches-gt0-4.ensures
-    (puts_then c.put_number-then-batches-gt0-3.ensures c.put-then-batches-gt0-5.ensures))))))))))
+    (puts_then c.put_number-then-batches-gt0-3.ensures (puts_then c.put_discarded.ensures c.put-then-batches-gt0-5.ensures)))))))))))
 
 pub returns-else-batches-gt0 : goal.returns-else-batches-gt0
 unfolding totals_text

@@ -5,4 +5,4 @@ pub returns : goal.returns
 unfolding counted_queue_text
 returns g c =
     let totals = c.placed_on-batches.ensures in
-    rw (totals.batches, totals.operations, c.count_at-done.ensures) at c.put_totals.ensures
+    rw (totals.batches, totals.operations, c.count_at-performed.ensures, c.as_slice.ensures.value, c.count_at-discarded.ensures, c.as_slice-2.ensures.value) at c.put_totals.ensures

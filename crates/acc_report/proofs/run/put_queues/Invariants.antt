@@ -7,4 +7,4 @@ use Rattle.acc_report.proofs.run.put_queues.Given as goal
 abbrev pub invariant-loop-device : goal.invariant-loop-device
 invariant-loop-device g l =
     Puts (sink (g.W.Write.contents l.fn.out) l.fn.failed) (sink (g.W.Write.contents l.out) l.failed)
-    (each_below l.device (counted_text (standing_in l.place) l.performed))
+    (each_below l.device (counted_text (standing_in l.place) l.counted))

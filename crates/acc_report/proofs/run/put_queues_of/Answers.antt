@@ -7,7 +7,7 @@ use Rattle.acc_report.proofs.run.put_queues_of.Goals as goal
 
 pub loop-queue-preserved : goal.loop-queue-preserved
 loop-queue-preserved g c =
-    puts_below (λ q. counted_queue_text (standing_in c.args.place.now) c.args.performed.now (record { device = c.args.device; queue = q })) c.loop-queue.queue
+    puts_below (λ q. counted_queue_text (standing_in c.args.place.now) c.args.counted.now (record { device = c.args.device; queue = q })) c.loop-queue.queue
     c.loop-queue.invariant (rw c.new-queue.ensures at c.put_queue.ensures)
 
 pub returns : goal.returns

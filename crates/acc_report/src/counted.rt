@@ -1,0 +1,114 @@
+//! How many operations each queue has performed, and how many of it were discarded, its close apart.
+
+ghost use Rattle.std.specs.Prelude.{◌≡◌, [], reverse, IfOk, IfErr};
+ghost use Rattle.acc_base.specs.declared.fault.Fault.TheVariants.{Memory};
+ghost use Rattle.acc_host.specs.Discards.{discarded_on};
+ghost use Rattle.acc_report.specs.Reports.{left_after};
+ghost use Rattle.acc_report.specs.inner.Counting.{AreCounted, HasCountRoom, HasEntryRoom, IsCounted, counted_behind, counted_with, one_counted};
+ghost use Rattle.acc_work.specs.Logs.{performed};
+
+use crate::run::Run;
+use acc_base::{Fault, QUEUES, QueueAt};
+use acc_batch::OpLabel;
+use acc_host::Discarded;
+use acc_work::WorkEntry;
+use std::alloc::Global;
+
+/// For each queue, by device, then in queue order, how many operations it has performed, and how many of it were discarded.
+#[derive(Drop)]
+pub(crate) struct Counted {
+    pub(crate) performed: Vec<u64>,
+    pub(crate) discarded: Vec<u64>,
+}
+
+/// Counts what is left of a run.
+///
+/// # Errors
+///
+/// `Memory` where memory is refused.
+pub(crate) fn count_run(alloc: Global, run: &Run) -> Result<Counted, Fault>
+    ensures counted { IfOk result (λ counted. IsCounted (left_after run.now) counted) }
+    ensures fault { IfErr result (λ f. f ≡ Memory) }
+{
+    let devices = run.place.config().devices();
+    let performed = count_performed(alloc, devices, run.works)?;
+    let discarded = count_discarded(alloc, devices, run.discarded)?;
+    Ok(Counted {
+        performed,
+        discarded,
+    })
+}
+
+// How many operations each queue of so many devices has performed.
+#[tactic(auto, using(crate::proofs::CountedQueues::entry_counted))]
+fn count_performed(alloc: Global, devices: u8, works: &[WorkEntry]) -> Result<Vec<u64>, Fault>
+    ensures counted { IfOk result (λ counts. AreCounted devices (λ at. performed at (reverse works.now)) counts.items) }
+    ensures fault { IfErr result (λ f. f ≡ Memory) }
+{
+    let mut counts = no_counts(alloc, devices)?;
+    // no count passes the length of the log
+    let many = works.len();
+    for entry in works {
+        count_entry(counts.as_mut_slice(), entry);
+    }
+    let _ = many;
+    Ok(counts)
+}
+
+// How many of the operations of each queue of so many devices were discarded.
+#[tactic(auto, using(crate::proofs::CountedQueues::discard_counted))]
+fn count_discarded(alloc: Global, devices: u8, list: &[Discarded]) -> Result<Vec<u64>, Fault>
+    ensures counted { IfOk result (λ counts. AreCounted devices (λ at. discarded_on at list.now) counts.items) }
+    ensures fault { IfErr result (λ f. f ≡ Memory) }
+{
+    let mut counts = no_counts(alloc, devices)?;
+    // no count passes the length of the list
+    let many = list.len();
+    for entry in list {
+        count(counts.as_mut_slice(), &entry.at, &entry.what);
+    }
+    let _ = many;
+    Ok(counts)
+}
+
+// No operation of each queue of so many devices.
+fn no_counts(alloc: Global, devices: u8) -> Result<Vec<u64>, Fault>
+    ensures counted { IfOk result (λ counts. AreCounted devices (λ at. []) counts.items) }
+    ensures fault { IfErr result (λ f. f ≡ Memory) }
+{
+    let mut counts = Vec::new(alloc);
+    counts.resize(usize::from(devices) * usize::from(QUEUES), 0u64)?;
+    Ok(counts)
+}
+
+// Counts an entry of the work log.
+fn count_entry(counts: &mut [u64], entry: &WorkEntry)
+    requires room { HasEntryRoom entry.now counts.old }
+    ensures { counts.new ≡ counted_with entry.now counts.old }
+{
+    match entry {
+        WorkEntry::Op { at, what } => count(counts, at, what),
+        WorkEntry::Item { .. } => {}
+    }
+}
+
+// Counts an operation of a queue, unless it is its close.
+fn count(counts: &mut [u64], at: &QueueAt, what: &OpLabel)
+    requires room { HasCountRoom at.now counts.old }
+    ensures { counts.new ≡ counted_behind at.now what.now counts.old }
+{
+    if !matches!(what, OpLabel::Close) {
+        count_one(counts, at);
+    }
+}
+
+// Counts one more for a queue, if it has a count.
+fn count_one(counts: &mut [u64], at: &QueueAt)
+    requires room { HasCountRoom at.now counts.old }
+    ensures { counts.new ≡ one_counted at.now counts.old }
+{
+    let index = at.seat();
+    if at.queue.number() < QUEUES && index < counts.len() {
+        counts[index] += 1;
+    }
+}

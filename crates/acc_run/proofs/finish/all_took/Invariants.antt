@@ -1,7 +1,0 @@
-use Rattle.std.proofs.Common.{ℕ, ◌<◌}
-use Rattle.acc_base.specs.Queues.{at_seat}
-use Rattle.acc_run.specs.Finishing.{TookPlaced}
-use Rattle.acc_run.proofs.finish.all_took.Given as goal
-
-abbrev pub invariant-loop-index : goal.invariant-loop-index
-invariant-loop-index l = (n : ℕ) → n < l.index → TookPlaced l.place l.work (at_seat n)

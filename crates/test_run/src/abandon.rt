@@ -1,0 +1,179 @@
+//! What an abandoned run leaves, and when it can't be abandoned.
+
+use crate::finish::{Wrong, acted, made_wrong};
+use crate::fixtures::{config_of, entry_of, queue};
+use acc_base::{Fault, QUEUES, QueueAt};
+use acc_host::Outcome;
+use acc_place::Clause;
+use acc_run::{Gate, HostToken, Runtime};
+use acc_work::WorkEntry;
+use std::alloc::Global;
+use std::sync::Wait;
+use std::sync::atomic::{AtomicU64, Ordering};
+use std::test::Fail;
+use tool_scarce::{Hoard, at_each_amount};
+
+// So many batches pass, and then none.
+#[derive(Drop)]
+struct Fuse {
+    left: AtomicU64,
+}
+
+impl Gate for Fuse {
+    fn pass(&self, _at: QueueAt, _number: u64) -> bool {
+        let left = self.left.load(Ordering::SeqCst);
+        if left == 0 {
+            return false;
+        }
+        self.left.store(left - 1, Ordering::SeqCst);
+        true
+    }
+}
+
+// A runtime whose host entered so many arrays in turns on two queues, each of which is two operations; all queues are closed, and so many
+// batches have passed.
+fn served<R: Wait>(
+    rt: &R,
+    alloc: Global,
+    arrays: u8,
+    passes: u64,
+) -> Result<(Runtime, Vec<HostToken>), Fault> {
+    let config = config_of(alloc, 1, 1, 8)?;
+    let (runtime, mut tokens) = Runtime::new(alloc, &config)?;
+    for token in tokens.as_mut_slice() {
+        for array in 0..arrays {
+            let copyin = entry_of(alloc, Clause::Copyin, array, i64::from(array % 2))?;
+            let _ = runtime.place(rt, token, &copyin)?;
+        }
+    }
+    let _ = runtime.close(rt);
+    let gate = Fuse {
+        left: AtomicU64::new(passes),
+    };
+    for number in 0..QUEUES {
+        runtime.serve(rt, queue(number), &gate);
+    }
+    Ok((runtime, tokens))
+}
+
+// How many operations an outcome has that were performed, and how many that were discarded.
+fn count_in(outcome: &Outcome) -> (usize, usize) {
+    let performed = outcome
+        .works
+        .iter()
+        .filter(|entry| matches!(entry, WorkEntry::Op { .. }))
+        .count();
+    (performed, outcome.discarded.len())
+}
+
+fn abandon(
+    alloc: Global,
+    runtime: Runtime,
+    tokens: Vec<HostToken>,
+) -> Result<(usize, usize), Fault> {
+    match runtime.abandon(alloc, tokens) {
+        Ok(outcome) => Ok(count_in(&outcome)),
+        Err(refused) => Err(refused.fault),
+    }
+}
+
+/// Eight batches of two operations, and eight closes: whatever passes, nothing more is performed, and nothing is lost.
+#[test]
+fn what_is_performed_and_what_is_discarded_are_all(rt: HostRuntime) -> Result<(), Fail> {
+    let alloc = rt.alloc();
+    let mut before = 0;
+    for passes in 0..17u64 {
+        let (runtime, tokens) = served(&rt, alloc, 8, passes)?;
+        let (performed, discarded) = abandon(alloc, runtime, tokens)?;
+        assert!(rt;
+            performed.wrapping_add(discarded) == 24,
+            "{passes}: {performed}, {discarded}"
+        );
+        assert!(rt; passes == 0 || before < performed, "{passes}: {performed}");
+        before = performed;
+    }
+    assert!(rt; before == 24);
+    Ok(())
+}
+
+#[test]
+fn other_tokens_abandon_nothing(rt: HostRuntime) -> Result<(), Fail> {
+    let alloc = rt.alloc();
+    for wrong in [Wrong::Missing, Wrong::Exchanged, Wrong::Others] {
+        let (runtime, tokens) = acted(&rt, alloc)?;
+        let tokens = made_wrong(alloc, tokens, wrong)?;
+        assert!(rt; abandon(alloc, runtime, tokens) == Err(Fault::HostsDiffer));
+    }
+    Ok(())
+}
+
+// A runtime that is tried with the tokens of another, and then abandoned with its own.
+fn abandoned_later<R: Wait>(rt: &R, alloc: Global) -> Result<(usize, usize), Fault> {
+    let (runtime, tokens) = served(rt, alloc, 1, 0)?;
+    let (_, others) = served(rt, alloc, 0, 0)?;
+    match runtime.abandon(alloc, others) {
+        Ok(_) => Err(Fault::TooMany),
+        Err(refused) => abandon(alloc, refused.runtime, tokens),
+    }
+}
+
+/// One directive was placed.
+#[test]
+fn a_run_comes_back_and_is_abandoned_later(rt: HostRuntime) -> Result<(), Fail> {
+    assert!(rt; abandoned_later(&rt, rt.alloc())? == (0, 10));
+    Ok(())
+}
+
+// A runtime and its tokens, until it is abandoned.
+type Held = Option<(Runtime, Vec<HostToken>)>;
+
+// Abandons a runtime; where it is refused, it is held again.
+fn try_abandon(alloc: Global, held: &mut Held) -> Result<(usize, usize), Fault> {
+    let Some((runtime, tokens)) = held.take() else {
+        return Err(Fault::TooMany);
+    };
+    match runtime.abandon(alloc, tokens) {
+        Ok(outcome) => Ok(count_in(&outcome)),
+        Err(refused) => {
+            *held = Some((refused.runtime, refused.tokens));
+            Err(refused.fault)
+        }
+    }
+}
+
+#[test]
+fn a_run_is_refused_until_there_is_memory_for_the_list(rt: HostRuntime) -> Result<(), Fail> {
+    let alloc = rt.alloc();
+    let mut held = Some(served(&rt, alloc, 8, 3)?);
+    let (refusals, counts) = at_each_amount(alloc, || try_abandon(alloc, &mut held))?;
+    let (performed, discarded) = counts;
+    assert!(rt; 1 < refusals, "{refusals}");
+    assert!(rt; performed.wrapping_add(discarded) == 24);
+    Ok(())
+}
+
+// Whether so many runs can be abandoned one after another.
+fn abandon_many<R: Wait>(rt: &R, alloc: Global, runs: u64) -> Result<bool, Fault> {
+    for run in 0..runs {
+        let (runtime, tokens) = served(rt, alloc, 4, run % 4)?;
+        let (performed, discarded) = abandon(alloc, runtime, tokens)?;
+        if performed.wrapping_add(discarded) != 16 {
+            return Ok(false);
+        }
+    }
+    Ok(true)
+}
+
+/// There is memory for one run at a time.
+#[test]
+fn what_an_abandoned_run_held_is_free_again(rt: HostRuntime) -> Result<(), Fail> {
+    let alloc = rt.alloc();
+    let mut hoard = Hoard::new(alloc)?;
+    let spare: Vec<u8> = Vec::with_capacity(alloc, 120_000)?;
+    hoard.fill(alloc);
+    drop(spare);
+    let answer = abandon_many(&rt, alloc, 200);
+    hoard.free();
+    assert!(rt; answer?);
+    Ok(())
+}
