@@ -113,7 +113,12 @@ fn abandoned_later<R: Wait>(rt: &R, alloc: Global) -> Result<(usize, usize), Fau
     let (_, others) = served(rt, alloc, 0, 0)?;
     match runtime.abandon(alloc, others) {
         Ok(_) => Err(Fault::TooMany),
-        Err(refused) => abandon(alloc, refused.runtime, tokens),
+        Err(refused) => {
+            if refused.fault != Fault::HostsDiffer {
+                return Err(refused.fault);
+            }
+            abandon(alloc, refused.runtime, tokens)
+        }
     }
 }
 
