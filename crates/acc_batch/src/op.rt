@@ -96,4 +96,22 @@ impl Op {
             OpLabel::Close => Ok(Op::Close),
         }
     }
+
+    /// Its label, without the memory that performing it needs. It takes no memory.
+    pub fn into_label(self) -> OpLabel
+        ensures { result ≡ op_label self }
+    {
+        match self {
+            Op::Make { block } => OpLabel::Make {
+                block: block.block,
+                range: block.range,
+            },
+            Op::CopyIn { block, range } => OpLabel::CopyIn { block, range },
+            Op::CopyOut { block, range } => OpLabel::CopyOut { block, range },
+            Op::Release { block } => OpLabel::Release { block },
+            Op::Run { kernel, uses } => OpLabel::Run { kernel, uses },
+            Op::Await { queue, number } => OpLabel::Await { queue, number },
+            Op::Close => OpLabel::Close,
+        }
+    }
 }

@@ -3,22 +3,7 @@
 ghost use Rattle.std.specs.Prelude.{◌≡◌, ◌↔◌, IsTrue};
 
 use crate::label::{Label, OpLabel};
-use acc_base::{BlockId, Range};
-
-// Whether two lists of what a loop uses are equal.
-fn are_same_uses(uses: &[(BlockId, Range)], others: &[(BlockId, Range)]) -> bool
-    ensures { IsTrue result ↔ uses.now ≡ others.now }
-{
-    if uses.len() != others.len() {
-        return false;
-    }
-    for index in 0..uses.len() {
-        if uses[index] != others[index] {
-            return false;
-        }
-    }
-    true
-}
+use acc_kernel::are_same_uses;
 
 impl OpLabel {
     /// Whether two operations are equal: a loop is, where its text and what it uses are. It takes no memory.

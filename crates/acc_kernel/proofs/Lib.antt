@@ -10,6 +10,7 @@ pub mod LoopTurns
 pub mod ReachOf
 pub mod RunColumns
 mod Scans
+pub mod ShownRows
 pub mod SplicedRow
 pub mod StackAt
 mod TreeOf

@@ -1,8 +1,8 @@
 -- A loop with the cells that it uses: the values before it, and those that it gives.
-use Rattle.std.specs.Prelude.{◌≡◌, ◌≢◌, ℕ, ℤ, ◌+◌, ◌<◌, ◌+ℤ◌, ◌-ℤ◌, pos, not, ◌==◌, ◌&&◌, int_le, int_lt, Bool, IsTrue, List, [], length, map, replicate, slice_index_or}
+use Rattle.std.specs.Prelude.{◌≡◌, ◌≢◌, ℕ, ℤ, ◌+◌, ◌<◌, ◌+ℤ◌, ◌-ℤ◌, pos, not, ◌==◌, ◌&&◌, int_le, int_lt, Bool, IsTrue, List, [], ◌∷◌, length, map, replicate, slice_index_or}
 use Rattle.std.specs.List.{AllPairs, position_or_len, range_with_len}
 use Rattle.acc_base.specs.declared.range.Range.{Range}
-use Rattle.acc_kernel.specs.Cells.{value_in}
+use Rattle.acc_kernel.specs.Cells.{value_in, with_cells}
 use Rattle.acc_kernel.specs.Kernels.{Loop, Reaches, value_after}
 use Rattle.acc_kernel.specs.Trees.{Reference}
 
@@ -58,13 +58,27 @@ pub record Computation : Type 0 where
 abbrev pub zero_rows : List Use → List (List ℤ)
 zero_rows uses = map (λ u. replicate u.1.len (pos 0)) uses
 
--- the values of a range's cells after the loop
-abbrev pub values_after : Loop → (ℕ → ℤ → ℤ) → Range → List ℤ
-values_after k cells r = map (λ cell. value_after k cells r.array (pos cell)) (range_with_len r.lo r.len)
+-- the values of a range's cells
+abbrev pub values_shown : (ℕ → ℤ → ℤ) → Range → List ℤ
+values_shown cells r = map (λ cell. cells r.array (pos cell)) (range_with_len r.lo r.len)
+
+-- the values of the cells of each use
+abbrev pub shown : List Use → (ℕ → ℤ → ℤ) → List (List ℤ)
+shown uses cells = map (λ u. values_shown cells u.1) uses
 
 -- what the loop gives of these inputs, by the uses
 abbrev pub computed : Computation → List (List ℤ)
-computed c = map (λ u. values_after c.kernel (cell_in c.uses c.inputs) u.1) c.uses
+computed c = shown c.uses (value_after c.kernel (cell_in c.uses c.inputs))
+
+-- the cells after each use's row was written over its range
+abbrev pub stored : List Use → List (List ℤ) → (ℕ → ℤ → ℤ) → ℕ → ℤ → ℤ
+stored [] rows cells = cells
+stored (u ∷ uses) [] cells = cells
+stored (u ∷ uses) (row ∷ rows) cells = stored uses rows (with_cells cells u.1.array (pos u.1.lo) u.1.len row)
+
+-- a window has all cells of the uses
+abbrev pub HasUses : List Use → (ℕ → ℤ → Bool) → Type 0
+HasUses uses has = (array : ℕ) (cell : ℤ) → IsTrue (has_cell uses array cell) → IsTrue (has array cell)
 
 -- what a job keeps
 pub record IsJob (c : Computation) : Type 0 where

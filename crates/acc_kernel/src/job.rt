@@ -1,11 +1,14 @@
 //! A loop with room for the cells that it uses: inputs and outputs.
 
-ghost use Rattle.std.specs.Prelude.{◌≡◌, ◌<◌, [], length, slice_index_or, slice_set, IfOk, IfErr};
+ghost use Rattle.std.specs.Prelude.{◌≡◌, ◌↔◌, ◌<◌, [], length, slice_index_or, slice_set, IsTrue, IfOk, IfErr};
 ghost use Rattle.acc_base.specs.declared.fault.Fault.TheVariants as fault;
-ghost use Rattle.acc_kernel.specs.Jobs.{AreDistinct, AreRows, HoldReached, IsJob, no_use, zero_rows, computed};
+ghost use Rattle.acc_kernel.specs.Jobs.{AreDistinct, AreRows, HasUses, HoldReached, IsJob, no_use, zero_rows, computed, shown, stored};
+ghost use Rattle.acc_kernel.specs.Kernels.{value_after};
 
 use crate::kernel::Kernel;
 use crate::rows::Rows;
+use crate::same::are_same_uses;
+use crate::window::Window;
 use acc_base::{BlockId, Fault, Listed, Range, Shared};
 use std::alloc::Global;
 use std::marker::Model;
@@ -114,6 +117,49 @@ impl Job {
         self.inputs.fill(place, values);
     }
 
+    /// Makes the inputs what a window shows, which has all cells of the uses. It takes no memory.
+    pub fn load<W: Window>(&mut self, window: &W)
+        requires { HasUses self.old.uses (W.has window.now) }
+        ensures { self.new ≡ record self.old { inputs = shown self.old.uses (W.cells window.now) } }
+    {
+        self.inputs.load(window);
+    }
+
+    /// Whether the inputs are what a window shows, which has all cells of the uses. It takes no memory.
+    pub fn same<W: Window>(&self, window: &W) -> bool
+        requires { HasUses self.now.uses (W.has window.now) }
+        ensures { IsTrue result ↔ (self.now.inputs ≡ shown self.now.uses (W.cells window.now)) }
+    {
+        self.inputs.are_shown(window)
+    }
+
+    /// Writes the outputs to a window, which has all cells of the uses, and nothing else. It takes no memory.
+    pub fn store<W: Window>(&self, window: &mut W)
+        requires { HasUses self.now.uses (W.has window.old) }
+        ensures has { W.has window.new ≡ W.has window.old }
+        ensures keeps { W.keeps window.old window.new }
+        ensures cells { W.cells window.new ≡ stored self.now.uses self.now.outputs (W.cells window.old) }
+    {
+        self.outputs.store(window);
+    }
+
+    /// Gives a window, which has all cells of the uses, what the loop gives it: the outputs, which were computed, where the
+    /// inputs are what the window shows, and else the loop is run over it. It takes no memory.
+    pub fn commit<W: Window>(&self, window: &mut W)
+        requires computed { self.now.outputs ≡ computed self.now }
+        requires has { HasUses self.now.uses (W.has window.old) }
+        ensures has { W.has window.new ≡ W.has window.old }
+        ensures keeps { W.keeps window.old window.new }
+        ensures cells { W.cells window.new ≡ value_after self.now.kernel (W.cells window.old) }
+    {
+        self.keeps();
+        if self.same(window) {
+            self.store(window);
+        } else {
+            self.kernel.get().run(window);
+        }
+    }
+
     /// Gives each cell's output the value that the loop gives the cell. It takes no memory.
     pub fn compute(&mut self)
         ensures { self.new ≡ record self.old { outputs = computed self.old } }
@@ -123,6 +169,13 @@ impl Job {
         copy_rows(&self.inputs, &mut self.outputs);
         self.kernel.get().run(&mut self.outputs);
         self.outputs.keeps();
+    }
+
+    /// Whether it is a job of this loop with these uses. It takes no memory.
+    pub fn is_of(&self, kernel: &Kernel, uses: &[(BlockId, Range)]) -> bool
+        ensures { IsTrue result ↔ ((self.now.kernel ≡ kernel.now) × (self.now.uses ≡ uses.now)) }
+    {
+        self.kernel.get().is_same(kernel) && are_same_uses(self.uses(), uses)
     }
 
     /// The loop and its uses, without the room for their cells. It takes no memory.

@@ -28,5 +28,6 @@ pub use laws::{worked_loops, worked_values};
 pub use limits::{MAX_DEPTH, MAX_DISTANCE, MAX_STATEMENTS};
 pub use operator::Operator;
 pub use reach::Reach;
+pub use same::are_same_uses;
 pub use uses::are_distinct;
 pub use window::{Window, distance};

@@ -1,15 +1,19 @@
 //! The cells of a job: a row for each use, found by its array's number in a table.
 
-ghost use Rattle.std.specs.Prelude.{◌≡◌, ℕ, ◌+◌, ◌<◌, [], length, slice_index_or, slice_set, IfOk, IfErr, ◌^◌};
+ghost use Rattle.std.specs.Prelude.{◌≡◌, ◌↔◌, ℕ, ◌+◌, ◌<◌, ◌≤◌, ◌+ℤ◌, pos, [], length, slice_index_or, slice_set, IsTrue, IfOk, IfErr, ◌^◌};
 ghost use Rattle.acc_base.specs.declared.fault.Fault.TheVariants as fault;
-ghost use Rattle.acc_kernel.specs.Jobs.{AreRows, zero_rows, has_cell, cell_in, place_of, no_use};
-ghost use Rattle.acc_kernel.specs.inner.RowTables.{RowsView, IsTable};
+ghost use Rattle.acc_kernel.specs.Cells.{with_cells};
+ghost use Rattle.acc_kernel.specs.Jobs.{AreDistinct, AreRows, HasUses, zero_rows, has_cell, cell_in, place_of, no_use, shown, stored, values_shown};
+ghost use Rattle.acc_kernel.specs.inner.RowTables.{RowsView, HasRange, IsTable};
 
 use crate::window::{Window, distance};
 use acc_base::{BlockId, Fault, Range};
 use acc_raw::Cells;
 use std::alloc::Global;
 use std::marker::Model;
+
+// How many values are compared at once.
+const PART: usize = 64;
 
 /// The rows of some uses, each found by its array's number.
 #[derive(Drop)]
@@ -76,6 +80,135 @@ impl Rows {
         let row = &mut self.rows[place];
         row.copy_from(0, source);
     }
+
+    /// Takes the values that a window shows.
+    pub(crate) fn load<W: Window>(&mut self, window: &W)
+        requires distinct { AreDistinct self.old.uses }
+        requires has { HasUses self.old.uses (W.has window.now) }
+        ensures uses { self.new.uses ≡ self.old.uses }
+        ensures rows { self.new.rows ≡ shown self.old.uses (W.cells window.now) }
+    {
+        for place in 0..self.rows.len() {
+            let range = self.uses[place].1;
+            read_row(window, range, &mut self.rows[place]);
+        }
+    }
+
+    /// Whether a window shows these values.
+    pub(crate) fn are_shown<W: Window>(&self, window: &W) -> bool
+        requires distinct { AreDistinct self.now.uses }
+        requires has { HasUses self.now.uses (W.has window.now) }
+        ensures { IsTrue result ↔ (self.now.rows ≡ shown self.now.uses (W.cells window.now)) }
+    {
+        for place in 0..self.rows.len() {
+            let range = self.uses[place].1;
+            if !is_shown(window, range, self.rows[place].as_slice()) {
+                return false;
+            }
+        }
+        true
+    }
+
+    /// Writes the values to a window.
+    pub(crate) fn store<W: Window>(&self, window: &mut W)
+        requires distinct { AreDistinct self.now.uses }
+        requires has { HasUses self.now.uses (W.has window.old) }
+        ensures has { W.has window.new ≡ W.has window.old }
+        ensures keeps { W.keeps window.old window.new }
+        ensures cells { W.cells window.new ≡ stored self.now.uses self.now.rows (W.cells window.old) }
+    {
+        for place in 0..self.rows.len() {
+            let range = self.uses[place].1;
+            write_row(window, range, self.rows[place].as_slice());
+        }
+    }
+}
+
+// Fills a row with the values of a range's cells.
+fn read_row<W: Window>(window: &W, range: Range, row: &mut Cells)
+    requires long { length row.old ≡ range.len }
+    requires has { HasRange range (W.has window.now) }
+    ensures { row.new ≡ values_shown (W.cells window.now) range }
+{
+    if range.len > 0 {
+        window.read(range.array, i64::from(range.lo), row.as_mut_slice());
+    }
+}
+
+// Writes the values to the cells of a range.
+fn write_row<W: Window>(window: &mut W, range: Range, values: &[i64])
+    requires long { length values.now ≡ range.len }
+    requires has { HasRange range (W.has window.old) }
+    ensures has { W.has window.new ≡ W.has window.old }
+    ensures keeps { W.keeps window.old window.new }
+    ensures cells { W.cells window.new ≡ with_cells (W.cells window.old) range.array (pos range.lo) range.len values.now }
+{
+    if range.len > 0 {
+        window.write(range.array, i64::from(range.lo), values);
+    }
+}
+
+// Whether a range's cells have these values.
+fn is_shown<W: Window>(window: &W, range: Range, values: &[i64]) -> bool
+    requires long { length values.now ≡ range.len }
+    requires has { HasRange range (W.has window.now) }
+    ensures { IsTrue result ↔ (values.now ≡ values_shown (W.cells window.now) range) }
+{
+    let mut part = [0; PART];
+    for n in 0..values.len().div_ceil(PART) {
+        let from = n * PART;
+        let count = PART.min(values.len() - from);
+        let first = cell_at(range.lo, from);
+        if !shows_part(
+            window,
+            range.array,
+            first,
+            &values[from..from + count],
+            &mut part,
+        ) {
+            return false;
+        }
+    }
+    true
+}
+
+// The cell so far behind the first of a range.
+fn cell_at(lo: u32, at: usize) -> i64
+    requires { at < 2 ^ 32 }
+    ensures { result ≡ pos lo +ℤ pos at }
+{
+    i64::from(lo) + at as i64
+}
+
+// Whether as many cells from the first on have these values.
+fn shows_part<W: Window>(
+    window: &W,
+    array: u8,
+    first: i64,
+    values: &[i64],
+    part: &mut [i64; PART],
+) -> bool
+    requires count { (0 < length values.now) × (length values.now ≤ 64) }
+    requires has { (k : ℕ) → k < length values.now → IsTrue (W.has window.now array (first +ℤ pos k)) }
+    ensures { IsTrue result ↔ ((k : ℕ) → k < length values.now → slice_index_or values.now k (pos 0) ≡ W.cells window.now array (first +ℤ pos k)) }
+{
+    let shown = &mut part[..values.len()];
+    window.read(array, first, shown);
+    are_equal(shown, values)
+}
+
+// Goes through all of them, so that several are compared at once.
+fn are_equal(left: &[i64], right: &[i64]) -> bool
+    requires { length left.now ≡ length right.now }
+    ensures { IsTrue result ↔ (left.now ≡ right.now) }
+{
+    let mut same = true;
+    for k in 0..left.len() {
+        if left[k] != right[k] {
+            same = false;
+        }
+    }
+    same
 }
 
 impl Window for Rows {

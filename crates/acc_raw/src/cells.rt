@@ -63,6 +63,14 @@ impl Cells {
         self.cells.as_slice()
     }
 
+    /// All values, in their order, to be written.
+    pub fn as_mut_slice(&mut self) -> &mut [i64]
+        ensures value { result.now ≡ self.old }
+        ensures* writes_back { sem 𝓛 (Lends the_row (Array cell 0) self.entry result (refill (length self.old) self.old)) }
+    {
+        self.cells.as_mut_slice()
+    }
+
     /// The value of a cell, one before `len`.
     pub fn get(&self, at: usize) -> i64
         requires { at < length self.now }
@@ -107,7 +115,7 @@ impl Cells {
         // Once both borrows end, the row has what was written to the windows, and its other cells are as before.
         ensures* writes_back { sem 𝓛 (LendsBoth the_row (Array cell 0) (Array cell 0) self.entry result (with_windows self.old first second)) }
     {
-        let cells = self.whole().as_mut_ptr();
+        let cells = self.as_mut_slice().as_mut_ptr();
         // Both lie in the row, and no cell is in both.
         unsafe {
             (
@@ -115,13 +123,5 @@ impl Cells {
                 from_raw_parts_mut(cells.add(second.start), second.len),
             )
         }
-    }
-
-    // All cells, to be written.
-    fn whole(&mut self) -> &mut [i64]
-        ensures value { result.now ≡ self.old }
-        ensures* writes_back { sem 𝓛 (Lends the_row (Array cell 0) self.entry result (refill (length self.old) self.old)) }
-    {
-        self.cells.as_mut_slice()
     }
 }

@@ -1,5 +1,6 @@
 -- How the rows of the uses are found: by a table of their places.
-use Rattle.std.specs.Prelude.{◌≡◌, ℕ, ℤ, ◌<◌, List, length, slice_index_or}
+use Rattle.std.specs.Prelude.{◌≡◌, ℕ, ℤ, ◌<◌, ◌+ℤ◌, pos, Bool, IsTrue, List, length, slice_index_or}
+use Rattle.acc_base.specs.declared.range.Range.{Range}
 use Rattle.acc_kernel.specs.Jobs.{Use, AreRows, place_of}
 
 pub record RowsView : Type 0 where
@@ -14,3 +15,7 @@ pub record IsTable (uses : List Use) (places : List ℕ) : Type 0 where
 pub record IsStored (uses : List Use) (places : List ℕ) (rows : List (List ℤ)) : Type 0 where
   pub table : IsTable uses places
   pub shape : AreRows uses rows
+
+-- a window has all cells of a range
+abbrev pub HasRange : Range → (ℕ → ℤ → Bool) → Type 0
+HasRange r has = (k : ℕ) → k < r.len → IsTrue (has r.array (pos r.lo +ℤ pos k))

@@ -37,14 +37,14 @@ use Rattle.std.specs.List.{refill}
 use Rattle.acc_raw.specs.contracts.cells.Cells.{the_row}
 use Rattle.acc_raw.specs.contracts.cells.Window as window
 use Rattle.acc_raw.specs.contracts.cells.Cells.two as f
-use Rattle.acc_raw.specs.contracts.cells.Cells.whole as g
+use Rattle.acc_raw.specs.contracts.cells.Cells.as_mut_slice as g
 use Rattle.std.specs.Prelude.{nat_le, Bool}
 use Rattle.acc_raw.specs.declared.cells.Window.{Window}
 use Rattle.acc_raw.specs.Windows.{IsWithin, AreApart, cells_in, with_windows}
 use Rattle.acc_raw.proofs.cells.Window.TheLaws.{the_laws, the_loose}
 use Rattle.acc_raw.proofs.cells.Cells.two.Statement.{statement}
 use Rattle.acc_raw.proofs.cells.Cells.two.Code as code
-use Rattle.acc_raw.proofs.cells.Cells.whole.Met.{met}
+use Rattle.acc_raw.proofs.cells.Cells.as_mut_slice.Met.{met}
 use Rattle.acc_raw.proofs.LentSlice.{Pair, pair_of, slice_with, ties, under}
 use Rattle.acc_raw.proofs.WithWindows.{length-middle}
 use Rattle.acc_raw.proofs.TwoWindows.{placed, window_at, lends_windows}
@@ -73,7 +73,7 @@ two_spec 𝓤 𝓛 𝓜 𝓡 wired =
     let z : G.Ghost = ((κs, qs, bounds, (r, tt), (vs, tt)), tt) in
     nothing ! $ move ! (1 ∷ 0 ∷ []) $ join ! $ nothing ! $ move ! (2 ∷ 0 ∷ []) $ join ! $ join ! $
     nothing ! $ move ! (1 ∷ 0 ∷ []) $ use2 𝓛 (raw (G.pre z)) (id⊢ 𝓤 _) $
-    calls_at ! (framed 𝓤 𝓛.H 𝓜 (tables 𝓤 𝓛.H 𝓜 𝓡 𝓡.env)) G (met 𝓤 𝓛 𝓜 𝓡 (code.calls-acc_raw::cells::Cells::whole 𝓡.env wired)) z
+    calls_at ! (framed 𝓤 𝓛.H 𝓜 (tables 𝓤 𝓛.H 𝓜 𝓡 𝓡.env)) G (met 𝓤 𝓛 𝓜 𝓡 (code.calls-acc_raw::cells::Cells::as_mut_slice 𝓡.env wired)) z
     (and_then ! (get ! refl) (no_more !)) (λ u.
     use1 𝓛 (later (some (λ (s : MutBor (List ℤ)). ((‵ (flft κ q) ⊛ ‵ ftrue) ⊛ ‵ ((MutSlice (named 0) κ i64).own_val s (u ∷ []))) ⊛
     some (λ (ws : Lasts g.ended κs (r, tt)). ‵ (lasts g.ended κs (r, tt) ws) ⊛ raw (fact 𝓤 (s.now ≡ r.now)) ⊛ ‵ (follows the_row (Array i64 0) r.ghost_name s.ghost_name (refill (length r.now) r.now)))))) (id⊢ 𝓤 _) $
