@@ -75,6 +75,7 @@ queued_opening config v v' queues no_rows fresh devices count empty no_work made
           counted = rw (lane.left, queue.0) queue.1;
           held_low = rw queue.0 (omega arith);
           lane_room = rw (lane.taken, queue.0) (omega arith);
+          in_place = lane.in_place;
         }
 
 -- What holds of an accelerator holds before the first event.

@@ -100,6 +100,7 @@ is_roomier {lane = lane} {lane' = lane'} more h =
       counted = rw left h.counted;
       held_low = h.held_low;
       lane_room = omega (arith, h.lane_room, ap length taken, more.room);
+      in_place = ap (λ (l : LaneView). l.out) more.kept ∙ h.in_place;
     }
 
 -- a queue's labels, where one more is placed on it, and where it is placed on another
@@ -144,8 +145,9 @@ queued_more w w' v v' queues b waiting waiting' s q order c e closed f k host so
       counted = omega (arith, h.counted, ap length (ops_more queue.held b), length-append (ops_of queue.held) b.ops);
       held_low = omega (arith, fits, length-append queue.held (b ∷ []));
       lane_room = omega (arith, lane_room, length-append queue.held (b ∷ []), few, more, some);
+      in_place = h.in_place;
     })
-    (λ other differ x same. record { split = placed_elsewhere ls b other differ ∙ same.split; counted = same.counted; held_low = same.held_low; lane_room = same.lane_room }) in
+    (λ other differ x same. record { split = placed_elsewhere ls b other differ ∙ same.split; counted = same.counted; held_low = same.held_low; lane_room = same.lane_room; in_place = same.in_place }) in
     record {
       each = λ other. subst (λ x. QueueIs w'.config x other (lane_at v' other) (queue_in (queues_with queues at new) other)) (sym e) (subst (λ x. QueueIs x (ls ++ b ∷ []) other (lane_at v' other) (queue_in (queues_with queues at new) other)) (sym c) (each other));
       count = rw c (length-set queues (seat at) new ∙ q.count);

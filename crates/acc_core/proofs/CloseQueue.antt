@@ -57,10 +57,11 @@ queued_closed w v queues waiting at s q early fits =
       counted = omega (arith, h.counted, ap length more, length-append (ops_of queue.held) b.ops);
       held_low = omega (arith, fits, length-append queue.held (b ∷ []));
       lane_room = omega (arith, q.close_room at there early, length-append queue.held (b ∷ []));
+      in_place = h.in_place;
     })
     (λ other differ x same.
     (let none : on_queue other (b ∷ []) ≡ [] = rw differ refl in
-    record { split = on_queue-append other ls (b ∷ []) ∙ (ap (λ r. on_queue other ls ++ r) none ∙ (append-nil (on_queue other ls) ∙ same.split)); counted = same.counted; held_low = same.held_low; lane_room = same.lane_room })) in
+    record { split = on_queue-append other ls (b ∷ []) ∙ (ap (λ r. on_queue other ls ++ r) none ∙ (append-nil (on_queue other ls) ∙ same.split)); counted = same.counted; held_low = same.held_low; lane_room = same.lane_room; in_place = same.in_place })) in
     let room =
     each_seat (λ other x. IsQueue w.config other → is_closed (standing_of w) other ≡ false → length (lane_at v other).taken + length x.held < (lane_at v other).room)
     (λ other x. IsQueue w.config other → (same_queue at other || is_closed (standing_of w) other) ≡ false → length (lane_at v other).taken + length x.held < (lane_at v other).room) no_queue queues at new s.queue s.held q.close_room

@@ -1,6 +1,6 @@
 -- A queue performs an operation.
 use Rattle.std.proofs.Common.{◌≡◌, ℕ, ◌+◌, ◌-◌, ◌<◌, ◌≤◌, true, false, List, [], ◌∷◌, length, refl, sym, ap, subst, ◌∙◌, arith}
-use Rattle.std.specs.Prelude.{◌&&◌}
+use Rattle.std.specs.Prelude.{not, ◌&&◌}
 use Rattle.std.proofs.lemmas.List.{length-set}
 use Rattle.acc_base.specs.declared.ids.QueueAt.{QueueAt}
 use Rattle.acc_base.specs.Queues.{seat}
@@ -19,7 +19,7 @@ use Rattle.acc_work.specs.Logs.{performed, device_ops, await_allows, host_allows
 use Rattle.acc_memory.specs.Memories.{MemoryView, rows_on, room_on}
 use Rattle.acc_work.specs.Kept.{IsKept}
 use Rattle.acc_work.specs.Remembering.{Remembers}
-use Rattle.acc_work.specs.Works.{WorkView, lane_at, taken_counts, taken_labels, goes_on, can_go, KeepsOrder, HasPerformed, HasRoomToMake, NextMayFollow}
+use Rattle.acc_work.specs.Works.{WorkView, lane_at, taken_counts, taken_labels, goes_on, is_due, can_go, KeepsOrder, HasPerformed, HasRoomToMake, NextMayFollow}
 use Rattle.acc_work.proofs.LaneChanges.{count_kept}
 use Rattle.acc_core.proofs.BatchesDone.{awaits_taken}
 use Rattle.acc_core.proofs.LegalSteps.{legal_performed, legal_taken}
@@ -88,6 +88,7 @@ goes_next w v queues waiting at op ops q k e same =
     let batch = ap (λ work. batch_at (on_queue at (labels_of w)) (length (performed at work))) (sym same) ∙ (ap (λ ls. batch_at ls (length (performed at v.work))) (q.each at).split ∙ next) in
     ap (λ b. b && host_allows (batch_at (on_queue at (labels_of w)) (length (performed at w.work))) w.work) (sym (awaits_taken w v queues waiting at.device op q k same))
     ∙ ap (λ b. await_allows (taken_labels v) v.work at.device op && b) (ap (λ l. host_allows l w.work) batch ∙ ap (host_allows (last_of lane.taken)) (sym same))
+    ∙ sym (ap (λ out. not out && is_due v at op) (q.each at).in_place)
 
 -- The work side performs it at the same time: as it uses live blocks, it is never held back for want of one.
 can_next : (w : State) (v : WorkView) (queues : List QueueView) (waiting : ℕ) (at : QueueAt) (op : OpLabel) (ops : List OpLabel) → IsSeated w.config.devices v queues at → IsAccelerator (with_taken w v) v queues waiting → KeepsWork v → v.work ≡ w.work
@@ -125,7 +126,7 @@ performed_more w v v' queues waiting at s a k same d =
     let work : v'.work ≡ entry.Op at d.op ∷ w.work = d.performed.work ∙ ap (λ r. entry.Op at d.op ∷ r) same in
     let labels = labels_of w in
     let each = both_changed (λ other l k. QueueIs w.config labels other l k) (λ other l k. QueueIs w.config labels other l k) v.lanes queues at (lane_with_left lane d.ops) new s.queue s.lane s.held q.each
-    (record { split = h.split; counted = omega (arith, h.counted, left); held_low = h.held_low; lane_room = h.lane_room }) (λ other differ l k same. same) in
+    (record { split = h.split; counted = omega (arith, h.counted, left); held_low = h.held_low; lane_room = h.lane_room; in_place = refl }) (λ other differ l k same. same) in
     let sum = waiting_changed queues at new s.queue s.held in
     let room =
     both_changed (λ other l k. IsQueue w.config other → is_closed (standing_of w) other ≡ false → length l.taken + length k.held < l.room)

@@ -73,6 +73,7 @@ taken_more w v queues waiting at b more s q none first =
             counted = omega (arith, h.counted, ap length none, ap (λ ls. length (ops_of ls)) first, length-append b.ops (ops_of more));
             held_low = omega (arith, h.held_low, ap length first);
             lane_room = omega (arith, h.lane_room, ap length first, length-append lane.taken (b ∷ []));
+            in_place = refl;
           })
           (λ other differ l k same. same);
       count = length-set queues (seat at) new ∙ q.count;

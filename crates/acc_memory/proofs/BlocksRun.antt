@@ -300,7 +300,7 @@ module _ (bs : List Block) (indices : List ℕ) (k : Loop) (uses : List Use) (r 
       b.whole (is_within b.block.range o.at b.low b.high))
 
   -- and it is what its block shows
-  seen_was : (device : ℕ) (was : Cell → ℤ) → ShowsRows device (rows_of bs) was → (array : ℕ) (cell : ℤ) → has_cell uses array cell ≡ true
+  pub seen_was : (device : ℕ) (was : Cell → ℤ) → ShowsRows device (rows_of bs) was → (array : ℕ) (cell : ℤ) → has_cell uses array cell ≡ true
       → window_cells bs indices array cell ≡ cells_by uses device was array cell
   seen_was device was shows array cell has =
       let o = use_of uses array cell has in

@@ -2,16 +2,16 @@
 
 ghost use Rattle.std.specs.Prelude.{◌≡◌, ◌+◌, ◌-◌, ◌<◌, ◌≤◌, ℕ, ℤ, pos, [], length, map, replicate, slice_get, is_some, true, None, Some, IfSome, IfErr, OnOk, OnErr};
 ghost use Rattle.std.specs.Option.{option_map};
-ghost use Rattle.acc_kernel.specs.Jobs.{AreDistinct, HoldReached};
+ghost use Rattle.acc_kernel.specs.Jobs.{AreDistinct, HoldReached, computed, shown};
 ghost use Rattle.acc_memory.specs.Blocks.{row_of};
 ghost use Rattle.acc_memory.specs.Memories.{ShowsRows, ShowsArray, HasRange, HasRanges, IsCopy, made_of, blocks_after, find_row, find_block, index_of, has_cell, is_ascending, is_whole, row_cell, row_has};
 ghost use Rattle.acc_memory.specs.inner.Windows.{AreIndices};
-ghost use Rattle.acc_memory.specs.Values.{Cell, after_op, is_in};
+ghost use Rattle.acc_memory.specs.Values.{Cell, after_op, cells_by, is_in};
 
-use crate::window::run_over;
+use crate::window::{commit_over, load_over, run_over};
 use acc_base::{BlockId, Fault, Range};
 use acc_batch::Block;
-use acc_kernel::Kernel;
+use acc_kernel::{Job, Kernel};
 use acc_raw::Cells;
 use std::alloc::Global;
 use std::marker::Model;
@@ -169,6 +169,31 @@ impl Blocks {
     {
         let indices = indices_of(self.blocks.as_slice(), uses);
         run_over(self.blocks.as_mut_slice(), indices, kernel);
+    }
+
+    /// Makes a job's inputs the values of the blocks that it uses. Takes no memory.
+    pub(crate) fn load(&mut self, job: &mut Job)
+        requires { HasRanges (map made_of self.old.rows) job.old.uses }
+        ensures kept { self.new ≡ self.old }
+        ensures job { (device : ℕ) (was : Cell → ℤ) → ShowsRows device self.old.rows was → job.new ≡ record job.old { inputs = shown job.old.uses (cells_by job.old.uses device was) } }
+    {
+        job.keeps();
+        let indices = indices_of(self.blocks.as_slice(), job.uses());
+        load_over(self.blocks.as_mut_slice(), indices, job);
+    }
+
+    /// Gives the blocks that a job uses what its loop gives them, as `run` does. Its outputs were computed, and serve where
+    /// its inputs are what the blocks show. Takes no memory.
+    pub(crate) fn commit(&mut self, job: &Job)
+        requires computed { job.now.outputs ≡ computed job.now }
+        requires held { HasRanges (map made_of self.old.rows) job.now.uses }
+        ensures shows { (device : ℕ) (was : Cell → ℤ) → ShowsRows device self.old.rows was → ShowsRows device self.new.rows (after_op device (op.Run job.now.kernel job.now.uses) was) }
+        ensures blocks { map made_of self.new.rows ≡ map made_of self.old.rows }
+        ensures room { self.new.room ≡ self.old.room }
+    {
+        job.keeps();
+        let indices = indices_of(self.blocks.as_slice(), job.uses());
+        commit_over(self.blocks.as_mut_slice(), indices, job);
     }
 }
 

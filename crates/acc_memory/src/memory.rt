@@ -4,16 +4,16 @@ ghost use Rattle.std.specs.Prelude.{◌≡◌, ◌+◌, ◌<◌, ◌≤◌, ℕ,
 ghost use Rattle.std.specs.Option.{option_map};
 ghost use Rattle.acc_batch.specs.Ops.{op_label, HasItsCells};
 ghost use Rattle.acc_memory.specs.Blocks.{row_with};
-ghost use Rattle.acc_memory.specs.Memories.{Shows, MayPerform, IsAllowed, PerformsOn, rows_in, room_in, rows_on, room_on, cell_of, has_cell, is_held, find_row, find_block, has_array, held_blocks, is_within, finds_blocks};
-ghost use Rattle.acc_kernel.specs.Jobs.{Use};
+ghost use Rattle.acc_memory.specs.Memories.{Shows, HasRanges, MayPerform, IsAllowed, PerformsOn, rows_in, room_in, rows_on, room_on, cell_of, has_cell, is_held, find_row, find_block, has_array, held_blocks, is_within, finds_blocks};
+ghost use Rattle.acc_kernel.specs.Jobs.{Use, computed, shown};
 ghost use Rattle.std.specs.List.{list_all};
 ghost use Rattle.acc_base.specs.Configurations.{lengths_of, has_range};
-ghost use Rattle.acc_memory.specs.Values.{Cell, Block_cell, Host_cell, after_write, values_of};
+ghost use Rattle.acc_memory.specs.Values.{Cell, Block_cell, Host_cell, after_write, cells_by, values_of};
 
 use crate::blocks::Blocks;
 use acc_base::{BlockId, Config, DeviceId, Fault, Range};
 use acc_batch::{Block, Op, OpLabel};
-use acc_kernel::Kernel;
+use acc_kernel::{Job, Kernel};
 use acc_raw::Cells;
 use std::alloc::Global;
 use std::marker::Model;
@@ -110,6 +110,29 @@ impl Memory {
             Op::Await { queue, number } => OpLabel::Await { queue, number },
             Op::Close => OpLabel::Close,
         }
+    }
+
+    /// Makes a job's inputs the values of the cells that it uses on a device, which are there, by `finds_blocks`. Takes
+    /// no memory.
+    pub fn load(&mut self, device: DeviceId, job: &mut Job)
+        requires device { device < length self.old.devices }
+        requires held { HasRanges (held_blocks self.old device) job.old.uses }
+        ensures kept { self.new ≡ self.old }
+        ensures job { (was : Cell → ℤ) → Shows self.old was → job.new ≡ record job.old { inputs = shown job.old.uses (cells_by job.old.uses device was) } }
+    {
+        self.devices[usize::from(device.number())].load(job);
+    }
+
+    /// Performs the loop of a job on a device as `do_op` does; what it uses is there, by `finds_blocks`. Its outputs were computed,
+    /// and are written where its inputs are the values of the cells; else the loop is run. Takes no memory.
+    pub fn commit(&mut self, device: DeviceId, job: &Job)
+        requires computed { job.now.outputs ≡ computed job.now }
+        requires device { device < length self.old.devices }
+        requires held { HasRanges (held_blocks self.old device) job.now.uses }
+        ensures { PerformsOn device (op.Run job.now.kernel job.now.uses) self.old self.new }
+    {
+        let blocks = &mut self.devices[usize::from(device.number())];
+        blocks.commit(job);
     }
 
     /// The value of a cell of a host array, one that the configuration's array has.

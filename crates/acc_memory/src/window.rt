@@ -1,11 +1,12 @@
 //! The blocks of one device as a loop sees them, each by its array.
 
 ghost use Rattle.std.specs.Prelude.{◌≡◌, ℕ, ℤ, IsTrue};
+ghost use Rattle.acc_kernel.specs.Jobs.{HasUses, computed, shown};
 ghost use Rattle.acc_kernel.specs.Kernels.{Reaches, value_after};
 ghost use Rattle.acc_memory.specs.inner.Windows.{window_has, window_cells, KeepsBlocks};
 
 use acc_batch::Block;
-use acc_kernel::{Kernel, Window, distance};
+use acc_kernel::{Job, Kernel, Window, distance};
 
 /// The blocks of a device as a loop sees them: the cells of an array are those of the block at its index.
 #[derive(Drop)]
@@ -32,6 +33,37 @@ fn run_all(kernel: &Kernel, window: &mut LoopBlocks<'_>)
     ensures cells { window_cells window.new.blocks.now window.old.indices ≡ value_after kernel.now (window_cells window.old.blocks.now window.old.indices) }
 {
     kernel.run(window);
+}
+
+/// Gives these blocks what the loop of a job gives them, which was computed: each array's is at its index. Takes no memory.
+pub(crate) fn commit_over(blocks: &mut [Block], indices: [usize; 256], job: &Job)
+    requires computed { job.now.outputs ≡ computed job.now }
+    requires has { HasUses job.now.uses (window_has blocks.old indices) }
+    ensures kept { KeepsBlocks indices blocks.old blocks.new }
+    ensures cells { window_cells blocks.new indices ≡ value_after job.now.kernel (window_cells blocks.old indices) }
+{
+    let mut window = LoopBlocks { blocks, indices };
+    commit_all(job, &mut window);
+}
+
+fn commit_all(job: &Job, window: &mut LoopBlocks<'_>)
+    requires computed { job.now.outputs ≡ computed job.now }
+    requires has { HasUses job.now.uses (window_has window.old.blocks.now window.old.indices) }
+    ensures same_reference { window.new.blocks.ghost_name ≡ window.old.blocks.ghost_name }
+    ensures kept { KeepsBlocks window.old.indices window.old.blocks.now window.new.blocks.now }
+    ensures cells { window_cells window.new.blocks.now window.old.indices ≡ value_after job.now.kernel (window_cells window.old.blocks.now window.old.indices) }
+{
+    job.commit(window);
+}
+
+/// Makes a job's inputs what these blocks show, each array's at its index. Takes no memory.
+pub(crate) fn load_over(blocks: &mut [Block], indices: [usize; 256], job: &mut Job)
+    requires { HasUses job.old.uses (window_has blocks.old indices) }
+    ensures blocks { blocks.new ≡ blocks.old }
+    ensures job { job.new ≡ record job.old { inputs = shown job.old.uses (window_cells blocks.old indices) } }
+{
+    let window = LoopBlocks { blocks, indices };
+    job.load(&window);
 }
 
 impl<'a> Window for LoopBlocks<'a> {

@@ -1,8 +1,8 @@
 -- A work side keeps what its log keeps: where a queue takes a batch, where it performs an operation, and where a host tells an
 -- item.
 use Rattle.std.proofs.Common.{◌≡◌, ℕ, ◌+◌, ◌-◌, ◌<◌, ◌≤◌, true, false, Bool, List, [], ◌∷◌, ◌++◌, length, refl, sym, ap, ◌∙◌, arith, inl, inr, Some}
-use Rattle.std.specs.Prelude.{ℤ, MatchBool, IsTrue}
-use Rattle.std.proofs.lemmas.Bool.{and_parts, cases_Bool}
+use Rattle.std.specs.Prelude.{ℤ, MatchBool, IsTrue, not}
+use Rattle.std.proofs.lemmas.Bool.{and_parts, cases_Bool, not-true}
 use Rattle.std.proofs.lemmas.List.{append_assoc, length-append, append-nil}
 use Rattle.std.proofs.lemmas.List.Elements.{All-nil, All-cons}
 use Rattle.acc_base.specs.declared.ids.QueueAt.{QueueAt}
@@ -25,7 +25,7 @@ use Rattle.acc_work.specs.Lanes.{LaneView, IsLane, lane_in, lanes_with, lane_wit
 use Rattle.acc_work.specs.Logs.{performed, device_ops, await_allows, host_allows, value}
 use Rattle.acc_work.specs.Orders.{InOrder, ShowsTruth}
 use Rattle.acc_work.specs.Remembering.{Remembers}
-use Rattle.acc_work.specs.Works.{WorkView, KeepsOrder, Performs, PerformsNext, HasPerformed, CanTell, Tells, lane_at, taken_labels, can_go, goes_on, is_live}
+use Rattle.acc_work.specs.Works.{WorkView, KeepsOrder, Performs, PerformsNext, HasPerformed, CanTell, Tells, lane_at, taken_labels, can_go, goes_on, is_due, is_live}
 use Rattle.acc_work.proofs.AwaitedKept.{awaited_performed}
 use Rattle.acc_work.proofs.Extended.{extended_same}
 use Rattle.acc_work.proofs.Lanes.{each_lane, taken_with}
@@ -95,6 +95,18 @@ has_advanced v v' at h = by_left (lane_at v at).left refl h
     by_left [] e g = absurd (let no : done.Op ≡ done.Idle = g.0 in cc)
     by_left (op ∷ ops) e g = by_test op ops (can_go v at (op ∷ ops)) e refl g
 
+-- The next operation of a queue that can be performed isn't out, is due, and uses live blocks.
+pub record Ready (v : WorkView) (at : QueueAt) (op : OpLabel) (ops : List OpLabel) : Type 0 where
+  pub in_place : (lane_at v at).out ≡ false
+  pub due : is_due v at op ≡ true
+  pub live : is_live v at (op ∷ ops) ≡ true
+
+pub is_ready : (v : WorkView) (at : QueueAt) (op : OpLabel) (ops : List OpLabel) → can_go v at (op ∷ ops) ≡ true → Ready v at op ops
+is_ready v at op ops can =
+    let both = and_parts (goes_on v at (op ∷ ops)) (is_live v at (op ∷ ops)) can in
+    let goes = and_parts (not (lane_at v at).out) (is_due v at op) both.0 in
+    record { in_place = not-true (lane_at v at).out goes.0; due = goes.1; live = both.1 }
+
 -- What it did where it performed none: nothing has changed, and the next operation can't be performed.
 pub record Waited (v v' : WorkView) (at : QueueAt) : Type 0 where
   pub same : v' ≡ v
@@ -136,24 +148,23 @@ kept_next arrays labels work at op h next awaits allowed uses = record {
   live_blocks = (uses, h.live_blocks);
 }
 
--- So it is with the next of a lane, which can be performed.
-pub kept_performed : (arrays : List (List ℤ)) (v v' : WorkView) (at : QueueAt) → at.queue < QUEUES → KeepsOrder v → Remembers arrays v.work v.memory → IsKept arrays (taken_labels v) v.work → Advanced v v' at
-    → IsKept arrays (taken_labels v') v'.work
-kept_performed arrays v v' at low k m h a =
+-- So it is with the next of a lane, which is due and uses live blocks.
+pub kept_performed : (arrays : List (List ℤ)) (v v' : WorkView) (at : QueueAt) (op : OpLabel) (ops : List OpLabel) → at.queue < QUEUES → KeepsOrder v → Remembers arrays v.work v.memory → IsKept arrays (taken_labels v) v.work
+    → (lane_at v at).left ≡ op ∷ ops → is_due v at op ≡ true → is_live v at (op ∷ ops) ≡ true → HasPerformed v v' at op ops → IsKept arrays (taken_labels v') v'.work
+kept_performed arrays v v' at op ops low k m h left due live p =
     let labels = taken_labels v in
     let lane = lane_at v at in
     let o = k.order at in
     let done = performed at v.work in
-    let split : ops_of (on_queue at labels) ≡ done ++ a.op ∷ a.ops = ap ops_of (k.taken at) ∙ (sym o.in_order ∙ ap (λ r. done ++ r) a.left) in
-    let next : NextOp done a.op (ops_of (on_queue at labels)) = record { later = a.ops; split = split } in
-    let can = and_parts (goes_on v at (a.op ∷ a.ops)) (is_live v at (a.op ∷ a.ops)) a.can in
-    let both = and_parts (await_allows labels v.work at.device a.op) (host_allows (last_of lane.taken) v.work) can.0 in
-    let uses = (next_live arrays v at a.op a.ops m h.live_blocks can.1).uses in
-    let some : 0 < length lane.left = omega (arith, ap length a.left) in
+    let split : ops_of (on_queue at labels) ≡ done ++ op ∷ ops = ap ops_of (k.taken at) ∙ (sym o.in_order ∙ ap (λ r. done ++ r) left) in
+    let next : NextOp done op (ops_of (on_queue at labels)) = record { later = ops; split = split } in
+    let both = and_parts (await_allows labels v.work at.device op) (host_allows (last_of lane.taken) v.work) due in
+    let uses = (next_live arrays v at op ops m h.live_blocks live).uses in
+    let some : 0 < length lane.left = omega (arith, ap length left) in
     let batch : batch_at (on_queue at labels) (length done) ≡ last_of lane.taken =
     ap (λ ls. batch_at ls (length done)) (k.taken at ∙ sym (append-nil lane.taken)) ∙ next_batch lane [] done o.batches o.in_order some in
     let allowed : IsTrue (host_allows (batch_at (on_queue at labels) (length done)) v.work) = rw batch both.1 in
-    rw (taken_stays v v' at a.op a.ops low a.performed, a.performed.work) (kept_next arrays labels v.work at a.op h next both.0 allowed uses)
+    rw (taken_stays v v' at op ops low p, p.work) (kept_next arrays labels v.work at op h next both.0 allowed uses)
 
 -- ## A host tells an item
 

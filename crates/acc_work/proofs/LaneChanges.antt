@@ -1,5 +1,5 @@
 -- What a work side keeps where one of its lanes changes.
-use Rattle.std.proofs.Common.{◌≡◌, ℕ, ◌<◌, ◌≤◌, false, List, [], ◌∷◌, ◌++◌, length, map, refl, sym, ap, ◌∙◌, arith}
+use Rattle.std.proofs.Common.{◌≡◌, ℕ, ◌<◌, ◌≤◌, Bool, false, List, [], ◌∷◌, ◌++◌, length, map, refl, sym, ap, ◌∙◌, arith}
 use Rattle.std.proofs.Math.Seq.{map-set_same}
 use Rattle.std.proofs.lemmas.List.{append_assoc}
 use Rattle.acc_base.specs.declared.config.TheConstants.{MAX_HOSTS}
@@ -12,7 +12,7 @@ use Rattle.acc_batch.specs.declared.label.OpLabel.{OpLabel}
 use Rattle.acc_memory.specs.Memories.{MemoryView, rows_on, room_on}
 use Rattle.acc_work.specs.declared.log.WorkEntry.{WorkEntry}
 use Rattle.acc_work.specs.declared.log.WorkEntry.TheVariants as entry
-use Rattle.acc_work.specs.Lanes.{LaneView, no_lane, lane_in, lanes_with, lane_with_batch, lane_with_left}
+use Rattle.acc_work.specs.Lanes.{LaneView, no_lane, lane_in, lanes_with, lane_with_batch, lane_with_left, lane_with_out}
 use Rattle.acc_work.specs.Logs.{performed}
 use Rattle.acc_work.specs.Works.{WorkView, HasMadeRoom, IsRoomier, IsInOrder, lane_at}
 use Rattle.acc_work.proofs.Lanes.{lane_there, each_lane, taken_with}
@@ -52,6 +52,18 @@ order_offered work lanes at l low there all here some host none =
       in_order = order_filled lane l (performed at work) o.in_order none;
       on_queue = all_at_more at lane.taken l o.on_queue here;
       batches = lane_filled lane l o.batches some host;
+    })
+    (λ other differ x h. h)
+
+-- Each queue's order, where an operation of one goes out or comes back.
+pub order_out : (work : List WorkEntry) (lanes : List LaneView) (at : QueueAt) (out : Bool) → at.queue < QUEUES → seat at < length lanes → ((other : QueueAt) → IsInOrder work other (lane_in lanes other))
+    → (other : QueueAt) → IsInOrder work other (lane_in (lanes_with lanes at (lane_with_out (lane_in lanes at) out)) other)
+order_out work lanes at out low there all =
+    let o = all at in
+    each_lane (IsInOrder work) (IsInOrder work) lanes at (lane_with_out (lane_in lanes at) out) low there all (record {
+      in_order = o.in_order;
+      on_queue = o.on_queue;
+      batches = record { filled = o.batches.filled; hosts = o.batches.hosts; begun = o.batches.begun };
     })
     (λ other differ x h. h)
 

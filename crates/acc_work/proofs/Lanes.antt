@@ -37,7 +37,7 @@ pub fresh_lane : (lanes : List LaneView) (at : QueueAt) → All IsFresh lanes �
 fresh_lane lanes at h = elim (nat_lt at.queue QUEUES) as (λ v. IsFresh (cond v (slice_index_or lanes (seat at) no_lane) no_lane)) [ true ↦ each lanes (seat at) h | false ↦ none ]
   where
     none : IsFresh no_lane
-    none = record { taken = refl; left = refl }
+    none = record { taken = refl; left = refl; in_place = refl }
 
     each : (ls : List LaneView) (n : ℕ) → All IsFresh ls → IsFresh (slice_index_or ls n no_lane)
     each [] n all = none

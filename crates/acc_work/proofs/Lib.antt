@@ -6,6 +6,7 @@ pub mod Extended
 pub mod Frontiers
 pub mod GreatestWhole
 pub mod HeldInLog
+pub mod JobSteps
 pub mod KeptSteps
 pub mod LaneChanges
 pub mod Lanes
@@ -16,6 +17,7 @@ pub mod NeverStuck
 pub mod NextUsesLive
 pub mod NotedBlocks
 pub mod OperationPlaces
+pub mod OutDue
 pub mod RemembersWork
 pub mod Splits
 pub mod TakenLabels

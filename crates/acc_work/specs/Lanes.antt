@@ -1,22 +1,26 @@
 -- The batches that queues took, and what is left of the last one of each (OpenACC API 3.0, 2.16, Asynchronous Behavior).
-use Rattle.std.specs.Prelude.{◌≡◌, ℕ, zero, suc, ◌-◌, ◌<◌, ◌≤◌, nat_lt, List, [], ◌∷◌, ◌++◌, length, All, slice_get, slice_index_or, slice_set, Option, Some, None, if◌then◌else◌}
+use Rattle.std.specs.Prelude.{◌≡◌, ℕ, zero, suc, ◌-◌, ◌<◌, ◌≤◌, nat_lt, Bool, false, List, [], ◌∷◌, ◌++◌, length, All, slice_get, slice_index_or, slice_set, Option, Some, None, if◌then◌else◌}
 use Rattle.std.specs.List.{flat_map}
 use Rattle.acc_base.specs.declared.config.TheConstants.{MAX_HOSTS}
 use Rattle.acc_base.specs.declared.ids.QueueAt.{QueueAt}
 use Rattle.acc_base.specs.declared.ids.TheConstants.{QUEUES}
 use Rattle.acc_base.specs.Queues.{seat}
 use Rattle.acc_batch.specs.declared.label.OpLabel.{OpLabel}
+use Rattle.acc_batch.specs.declared.label.OpLabel.TheVariants.{Make, CopyIn, CopyOut, Release, Run, Await, Close}
 use Rattle.acc_batch.specs.declared.label.Label.{Label}
+use Rattle.acc_kernel.specs.Jobs.{Use}
+use Rattle.acc_kernel.specs.Kernels.{Loop}
 
 -- Of a queue: the labels of the batches that it took, in order, and for how many there is room; and the operations of the last
--- batch that aren't performed.
+-- batch that aren't performed; and whether the next of these, a loop, is out, to be computed while the lane is left alone.
 pub record LaneView : Type 0 where
   pub taken : List Label
   pub room : ℕ
   pub left : List OpLabel
+  pub out : Bool
 
 abbrev pub no_lane : LaneView
-no_lane = record { taken = []; room = 0; left = [] }
+no_lane = record { taken = []; room = 0; left = []; out = false }
 
 -- The lane of a queue among those of all, which stand by device, then in queue order. A queue that isn't there takes no batch.
 abbrev pub lane_in : List LaneView → QueueAt → LaneView
@@ -31,11 +35,33 @@ abbrev pub all_taken : List LaneView → List Label
 all_taken lanes = flat_map (λ lane. lane.taken) lanes
 
 abbrev pub lane_with_batch : LaneView → Label → LaneView
-lane_with_batch lane label = record lane { taken = lane.taken ++ label ∷ []; left = label.ops }
+lane_with_batch lane label = record lane { taken = lane.taken ++ label ∷ []; left = label.ops; out = false }
 
--- with these operations left
+-- with these operations left, of which none is out
 abbrev pub lane_with_left : LaneView → List OpLabel → LaneView
-lane_with_left lane ops = record lane { left = ops }
+lane_with_left lane ops = record lane { left = ops; out = false }
+
+-- with its next operation out, or back
+abbrev pub lane_with_out : LaneView → Bool → LaneView
+lane_with_out lane out = record lane { out = out }
+
+-- the loop that an operation is, with its uses
+abbrev pub loop_of : OpLabel → Option (Loop × List Use)
+loop_of (Make b r) = None
+loop_of (CopyIn b r) = None
+loop_of (CopyOut b r) = None
+loop_of (Release b) = None
+loop_of (Run k uses) = Some (k, uses)
+loop_of (Await q n) = None
+loop_of Close = None
+
+-- the loop that comes next
+abbrev pub next_loop : List OpLabel → Option (Loop × List Use)
+next_loop [] = None
+next_loop (op ∷ ops) = loop_of op
+
+abbrev pub IsLoopNext : Loop → List Use → List OpLabel → Type 0
+IsLoopNext k uses left = next_loop left ≡ Some (k, uses)
 
 abbrev pub last_of : List Label → Option Label
 last_of labels = slice_get labels (length labels - 1)
@@ -63,3 +89,4 @@ pub record IsLane (lane : LaneView) : Type 0 where
 pub record IsFresh (lane : LaneView) : Type 0 where
   pub taken : lane.taken ≡ []
   pub left : lane.left ≡ []
+  pub in_place : lane.out ≡ false

@@ -1,6 +1,7 @@
 pub mod Counted
 pub mod Enabled
 pub mod Items
+pub mod Jobs
 pub mod Kept
 pub mod Lanes
 pub mod Lives

@@ -52,11 +52,15 @@ taken_counts w = map (λ lane. length lane.taken) w.lanes
 abbrev pub HasQueue : WorkView → QueueAt → Type 0
 HasQueue w at = (at.device < length w.memory.devices) × (at.queue < QUEUES)
 
--- A queue's next operation goes on where there is one, what it awaits is performed, and the host of its batch has the items
--- that stand before the batch.
+-- An operation of a queue is due where what it awaits is performed, and the host of the queue's last batch has the items that
+-- stand before the batch.
+abbrev pub is_due : WorkView → QueueAt → OpLabel → Bool
+is_due w at op = await_allows (taken_labels w) w.work at.device op && host_allows (last_of (lane_at w at).taken) w.work
+
+-- A queue's next operation goes on where there is one, it isn't out, and it is due.
 abbrev pub goes_on : WorkView → QueueAt → List OpLabel → Bool
 goes_on w at [] = false
-goes_on w at (op ∷ ops) = await_allows (taken_labels w) w.work at.device op && host_allows (last_of (lane_at w at).taken) w.work
+goes_on w at (op ∷ ops) = not (lane_at w at).out && is_due w at op
 
 -- there is room on a device for the block that an operation makes
 abbrev pub HasRoomToMake : MemoryView → ℕ → OpLabel → Type 0
@@ -172,10 +176,15 @@ pub record KeepsOrder (w : WorkView) : Type 0 where
   pub taken : (at : QueueAt) → on_queue at (taken_labels w) ≡ (lane_at w at).taken
   pub count : length w.lanes ≡ length w.memory.devices * QUEUES
 
--- What every work side keeps: a lane for each queue of each device, and the order; its log keeps what every log does against the
--- batches that were taken, and tells of the devices that are there; and the memory shows it.
+-- Where a loop is out, the host of its batch has the items that stand before the batch.
+abbrev pub OutIsDue : List WorkEntry → LaneView → Type 0
+OutIsDue work lane = IsTrue lane.out → IsTrue (host_allows (last_of lane.taken) work)
+
+-- What every work side keeps: a lane for each queue of each device, and the order; a loop that is out is due; its log keeps what
+-- every log does against the batches that were taken, and tells of the devices that are there; and the memory shows it.
 pub record IsWork (w : WorkView) (log_devices : ℕ) : Type 0 where
   pub order : (at : QueueAt) → IsInOrder w.work at (lane_at w at)
+  pub out_due : (at : QueueAt) → OutIsDue w.work (lane_at w at)
   pub count : length w.lanes ≡ length w.memory.devices * QUEUES
   pub kept : IsKept w.arrays (taken_labels w) w.work
   pub memory : Remembers w.arrays w.work w.memory

@@ -1,14 +1,15 @@
 //! The batches that a queue took, and what is left of the last one.
 
-ghost use Rattle.std.specs.Prelude.{◌≡◌, ◌+◌, ◌<◌, ◌≤◌, [], ◌∷◌, List, length, slice_get, OnOk, OnErr, IfErr, IfSome, IfNone};
+ghost use Rattle.std.specs.Prelude.{◌≡◌, ◌↔◌, IsTrue, true, false, ◌+◌, ◌<◌, ◌≤◌, [], ◌∷◌, List, length, slice_get, is_some, OnOk, OnErr, IfErr, IfSome, IfNone};
 ghost use Rattle.std.specs.Option.{option_map};
 ghost use Rattle.acc_base.specs.declared.fault.Fault.TheVariants as fault;
 ghost use Rattle.acc_batch.specs.declared.label.OpLabel.{OpLabel};
 ghost use Rattle.acc_batch.specs.Ops.{op_label, IsReady};
-ghost use Rattle.acc_work.specs.Lanes.{IsFresh, lane_with_batch, lane_with_left, last_of, lane_done};
+ghost use Rattle.acc_work.specs.Lanes.{IsFresh, IsLoopNext, loop_of, next_loop, lane_with_batch, lane_with_left, lane_with_out, last_of, lane_done};
 
-use acc_base::Fault;
+use acc_base::{BlockId, Fault, Range};
 use acc_batch::{Batch, Label, Op, Ops};
+use acc_kernel::{Job, Kernel};
 use std::alloc::Global;
 use std::marker::Model;
 
@@ -17,6 +18,10 @@ use std::marker::Model;
 pub struct Lane {
     taken: Vec<Label>,
     left: Ops,
+    // for the inputs and outputs of a loop among them
+    room: Option<Box<Job>>,
+    // whether the next of them, a loop, is out
+    out: bool,
 }
 
 impl Model for Lane {
@@ -30,7 +35,7 @@ impl Model for Lane {
 
     ghost coded = { Prim.hlevel (codes, expr.the_row.coded) };
 
-    ghost view = { λ l. record { taken = l.taken.items; room = vec_capacity l.taken; left = op_labels l.left } };
+    ghost view = { λ l. record { taken = l.taken.items; room = vec_capacity l.taken; left = op_labels l.left; out = l.out } };
 
     ghost invariant = { λ l. AllReady l.left };
 }
@@ -42,6 +47,8 @@ impl Lane {
         Lane {
             taken: Vec::new(alloc),
             left: Ops::none(alloc),
+            room: None,
+            out: false,
         }
     }
 
@@ -98,13 +105,15 @@ impl Lane {
     }
 
     /// Takes a batch, of which all is left.
-    pub(crate) fn offer(&mut self, batch: Batch)
+    pub(crate) fn offer(&mut self, mut batch: Batch)
         requires { length self.old.taken < self.old.room }
         ensures { self.new ≡ lane_with_batch self.old batch }
     {
+        self.room = batch.take_room();
         let (label, ops) = batch.into_parts();
         self.taken.push_reserved(label);
         self.left = ops;
+        self.out = false;
     }
 
     /// Takes the next operation out, to be performed.
@@ -113,6 +122,73 @@ impl Lane {
         ensures ready { IfSome result IsReady }
         ensures none { IfNone result ((self.old.left ≡ []) × (self.new ≡ self.old)) }
     {
-        self.left.take_next()
+        let next = self.left.take_next()?;
+        self.out = false;
+        Some(next)
+    }
+
+    /// Whether the next operation is out.
+    pub(crate) fn is_out(&self) -> bool
+        ensures { result ≡ self.now.out }
+    {
+        self.out
+    }
+
+    /// The next operation, if it is a loop, with its uses.
+    pub(crate) fn next_loop(&self) -> Option<(&Kernel, &[(BlockId, Range)])>
+        ensures { option_map (λ l. (l.0.now, l.1.now)) result ≡ next_loop self.now.left }
+    {
+        match self.first() {
+            None => None,
+            Some(op) => loop_of(op),
+        }
+    }
+
+    /// Whether the next operation is a loop.
+    pub(crate) fn has_loop_next(&self) -> bool
+        ensures { result ≡ is_some (next_loop self.now.left) }
+    {
+        self.next_loop().is_some()
+    }
+
+    /// Takes the next operation, a loop, out, with the room for it, if there is some.
+    pub(crate) fn take_out(&mut self) -> Option<Box<Job>>
+        ensures lane { self.new ≡ lane_with_out self.old true }
+        ensures job { IfSome result (λ job. IsLoopNext job.value.kernel job.value.uses self.old.left) }
+    {
+        self.out = true;
+        match self.room.take() {
+            None => None,
+            Some(job) => { if self.is_next(&job) { Some(job) } else { None } }
+        }
+    }
+
+    /// Whether the next operation is a job's loop.
+    pub(crate) fn is_next(&self, job: &Job) -> bool
+        ensures { IsTrue result ↔ IsLoopNext job.now.kernel job.now.uses self.now.left }
+    {
+        match self.next_loop() {
+            None => false,
+            Some((kernel, uses)) => job.is_of(kernel, uses),
+        }
+    }
+
+    /// Takes back what was out, with its room.
+    pub(crate) fn put_back(&mut self, room: Option<Box<Job>>)
+        ensures { self.new ≡ lane_with_out self.old false }
+    {
+        self.room = room;
+        self.out = false;
+    }
+}
+
+// The loop that an operation is, with its uses.
+fn loop_of(op: &Op) -> Option<(&Kernel, &[(BlockId, Range)])>
+    ensures { option_map (λ l. (l.0.now, l.1.now)) result ≡ loop_of (op_label op.now) }
+{
+    match op {
+        Op::Run { kernel, uses } => Some((kernel.get(), uses.get().as_slice())),
+        Op::Make { .. } | Op::CopyIn { .. } | Op::CopyOut { .. } | Op::Release { .. } => None,
+        Op::Await { .. } | Op::Close => None,
     }
 }

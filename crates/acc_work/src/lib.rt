@@ -3,6 +3,7 @@
 
 mod counts;
 mod item;
+mod job;
 mod known;
 mod lane;
 mod laws;
@@ -12,6 +13,7 @@ mod work;
 
 pub use counts::Counts;
 pub use item::{Item, ItemLabel, Shown};
+pub use job::JobOut;
 pub use laws::{any_order_is_live, never_stuck, whole_is_greatest, worked_logs};
 pub use log::{MAX_HOST_ITEMS, Told, WorkEntry};
 pub use work::{Done, Work};

@@ -1,6 +1,6 @@
 //! The memory, the log, and a lane for each queue of each device.
 
-ghost use Rattle.std.specs.Prelude.{ℕ, ℤ, ◌≡◌, ◌+◌, ◌*◌, ◌<◌, ◌≤◌, ◌==◌, nat_le, All, [], ◌∷◌, length, vec_capacity, is_some, IfOk, IfErr, IfSome, OnSome, IfNone, OnOk, OnErr, IsTrue, ◌↔◌, true, Bool, Some, reverse, ◌^◌};
+ghost use Rattle.std.specs.Prelude.{ℕ, ℤ, ◌≡◌, ◌+◌, ◌*◌, ◌<◌, ◌≤◌, ◌==◌, nat_le, All, [], ◌∷◌, length, vec_capacity, is_some, IfOk, IfErr, IfSome, OnSome, IfNone, OnOk, OnErr, IsTrue, ◌↔◌, true, false, Bool, Some, reverse, ◌^◌};
 ghost use Rattle.std.specs.Option.{option_map};
 ghost use Rattle.acc_base.specs.Queues.{seat};
 ghost use Rattle.acc_base.specs.Configurations.{has_range};
@@ -10,6 +10,7 @@ ghost use Rattle.acc_base.specs.declared.ids.TheConstants.{QUEUES};
 ghost use Rattle.acc_work.specs.declared.log.TheConstants.{MAX_HOST_ITEMS};
 ghost use Rattle.acc_work.specs.declared.log.Told.{Told};
 ghost use Rattle.acc_work.specs.Items.{has_cells, shown_by};
+ghost use Rattle.acc_work.specs.Jobs.{StartsLoop, HasStarted, IsOut, Commits};
 ghost use Rattle.acc_work.specs.Kept.{IsKept};
 ghost use Rattle.acc_work.specs.Lanes.{IsFresh, lane_with_batch, last_of, nth_taken, lanes_with, no_lane};
 ghost use Rattle.acc_work.specs.Logs.{items_of, all_items, batches_done, all_done, await_allows, host_allows, after_item, value};
@@ -22,6 +23,7 @@ ghost use Rattle.acc_memory.specs.Values.{Block_cell, Cell, Host_cell, values_of
 ghost use Rattle.acc_work.specs.Works.{lane_at, taken_labels, HasQueue, goes_on, is_live, is_new, can_go, Performs, NextMayFollow, CanTell, Tells, HasTold, HasPrinted, HasMadeRoom, LacksRoom, KeepsOrder, item_fault};
 
 use crate::item::{Form, Item, ItemLabel, Shown};
+use crate::job::{JobOut, commit_on, give_back, has_job, start_on};
 use crate::lane::Lane;
 use crate::log::{Log, MAX_HOST_ITEMS, Told, WorkEntry};
 use acc_base::{
@@ -327,8 +329,8 @@ impl Work {
         self.lanes[at.seat()].offer(batch);
     }
 
-    /// Performs the next operation of a queue's lane, if what it awaits is performed, its host's items allow it, and it uses live
-    /// blocks. It takes no memory, by `spare`.
+    /// Performs the next operation of a queue's lane, if it isn't out, what it awaits is performed, its host's items allow it, and
+    /// it uses live blocks. It takes no memory, by `spare`.
     pub fn perform(&mut self, at: QueueAt) -> Done
         requires { NextMayFollow self.old at (lane_at self.old at).left }
         ensures { Performs self.old at result self.new }
@@ -349,6 +351,67 @@ impl Work {
         }
     }
 
+    /// Takes the next operation of a queue out, to be computed while others have the work side, where it is a loop that `perform`
+    /// would perform. Until it comes back, `perform` doesn't go on with its queue. It takes no memory.
+    pub fn start_job(&mut self, at: QueueAt) -> Option<JobOut>
+        ensures started { IfSome result (λ job. HasStarted self.old self.new at job) }
+        ensures none { IfNone result ((self.new ≡ self.old) × ¬ StartsLoop self.old at) }
+    {
+        let QueueAt { device, queue } = at;
+        let can = self.can_go(QueueAt { device, queue });
+        if !can {
+            return None;
+        }
+        let lane = &mut self.lanes[QueueAt { device, queue }.seat()];
+        if !lane.has_loop_next() {
+            return None;
+        }
+        start_on(&mut self.memory, device, queue, lane)
+    }
+
+    /// Performs the loop of a job that is out, as `perform` would now: by its outputs, where its inputs are still what the memory
+    /// shows, and else anew. Where it uses a block that isn't live any more, its lane has it back. It takes no memory, by `spare`.
+    ///
+    /// # Errors
+    ///
+    /// The job, where it isn't the one that is out of its lane; then nothing changes.
+    pub fn commit_job(&mut self, job: JobOut) -> Result<(), JobOut>
+        requires room { length self.old.work < self.old.room }
+        ensures committed { OnOk result (IsOut self.old job × Commits self.old self.new job.at) }
+        ensures back { IfErr result (λ back. (back ≡ job) × (self.new ≡ self.old) × ¬ IsOut self.old job) }
+    {
+        if !self.is_out(&job) {
+            return Err(job);
+        }
+        let QueueAt { device, queue } = job.queue();
+        let live = self.is_live(QueueAt { device, queue });
+        let lane = &mut self.lanes[QueueAt { device, queue }.seat()];
+        if !live {
+            give_back(lane, job);
+            return Ok(());
+        }
+        match lane.next() {
+            None => Ok(()),
+            Some(op) => {
+                let what = commit_on(&mut self.memory, device, op, job);
+                self.log.push_op(QueueAt { device, queue }, what);
+                Ok(())
+            }
+        }
+    }
+
+    // Whether a job is the one that is out of its lane.
+    fn is_out(&self, job: &JobOut) -> bool
+        ensures out { IsTrue result ↔ IsOut self.now job.now }
+        ensures there { IsTrue result → (seat job.now.at < length self.now.lanes) × HasQueue self.now job.now.at }
+    {
+        self.keeps();
+        match self.lane(job.at) {
+            None => false,
+            Some(lane) => lane.is_out() && has_job(lane, job),
+        }
+    }
+
     // Whether the next operation of a queue can be performed now: it goes on, and uses live blocks.
     fn can_go(&self, at: QueueAt) -> bool
         ensures can { result ≡ can_go self.now at (lane_at self.now at).left }
@@ -358,8 +421,8 @@ impl Work {
         self.goes_on(QueueAt { device, queue }) && self.is_live(QueueAt { device, queue })
     }
 
-    /// Whether the next operation of a queue goes on: there is one in its lane, what it awaits is performed, and the host of
-    /// its batch has the items that stand before it.
+    /// Whether the next operation of a queue goes on: there is one in its lane that isn't out, what it awaits is performed, and
+    /// the host of its batch has the items that stand before it.
     pub fn goes_on(&self, at: QueueAt) -> bool
         ensures goes { result ≡ goes_on self.now at (lane_at self.now at).left }
         ensures there { IsTrue result → (seat at < length self.now.lanes) × HasQueue self.now at }
@@ -370,7 +433,9 @@ impl Work {
             None => false,
             Some(lane) => match lane.first() {
                 None => false,
-                Some(op) => self.await_allows(device, op) && self.host_allows(lane),
+                Some(op) => {
+                    !lane.is_out() && self.await_allows(device, op) && self.host_allows(lane)
+                }
             },
         }
     }

@@ -25,12 +25,13 @@ abbrev pub state_of_parts : PlaceView → WorkView → State
 state_of_parts p v = record { config = p.config; history = p.history; counts = p.counts; work = v.work; taken = taken_counts v; hosts = [] }
 
 -- A queue's lane was filled from the first labels that were placed on it, and the queue holds the others, of which there are no
--- more than its room. It counts the operations that wait, and the lane has room for all batches that it holds.
+-- more than its room. It counts the operations that wait, and the lane has room for all batches that it holds. No job of it is out.
 pub record QueueIs (config : Configuration) (labels : List Label) (at : QueueAt) (lane : LaneView) (queue : QueueView) : Type 0 where
   pub split : on_queue at labels ≡ lane.taken ++ queue.held
   pub counted : queue.waiting ≡ length lane.left + length (ops_of queue.held)
   pub held_low : length queue.held ≤ config.room
   pub lane_room : length lane.taken + length queue.held ≤ lane.room
+  pub in_place : lane.out ≡ false
 
 -- So it is of every queue. A queue that isn't closed counts for its close, which its lane has room for. There is room for all
 -- that waits in the log, and among the blocks of each device.

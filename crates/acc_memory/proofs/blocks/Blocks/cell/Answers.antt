@@ -1,5 +1,5 @@
 use Rattle.std.proofs.Common.{sym, ap, ◌∙◌}
-use Rattle.acc_memory.specs.Memories.{has_cell, made_of}
+use Rattle.acc_memory.specs.Memories.{has_cell}
 use Rattle.acc_memory.proofs.Rows.{find_block-row, made_there}
 use Rattle.acc_memory.proofs.blocks.Blocks.cell.Goals as goal
 

@@ -4,6 +4,7 @@ use Rattle.acc_work.specs.contracts.work.Work.{the_view}
 use Rattle.acc_work.specs.declared.log.WorkEntry.TheVariants as entry
 use Rattle.acc_work.specs.Lanes.{lane_with_left, lanes_with}
 use Rattle.acc_work.specs.Works.{WorkView, HasPerformed, lane_at}
+use Rattle.acc_work.proofs.KeptSteps.{is_ready}
 use Rattle.acc_work.proofs.Lanes.{found}
 use Rattle.acc_work.proofs.WorkSteps.{next_allowed, work_performed}
 use Rattle.acc_work.proofs.work.Work.perform.Goals as goal
@@ -32,5 +33,6 @@ invariant_of-self-in-Some c =
     let new = next.2 ∙ ap (λ l. lane_with_left l next.0) lane in
     let can = rw (← c.self.view_is) at (sym c.can_go.ensures.can ∙ c.if-not-can_go.false) in
     let w' : WorkView = record w { memory = c.perform_on-what.new.memory; work = entry.Op at op ∷ w.work; lanes = lanes_with w.lanes at (lane_with_left (lane_at w at) next.0) } in
+    let ready = is_ready w at op next.0 (rw left at can) in
     let h : HasPerformed w w' at op next.0 = record { opening = refl; memory = c.perform_on-what.ensures.performed; work = refl; room = refl; lanes = refl } in
-    rw (c.push_op.ensures, c.perform_on-what.ensures.op, c.seat-seat.ensures, new) (work_performed w w' c.self.inside.log.devices at op next.0 c.self.invariant there.1 left can h)
+    rw (c.push_op.ensures, c.perform_on-what.ensures.op, c.seat-seat.ensures, new) (work_performed w w' c.self.inside.log.devices at op next.0 c.self.invariant there.1 left ready.due ready.live h)
