@@ -1,8 +1,8 @@
 -- What the work lock holds, after each change.
-use Rattle.std.proofs.Common.{◌≡◌, ℕ, zero, suc, ◌+◌, ◌*◌, ◌<◌, ◌≤◌, false, List, [], ◌∷◌, ◌++◌, length, refl, sym, ap, ◌∙◌, arith, inl, inr}
-use Rattle.std.specs.Prelude.{All, ℤ, slice_index_or, slice_set}
+use Rattle.std.proofs.Common.{◌≡◌, ℕ, zero, suc, ◌+◌, ◌*◌, ◌<◌, ◌≤◌, true, false, List, [], ◌∷◌, ◌++◌, length, refl, sym, ap, ◌∙◌, arith, inl, inr}
+use Rattle.std.specs.Prelude.{All, IfErr, OnOk, Result, Ok, Err, ℤ, slice_index_or, slice_set}
 use Rattle.std.proofs.lemmas.Bool.{cases_lt}
-use Rattle.std.proofs.lemmas.List.{length-set, length-map}
+use Rattle.std.proofs.lemmas.List.{get_or_past, length-set, length-map}
 use Rattle.acc_base.specs.declared.ids.QueueAt.{QueueAt}
 use Rattle.acc_base.specs.declared.ids.TheConstants.{QUEUES}
 use Rattle.acc_base.specs.declared.config.TheConstants.{MAX_CELLS}
@@ -19,9 +19,10 @@ use Rattle.acc_run.specs.WorkSides.{AreEnds, Goes, IsWorkSide, IsLine, WorkSideV
 use Rattle.acc_work.specs.declared.log.Told.{Told}
 use Rattle.acc_work.specs.declared.work.Done.{Done}
 use Rattle.acc_work.specs.declared.work.Done.TheVariants as done
-use Rattle.acc_work.specs.Lanes.{LaneView, IsFresh, lane_in, lanes_with, lane_with_batch, lane_with_left, no_lane}
-use Rattle.acc_work.specs.Works.{WorkView, HasMadeRoom, HasRoomToMake, HasQueue, HasTold, KeepsOrder, NextMayFollow, Performs, lane_at}
-use Rattle.acc_work.proofs.KeptSteps.{Advanced, has_advanced, has_waited}
+use Rattle.acc_work.specs.Jobs.{JobView, Commits, HasStarted, IsOut, given_back, performed_now}
+use Rattle.acc_work.specs.Lanes.{LaneView, IsFresh, lane_in, lanes_with, lane_with_batch, lane_with_left, lane_with_out, no_lane}
+use Rattle.acc_work.specs.Works.{WorkView, HasMadeRoom, HasPerformed, HasRoomToMake, HasQueue, HasTold, KeepsOrder, NextMayFollow, Performs, lane_at}
+use Rattle.acc_work.proofs.KeptSteps.{has_advanced, has_waited}
 use Rattle.acc_work.proofs.Lanes.{each_lane, fresh_lane}
 
 -- a queue that is there has a seat among the lanes, and among the ends
@@ -96,26 +97,32 @@ has_taken config w w' ends at b new s k h is same_at more = record {
       took = x.took ∙ sym (ap (λ (y : LaneView). y.taken) (seat_kept no_lane w.lanes at q (lane_with_batch (lane_at w at) b) h.1 differ));
     })
 
--- ## A queue performs an operation
+-- ## A lane changes, and what its queue took stays
 
-has_gone : (config : Configuration) (w w' : WorkView) (ends : List Line) (at : QueueAt) → IsWorkSide config w ends → KeepsOrder w → HasQueue w at → Advanced w w' at → IsWorkSide config w' ends
-has_gone config w w' ends at s k h a = record {
+lane_changed : (config : Configuration) (w w' : WorkView) (ends : List Line) (at : QueueAt) (lane : LaneView) → IsWorkSide config w ends → KeepsOrder w → HasQueue w at
+    → length w'.memory.devices ≡ length w.memory.devices → w'.lanes ≡ lanes_with w.lanes at lane → w'.arrays ≡ w.arrays → lane.taken ≡ (lane_at w at).taken → IsWorkSide config w' ends
+lane_changed config w w' ends at lane s k h devices lanes arrays same = record {
   each = λ q. (let x = s.each q in record {
-    here = λ device queue. x.here (omega (arith, device, a.performed.memory.devices)) queue;
+    here = λ device queue. x.here (omega (arith, device, devices)) queue;
     took = x.took ∙ sym (taken q);
   });
-  count = s.count ∙ (sym (length-set w.lanes (seat at) (lane_with_left (lane_at w at) a.ops)) ∙ ap length (sym a.performed.lanes));
-  limits = rw a.performed.opening s.limits;
-  arrays = a.performed.opening ∙ s.arrays;
-  devices = a.performed.memory.devices ∙ s.devices;
+  count = s.count ∙ (sym (length-set w.lanes (seat at) lane) ∙ ap length (sym lanes));
+  limits = rw arrays s.limits;
+  arrays = arrays ∙ s.arrays;
+  devices = devices ∙ s.devices;
 }
   where
     taken : (q : QueueAt) → (lane_at w' q).taken ≡ (lane_at w q).taken
-    taken q = ap (λ lanes. (lane_in lanes q).taken) a.performed.lanes
-        ∙ each_lane (λ o x. x ≡ lane_in w.lanes o) (λ o x. x.taken ≡ (lane_in w.lanes o).taken) w.lanes at (lane_with_left (lane_at w at) a.ops) h.1 (seat_lane w at k h) (λ o. refl) refl (λ o differ x e. ap (λ (y : LaneView). y.taken) e) q
+    taken q = ap (λ ls. (lane_in ls q).taken) lanes
+        ∙ each_lane (λ o x. x ≡ lane_in w.lanes o) (λ o x. x.taken ≡ (lane_in w.lanes o).taken) w.lanes at lane h.1 (seat_lane w at k h) (λ o. refl) same (λ o differ x e. ap (λ (y : LaneView). y.taken) e) q
+
+-- ## A queue performs an operation
+
+has_gone : (config : Configuration) (w w' : WorkView) (ends : List Line) (at : QueueAt) (op : OpLabel) (ops : List OpLabel) → IsWorkSide config w ends → KeepsOrder w → HasQueue w at → HasPerformed w w' at op ops → IsWorkSide config w' ends
+has_gone config w w' ends at op ops s k h p = lane_changed config w w' ends at (lane_with_left (lane_at w at) ops) s k h p.memory.devices p.lanes p.opening refl
 
 pub after_perform : (config : Configuration) (w w' : WorkView) (ends : List Line) (at : QueueAt) (answer : Done) → IsWorkSide config w ends → KeepsOrder w → HasQueue w at → Performs w at answer w' → IsWorkSide config w' ends
-after_perform config w w' ends at done.Op s k h p = has_gone config w w' ends at s k h (has_advanced w w' at p)
+after_perform config w w' ends at done.Op s k h p = (let a = has_advanced w w' at p in has_gone config w w' ends at a.op a.ops s k h a.performed)
 after_perform config w w' ends at done.Idle s k h p = rw (has_waited w w' at p).same s
 
 -- what it did, from room that was made
@@ -138,6 +145,38 @@ order_kept w w' k m = record {
   taken = λ at. ap (on_queue at) m.taken ∙ (k.taken at ∙ sym (ap (λ (x : LaneView). x.taken) (m.lanes at).kept));
   count = sym (length-map w'.lanes (λ (x : LaneView). length x.taken)) ∙ (ap length m.counts ∙ (length-map w.lanes (λ (x : LaneView). length x.taken) ∙ (k.count ∙ ap (λ n. n * QUEUES) (sym m.devices))));
 }
+
+-- ## A loop goes out, and comes back
+
+pub after_start : (config : Configuration) (w w' : WorkView) (ends : List Line) (at : QueueAt) (job : JobView) → IsWorkSide config w ends → KeepsOrder w → HasQueue w at → HasStarted w w' at job → IsWorkSide config w' ends
+after_start config w w' ends at job s k h started =
+    let out = lane_with_out (lane_at w at) true in
+    rw started.new_is (lane_changed config w (record w { lanes = lanes_with w.lanes at out }) ends at out s k h refl refl refl refl)
+
+pub after_commit : (config : Configuration) (w w' : WorkView) (ends : List Line) (at : QueueAt) → IsWorkSide config w ends → KeepsOrder w → HasQueue w at → Commits w w' at → IsWorkSide config w' ends
+after_commit config w w' ends at s k h (performed_now kernel uses ops left live p) = has_gone config w w' ends at (op_label.Run kernel uses) ops s k h p
+after_commit config w w' ends at s k h (given_back gone same) =
+    let back = lane_with_out (lane_at w at) false in
+    rw same (lane_changed config w (record w { lanes = lanes_with w.lanes at back }) ends at back s k h refl refl refl refl)
+
+pub after_job : {A B : Type 0} (r : Result A B) (Out : Type 0) (Same Stray : B → Type 0) (config : Configuration) (w w' : WorkView) (ends : List Line) (at : QueueAt) → IsWorkSide config w ends → KeepsOrder w → HasQueue w at
+    → OnOk r (Out × Commits w w' at) → IfErr r (λ b. Same b × (w' ≡ w) × Stray b) → IsWorkSide config w' ends
+after_job (Ok a) Out Same Stray config w w' ends at s k h committed back = after_commit config w w' ends at s k h committed.1
+after_job (Err b) Out Same Stray config w w' ends at s k h committed back = rw back.1 s
+
+-- a queue that isn't there has no lane
+pub no_lane_there : (w : WorkView) (at : QueueAt) → KeepsOrder w → (HasQueue w at → ⊥) → lane_at w at ≡ no_lane
+no_lane_there w at keeps absent = elim (cases_lt at.queue QUEUES) [
+  | inr past ↦ seat_absent no_lane w.lanes at past
+  | inl low ↦ (elim (cases_lt at.device (length w.memory.devices)) [
+    | inl there ↦ absurd (absent (there, low))
+    | inr beyond ↦ (let past : length w.lanes ≤ seat at = omega (arith, keeps.count, beyond) in seat_there no_lane w.lanes at low ∙ get_or_past w.lanes (seat at) no_lane past)
+  ])
+]
+
+-- so none is out of it
+pub none_out_there : (w : WorkView) (job : JobView) → KeepsOrder w → (HasQueue w job.at → ⊥) → IsOut w job → ⊥
+none_out_there w job keeps absent out = (let none : false ≡ true = sym (ap (λ (l : LaneView). l.out) (no_lane_there w job.at keeps absent)) ∙ out.out in cc)
 
 -- ## A host records an item
 

@@ -16,6 +16,7 @@ use Rattle.acc_work.specs.Items.{shown_by}
 use Rattle.acc_batch.specs.declared.label.Label.{Label}
 use Rattle.acc_batch.specs.declared.label.OpLabel.{OpLabel}
 use Rattle.acc_queue.specs.Tied.{Line, IsFor}
+use Rattle.acc_work.specs.Jobs.{JobView, Commits, HasStarted, IsOut}
 use Rattle.acc_work.specs.Lanes.{LaneView, last_of, lane_with_batch, lanes_with}
 use Rattle.acc_work.specs.declared.work.Done.{Done}
 use Rattle.acc_work.specs.declared.work.Done.TheVariants as done
@@ -99,6 +100,26 @@ pub record HasStayed (old new : WorkSideView) (at : QueueAt) : Type 0 where
 abbrev pub Goes : WorkSideView → QueueAt → Done → WorkSideView → Type 0
 Goes old at done.Op new = HasGone old new at
 Goes old at done.Idle new = HasStayed old new at
+
+-- A queue's next operation, a loop, was taken out to be computed, and nothing else changed.
+pub record HasGoneOut (old new : WorkSideView) (at : QueueAt) (job : JobView) : Type 0 where
+  pub config : new.config ≡ old.config
+  pub started : HasStarted old.work new.work at job
+  pub lines : new.lines ≡ old.lines
+
+-- It has come back: room was made, and it is performed, or its lane has it back.
+pub record HasComeBack (old new : WorkSideView) (job : JobView) : Type 0 where
+  pub config : new.config ≡ old.config
+  pub mid : WorkView
+  pub room : HasMadeRoom old.work mid
+  pub out : IsOut mid job
+  pub commits : Commits mid new.work job.at
+  pub lines : new.lines ≡ old.lines
+
+-- A job that isn't the one that is out changes nothing.
+pub record IsStray (old new : WorkSideView) (job : JobView) : Type 0 where
+  pub room : HasRoomMade old new
+  pub stray : IsOut new.work job → ⊥
 
 -- A host's item was recorded: room was made, and it joined the log with what it tells, which is its answer.
 pub record HasRecorded (old new : WorkSideView) (host : ℕ) (item : ItemLabel) (answer : Shown) : Type 0 where

@@ -9,6 +9,7 @@ ghost use Rattle.acc_run.specs.Finishing.{Abandoned, Finished, HasCounts, histor
 ghost use Rattle.acc_run.specs.PlaceSides.{is_of_ending};
 ghost use Rattle.acc_run.specs.Tokens.{AreTokens};
 ghost use Rattle.acc_run.specs.declared.token.TokenEntry.TheVariants as listed;
+ghost use Rattle.acc_work.specs.Works.{HasQueue};
 ghost use Rattle.acc_work.specs.declared.item.ItemLabel.TheVariants as to_record;
 ghost use Rattle.acc_work.specs.declared.item.Shown.TheVariants as shown;
 
@@ -23,7 +24,7 @@ use crate::workers::Crew;
 use acc_base::{Config, DeviceId, Fault, HostId, QUEUES, QueueAt, QueueCounts};
 use acc_host::Outcome;
 use acc_place::{Directive, Placed};
-use acc_work::{Done, Item, ItemLabel, Shown};
+use acc_work::{Done, Item, ItemLabel, JobOut, Shown};
 use std::alloc::Global;
 use std::marker::Model;
 use std::sync::{Mutex, Wait};
@@ -63,6 +64,9 @@ pub trait Gate {
 
     /// Called by the thread of a host before the host's first step, with no lock held.
     fn host(&self, _host: HostId) {}
+
+    /// Called by a worker before it computes a loop of batch n of its queue, with no lock held.
+    fn work(&self, _at: QueueAt, _n: u64) {}
 }
 
 // What a worker did under the work lock.
@@ -74,6 +78,8 @@ enum Turn {
     Idle,
     // A batch with this number is in the lane, which hasn't passed the gate.
     Holds { number: u64 },
+    // The next operation, a loop, is to be computed.
+    Starts { job: JobOut },
     Ended,
 }
 
@@ -282,7 +288,7 @@ impl Runtime {
     }
 
     /// A worker of a queue: takes its batches, passes the gate with each, and performs them, one operation for each time that the lock
-    /// is got. Where its next operation can't go on it pauses, each time longer, for a millisecond at most; where it finds nothing it
+    /// is got, but for loops, which it computes with no lock held. Where its next operation can't go on it pauses, each time longer, for a millisecond at most; where it finds nothing it
     /// sleeps until a batch is placed, for fifty milliseconds at most. Ends behind the queue's close, where the gate answers false, or
     /// where there is no such queue.
     pub fn serve<R: Wait, G: Gate>(&self, rt: &R, at: QueueAt, gate: &G) {
@@ -305,9 +311,31 @@ impl Runtime {
                     passed = number;
                     pause.begin_anew();
                 }
+                Turn::Starts { job } => {
+                    if !self.compute(rt, gate, job) {
+                        return;
+                    }
+                    pause.begin_anew();
+                }
                 Turn::Ended => return,
             }
         }
+    }
+
+    // Computes a loop with no lock held, and gives it back under the work lock. Whether its lane still waited for it.
+    fn compute<R: Wait, G: Gate>(&self, rt: &R, gate: &G, job: JobOut) -> bool {
+        let mut job = job;
+        gate.work(job.queue(), job.number());
+        job.compute();
+        let mut pause = Pause::new();
+        for _ in rt.forever() {
+            match self.work.lock(rt).commit_job(job) {
+                Ok(was_out) => return was_out,
+                Err(back) => job = back,
+            }
+            pause.wait(rt);
+        }
+        unreachable!()
     }
 
     /// What a run leaves, whose queues have performed all that was placed on them: legal histories of the runtime's configuration, with
@@ -392,12 +420,23 @@ impl Runtime {
                 if passed < number {
                     return Turn::Holds { number };
                 }
-                match work.perform(QueueAt { device, queue }) {
-                    Done::Op => Turn::Did,
-                    Done::Idle => Turn::Blocked,
-                }
+                go_on(&mut work, QueueAt { device, queue })
             }
         }
+    }
+}
+
+// The next operation of a queue is taken out, if it is a loop, and else performed, if it can be.
+fn go_on(work: &mut WorkSide, at: QueueAt) -> Turn
+    requires { HasQueue work.old.work at }
+{
+    let QueueAt { device, queue } = at;
+    match work.start_job(QueueAt { device, queue }) {
+        Some(job) => Turn::Starts { job },
+        None => match work.perform(QueueAt { device, queue }) {
+            Done::Op => Turn::Did,
+            Done::Idle => Turn::Blocked,
+        },
     }
 }
 

@@ -1,14 +1,15 @@
 //! What the work lock holds: a work side, and the end of each queue that takes.
 
-ghost use Rattle.std.specs.Prelude.{Bool, ◌≡◌, ◌<◌, IfOk, IfErr, IfSome, IfNone, OnOk, OnErr, Some, Ok, None, true, false, [], length, OnSome, IsTrue, ◌⊎◌, ◌==◌};
+ghost use Rattle.std.specs.Prelude.{Bool, ◌≡◌, ◌<◌, IfOk, IfErr, IfSome, IfNone, OnOk, OnErr, Some, Ok, None, true, false, [], length, OnSome, IsTrue, ◌↔◌, ◌⊎◌, ◌==◌};
 ghost use Rattle.acc_base.specs.declared.fault.Fault.TheVariants.{Memory};
 ghost use Rattle.acc_base.specs.declared.config.TheConstants.{MAX_HOSTS};
 ghost use Rattle.acc_base.specs.declared.ids.QueueAt.{QueueAt};
 ghost use Rattle.acc_host.specs.Engines.{MayRecord};
-ghost use Rattle.acc_run.specs.WorkSides.{AreEnds, HasRoomMade, HasTaken, HasRecorded, Goes, IsLine, closes, is_ended, line_in, number_left};
+ghost use Rattle.acc_run.specs.WorkSides.{AreEnds, HasComeBack, HasGoneOut, HasRoomMade, HasTaken, HasRecorded, Goes, IsLine, IsStray, closes, is_ended, line_in, number_left};
 ghost use Rattle.acc_work.specs.declared.item.ItemLabel.TheVariants as to_record;
 ghost use Rattle.acc_work.specs.declared.item.Shown.TheVariants as shown;
 ghost use Rattle.acc_work.specs.Items.{has_cells};
+ghost use Rattle.acc_work.specs.Jobs.{StartsLoop};
 ghost use Rattle.acc_work.specs.Logs.{all_done};
 ghost use Rattle.acc_work.specs.Kept.{IsKept};
 ghost use Rattle.acc_work.specs.Remembering.{Remembers};
@@ -18,7 +19,7 @@ ghost use Rattle.acc_work.specs.Lanes.{last_of};
 use acc_base::{Config, DeviceId, Fault, HostId, QUEUES, QueueAt, QueueCounts, Range};
 use acc_batch::OpLabel;
 use acc_queue::Taker;
-use acc_work::{Done, Item, ItemLabel, Shown, Work};
+use acc_work::{Done, Item, ItemLabel, JobOut, Shown, Work};
 use std::alloc::Global;
 use std::marker::Model;
 use std::sync::Wait;
@@ -112,7 +113,7 @@ impl WorkSide {
 
     /// Whether there is such a queue.
     pub fn has_queue(&self, at: QueueAt) -> bool
-        ensures { IsTrue result → HasQueue self.now.work at }
+        ensures { IsTrue result ↔ HasQueue self.now.work at }
     {
         self.work.keeps();
         at.queue.number() < QUEUES && at.seat() < self.takers.len()
@@ -186,6 +187,42 @@ impl WorkSide {
             return Done::Idle;
         };
         self.work.perform(QueueAt { device, queue })
+    }
+
+    /// Takes the next operation of a queue out, to be computed with no lock held, where it is a loop that `perform` would perform. Until
+    /// it comes back the queue performs nothing. It takes no memory.
+    pub fn start_job(&mut self, at: QueueAt) -> Option<JobOut>
+        requires queue { HasQueue self.old.work at }
+        ensures started { IfSome result (λ job. HasGoneOut self.old self.new at job) }
+        ensures none { IfNone result ((self.new ≡ self.old) × (StartsLoop self.old.work at → ⊥)) }
+    {
+        self.work.keeps();
+        self.work.start_job(at)
+    }
+
+    /// Performs the loop of a job that is out, as `perform` would now, and answers whether it is out: else it changes nothing. Where a
+    /// block that it uses isn't live any more, its lane has it back.
+    ///
+    /// # Errors
+    ///
+    /// The job, where memory is refused.
+    pub fn commit_job(&mut self, job: JobOut) -> Result<bool, JobOut>
+        ensures back { result ≡ Ok true → HasComeBack self.old self.new job }
+        ensures stray { result ≡ Ok false → IsStray self.old self.new job }
+        ensures refused { IfErr result (λ back. back ≡ job) }
+        ensures kept { OnErr result (HasRoomMade self.old self.new) }
+    {
+        self.work.keeps();
+        if !self.has_queue(job.queue()) {
+            return Ok(false);
+        }
+        let Ok(()) = self.work.spare(job.queue(), 1) else {
+            return Err(job);
+        };
+        match self.work.commit_job(job) {
+            Ok(()) => Ok(true),
+            Err(_) => Ok(false),
+        }
     }
 
     /// Records an item of a host, any but a Seen, and answers a test. An item that is refused comes back.

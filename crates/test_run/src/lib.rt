@@ -10,6 +10,8 @@ mod finish;
 #[cfg(test)]
 mod fixtures;
 #[cfg(test)]
+mod jobs;
+#[cfg(test)]
 mod meeting;
 #[cfg(test)]
 mod memory;

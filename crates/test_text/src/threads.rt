@@ -184,6 +184,55 @@ fn hosts_and_workers_meet_at_the_gate(rt: HostRuntime) -> Result<(), Fail> {
     Ok(())
 }
 
+/// Two hosts' loops meet: each goes on once both are to be computed.
+#[derive(Drop)]
+struct LoopsMeet {
+    here: AtomicU64,
+    failures: AtomicU64,
+}
+
+impl Gate for LoopsMeet {
+    fn pass(&self, _at: QueueAt, _number: u64) -> bool {
+        true
+    }
+
+    fn work(&self, _at: QueueAt, _number: u64) {
+        self.here.fetch_add(1, Ordering::SeqCst);
+        for _ in 0..100_000u32 {
+            if self.here.load(Ordering::SeqCst) >= 2 {
+                return;
+            }
+            thread::yield_now();
+        }
+        self.failures.fetch_add(1, Ordering::SeqCst);
+    }
+}
+
+/// A loop on each of two queues, on an array of its own.
+const TWO_LOOPS: &[u8] =
+    b"long a[2];\nlong b[2];\nhost {\n#pragma acc parallel loop async(1)\nfor (i = 0; i < 2; i++) a[i] = 1;\n#pragma acc parallel loop async(2)\nfor (i = 0; i < 2; i++) b[i] = 2;\n#pragma acc wait\nprint(a);\nprint(b);\n}\n";
+
+/// No lock is held where a loop is computed.
+#[test]
+fn loops_are_computed_at_once(rt: HostRuntime) -> Result<(), Fail> {
+    let gate = LoopsMeet {
+        here: AtomicU64::new(0),
+        failures: AtomicU64::new(0),
+    };
+    check_run(
+        &rt,
+        rt.alloc(),
+        TWO_LOOPS,
+        Options::DEFAULT,
+        &gate,
+        ENDED,
+        b"host 0\n1 1\n2 2\ndone\nqueue 0 1 batches 1 operations 5 of 5\nqueue 0 2 batches 1 operations 5 of 5\nend\n",
+    );
+    assert_eq!(rt; gate.here.load(Ordering::SeqCst), 2);
+    assert_eq!(rt; gate.failures.load(Ordering::SeqCst), 0);
+    Ok(())
+}
+
 /// A gate that so many batches of queue `2` pass, and all others.
 #[derive(Drop)]
 struct Second {

@@ -18,6 +18,8 @@ pub enum Body {
     Doubled,
     /// `a[i] = -a[i]`
     Negated,
+    /// `b[i] = a[i] + 1`
+    Successor,
     /// `b[i] = a[i + 1]`
     Next,
     /// `a[i] = b[i + 1]`
@@ -58,6 +60,7 @@ fn rows_of(body: Body) -> &'static [Row] {
         Body::Counted => &[(0, &[Read(0, 0), Number(1), PLUS])],
         Body::Doubled => &[(0, &[Read(0, 0), Number(2), TIMES])],
         Body::Negated => &[(0, &[Read(0, 0), Negate])],
+        Body::Successor => &[(1, &[Read(0, 0), Number(1), PLUS])],
         Body::Next => &[(1, &[Read(0, 1)])],
         Body::NextBack => &[(0, &[Read(1, 1)])],
         Body::Chosen => &[(1, &CHOSEN)],
