@@ -1,10 +1,9 @@
 //! What a finished run leaves, and when it can't be finished.
 
-use crate::fixtures::{Open, config_of, entry_of, queue};
-use acc_base::{Fault, QUEUES, Range};
+use crate::fixtures::{Open, config_of, entry_of, print, queue, whole};
+use acc_base::{Fault, QUEUES};
 use acc_place::Clause;
 use acc_run::{HostToken, Runtime};
-use acc_work::Item;
 use std::alloc::Global;
 use std::sync::Wait;
 use std::test::Fail;
@@ -22,25 +21,6 @@ pub enum Wrong {
 // How many entries the place history and the work log have, or why they couldn't be had.
 type Left = Result<(usize, usize), Fault>;
 
-fn print<R: Wait>(
-    rt: &R,
-    alloc: Global,
-    runtime: &Runtime,
-    token: &mut HostToken,
-    array: u8,
-) -> Result<(), Fault> {
-    let range = Range {
-        array,
-        lo: 0,
-        len: 2,
-    };
-    let item = Item::print(alloc, range)?;
-    match runtime.item(rt, token, item) {
-        Ok(_) => Ok(()),
-        Err((_, fault)) => Err(fault),
-    }
-}
-
 /// A runtime of two hosts, each of which enters an array on a queue of its own, and prints it.
 pub fn acted<R: Wait>(rt: &R, alloc: Global) -> Result<(Runtime, Vec<HostToken>), Fault> {
     let config = config_of(alloc, 1, 2, 64)?;
@@ -49,7 +29,7 @@ pub fn acted<R: Wait>(rt: &R, alloc: Global) -> Result<(Runtime, Vec<HostToken>)
         let array = token.host().number();
         let create = entry_of(alloc, Clause::Create, array, i64::from(array))?;
         let _ = runtime.place(rt, token, &create)?;
-        print(rt, alloc, &runtime, token, array)?;
+        print(rt, alloc, &runtime, token, whole(array))?;
     }
     Ok((runtime, tokens))
 }

@@ -1,10 +1,12 @@
 //! Configurations, directives and gates that the tests share.
 
 ghost use Rattle.std.specs.Prelude.{◌≡◌, IfOk};
+ghost use Rattle.acc_host.specs.Engines.{MayRecord};
 
 use acc_base::{Config, DeviceId, Fault, QueueAt, QueueId, Range};
 use acc_place::{Clause, DataItem, Directive, Target, Waits};
-use acc_run::{Gate, Runtime};
+use acc_run::{Gate, HostToken, Runtime};
+use acc_work::Item;
 use std::alloc::Global;
 use std::sync::Wait;
 use std::thread;
@@ -53,6 +55,31 @@ pub fn config_of(alloc: Global, devices: u8, hosts: u8, room: u32) -> Result<Con
     Config::new(alloc, devices, hosts, arrays, 4_194_304, room)
 }
 
+/// Both cells of an array.
+pub fn whole(array: u8) -> Range {
+    Range {
+        array,
+        lo: 0,
+        len: 2,
+    }
+}
+
+/// So many cells of each of the first two arrays, from one on, in a clause.
+pub fn both(clause: Clause, lo: u32, len: u32) -> [DataItem; 2] {
+    let first = Range { array: 0, lo, len };
+    let second = Range { array: 1, lo, len };
+    [
+        DataItem {
+            clause,
+            range: first,
+        },
+        DataItem {
+            clause,
+            range: second,
+        },
+    ]
+}
+
 /// A directive with one item, the whole of an array.
 pub fn directive_with(
     alloc: Global,
@@ -61,11 +88,7 @@ pub fn directive_with(
     array: u8,
     target: Target,
 ) -> Result<Directive, Fault> {
-    let range = Range {
-        array,
-        lo: 0,
-        len: 2,
-    };
+    let range = whole(array);
     directive_of(
         alloc,
         form,
@@ -84,6 +107,32 @@ pub fn entry_of(alloc: Global, clause: Clause, array: u8, value: i64) -> Result<
         array,
         Target::Value { value },
     )
+}
+
+/// Records an item.
+pub fn record<R: Wait>(
+    rt: &R,
+    runtime: &Runtime,
+    token: &mut HostToken,
+    item: Item,
+) -> Result<(), Fault>
+    requires { MayRecord item }
+{
+    match runtime.item(rt, token, item) {
+        Ok(_) => Ok(()),
+        Err((_, fault)) => Err(fault),
+    }
+}
+
+/// Prints cells of a host array.
+pub fn print<R: Wait>(
+    rt: &R,
+    alloc: Global,
+    runtime: &Runtime,
+    token: &mut HostToken,
+    range: Range,
+) -> Result<(), Fault> {
+    record(rt, runtime, token, Item::print(alloc, range)?)
 }
 
 /// Closes until no queue is without Close.

@@ -1,10 +1,8 @@
 //! A loop is computed with no lock held: what hosts and other queues do meanwhile is done, and the loop is performed over the cells as they
 //! are when it comes back.
 
-ghost use Rattle.acc_host.specs.Engines.{MayRecord};
-
-use crate::fixtures::{Open, close_all, config_of, directive_with, queue};
-use acc_base::{DeviceId, Fault, QUEUES, QueueAt, Range};
+use crate::fixtures::{Open, both, close_all, print, queue, record};
+use acc_base::{Config, DeviceId, Fault, QUEUES, QueueAt, Range};
 use acc_place::{Clause, DataItem, Target, Waits};
 use acc_run::{Gate, HostToken, Runtime};
 use acc_work::{Item, Told, WorkEntry};
@@ -16,6 +14,112 @@ use std::thread;
 use std::thread::{Scope, Threads};
 use tool_directives::{Form, UPDATE, directive_of, over};
 use tool_loops::Body;
+
+/// Cells of an array: its number, the first of them, and how many.
+type Cells = (u8, u32, u32);
+
+/// Cells, and the value that each of them is given.
+type Change = (Cells, i64);
+
+/// A loop over a and b, the arrays 0 and 1, which hold 1, 2, 3, 4 and 5, 6, 7, 8: its clauses name so many cells of both, from one on.
+/// What changes, one change behind another, and what the arrays hold in the end.
+#[derive(Clone, Copy)]
+struct Case {
+    lo: i64,
+    hi: i64,
+    body: Body,
+    named: (u32, u32),
+    changes: &'static [Change],
+    after: [&'static [i64]; 2],
+}
+
+/// `b[i] = a[i] + 1` in the middle, where another queue copies in cells of which one is the loop's and one isn't.
+const IN_PART: Case = Case {
+    lo: 1,
+    hi: 3,
+    body: Body::Successor,
+    named: (1, 2),
+    changes: &[((0, 2, 2), 9)],
+    after: [&[1, 2, 9, 9], &[5, 3, 10, 8]],
+};
+
+const CASES: [Case; 11] = [
+    IN_PART,
+    // nothing changes
+    Case {
+        changes: &[],
+        after: [&[1, 2, 3, 4], &[5, 3, 4, 8]],
+        ..IN_PART
+    },
+    // b changes, which the loop only assigns
+    Case {
+        named: (0, 4),
+        changes: &[((1, 0, 4), 9)],
+        after: [&[1, 2, 3, 4], &[9, 3, 4, 9]],
+        ..IN_PART
+    },
+    // cells change that its clauses don't name
+    Case {
+        changes: &[((0, 0, 1), 9), ((1, 3, 1), 9)],
+        after: [&[9, 2, 3, 4], &[5, 3, 4, 9]],
+        ..IN_PART
+    },
+    // cells change that its clauses name, and no index
+    Case {
+        named: (0, 4),
+        changes: &[((0, 0, 1), 9), ((1, 3, 1), 9)],
+        after: [&[9, 2, 3, 4], &[5, 3, 4, 9]],
+        ..IN_PART
+    },
+    // an input changes, and changes back
+    Case {
+        changes: &[((0, 1, 1), 9), ((0, 1, 1), 2)],
+        after: [&[1, 2, 3, 4], &[5, 3, 4, 8]],
+        ..IN_PART
+    },
+    // both inputs change, and one of them changes back
+    Case {
+        changes: &[((0, 1, 2), 9), ((0, 2, 1), 3)],
+        after: [&[1, 9, 3, 4], &[5, 10, 4, 8]],
+        ..IN_PART
+    },
+    // `a[i] = a[i] + 1`, all of which change
+    Case {
+        lo: 0,
+        hi: 4,
+        body: Body::Counted,
+        named: (0, 4),
+        changes: &[((0, 0, 4), 9)],
+        after: [&[10, 10, 10, 10], &[5, 6, 7, 8]],
+    },
+    // the same of two cells, while three change, one of them the loop's
+    Case {
+        lo: 0,
+        hi: 2,
+        body: Body::Counted,
+        named: (0, 2),
+        changes: &[((0, 1, 3), 9)],
+        after: [&[2, 10, 9, 9], &[5, 6, 7, 8]],
+    },
+    // `b[i] = a[i + 1]`, the last of which changes
+    Case {
+        lo: 0,
+        hi: 3,
+        body: Body::Next,
+        named: (0, 4),
+        changes: &[((0, 3, 1), 9)],
+        after: [&[1, 2, 3, 9], &[2, 3, 9, 8]],
+    },
+    // `a[i] = a[i] + 1; b[i] = 2 * a[i]; a[i] = b[i] - 5;`, while both arrays change
+    Case {
+        lo: 0,
+        hi: 2,
+        body: Body::Three,
+        named: (0, 4),
+        changes: &[((0, 1, 1), 9), ((1, 0, 4), 0)],
+        after: [&[-1, 15, 3, 4], &[4, 20, 0, 0]],
+    },
+];
 
 // A loop that is out goes on once it is let go.
 #[derive(Drop)]
@@ -37,7 +141,7 @@ impl Gate for Holding {
 
 // Whether a mark is set within so many turns.
 fn comes(mark: &AtomicU64) -> bool {
-    for _ in 0..100_000u32 {
+    for _ in 0..1_000_000u32 {
         if mark.load(Ordering::SeqCst) == 1 {
             return true;
         }
@@ -46,52 +150,47 @@ fn comes(mark: &AtomicU64) -> bool {
     false
 }
 
-// Records an item.
-fn record<R: Wait>(
-    rt: &R,
-    runtime: &Runtime,
-    token: &mut HostToken,
-    item: Item,
-) -> Result<(), Fault>
-    requires { MayRecord item }
-{
-    match runtime.item(rt, token, item) {
-        Ok(_) => Ok(()),
-        Err((_, fault)) => Err(fault),
+// So many batches pass, the first ones of their queue.
+#[derive(Drop)]
+struct First {
+    count: u64,
+}
+
+impl Gate for First {
+    fn pass(&self, _at: QueueAt, number: u64) -> bool {
+        number <= self.count
     }
 }
 
-// The whole of an array, in a clause.
-fn whole(clause: Clause, array: u8) -> DataItem {
-    let range = Range {
-        array,
-        lo: 0,
-        len: 2,
-    };
-    DataItem { clause, range }
+// A runtime of one host.
+fn runtime_of(alloc: Global) -> Result<(Runtime, Vec<HostToken>), Fault> {
+    let a = vec![in alloc; 1i64, 2, 3, 4]?;
+    let b = vec![in alloc; 5i64, 6, 7, 8]?;
+    let config = Config::new(alloc, 1, 1, vec![in alloc; a, b]?, 100, 64)?;
+    Runtime::new(alloc, &config)
 }
 
-// On queue `1`: `a` and `b` are entered, `b[i] = a[i] + 1` is computed, and `b` comes back. At first the cells of `a` are 1 and 0.
+fn range_of((array, lo, len): Cells) -> Range {
+    Range { array, lo, len }
+}
+
+// On queue `1`: a and b are entered, the loop is computed, and both come back.
 fn place_loop<R: Wait>(
     rt: &R,
     alloc: Global,
     runtime: &Runtime,
     token: &mut HostToken,
+    case: &Case,
 ) -> Result<(), Fault> {
     let first = Target::Value { value: 1 };
-    let copyin = [whole(Clause::Copyin, 0), whole(Clause::Copyin, 1)];
-    let present = [whole(Clause::Present, 0), whole(Clause::Present, 1)];
-    let update = [whole(Clause::UpdateSelf, 1)];
-    record(rt, runtime, token, Item::write(0, 0, 1))?;
+    let (lo, len) = case.named;
+    let copyin = both(Clause::Copyin, 0, 4);
+    let present = both(Clause::Present, lo, len);
+    let update = both(Clause::UpdateSelf, 0, 4);
+    let form = over(case.lo, case.hi, case.body);
     for directive in [
         directive_of(alloc, Form::EnterData, &copyin, first, Waits::Nothing)?,
-        directive_of(
-            alloc,
-            over(0, 2, Body::Successor),
-            &present,
-            first,
-            Waits::Nothing,
-        )?,
+        directive_of(alloc, form, &present, first, Waits::Nothing)?,
         directive_of(alloc, UPDATE, &update, first, Waits::Nothing)?,
     ] {
         let _ = runtime.place(rt, token, &directive)?;
@@ -99,19 +198,53 @@ fn place_loop<R: Wait>(
     Ok(())
 }
 
-// The host makes the first cell of `a` a 9, which queue `2` copies in behind the entry.
-fn change<R: Wait>(
+// On queue `2`, a batch for each change: its cells are copied in.
+fn place_changes<R: Wait>(
     rt: &R,
     alloc: Global,
     runtime: &Runtime,
     token: &mut HostToken,
+    changes: &[Change],
 ) -> Result<(), Fault> {
     let second = Target::Value { value: 2 };
-    record(rt, runtime, token, Item::write(0, 0, 9))?;
-    let update = directive_with(alloc, UPDATE, Clause::UpdateDevice, 0, second)?;
-    let _ = runtime.place(rt, token, &update)?;
-    close_all(rt, runtime);
-    runtime.serve(rt, queue(4), &Open);
+    for (cells, _) in changes {
+        let item = DataItem {
+            clause: Clause::UpdateDevice,
+            range: range_of(*cells),
+        };
+        let update = directive_of(alloc, UPDATE, &[item], second, Waits::Nothing)?;
+        let _ = runtime.place(rt, token, &update)?;
+    }
+    Ok(())
+}
+
+// The host gives each of these cells a value.
+fn write<R: Wait>(
+    rt: &R,
+    runtime: &Runtime,
+    token: &mut HostToken,
+    ((array, lo, len), value): Change,
+) -> Result<(), Fault> {
+    for place in 0..len {
+        let cell = lo.wrapping_add(place);
+        record(rt, runtime, token, Item::write(array, cell, value))?;
+    }
+    Ok(())
+}
+
+// Each change in turn: the host writes its cells, and queue `2` copies them in.
+fn change_all<R: Wait>(
+    rt: &R,
+    runtime: &Runtime,
+    token: &mut HostToken,
+    changes: &[Change],
+) -> Result<(), Fault> {
+    let mut gate = First { count: 0 };
+    for change in changes {
+        write(rt, runtime, token, *change)?;
+        gate.count = gate.count.wrapping_add(1);
+        runtime.serve(rt, queue(4), &gate);
+    }
     Ok(())
 }
 
@@ -130,12 +263,13 @@ fn start<'s, E, R: Threads + Wait + Sync>(
     scope.spawn(move || serve_first(rt, runtime, gate)).is_ok()
 }
 
-// A worker of queue `1` goes on to its end, in a thread of its own, and `a` is changed while the loop is out, or else once `b` is back.
+// A worker of queue `1` goes on to its end, in a thread of its own, and the changes come while the loop is out, or else once a and b are
+// back.
 fn serve<R: Threads + Wait + Sync>(
     rt: &R,
-    alloc: Global,
     runtime: &Runtime,
     token: &mut HostToken,
+    changes: &[Change],
     while_out: bool,
 ) -> Result<(), Fault> {
     let holding = Holding {
@@ -153,58 +287,84 @@ fn serve<R: Threads + Wait + Sync>(
         } else {
             Err(Fault::Memory)
         };
-        let changed = change(rt, alloc, runtime, token);
+        let changed = change_all(rt, runtime, token, changes);
         gate.is_let_go.store(1, Ordering::SeqCst);
         done?;
         changed
     })
 }
 
-// The first value that the last print of a log has.
-fn printed(works: &[WorkEntry]) -> Option<i64> {
-    let mut last = None;
+// All of it is placed, performed and printed.
+fn run<R: Threads + Wait + Sync>(
+    rt: &R,
+    alloc: Global,
+    runtime: &Runtime,
+    token: &mut HostToken,
+    case: &Case,
+    while_out: bool,
+) -> Result<(), Fault> {
+    place_loop(rt, alloc, runtime, token, case)?;
+    place_changes(rt, alloc, runtime, token, case.changes)?;
+    close_all(rt, runtime);
+    serve(rt, runtime, token, case.changes, while_out)?;
+    for number in 0..QUEUES {
+        runtime.serve(rt, queue(number), &Open);
+    }
+    print(rt, alloc, runtime, token, range_of((0, 0, 4)))?;
+    print(rt, alloc, runtime, token, range_of((1, 0, 4)))
+}
+
+// Whether the first print of an array in a log shows these values.
+fn shows(works: &[WorkEntry], array: u8, wanted: &[i64]) -> bool {
     for entry in works {
         if let WorkEntry::Item {
-            what: Told::Print { values, .. },
+            what: Told::Print { range, values },
             ..
         } = entry
         {
-            last = values.as_slice().first().copied();
+            if range.array == array {
+                return values.as_slice() == wanted;
+            }
         }
     }
-    last
+    false
 }
 
-// The first cell of `b` behind the loop, where `a` was changed while the loop was out, or else behind it.
-fn computed<R: Threads + Wait + Sync>(
+// Whether the arrays hold what they should in the end, where the changes come while the loop is out, or else behind it.
+fn holds<R: Threads + Wait + Sync>(
     rt: &R,
     alloc: Global,
+    case: &Case,
     while_out: bool,
-) -> Result<Option<i64>, Fault> {
-    let config = config_of(alloc, 1, 1, 64)?;
-    let (runtime, mut tokens) = Runtime::new(alloc, &config)?;
+) -> Result<bool, Fault> {
+    let (runtime, mut tokens) = runtime_of(alloc)?;
     for token in tokens.as_mut_slice() {
-        place_loop(rt, alloc, &runtime, token)?;
-        serve(rt, alloc, &runtime, token, while_out)?;
-        for number in 0..QUEUES {
-            runtime.serve(rt, queue(number), &Open);
-        }
-        let range = Range {
-            array: 1,
-            lo: 0,
-            len: 2,
-        };
-        record(rt, &runtime, token, Item::print(alloc, range)?)?;
+        run(rt, alloc, &runtime, token, case, while_out)?;
     }
     match runtime.finish(tokens) {
-        Ok(outcome) => Ok(printed(outcome.works.as_slice())),
+        Ok(outcome) => {
+            let works = outcome.works.as_slice();
+            Ok(shows(works, 0, case.after[0]) && shows(works, 1, case.after[1]))
+        }
         Err(refused) => Err(refused.fault),
     }
 }
 
 #[test]
 fn a_loop_is_performed_over_the_cells_as_they_are(rt: HostRuntime) -> Result<(), Fail> {
-    assert!(rt; computed(&rt, rt.alloc(), true)? == Some(10));
-    assert!(rt; computed(&rt, rt.alloc(), false)? == Some(2));
+    for (place, case) in CASES.iter().enumerate() {
+        assert!(rt; holds(&rt, rt.alloc(), case, true)?, "case {place}");
+    }
+    Ok(())
+}
+
+/// The host's writes stand in the array that came back before them.
+#[test]
+fn what_changes_behind_a_loop_is_not_seen_by_it(rt: HostRuntime) -> Result<(), Fail> {
+    let case = Case {
+        after: [&[1, 2, 9, 9], &[5, 3, 4, 8]],
+        ..IN_PART
+    };
+    assert!(rt; holds(&rt, rt.alloc(), &case, false)?);
     Ok(())
 }

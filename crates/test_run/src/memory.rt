@@ -1,12 +1,10 @@
 //! Each call is refused for want of memory, at each amount in turn, until there is enough; a token then lists what was done, once.
 
-use crate::fixtures::{config_of, entry_of, queue};
-use acc_base::{DeviceId, Fault, Range};
+use crate::fixtures::{config_of, entry_of, print, queue, whole};
+use acc_base::{DeviceId, Fault};
 use acc_place::Clause;
 use acc_run::{HostToken, Runtime};
-use acc_work::Item;
 use std::alloc::Global;
-use std::sync::Wait;
 use std::test::Fail;
 use tool_scarce::at_each_amount;
 
@@ -54,30 +52,13 @@ fn a_wait_is_refused_until_there_is_memory(rt: HostRuntime) -> Result<(), Fail> 
     Ok(())
 }
 
-// Prints the cells of an array.
-fn print<R: Wait>(
-    rt: &R,
-    alloc: Global,
-    runtime: &Runtime,
-    token: &mut HostToken,
-) -> Result<(), Fault> {
-    let range = Range {
-        array: 0,
-        lo: 0,
-        len: 2,
-    };
-    let item = Item::print(alloc, range)?;
-    match runtime.item(rt, token, item) {
-        Ok(_) => Ok(()),
-        Err((_, fault)) => Err(fault),
-    }
-}
-
 #[test]
 fn an_item_is_refused_until_there_is_memory(rt: HostRuntime) -> Result<(), Fail> {
     let alloc = rt.alloc();
     let (runtime, mut token) = runtime_of(alloc)?;
-    let (refusals, ()) = at_each_amount(alloc, || print(&rt, alloc, &runtime, &mut token))?;
+    let (refusals, ()) = at_each_amount(alloc, || {
+        print(&rt, alloc, &runtime, &mut token, whole(0))
+    })?;
     assert!(rt; 1 < refusals);
     assert!(rt; token.items() == 1);
     Ok(())

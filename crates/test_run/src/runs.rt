@@ -5,8 +5,8 @@ ghost use Rattle.std.specs.Prelude.{◌≡◌, IfOk, length, map};
 ghost use Rattle.acc_host.specs.Hosts.{AreNumbered, ready};
 ghost use Rattle.acc_run.specs.Running.{Paired};
 
-use crate::fixtures::{Open, config_of, directive_with, queue};
-use acc_base::{Config, Fault, HostId, Listed, QueueAt, Range};
+use crate::fixtures::{Open, config_of, directive_with, queue, whole};
+use acc_base::{Config, Fault, HostId, Listed, QueueAt};
 use acc_host::{Act, Host, HostProgram, HostState, Statement, ready_hosts};
 use acc_place::{Clause, Target, Waits};
 use acc_run::laws::new_hosts_are_paired;
@@ -41,13 +41,7 @@ fn push_round(alloc: Global, host: u8, statements: &mut Vec<Statement>) -> Resul
         cell: 1,
         value: 7,
     };
-    let print = Act::Print {
-        range: Range {
-            array: host,
-            lo: 0,
-            len: 2,
-        },
-    };
+    let print = Act::Print { range: whole(host) };
     let line = 0u32;
     statements.push(Statement { line, act: write })?;
     for directive in [
