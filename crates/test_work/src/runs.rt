@@ -63,7 +63,7 @@ fn assert_cells(rt: &impl Abort, config: &Config, memory: &Memory, range: Range,
     assert!(rt; memory.host_cells(range) == cells);
 }
 
-fn range(array: u8, lo: u32, len: u32) -> Range {
+pub fn range(array: u8, lo: u32, len: u32) -> Range {
     Range { array, lo, len }
 }
 
