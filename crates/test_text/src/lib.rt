@@ -8,6 +8,8 @@ mod language;
 #[cfg(test)]
 mod limits;
 #[cfg(test)]
+mod random;
+#[cfg(test)]
 mod replay;
 #[cfg(test)]
 mod runs;

@@ -13,7 +13,7 @@ use std::thread;
 use std::thread::Threads;
 
 // A script is answered so with these options and this gate, and this is written.
-fn check_run<R: Abort + Threads + Wait + Sync, G: Gate + Sync>(
+pub fn check_run<R: Abort + Threads + Wait + Sync, G: Gate + Sync>(
     rt: &R,
     alloc: Global,
     script: &[u8],
