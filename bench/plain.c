@@ -64,7 +64,7 @@ int main(int words, char **word) {
         for (long t = 0; t < times; t++) loop();
     }
     cell sum = 0;
-    for (int n = 0; n < cells + 2; n++) sum = sum * 31 + y[n];
+    for (int n = 1; n <= cells; n++) sum = sum * 31 + y[n];
     printf("%lld\n", (long long)value(sum));
     return 0;
 }

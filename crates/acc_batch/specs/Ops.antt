@@ -1,10 +1,12 @@
 -- Operations in a queue, with the memory that performing them needs.
-use Rattle.std.specs.Prelude.{◌≡◌, List, [], ◌∷◌, map, replicate, pos}
+use Rattle.std.specs.Prelude.{◌≡◌, List, [], ◌∷◌, map, replicate, pos, Option, Some, None}
+use Rattle.std.specs.Option.{option_or}
 use Rattle.acc_batch.specs.declared.label.OpLabel.{OpLabel}
 use Rattle.acc_batch.specs.declared.label.OpLabel.TheVariants as label
 use Rattle.acc_batch.specs.declared.op.Op.{Op}
 use Rattle.acc_batch.specs.declared.op.Op.TheVariants as op
-use Rattle.acc_kernel.specs.Jobs.{AreDistinct, HoldReached}
+use Rattle.acc_kernel.specs.Jobs.{Use, AreDistinct, HoldReached}
+use Rattle.acc_kernel.specs.Kernels.{Loop}
 
 -- what a loop uses names each array at most once, and has all cells that the loop reaches
 abbrev pub HasItsCells : OpLabel → Type 0
@@ -42,3 +44,18 @@ IsReady op.Close = Unit {0}
 abbrev pub AllReady : List Op → Type 0
 AllReady [] = Unit {0}
 AllReady (t ∷ ts) = IsReady t × AllReady ts
+
+-- the loop that an operation is, with its uses
+abbrev pub loop_of : OpLabel → Option (Loop × List Use)
+loop_of (label.Make b r) = None
+loop_of (label.CopyIn b r) = None
+loop_of (label.CopyOut b r) = None
+loop_of (label.Release b) = None
+loop_of (label.Run k uses) = Some (k, uses)
+loop_of (label.Await q n) = None
+loop_of label.Close = None
+
+-- the first loop among some operations
+abbrev pub first_loop : List OpLabel → Option (Loop × List Use)
+first_loop [] = None
+first_loop (op ∷ ops) = option_or (loop_of op) (first_loop ops)

@@ -4,10 +4,9 @@ ghost use Rattle.std.specs.Prelude.{◌≡◌, ◌<◌, length, IfOk, IfErr};
 ghost use Rattle.std.specs.List.{All};
 ghost use Rattle.acc_batch.specs.Ops.{op_labels, HasItsCells, AllReady};
 
-use crate::label::{Label, OpLabel};
+use crate::label::Label;
 use crate::ops::Ops;
 use acc_base::Fault;
-use acc_kernel::Job;
 use std::alloc::Global;
 use std::marker::Model;
 
@@ -16,8 +15,6 @@ use std::marker::Model;
 pub struct Batch {
     label: Label,
     ops: Ops,
-    // for the inputs and outputs of its first loop
-    room: Option<Box<Job>>,
 }
 
 impl Model for Batch {
@@ -52,31 +49,7 @@ impl Batch {
         ensures fault { IfErr result (λ f. f ≡ fault.Memory) }
     {
         let ops = Ops::new(alloc, label.ops.get().as_slice())?;
-        Ok(Batch {
-            label,
-            ops,
-            room: None,
-        })
-    }
-
-    /// Makes room for the inputs and outputs of its first loop, so that this can be computed apart from the memory.
-    ///
-    /// # Errors
-    ///
-    /// `Memory` where memory is refused.
-    pub fn make_room(&mut self, alloc: Global) -> Result<(), Fault>
-        ensures same { self.new ≡ self.old }
-        ensures fault { IfErr result (λ f. f ≡ fault.Memory) }
-    {
-        self.room = room_for(alloc, self.label.ops.get().as_slice())?;
-        Ok(())
-    }
-
-    /// Takes that room out, if there is some. Takes no memory.
-    pub fn take_room(&mut self) -> Option<Box<Job>>
-        ensures { self.new ≡ self.old }
-    {
-        self.room.take()
+        Ok(Batch { label, ops })
     }
 
     /// Its plain description.
@@ -107,34 +80,7 @@ impl Batch {
         ensures ops { op_labels result.1 ≡ self.ops }
         ensures ready { AllReady result.1 }
     {
-        let Batch { label, ops, .. } = self;
+        let Batch { label, ops } = self;
         (label, ops)
-    }
-}
-
-// Room for the first loop of some operations, if there is one.
-fn room_for(alloc: Global, ops: &[OpLabel]) -> Result<Option<Box<Job>>, Fault>
-    requires { All HasItsCells ops.now }
-    ensures { IfErr result (λ f. f ≡ Fault.Memory) }
-{
-    for op in ops {
-        if let OpLabel::Run { .. } = op {
-            return room_of(alloc, op);
-        }
-    }
-    Ok(None)
-}
-
-// Room for a loop.
-fn room_of(alloc: Global, op: &OpLabel) -> Result<Option<Box<Job>>, Fault>
-    requires { HasItsCells op.now }
-    ensures { IfErr result (λ f. f ≡ Fault.Memory) }
-{
-    match op {
-        OpLabel::Run { kernel, uses } => {
-            let job = Job::new(alloc, kernel, uses)?;
-            Ok(Some(Box::new(alloc, job)?))
-        }
-        _ => Ok(None),
     }
 }

@@ -2,11 +2,12 @@
 
 ghost use Rattle.std.specs.Prelude.{◌≡◌, [], ◌∷◌, length, reverse, slice_get, All, IfOk, IfErr, IfSome, IfNone};
 ghost use Rattle.std.specs.Option.{option_map};
-ghost use Rattle.acc_batch.specs.Ops.{op_labels, HasItsCells, AllReady};
+ghost use Rattle.acc_batch.specs.Ops.{first_loop, op_labels, HasItsCells, AllReady};
 
 use crate::label::OpLabel;
 use crate::op::Op;
-use acc_base::{Fault, Few};
+use acc_base::{BlockId, Fault, Few, Listed, Range, Shared};
+use acc_kernel::Kernel;
 use std::alloc::Global;
 use std::marker::Model;
 
@@ -69,6 +70,18 @@ impl Ops {
         ensures next { option_map (λ t. t.now) result ≡ slice_get self.now 0 }
     {
         self.ops.as_slice().last()
+    }
+
+    /// The first loop among them, with what it uses.
+    pub fn first_loop(&self) -> Option<(&Shared<Kernel>, &Shared<Listed<(BlockId, Range)>>)>
+        ensures { option_map (λ l. (l.0.now, l.1.now)) result ≡ first_loop (op_labels self.now) }
+    {
+        for op in self.ops.as_slice().iter().rev() {
+            if let Op::Run { kernel, uses } = op {
+                return Some((kernel, uses));
+            }
+        }
+        None
     }
 
     /// Takes the next one out. Takes no memory.

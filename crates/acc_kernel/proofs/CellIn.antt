@@ -157,7 +157,7 @@ module _ (uses : List Use) (rows : List (List ℤ)) (array : ℕ) (cell value : 
 
 -- rows that have these cells are the lists of the ranges' cells
 module _ (uses : List Use) (rows : List (List ℤ)) (cells : CellsOf) where
-  value_of : AreDistinct uses → (place n : ℕ) → place < length uses
+  pub value_of : AreDistinct uses → (place n : ℕ) → place < length uses
       → cell_in uses rows (get_or uses place no_use).1.array (pos ((get_or uses place no_use).1.lo + n)) ≡ get_or (get_or rows place []) n (pos 0)
   value_of distinct place n h =
       let at : pos ((get_or uses place no_use).1.lo + n) -ℤ pos (get_or uses place no_use).1.lo ≡ pos n = omega (arith, ints) in

@@ -73,19 +73,26 @@ pub found_range : (uses : List Use) (array : ℕ) (cell : ℤ) → has_cell uses
 found_range uses array cell has =
     eqb-true (range_of uses array).array array (passes_at_first (uses_array array) uses no_use (let here : place_of uses array < length uses = used uses array cell has in omega arith))
 
--- rows that show some cells do so
-pub cell_shown : (uses : List Use) (cells : CellsOf) (array : ℕ) (cell : ℤ) → has_cell uses array cell ≡ true → cell_in uses (shown uses cells) array cell ≡ cells array cell
-cell_shown uses cells array cell has =
+-- a row that shows some cells does so
+pub cell_of_shown : (uses : List Use) (rows : List (List ℤ)) (cells : CellsOf) (array : ℕ) (cell : ℤ) → has_cell uses array cell ≡ true
+    → get_or rows (place_of uses array) [] ≡ values_shown cells (range_of uses array) → cell_in uses rows array cell ≡ cells array cell
+cell_of_shown uses rows cells array cell has row =
     let r : Range = range_of uses array in
     let ends = within (pos r.lo) (pos (r.lo + r.len)) cell has in
     let low : pos r.lo ≤ℤ cell = ends.0 in
     let high : cell <ℤ pos (r.lo + r.len) = ends.1 in
-    ap (λ (l : List ℤ). value_in l (cell -ℤ pos r.lo)) (get_or-map (λ (u : Use). values_shown cells u.1) uses (place_of uses array) no_use [] (used uses array cell has))
+    ap (λ (l : List ℤ). value_in l (cell -ℤ pos r.lo)) row
     ∙ (shows_cell cells r cell low (omega (arith, ints)) ∙ ap (λ (a : ℕ). cells a cell) (found_range uses array cell has))
+
+-- so do rows
+pub cell_shown : (uses : List Use) (cells : CellsOf) (array : ℕ) (cell : ℤ) → has_cell uses array cell ≡ true → cell_in uses (shown uses cells) array cell ≡ cells array cell
+cell_shown uses cells array cell has =
+    cell_of_shown uses (shown uses cells) cells array cell has
+    (get_or-map (λ (u : Use). values_shown cells u.1) uses (place_of uses array) no_use [] (used uses array cell has))
 
 -- ## Rows that are stored
 
-abbrev has_use : ℕ → ℤ → Use → Bool
+abbrev pub has_use : ℕ → ℤ → Use → Bool
 has_use array cell u = (u.1.array == array) && is_among (pos u.1.lo) u.1.len cell
 
 any_at : (p : Use → Bool) (uses : List Use) (n : ℕ) (d : Use) → n < length uses → p (get_or uses n d) ≡ true → list_any p uses ≡ true
@@ -97,7 +104,7 @@ any_at p (u ∷ uses) (suc n) d lt h = ap (λ (b : Bool). p u || b) (any_at p us
     either true = refl
     either false = refl
 
-some_at : (p : Use → Bool) (uses : List Use) (d : Use) → list_any p uses ≡ true → (n : ℕ) × (n < length uses) × (p (get_or uses n d) ≡ true)
+pub some_at : (p : Use → Bool) (uses : List Use) (d : Use) → list_any p uses ≡ true → (n : ℕ) × (n < length uses) × (p (get_or uses n d) ≡ true)
 some_at p [] d h = let never : ⊥ = cc in absurd never
 some_at p (u ∷ uses) d h = by (λ later. some_at p uses d later) (p u) refl
   where
@@ -108,7 +115,7 @@ some_at p (u ∷ uses) d h = by (λ later. some_at p uses d later) (p u) refl
         let s = others (sym (ap (λ (b : Bool). b || list_any p uses) e) ∙ h) in
         (suc s.0, (let low = s.1 in omega (arith, low)), s.2)
 
-any_has : (uses : List Use) (array : ℕ) (cell : ℤ) → has_cell uses array cell ≡ true → list_any (has_use array cell) uses ≡ true
+pub any_has : (uses : List Use) (array : ℕ) (cell : ℤ) → has_cell uses array cell ≡ true → list_any (has_use array cell) uses ≡ true
 any_has uses array cell has =
     let r : Range = range_of uses array in
     let ends = within (pos r.lo) (pos (r.lo + r.len)) cell has in
@@ -120,7 +127,7 @@ any_has uses array cell has =
     (and_from (r.array == array) (is_among (pos r.lo) r.len cell) (eq-eqb r.array array (found_range uses array cell has))
     (and_from (int_le (pos r.lo) cell) (int_lt cell (pos r.lo +ℤ pos r.len)) under over))
 
-has_any : (uses : List Use) (array : ℕ) (cell : ℤ) → AreDistinct uses → list_any (has_use array cell) uses ≡ true → has_cell uses array cell ≡ true
+pub has_any : (uses : List Use) (array : ℕ) (cell : ℤ) → AreDistinct uses → list_any (has_use array cell) uses ≡ true → has_cell uses array cell ≡ true
 has_any uses array cell distinct any =
     let s = some_at (has_use array cell) uses no_use any in
     let r : Range = (get_or uses s.0 no_use).1 in
@@ -129,7 +136,7 @@ has_any uses array cell distinct any =
     subst (λ (a : ℕ). has_cell uses a cell ≡ true) (eqb-true r.array array parts.0) (use_has uses s.0 cell distinct s.1 ends.0 ends.1)
 
 -- rows of some cells that are stored over others show them wherever a use has the cell
-stored_at : (f : CellsOf) (uses : List Use) (cells : CellsOf) (array : ℕ) (cell : ℤ) → stored uses (shown uses f) cells array cell ≡ (if list_any (has_use array cell) uses then f array cell else cells array cell)
+pub stored_at : (f : CellsOf) (uses : List Use) (cells : CellsOf) (array : ℕ) (cell : ℤ) → stored uses (shown uses f) cells array cell ≡ (if list_any (has_use array cell) uses then f array cell else cells array cell)
 stored_at f [] cells array cell = refl
 stored_at f (u ∷ uses) cells array cell =
     stored_at f uses (with_cells cells u.1.array (pos u.1.lo) u.1.len (values_shown f u.1)) array cell ∙ one (has_use array cell u) (list_any (has_use array cell) uses) refl
@@ -147,24 +154,6 @@ stored_at f (u ∷ uses) cells array cell =
     one true false e = rw e (mine e)
     one false true e = rw e refl
     one false false e = rw e refl
-
--- What a loop gives over the cells that a window shows, stored in it, makes of it what the loop does.
-pub commits : (k : Loop) (uses : List Use) (inputs : List (List ℤ)) (cells : CellsOf) → AreDistinct uses → HoldReached k uses → inputs ≡ shown uses cells
-    → stored uses (shown uses (value_after k (cell_in uses inputs))) cells ≡ value_after k cells
-commits k uses inputs cells distinct reached same =
-    fun_ext (λ (array : ℕ). fun_ext (λ (cell : ℤ). stored_at (value_after k (cell_in uses inputs)) uses cells array cell ∙ by array cell (list_any (has_use array cell) uses) refl))
-  where
-    agree : (array : ℕ) (cell : ℤ) → has_cell uses array cell ≡ true → cell_in uses inputs array cell ≡ cells array cell
-    agree array cell has = ap (λ (rows : List (List ℤ)). cell_in uses rows array cell) same ∙ cell_shown uses cells array cell has
-
-    by : (array : ℕ) (cell : ℤ) (b : Bool) → list_any (has_use array cell) uses ≡ b
-        → (if b then value_after k (cell_in uses inputs) array cell else cells array cell) ≡ value_after k cells array cell
-    by array cell true any = loop_alike k (cell_in uses inputs) cells array cell (λ a c r. agree a c (reached a c r)) (agree array cell (has_any uses array cell distinct any))
-    by array cell false none =
-        sym (loop_leaves k cells array cell (λ r.
-        let any : list_any (has_use array cell) uses ≡ true = any_has uses array cell (reached array cell r) in
-        let never : ⊥ = cc in
-        absurd never))
 
 -- the rows that are left, stored over what those before left, give what all give
 pub stored_next : (uses : List Use) (rows : List (List ℤ)) (n : ℕ) (u : Use) (row : List ℤ) (cells : CellsOf) → n < length uses → n < length rows → u ≡ get_or uses n u → row ≡ get_or rows n row
@@ -187,21 +176,29 @@ rows_shown uses rows cells count all =
     ext_get_or [] rows (shown uses cells) (count ∙ sym (length-map uses (λ (u : Use). values_shown cells u.1)))
     (λ place lt. all place (omega (arith, lt, count)) ∙ sym (get_or-map (λ (u : Use). values_shown cells u.1) uses place no_use [] (omega (arith, lt, count))))
 
--- one more row shows its cells
-pub loaded_next : (uses : List Use) (places : List ℕ) (rows : List (List ℤ)) (cells : CellsOf) (n : ℕ) (row : List ℤ) → IsStored uses places rows → n < length uses
-    → row ≡ values_shown cells (get_or uses n no_use).1 → ((place : ℕ) → place < n → get_or rows place [] ≡ values_shown cells (get_or uses place no_use).1)
-    → IsStored uses places (set rows n row) × ((place : ℕ) → place < n + 1 → get_or (set rows n row) place [] ≡ values_shown cells (get_or uses place no_use).1)
-loaded_next uses places rows cells n row stored lt is before =
-    let here : n < length rows = omega (arith, lt, stored.shape.count) in
-    let long : length row ≡ length (get_or rows n []) = ap length is ∙ (length-values_shown cells (get_or uses n no_use).1 ∙ sym (stored.shape.lengths n lt)) in (
-      record { table = stored.table; shape = shape_kept uses rows 0 (pos 0) 0 n 0 stored.shape row here long },
-      λ place low. elim (cases_lt place n) [
-        | inl below ↦ (let apart : place ≢ n = omega (arith, below) in get_or-set_other rows n place row [] apart ∙ before place below)
+-- one more row shows its cells, of those that are to
+pub known_next : (wanted : ℕ → Type 0) (uses : List Use) (places : List ℕ) (rows : List (List ℤ)) (cells : CellsOf) (n : ℕ) (row : List ℤ) → IsStored uses places rows → n < length uses
+    → row ≡ values_shown cells (get_or uses n no_use).1 → ((place : ℕ) → place < n → wanted place → get_or rows place [] ≡ values_shown cells (get_or uses place no_use).1)
+    → IsStored uses places (set rows n row) × ((place : ℕ) → place < n + 1 → wanted place → get_or (set rows n row) place [] ≡ values_shown cells (get_or uses place no_use).1)
+known_next wanted uses places rows cells n row old lt is before =
+    let here : n < length rows = omega (arith, lt, old.shape.count) in
+    let long : length row ≡ length (get_or rows n []) = ap length is ∙ (length-values_shown cells (get_or uses n no_use).1 ∙ sym (old.shape.lengths n lt)) in (
+      record { table = old.table; distinct = old.distinct; shape = shape_kept uses rows 0 (pos 0) 0 n 0 old.shape row here long },
+      λ place low wants. elim (cases_lt place n) [
+        | inl below ↦ (let apart : place ≢ n = omega (arith, below) in get_or-set_other rows n place row [] apart ∙ before place below wants)
         | inr at ↦
             (let same : n ≡ place = omega (arith, low, at) in
             subst (λ (p : ℕ). get_or (set rows n row) p [] ≡ values_shown cells (get_or uses p no_use).1) same (get_or-set_same rows n row [] here ∙ is))
       ],
     )
+
+-- so of all
+pub loaded_next : (uses : List Use) (places : List ℕ) (rows : List (List ℤ)) (cells : CellsOf) (n : ℕ) (row : List ℤ) → IsStored uses places rows → n < length uses
+    → row ≡ values_shown cells (get_or uses n no_use).1 → ((place : ℕ) → place < n → get_or rows place [] ≡ values_shown cells (get_or uses place no_use).1)
+    → IsStored uses places (set rows n row) × ((place : ℕ) → place < n + 1 → get_or (set rows n row) place [] ≡ values_shown cells (get_or uses place no_use).1)
+loaded_next uses places rows cells n row old lt is before =
+    let next = known_next (λ place. Unit {0}) uses places rows cells n row old lt is (λ place low t. before place low) in
+    (next.0, λ place low. next.1 place low tt)
 
 -- some values side by side
 pub part_long : (values : List ℤ) (a b : ℕ) → a ≤ b → b ≤ length values → length (take (b - a) (drop a values)) ≡ b - a

@@ -17,7 +17,7 @@ abbrev pub spliced : List ℤ → ℕ → List ℤ → List ℤ
 spliced row n values = take n row ++ values ++ drop (n + length values) row
 
 -- an index is among some from the first on, or before or behind them
-among_in : (first c : ℤ) (count : ℕ) → first ≤ℤ c → c <ℤ (first +ℤ pos count) → is_among first count c ≡ true
+pub among_in : (first c : ℤ) (count : ℕ) → first ≤ℤ c → c <ℤ (first +ℤ pos count) → is_among first count c ≡ true
 among_in first c count low high =
     let under : int_le first c ≡ true = grind (arith, ints) in
     let over : int_lt c (first +ℤ pos count) ≡ true = grind (arith, ints) in
@@ -71,6 +71,11 @@ length-spliced row values n room =
     let a : length (take n row ++ values) ≡ length (take n row) + length values = length-append (take n row) values in
     let d : length (drop (n + length values) row) ≡ length row - (n + length values) = length-drop (n + length values) row in
     length-append (take n row ++ values) (drop (n + length values) row) ∙ omega arith
+
+pub length_range : (row : List ℤ) (n count : ℕ) → n + count ≤ length row → length (slice_range row n (n + count)) ≡ count
+length_range row n count room =
+    let rest : length (drop n row) ≡ length row - n = length-drop n row in
+    length-take-le ((n + count) - n) (drop n row) (omega (arith, room, rest)) ∙ omega arith
 
 -- all cells of a column are there
 abbrev pub HasAll : List Use → ℕ → ℤ → ℕ → Type 0

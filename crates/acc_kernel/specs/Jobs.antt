@@ -1,10 +1,12 @@
 -- A loop with the cells that it uses: the values before it, and those that it gives.
-use Rattle.std.specs.Prelude.{◌≡◌, ◌≢◌, ℕ, ℤ, ◌+◌, ◌<◌, ◌+ℤ◌, ◌-ℤ◌, pos, not, ◌==◌, ◌&&◌, int_le, int_lt, Bool, IsTrue, List, [], ◌∷◌, length, map, replicate, slice_index_or}
-use Rattle.std.specs.List.{AllPairs, position_or_len, range_with_len}
+use Rattle.std.specs.Prelude.{◌≡◌, ◌≢◌, ℕ, ℤ, ◌+◌, ◌<◌, ◌+ℤ◌, ◌-ℤ◌, pos, not, ◌==◌, ◌&&◌, int_le, int_lt, unsigned_abs, Bool, IsTrue, List, [], ◌∷◌, filter, length, map, replicate, slice_index_or, if◌then◌else◌}
+use Rattle.std.specs.List.{AllPairs, list_any, position_or_len, range_with_len}
 use Rattle.acc_base.specs.declared.range.Range.{Range}
+use Rattle.acc_kernel.specs.declared.assign.Assign.{Assign}
 use Rattle.acc_kernel.specs.Cells.{value_in, with_cells}
+use Rattle.acc_kernel.specs.Faults.{is_assigned}
 use Rattle.acc_kernel.specs.Kernels.{Loop, Reaches, value_after}
-use Rattle.acc_kernel.specs.Trees.{Reference}
+use Rattle.acc_kernel.specs.Trees.{Reference, references_of}
 
 -- a use: the block that has the cells of a range
 abbrev pub Use : Type 0
@@ -30,6 +32,10 @@ abbrev pub cell_in : List Use → List (List ℤ) → ℕ → ℤ → ℤ
 cell_in uses rows array cell =
     value_in (slice_index_or rows (place_of uses array) []) (cell -ℤ pos (range_of uses array).lo)
 
+-- some use is of the array
+abbrev pub is_used : List Use → ℕ → Bool
+is_used uses array = list_any (λ u. u.1.array == array) uses
+
 -- each array is used at most once
 abbrev pub AreDistinct : List Use → Type 0
 AreDistinct uses = AllPairs (λ u v. u.1.array ≢ v.1.array) uses
@@ -48,6 +54,25 @@ pub record AreRows (uses : List Use) (rows : List (List ℤ)) : Type 0 where
   pub count : length rows ≡ length uses
   pub lengths : (place : ℕ) → place < length uses → length (slice_index_or rows place []) ≡ (slice_index_or uses place no_use).1.len
 
+-- some expression of the statements reads the array
+abbrev pub is_read : List Assign → ℕ → Bool
+is_read statements array = list_any (λ s. list_any (λ (r : Reference). r.array == array) (references_of s.value)) statements
+
+-- the uses of the arrays that a loop reads
+abbrev pub read_uses : Loop → List Use → List Use
+read_uses k uses = filter (λ u. is_read k.statements u.1.array) uses
+
+-- an array's cells at the indices of a loop
+abbrev pub at_indices : Loop → ℕ → Range
+at_indices k array =
+    record { array = array; lo = unsigned_abs k.lo; len = if int_lt k.lo k.hi then unsigned_abs (k.hi -ℤ k.lo) else 0 }
+
+-- what a loop assigns of its uses: of each array that it assigns, the cells at its indices
+abbrev pub written_uses : Loop → List Use → List Use
+written_uses k uses = map (λ u. (u.0, at_indices k u.1.array)) (filter (λ u. is_assigned k.statements u.1.array) uses)
+
+-- A loop with the cells that it uses: the inputs are the values, before it, of the arrays that it reads; the outputs are those
+-- that it assigns.
 pub record Computation : Type 0 where
   pub kernel : Loop
   pub uses : List Use
@@ -66,9 +91,9 @@ values_shown cells r = map (λ cell. cells r.array (pos cell)) (range_with_len r
 abbrev pub shown : List Use → (ℕ → ℤ → ℤ) → List (List ℤ)
 shown uses cells = map (λ u. values_shown cells u.1) uses
 
--- what the loop gives of these inputs, by the uses
+-- what the loop gives of these inputs
 abbrev pub computed : Computation → List (List ℤ)
-computed c = shown c.uses (value_after c.kernel (cell_in c.uses c.inputs))
+computed c = shown (written_uses c.kernel c.uses) (value_after c.kernel (cell_in (read_uses c.kernel c.uses) c.inputs))
 
 -- the cells after each use's row was written over its range
 abbrev pub stored : List Use → List (List ℤ) → (ℕ → ℤ → ℤ) → ℕ → ℤ → ℤ
@@ -84,5 +109,5 @@ HasUses uses has = (array : ℕ) (cell : ℤ) → IsTrue (has_cell uses array ce
 pub record IsJob (c : Computation) : Type 0 where
   pub distinct : AreDistinct c.uses
   pub reached : HoldReached c.kernel c.uses
-  pub inputs : AreRows c.uses c.inputs
-  pub outputs : AreRows c.uses c.outputs
+  pub inputs : AreRows (read_uses c.kernel c.uses) c.inputs
+  pub outputs : AreRows (written_uses c.kernel c.uses) c.outputs

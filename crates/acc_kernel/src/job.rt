@@ -1,10 +1,11 @@
-//! A loop with room for the cells that it uses: inputs and outputs.
+//! A loop with room for the cells that it reads and for those that it assigns: inputs and outputs.
 
 ghost use Rattle.std.specs.Prelude.{◌≡◌, ◌↔◌, ◌<◌, [], length, slice_index_or, slice_set, IsTrue, IfOk, IfErr};
 ghost use Rattle.acc_base.specs.declared.fault.Fault.TheVariants as fault;
-ghost use Rattle.acc_kernel.specs.Jobs.{AreDistinct, AreRows, HasUses, HoldReached, IsJob, no_use, zero_rows, computed, shown, stored};
+ghost use Rattle.acc_kernel.specs.Jobs.{AreDistinct, HasUses, HoldReached, IsJob, no_use, zero_rows, computed, read_uses, shown, stored, written_uses};
 ghost use Rattle.acc_kernel.specs.Kernels.{value_after};
 
+use crate::job_cells::JobCells;
 use crate::kernel::Kernel;
 use crate::rows::Rows;
 use crate::same::are_same_uses;
@@ -13,28 +14,28 @@ use acc_base::{BlockId, Fault, Listed, Range, Shared};
 use std::alloc::Global;
 use std::marker::Model;
 
-/// A loop with room for the cells that it uses: the inputs, which are the values before the loop, and the outputs.
+/// A loop with room for the inputs, which are the values, before it, of the arrays that it reads, and for the outputs, which are
+/// those that it assigns.
 #[derive(Drop)]
 pub struct Job {
     kernel: Shared<Kernel>,
     uses: Shared<Listed<(BlockId, Range)>>,
-    inputs: Rows,
-    outputs: Rows,
+    cells: JobCells,
 }
 
 impl Model for Job {
     ghost use Rattle.std.specs.Prelude.{◌≡◌};
     ghost use Rattle.std.specs.Coded.{codes};
     ghost use Rattle.acc_kernel.specs.contracts.expr.Expr as expr;
-    ghost use Rattle.acc_kernel.specs.Jobs.{Computation, AreDistinct, HoldReached};
+    ghost use Rattle.acc_kernel.specs.Jobs.{Computation, AreDistinct, HoldReached, read_uses, written_uses};
 
     ghost Value = { Computation };
 
     ghost coded = { Prim.hlevel (codes, expr.the_row.coded) };
 
-    ghost view = { λ j. record { kernel = j.kernel; uses = j.outputs.uses; inputs = j.inputs.rows; outputs = j.outputs.rows } };
+    ghost view = { λ j. record { kernel = j.kernel; uses = j.uses; inputs = j.cells.inputs.rows; outputs = j.cells.outputs.rows } };
 
-    ghost invariant = { λ j. (j.inputs.uses ≡ j.outputs.uses) × AreDistinct j.outputs.uses × HoldReached j.kernel j.outputs.uses × (j.uses ≡ j.outputs.uses) };
+    ghost invariant = { λ j. AreDistinct j.uses × HoldReached j.kernel j.uses × (j.cells.inputs.uses ≡ read_uses j.kernel j.uses) × (j.cells.outputs.uses ≡ written_uses j.kernel j.uses) };
 }
 
 impl Job {
@@ -53,29 +54,59 @@ impl Job {
         requires reached { HoldReached kernel.now uses.now }
         ensures kernel { IfOk result (λ j. j.kernel ≡ kernel.now) }
         ensures uses { IfOk result (λ j. j.uses ≡ uses.now) }
-        ensures inputs { IfOk result (λ j. j.inputs ≡ zero_rows uses.now) }
-        ensures outputs { IfOk result (λ j. j.outputs ≡ zero_rows uses.now) }
+        ensures inputs { IfOk result (λ j. j.inputs ≡ zero_rows (read_uses kernel.now uses.now)) }
+        ensures outputs { IfOk result (λ j. j.outputs ≡ zero_rows (written_uses kernel.now uses.now)) }
         ensures fault { IfErr result (λ f. f ≡ fault.Memory) }
     {
-        let kernel = kernel.try_clone()?;
         let listed = uses.get().as_slice();
-        let inputs = Rows::zeroed(alloc, listed)?;
-        let outputs = Rows::zeroed(alloc, listed)?;
+        let inputs = Rows::zeroed(alloc, read_uses(alloc, kernel.get(), listed)?)?;
+        let outputs = Rows::zeroed(alloc, written_uses(alloc, kernel.get(), listed)?)?;
+        let kernel = kernel.try_clone()?;
         let uses = uses.try_clone()?;
         Ok(Job {
             kernel,
             uses,
-            inputs,
-            outputs,
+            cells: JobCells { inputs, outputs },
         })
     }
 
-    /// The uses differ in their arrays, have all cells that the loop reaches, and each has its inputs and outputs.
+    /// A job of another loop and its uses, as `new` asks of them, in the memory of this one where that is as long. Its inputs and
+    /// outputs have any values.
+    ///
+    /// # Errors
+    ///
+    /// `Memory` where memory is refused.
+    pub fn renewed(
+        self,
+        alloc: Global,
+        kernel: &Shared<Kernel>,
+        uses: &Shared<Listed<(BlockId, Range)>>,
+    ) -> Result<Self, Fault>
+        requires distinct { AreDistinct uses.now }
+        requires reached { HoldReached kernel.now uses.now }
+        ensures kernel { IfOk result (λ j. j.kernel ≡ kernel.now) }
+        ensures uses { IfOk result (λ j. j.uses ≡ uses.now) }
+        ensures fault { IfErr result (λ f. f ≡ fault.Memory) }
+    {
+        let JobCells { inputs, outputs } = self.cells;
+        let listed = uses.get().as_slice();
+        let inputs = inputs.renewed(alloc, read_uses(alloc, kernel.get(), listed)?)?;
+        let outputs = outputs.renewed(alloc, written_uses(alloc, kernel.get(), listed)?)?;
+        let kernel = kernel.try_clone()?;
+        let uses = uses.try_clone()?;
+        Ok(Job {
+            kernel,
+            uses,
+            cells: JobCells { inputs, outputs },
+        })
+    }
+
+    /// The uses differ in their arrays, have all cells that the loop reaches, and the job has all inputs and outputs.
     pub fn keeps(&self)
         ensures { IsJob self.now }
     {
-        self.inputs.keeps();
-        self.outputs.keeps();
+        self.cells.inputs.keeps();
+        self.cells.outputs.keeps();
     }
 
     /// The loop.
@@ -89,48 +120,54 @@ impl Job {
     pub fn uses(&self) -> &[(BlockId, Range)]
         ensures { result.now ≡ self.now.uses }
     {
-        self.outputs.uses()
+        self.uses.get().as_slice()
     }
 
-    /// The inputs of a use, by its place among them, from 0.
-    pub fn input(&self, place: usize) -> &[i64]
-        requires { place < length self.now.uses }
-        ensures { result.now ≡ slice_index_or self.now.inputs place [] }
+    /// The uses of which it has inputs, those of the arrays that the loop reads.
+    pub fn read_uses(&self) -> &[(BlockId, Range)]
+        ensures { result.now ≡ read_uses self.now.kernel self.now.uses }
     {
-        self.inputs.row(place)
+        self.cells.inputs.uses()
     }
 
-    /// The outputs of a use, by its place likewise.
-    pub fn output(&self, place: usize) -> &[i64]
-        requires { place < length self.now.uses }
-        ensures { result.now ≡ slice_index_or self.now.outputs place [] }
+    /// The uses of which it has outputs: of the arrays that the loop assigns the cells that it assigns.
+    pub fn written_uses(&self) -> &[(BlockId, Range)]
+        ensures { result.now ≡ written_uses self.now.kernel self.now.uses }
     {
-        self.outputs.row(place)
+        self.cells.outputs.uses()
     }
 
-    /// Sets the inputs of a use, one value for each cell of its range.
+    /// Sets the inputs of one of `read_uses`, by its place among them, from 0: one value for each cell of its range.
     pub fn set_input(&mut self, place: usize, values: &[i64])
-        requires place { place < length self.old.uses }
-        requires len { length values.now ≡ (slice_index_or self.old.uses place no_use).1.len }
+        requires place { place < length (read_uses self.old.kernel self.old.uses) }
+        requires len { length values.now ≡ (slice_index_or (read_uses self.old.kernel self.old.uses) place no_use).1.len }
         ensures { self.new ≡ record self.old { inputs = slice_set self.old.inputs place values.now } }
     {
-        self.inputs.fill(place, values);
+        self.cells.inputs.fill(place, values);
+    }
+
+    /// The outputs of one of `written_uses`, by its place likewise.
+    pub fn output(&self, place: usize) -> &[i64]
+        requires { place < length (written_uses self.now.kernel self.now.uses) }
+        ensures { result.now ≡ slice_index_or self.now.outputs place [] }
+    {
+        self.cells.outputs.row(place)
     }
 
     /// Makes the inputs what a window shows, which has all cells of the uses. It takes no memory.
     pub fn load<W: Window>(&mut self, window: &W)
         requires { HasUses self.old.uses (W.has window.now) }
-        ensures { self.new ≡ record self.old { inputs = shown self.old.uses (W.cells window.now) } }
+        ensures { self.new ≡ record self.old { inputs = shown (read_uses self.old.kernel self.old.uses) (W.cells window.now) } }
     {
-        self.inputs.load(window);
+        self.cells.inputs.load(window);
     }
 
     /// Whether the inputs are what a window shows, which has all cells of the uses. It takes no memory.
     pub fn same<W: Window>(&self, window: &W) -> bool
         requires { HasUses self.now.uses (W.has window.now) }
-        ensures { IsTrue result ↔ (self.now.inputs ≡ shown self.now.uses (W.cells window.now)) }
+        ensures { IsTrue result ↔ (self.now.inputs ≡ shown (read_uses self.now.kernel self.now.uses) (W.cells window.now)) }
     {
-        self.inputs.are_shown(window)
+        self.cells.inputs.are_shown(window)
     }
 
     /// Writes the outputs to a window, which has all cells of the uses, and nothing else. It takes no memory.
@@ -138,9 +175,9 @@ impl Job {
         requires { HasUses self.now.uses (W.has window.old) }
         ensures has { W.has window.new ≡ W.has window.old }
         ensures keeps { W.keeps window.old window.new }
-        ensures cells { W.cells window.new ≡ stored self.now.uses self.now.outputs (W.cells window.old) }
+        ensures cells { W.cells window.new ≡ stored (written_uses self.now.kernel self.now.uses) self.now.outputs (W.cells window.old) }
     {
-        self.outputs.store(window);
+        self.cells.outputs.store(window);
     }
 
     /// Gives a window, which has all cells of the uses, what the loop gives it: the outputs, which were computed, where the
@@ -160,15 +197,15 @@ impl Job {
         }
     }
 
-    /// Gives each cell's output the value that the loop gives the cell. It takes no memory.
+    /// Gives each output the value that the loop gives its cell. It takes no memory.
     pub fn compute(&mut self)
         ensures { self.new ≡ record self.old { outputs = computed self.old } }
     {
-        self.inputs.keeps();
-        self.outputs.keeps();
-        copy_rows(&self.inputs, &mut self.outputs);
-        self.kernel.get().run(&mut self.outputs);
-        self.outputs.keeps();
+        self.keeps();
+        self.kernel.get().keeps();
+        self.cells.start();
+        self.kernel.get().run(&mut self.cells);
+        self.cells.keeps();
     }
 
     /// Whether it is a job of this loop with these uses. It takes no memory.
@@ -177,26 +214,40 @@ impl Job {
     {
         self.kernel.get().is_same(kernel) && are_same_uses(self.uses(), uses)
     }
-
-    /// The loop and its uses, without the room for their cells. It takes no memory.
-    pub fn into_parts(self) -> (Shared<Kernel>, Shared<Listed<(BlockId, Range)>>)
-        ensures kernel { result.0 ≡ self.kernel }
-        ensures uses { result.1 ≡ self.uses }
-    {
-        let Job { kernel, uses, .. } = self;
-        (kernel, uses)
-    }
 }
 
-// Fills the target's rows with the source's, of the same uses.
-fn copy_rows(source: &Rows, target: &mut Rows)
-    requires uses { source.now.uses ≡ target.old.uses }
-    requires source { AreRows source.now.uses source.now.rows }
-    requires target { AreRows target.old.uses target.old.rows }
-    ensures uses { target.new.uses ≡ target.old.uses }
-    ensures rows { target.new.rows ≡ source.now.rows }
+// The uses of the arrays that a loop reads.
+fn read_uses(
+    alloc: Global,
+    kernel: &Kernel,
+    uses: &[(BlockId, Range)],
+) -> Result<Vec<(BlockId, Range)>, Fault>
+    ensures read { IfOk result (λ read. read.items ≡ read_uses kernel.now uses.now) }
+    ensures fault { IfErr result (λ f. f ≡ fault.Memory) }
 {
-    for place in 0..source.uses().len() {
-        target.fill(place, source.row(place));
+    let mut read = Vec::new(alloc);
+    for (block, range) in uses {
+        if kernel.reads(range.array) {
+            read.push((*block, *range))?;
+        }
     }
+    Ok(read)
+}
+
+// Of the arrays that a loop assigns the cells that it assigns.
+fn written_uses(
+    alloc: Global,
+    kernel: &Kernel,
+    uses: &[(BlockId, Range)],
+) -> Result<Vec<(BlockId, Range)>, Fault>
+    ensures written { IfOk result (λ written. written.items ≡ written_uses kernel.now uses.now) }
+    ensures fault { IfErr result (λ f. f ≡ fault.Memory) }
+{
+    let mut written = Vec::new(alloc);
+    for (block, range) in uses {
+        if kernel.assigns(range.array) {
+            written.push((*block, kernel.at_indices(range.array)))?;
+        }
+    }
+    Ok(written)
 }

@@ -7,6 +7,7 @@ mod columns;
 mod expr;
 mod fault;
 mod job;
+mod job_cells;
 mod kernel;
 mod laws;
 mod limits;

@@ -1,9 +1,9 @@
 //! The cells of a job: a row for each use, found by its array's number in a table.
 
-ghost use Rattle.std.specs.Prelude.{◌≡◌, ◌↔◌, ℕ, ◌+◌, ◌<◌, ◌≤◌, ◌+ℤ◌, pos, [], length, slice_index_or, slice_set, IsTrue, IfOk, IfErr, ◌^◌};
+ghost use Rattle.std.specs.Prelude.{◌≡◌, ◌↔◌, ℕ, ◌+◌, ◌<◌, pos, [], length, slice_index_or, slice_set, true, IsTrue, IfOk, IfErr, ◌^◌};
 ghost use Rattle.acc_base.specs.declared.fault.Fault.TheVariants as fault;
 ghost use Rattle.acc_kernel.specs.Cells.{with_cells};
-ghost use Rattle.acc_kernel.specs.Jobs.{AreDistinct, AreRows, HasUses, zero_rows, has_cell, cell_in, place_of, no_use, shown, stored, values_shown};
+ghost use Rattle.acc_kernel.specs.Jobs.{AreDistinct, AreRows, HasUses, zero_rows, has_cell, cell_in, is_used, place_of, no_use, shown, stored, values_shown};
 ghost use Rattle.acc_kernel.specs.inner.RowTables.{RowsView, HasRange, IsTable};
 
 use crate::window::{Window, distance};
@@ -11,9 +11,6 @@ use acc_base::{BlockId, Fault, Range};
 use acc_raw::Cells;
 use std::alloc::Global;
 use std::marker::Model;
-
-// How many values are compared at once.
-const PART: usize = 64;
 
 /// The rows of some uses, each found by its array's number.
 #[derive(Drop)]
@@ -39,14 +36,29 @@ impl Rows {
     /// # Errors
     ///
     /// `Memory` where memory is refused.
-    pub(crate) fn zeroed(alloc: Global, uses: &[(BlockId, Range)]) -> Result<Self, Fault>
-        ensures uses { IfOk result (λ r. r.uses ≡ uses.now) }
-        ensures rows { IfOk result (λ r. r.rows ≡ zero_rows uses.now) }
+    pub(crate) fn zeroed(alloc: Global, uses: Vec<(BlockId, Range)>) -> Result<Self, Fault>
+        requires distinct { AreDistinct uses.items }
+        ensures uses { IfOk result (λ r. r.uses ≡ uses.items) }
+        ensures rows { IfOk result (λ r. r.rows ≡ zero_rows uses.items) }
         ensures fault { IfErr result (λ f. f ≡ fault.Memory) }
     {
-        let places = places(alloc, uses)?;
-        let rows = zero_rows(alloc, uses)?;
-        let uses = Vec::from_slice(alloc, uses)?;
+        let places = places(alloc, uses.as_slice())?;
+        let rows = zero_rows(alloc, uses.as_slice())?;
+        Ok(Rows { uses, places, rows })
+    }
+
+    /// Rows of other uses, in the memory of these where they are as long. They have any values.
+    ///
+    /// # Errors
+    ///
+    /// `Memory` where memory is refused.
+    pub(crate) fn renewed(self, alloc: Global, uses: Vec<(BlockId, Range)>) -> Result<Self, Fault>
+        requires distinct { AreDistinct uses.items }
+        ensures uses { IfOk result (λ r. r.uses ≡ uses.items) }
+        ensures fault { IfErr result (λ f. f ≡ fault.Memory) }
+    {
+        let places = places(alloc, uses.as_slice())?;
+        let rows = fitted(alloc, self.rows, uses.as_slice())?;
         Ok(Rows { uses, places, rows })
     }
 
@@ -56,11 +68,19 @@ impl Rows {
         self.uses.as_slice()
     }
 
-    /// There is a row for each use, with a value for each of its cells.
+    /// The uses differ in their arrays, and each has a row, with a value for each of its cells.
     pub(crate) fn keeps(&self)
-        ensures { AreRows self.now.uses self.now.rows }
+        ensures distinct { AreDistinct self.now.uses }
+        ensures shape { AreRows self.now.uses self.now.rows }
     {
         let _ = &self.rows;
+    }
+
+    /// Whether some use is of an array.
+    pub(crate) fn has_array(&self, array: u8) -> bool
+        ensures { result ≡ is_used self.now.uses array }
+    {
+        self.places[usize::from(array)] < self.rows.len()
     }
 
     pub(crate) fn row(&self, place: usize) -> &[i64]
@@ -83,7 +103,6 @@ impl Rows {
 
     /// Takes the values that a window shows.
     pub(crate) fn load<W: Window>(&mut self, window: &W)
-        requires distinct { AreDistinct self.old.uses }
         requires has { HasUses self.old.uses (W.has window.now) }
         ensures uses { self.new.uses ≡ self.old.uses }
         ensures rows { self.new.rows ≡ shown self.old.uses (W.cells window.now) }
@@ -94,9 +113,22 @@ impl Rows {
         }
     }
 
+    /// Takes the values that other rows have of its cells, of each array that these have.
+    pub(crate) fn load_known(&mut self, source: &Rows)
+        requires has { (place : ℕ) → place < length self.old.uses → is_used source.now.uses (slice_index_or self.old.uses place no_use).1.array ≡ true → HasRange (slice_index_or self.old.uses place no_use).1 (has_cell source.now.uses) }
+        ensures uses { self.new.uses ≡ self.old.uses }
+        ensures rows { (place : ℕ) → place < length self.old.uses → is_used source.now.uses (slice_index_or self.old.uses place no_use).1.array ≡ true → slice_index_or self.new.rows place [] ≡ values_shown (cell_in source.now.uses source.now.rows) (slice_index_or self.old.uses place no_use).1 }
+    {
+        for place in 0..self.rows.len() {
+            let range = self.uses[place].1;
+            if source.has_array(range.array) {
+                read_row(source, range, &mut self.rows[place]);
+            }
+        }
+    }
+
     /// Whether a window shows these values.
     pub(crate) fn are_shown<W: Window>(&self, window: &W) -> bool
-        requires distinct { AreDistinct self.now.uses }
         requires has { HasUses self.now.uses (W.has window.now) }
         ensures { IsTrue result ↔ (self.now.rows ≡ shown self.now.uses (W.cells window.now)) }
     {
@@ -111,7 +143,6 @@ impl Rows {
 
     /// Writes the values to a window.
     pub(crate) fn store<W: Window>(&self, window: &mut W)
-        requires distinct { AreDistinct self.now.uses }
         requires has { HasUses self.now.uses (W.has window.old) }
         ensures has { W.has window.new ≡ W.has window.old }
         ensures keeps { W.keeps window.old window.new }
@@ -154,61 +185,7 @@ fn is_shown<W: Window>(window: &W, range: Range, values: &[i64]) -> bool
     requires has { HasRange range (W.has window.now) }
     ensures { IsTrue result ↔ (values.now ≡ values_shown (W.cells window.now) range) }
 {
-    let mut part = [0; PART];
-    for n in 0..values.len().div_ceil(PART) {
-        let from = n * PART;
-        let count = PART.min(values.len() - from);
-        let first = cell_at(range.lo, from);
-        if !shows_part(
-            window,
-            range.array,
-            first,
-            &values[from..from + count],
-            &mut part,
-        ) {
-            return false;
-        }
-    }
-    true
-}
-
-// The cell so far behind the first of a range.
-fn cell_at(lo: u32, at: usize) -> i64
-    requires { at < 2 ^ 32 }
-    ensures { result ≡ pos lo +ℤ pos at }
-{
-    i64::from(lo) + at as i64
-}
-
-// Whether as many cells from the first on have these values.
-fn shows_part<W: Window>(
-    window: &W,
-    array: u8,
-    first: i64,
-    values: &[i64],
-    part: &mut [i64; PART],
-) -> bool
-    requires count { (0 < length values.now) × (length values.now ≤ 64) }
-    requires has { (k : ℕ) → k < length values.now → IsTrue (W.has window.now array (first +ℤ pos k)) }
-    ensures { IsTrue result ↔ ((k : ℕ) → k < length values.now → slice_index_or values.now k (pos 0) ≡ W.cells window.now array (first +ℤ pos k)) }
-{
-    let shown = &mut part[..values.len()];
-    window.read(array, first, shown);
-    are_equal(shown, values)
-}
-
-// Goes through all of them, so that several are compared at once.
-fn are_equal(left: &[i64], right: &[i64]) -> bool
-    requires { length left.now ≡ length right.now }
-    ensures { IsTrue result ↔ (left.now ≡ right.now) }
-{
-    let mut same = true;
-    for k in 0..left.len() {
-        if left[k] != right[k] {
-            same = false;
-        }
-    }
-    same
+    range.len == 0 || window.has_values(range.array, i64::from(range.lo), values)
 }
 
 impl Window for Rows {
@@ -239,6 +216,11 @@ impl Window for Rows {
         self.rows[place].copy_to(distance(first, self.uses[place].1.lo), into);
     }
 
+    fn has_values(&self, array: u8, first: i64, values: &[i64]) -> bool {
+        let place = self.places[usize::from(array)];
+        self.rows[place].has_values(distance(first, self.uses[place].1.lo), values)
+    }
+
     fn write(&mut self, array: u8, first: i64, values: &[i64]) {
         let place = self.places[usize::from(array)];
         let at = distance(first, self.uses[place].1.lo);
@@ -249,6 +231,30 @@ impl Window for Rows {
     ghost keeps_itself = { λ w. refl };
 
     ghost keeps_on = { λ u v w e f. f ∙ e };
+}
+
+// A row for each use, those of the old ones that are as long and stand at its place.
+fn fitted(alloc: Global, old: Vec<Cells>, uses: &[(BlockId, Range)]) -> Result<Vec<Cells>, Fault>
+    ensures shape { IfOk result (λ rows. AreRows uses.now rows.items) }
+    ensures fault { IfErr result (λ f. f ≡ fault.Memory) }
+{
+    let mut old = old.into_iter();
+    let mut rows = Vec::with_capacity(alloc, uses.len())?;
+    for (_, range) in uses {
+        rows.push_reserved(fit(alloc, old.next(), range.len as usize)?);
+    }
+    Ok(rows)
+}
+
+// A row of so many cells, the old one if it is as long.
+fn fit(alloc: Global, old: Option<Cells>, len: usize) -> Result<Cells, Fault>
+    ensures long { IfOk result (λ row. length row ≡ len) }
+    ensures fault { IfErr result (λ f. f ≡ fault.Memory) }
+{
+    match old {
+        Some(row) if row.len() == len => Ok(row),
+        _ => Cells::zeroed(alloc, len),
+    }
 }
 
 fn zero_rows(alloc: Global, uses: &[(BlockId, Range)]) -> Result<Vec<Cells>, Fault>

@@ -1,6 +1,6 @@
 //! Cells that a loop reads and writes, whoever has them.
 
-ghost use Rattle.std.specs.Prelude.{◌≡◌, ℕ, ℤ, ◌+ℤ◌, ◌-ℤ◌, ◌<◌, ◌≤ℤ◌, pos, Bool, IsTrue, length, slice_index_or};
+ghost use Rattle.std.specs.Prelude.{◌≡◌, ℕ, ℤ, ◌+ℤ◌, ◌-ℤ◌, ◌<◌, ◌≤ℤ◌, ◌↔◌, pos, Bool, IsTrue, length, slice_index_or};
 ghost use Rattle.acc_kernel.specs.Cells.{with_cell, with_cells};
 
 /// Cells of some arrays, that a loop reads and writes.
@@ -31,6 +31,12 @@ pub trait Window {
         requires some { 0 < length into.old }
         requires has { (k : ℕ) → k < length into.old → IsTrue (has self.now array (first +ℤ pos k)) }
         ensures { (k : ℕ) → k < length into.old → slice_index_or into.new k (pos 0) ≡ cells self.now array (first +ℤ pos k) };
+
+    /// Whether as many cells, side by side from the first on, have these values.
+    fn has_values(&self, array: u8, first: i64, values: &[i64]) -> bool
+        requires some { 0 < length values.now }
+        requires has { (k : ℕ) → k < length values.now → IsTrue (has self.now array (first +ℤ pos k)) }
+        ensures { IsTrue result ↔ ((k : ℕ) → k < length values.now → slice_index_or values.now k (pos 0) ≡ cells self.now array (first +ℤ pos k)) };
 
     /// Writes as many cells, side by side from the first on.
     fn write(&mut self, array: u8, first: i64, values: &[i64])

@@ -2,7 +2,7 @@
 
 ghost use Rattle.std.specs.Prelude.{◌≡◌, ◌+◌, ◌-◌, ◌<◌, ◌≤◌, ℕ, ℤ, pos, [], length, map, replicate, slice_get, is_some, true, None, Some, IfSome, IfErr, OnOk, OnErr};
 ghost use Rattle.std.specs.Option.{option_map};
-ghost use Rattle.acc_kernel.specs.Jobs.{AreDistinct, HoldReached, computed, shown};
+ghost use Rattle.acc_kernel.specs.Jobs.{AreDistinct, HoldReached, computed, read_uses, shown};
 ghost use Rattle.acc_memory.specs.Blocks.{row_of};
 ghost use Rattle.acc_memory.specs.Memories.{ShowsRows, ShowsArray, HasRange, HasRanges, IsCopy, made_of, blocks_after, find_row, find_block, index_of, has_cell, is_ascending, is_whole, row_cell, row_has};
 ghost use Rattle.acc_memory.specs.inner.Windows.{AreIndices};
@@ -175,7 +175,7 @@ impl Blocks {
     pub(crate) fn load(&mut self, job: &mut Job)
         requires { HasRanges (map made_of self.old.rows) job.old.uses }
         ensures kept { self.new ≡ self.old }
-        ensures job { (device : ℕ) (was : Cell → ℤ) → ShowsRows device self.old.rows was → job.new ≡ record job.old { inputs = shown job.old.uses (cells_by job.old.uses device was) } }
+        ensures job { (device : ℕ) (was : Cell → ℤ) → ShowsRows device self.old.rows was → job.new ≡ record job.old { inputs = shown (read_uses job.old.kernel job.old.uses) (cells_by job.old.uses device was) } }
     {
         job.keeps();
         let indices = indices_of(self.blocks.as_slice(), job.uses());

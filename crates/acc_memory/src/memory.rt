@@ -5,7 +5,7 @@ ghost use Rattle.std.specs.Option.{option_map};
 ghost use Rattle.acc_batch.specs.Ops.{op_label, HasItsCells};
 ghost use Rattle.acc_memory.specs.Blocks.{row_with};
 ghost use Rattle.acc_memory.specs.Memories.{Shows, HasRanges, MayPerform, IsAllowed, PerformsOn, rows_in, room_in, rows_on, room_on, cell_of, has_cell, is_held, find_row, find_block, has_array, held_blocks, is_within, finds_blocks};
-ghost use Rattle.acc_kernel.specs.Jobs.{Use, computed, shown};
+ghost use Rattle.acc_kernel.specs.Jobs.{Use, computed, read_uses, shown};
 ghost use Rattle.std.specs.List.{list_all};
 ghost use Rattle.acc_base.specs.Configurations.{lengths_of, has_range};
 ghost use Rattle.acc_memory.specs.Values.{Cell, Block_cell, Host_cell, after_write, cells_by, values_of};
@@ -118,7 +118,7 @@ impl Memory {
         requires device { device < length self.old.devices }
         requires held { HasRanges (held_blocks self.old device) job.old.uses }
         ensures kept { self.new ≡ self.old }
-        ensures job { (was : Cell → ℤ) → Shows self.old was → job.new ≡ record job.old { inputs = shown job.old.uses (cells_by job.old.uses device was) } }
+        ensures job { (was : Cell → ℤ) → Shows self.old was → job.new ≡ record job.old { inputs = shown (read_uses job.old.kernel job.old.uses) (cells_by job.old.uses device was) } }
     {
         self.devices[usize::from(device.number())].load(job);
     }

@@ -1,7 +1,7 @@
 //! The blocks of one device as a loop sees them, each by its array.
 
 ghost use Rattle.std.specs.Prelude.{◌≡◌, ℕ, ℤ, IsTrue};
-ghost use Rattle.acc_kernel.specs.Jobs.{HasUses, computed, shown};
+ghost use Rattle.acc_kernel.specs.Jobs.{HasUses, computed, read_uses, shown};
 ghost use Rattle.acc_kernel.specs.Kernels.{Reaches, value_after};
 ghost use Rattle.acc_memory.specs.inner.Windows.{window_has, window_cells, KeepsBlocks};
 
@@ -60,7 +60,7 @@ fn commit_all(job: &Job, window: &mut LoopBlocks<'_>)
 pub(crate) fn load_over(blocks: &mut [Block], indices: [usize; 256], job: &mut Job)
     requires { HasUses job.old.uses (window_has blocks.old indices) }
     ensures blocks { blocks.new ≡ blocks.old }
-    ensures job { job.new ≡ record job.old { inputs = shown job.old.uses (window_cells blocks.old indices) } }
+    ensures job { job.new ≡ record job.old { inputs = shown (read_uses job.old.kernel job.old.uses) (window_cells blocks.old indices) } }
 {
     let window = LoopBlocks { blocks, indices };
     job.load(&window);
@@ -93,6 +93,14 @@ impl<'a> Window for LoopBlocks<'a> {
         let blocks = &*self.blocks;
         let block = &blocks[self.indices[usize::from(array)]];
         block.cells.copy_to(distance(first, block.range.lo), into);
+    }
+
+    fn has_values(&self, array: u8, first: i64, values: &[i64]) -> bool {
+        let blocks = &*self.blocks;
+        let block = &blocks[self.indices[usize::from(array)]];
+        block
+            .cells
+            .has_values(distance(first, block.range.lo), values)
     }
 
     fn write(&mut self, array: u8, first: i64, values: &[i64]) {

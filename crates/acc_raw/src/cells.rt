@@ -1,6 +1,6 @@
 //! A row of cells: a vector that contracts see as the list of its values, so that a row by pointers can take its place.
 
-ghost use Rattle.std.specs.Prelude.{◌≡◌, ◌+◌, ◌<◌, ◌≤◌, pos, ◌++◌, length, take, drop, replicate, slice_get, slice_set, slice_range, Some, IfOk, IfErr};
+ghost use Rattle.std.specs.Prelude.{◌≡◌, ◌↔◌, ◌+◌, ◌<◌, ◌≤◌, pos, ◌++◌, length, take, drop, replicate, slice_get, slice_set, slice_range, Some, IfOk, IfErr, IsTrue};
 ghost use Rattle.std.specs.Borrow.{Lends, LendsBoth, Array, sem, i64 as cell};
 ghost use Rattle.std.specs.List.{refill};
 ghost use Rattle.acc_raw.specs.Windows.{IsWithin, AreApart, cells_in, with_windows};
@@ -103,6 +103,14 @@ impl Cells {
         target.copy_from_slice(&self.cells[at..at + target.len()]);
     }
 
+    /// Whether as many cells, from `at` on, which end by `len`, have these values.
+    pub fn has_values(&self, at: usize, values: &[i64]) -> bool
+        requires { at + length values.now ≤ length self.now }
+        ensures { IsTrue result ↔ slice_range self.now at (at + length values.now) ≡ values.now }
+    {
+        are_equal(&self.cells[at..at + values.len()], values)
+    }
+
     /// Lends two windows at once, in the order in which they are named, whichever comes first in the row.
     /// One has to end where the other begins, or before.
     pub fn two(&mut self, first: Window, second: Window) -> (&mut [i64], &mut [i64])
@@ -124,4 +132,18 @@ impl Cells {
             )
         }
     }
+}
+
+// Goes through all of them, so that several are compared at once.
+fn are_equal(left: &[i64], right: &[i64]) -> bool
+    requires { length left.now ≡ length right.now }
+    ensures { IsTrue result ↔ left.now ≡ right.now }
+{
+    let mut same = true;
+    for k in 0..left.len() {
+        if left[k] != right[k] {
+            same = false;
+        }
+    }
+    same
 }

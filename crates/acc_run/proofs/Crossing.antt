@@ -8,7 +8,6 @@ use denote.Enum.Enum.{Enum}
 use denote.Enum.Declared.{shape}
 use Rattle.acc_kernel.specs.contracts.expr.Expr as expr
 use Rattle.acc_kernel.specs.contracts.assign.Assign as assign
-use Rattle.acc_kernel.specs.contracts.job.Job as job
 use Rattle.acc_kernel.specs.contracts.kernel.Kernel as kernel
 use Rattle.acc_batch.specs.contracts.label.OpLabel as op_label
 use Rattle.acc_batch.specs.contracts.label.Label as label
@@ -98,11 +97,8 @@ op_form_sends = search (sendable, crosses, kernel_sends, kernel_syncs) depth 60 
 op_sends : IsSend op.the_row
 op_sends = search (sendable, crosses, op_form_sends) depth 60 fits 9000
 
-job_sends : IsSend job.the_row
-job_sends = search (sendable, crosses, kernel_sends, kernel_syncs) depth 60 fits 9000
-
 batch_sends : IsSend batch.the_row
-batch_sends = search (sendable, crosses, op_label_sends, op_label_syncs, op_sends, job_sends) depth 60 fits 9000
+batch_sends = search (sendable, crosses, op_label_sends, op_label_syncs, op_sends) depth 60 fits 9000
 
 clause_form_sends : IsSend (Enum (shape clause.the_type))
 clause_form_sends = search (sendable, crosses) depth 60 fits 9000

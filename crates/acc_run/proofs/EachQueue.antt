@@ -2,7 +2,7 @@
 use Rattle.std.proofs.Common.{inl, inr, ◌≡◌, ◌⊎◌, ℕ, ◌<◌, ◌≤◌, List, [], ◌∷◌, ◌++◌, length, take, drop, refl, sym, ap, subst, ◌∙◌, arith}
 use Rattle.std.specs.Prelude.{All}
 use Rattle.std.proofs.lemmas.Bool.{cases_Bool, cases_lt}
-use Rattle.std.proofs.lemmas.List.{take-append-drop}
+use Rattle.std.proofs.lemmas.List.{get_or_past, take-append-drop}
 use Rattle.std.proofs.Math.Seq.{take-append_seam}
 use Rattle.std.proofs.lemmas.List.Elements.{All-drop, All-filter, All-head, All-tail, All-weaker}
 use Rattle.acc_base.specs.declared.ids.QueueAt.{QueueAt}
@@ -10,7 +10,7 @@ use Rattle.acc_base.specs.declared.ids.TheConstants.{QUEUES}
 use Rattle.acc_base.specs.Configurations.{Configuration}
 use Rattle.acc_base.specs.Queues.{at_seat, queue_count, seat, same_queue}
 use Rattle.acc_base.proofs.SameQueue.{same_queue_is}
-use Rattle.acc_batch.proofs.Seats.{one_seat}
+use Rattle.acc_batch.proofs.Seats.{one_seat, seat_absent, seat_there}
 use Rattle.acc_batch.specs.declared.label.Label.{Label}
 use Rattle.acc_batch.specs.Labels.{on_queue}
 use Rattle.acc_place.specs.Plans.{standing_in}
@@ -21,7 +21,6 @@ use Rattle.acc_work.specs.Works.{WorkView, KeepsOrder, lane_at, taken_labels}
 use Rattle.acc_run.specs.Finishing.{AllTookFirst, TookFirst, held_on}
 use Rattle.acc_run.specs.PlaceSides.{PlaceSideView}
 use Rattle.acc_run.specs.WorkSides.{WorkSideView}
-use Rattle.acc_run.proofs.WorkSideSteps.{no_lane_there}
 
 seat_place : (at : QueueAt) → at.queue < QUEUES → at_seat (seat at) ≡ at
 seat_place at low = same_queue_is (at_seat (seat at)) at (one_seat (at_seat (seat at)) at (omega arith) low (omega arith))
@@ -54,7 +53,13 @@ none_on config at (l ∷ labels) absent h = elim (cases_Bool (same_queue l.at at
 
 -- and no lane
 pub no_lane_at : (config : Configuration) (w : WorkView) (at : QueueAt) → KeepsOrder w → length w.memory.devices ≡ config.devices → (IsQueue config at → ⊥) → lane_at w at ≡ no_lane
-no_lane_at config w at keeps devices absent = no_lane_there w at keeps (λ there. absent (omega (arith, there.0, devices), there.1))
+no_lane_at config w at keeps devices absent = elim (cases_lt at.queue QUEUES) [
+  | inr past ↦ seat_absent no_lane w.lanes at past
+  | inl low ↦ (elim (cases_lt at.device config.devices) [
+    | inl there ↦ absurd (absent (there, low))
+    | inr beyond ↦ (let past : length w.lanes ≤ seat at = omega (arith, keeps.count, devices, beyond) in seat_there no_lane w.lanes at low ∙ get_or_past w.lanes (seat at) no_lane past)
+  ])
+]
 
 -- a queue that isn't there has no batch placed on it
 pub none_placed : (p : PlaceSideView) (at : QueueAt) → AllAccepted p.place.config p.place.history p.place.counts → (IsQueue p.place.config at → ⊥) → on_queue at (standing_in p.place).labels ≡ []

@@ -164,19 +164,9 @@ pub after_job : {A B : Type 0} (r : Result A B) (Out : Type 0) (Same Stray : B �
 after_job (Ok a) Out Same Stray config w w' ends at s k h committed back = after_commit config w w' ends at s k h committed.1
 after_job (Err b) Out Same Stray config w w' ends at s k h committed back = rw back.1 s
 
--- a queue that isn't there has no lane
-pub no_lane_there : (w : WorkView) (at : QueueAt) → KeepsOrder w → (HasQueue w at → ⊥) → lane_at w at ≡ no_lane
-no_lane_there w at keeps absent = elim (cases_lt at.queue QUEUES) [
-  | inr past ↦ seat_absent no_lane w.lanes at past
-  | inl low ↦ (elim (cases_lt at.device (length w.memory.devices)) [
-    | inl there ↦ absurd (absent (there, low))
-    | inr beyond ↦ (let past : length w.lanes ≤ seat at = omega (arith, keeps.count, beyond) in seat_there no_lane w.lanes at low ∙ get_or_past w.lanes (seat at) no_lane past)
-  ])
-]
-
--- so none is out of it
-pub none_out_there : (w : WorkView) (job : JobView) → KeepsOrder w → (HasQueue w job.at → ⊥) → IsOut w job → ⊥
-none_out_there w job keeps absent out = (let none : false ≡ true = sym (ap (λ (l : LaneView). l.out) (no_lane_there w job.at keeps absent)) ∙ out.out in cc)
+pub on_ok : {A B : Type 0} (r : Result A B) (P Q : Type 0) → (P → Q) → OnOk r P → OnOk r Q
+on_ok (Ok a) P Q f h = f h
+on_ok (Err b) P Q f h = tt
 
 -- ## A host records an item
 

@@ -2,7 +2,7 @@
 use Rattle.std.specs.Prelude.{◌≡◌, ◌⊎◌, ℕ, ◌<◌, Bool, true, false, not, List, [], ◌∷◌, ◌++◌, length, map, Option, None, Some, slice_set}
 use Rattle.acc_base.specs.declared.fault.Fault.{Fault}
 use Rattle.acc_base.specs.declared.fault.Fault.TheVariants as fault
-use Rattle.acc_base.specs.declared.fault.Fault.TheVariants.{Memory, QueueFull}
+use Rattle.acc_base.specs.declared.fault.Fault.TheVariants.{QueueFull}
 use Rattle.acc_base.specs.declared.ids.QueueAt.{QueueAt}
 use Rattle.acc_base.specs.declared.ids.TheConstants.{QUEUES}
 use Rattle.acc_base.specs.Configurations.{IsRefusal}
@@ -72,10 +72,6 @@ pub record HasPlaced (old new : PlaceSideView) (host items_done : ℕ) (d : Dire
   pub config : new.place.config ≡ old.place.config
   pub closes : new.place.closes ≡ old.place.closes
   pub lines : new.lines ≡ lines_sent old.lines (label_now old.place host items_done d)
-
--- A batch wasn't sent: memory was refused, or its queue held its room.
-abbrev pub IsUnsent : List Line → Option Label → Fault → Type 0
-IsUnsent ends b fault = (fault ≡ Memory) ⊎ ((fault ≡ QueueFull) × IsHeld ends b)
 
 -- A directive could be accepted, but the queue of its batch held its room.
 pub record IsFull (old : PlaceSideView) (host items_done : ℕ) (d : Directive) : Type 0 where

@@ -107,19 +107,17 @@ pub record HasGoneOut (old new : WorkSideView) (at : QueueAt) (job : JobView) : 
   pub started : HasStarted old.work new.work at job
   pub lines : new.lines ≡ old.lines
 
--- It has come back: room was made, and it is performed, or its lane has it back.
+-- It has come back, and is performed, or its lane has it back.
 pub record HasComeBack (old new : WorkSideView) (job : JobView) : Type 0 where
   pub config : new.config ≡ old.config
-  pub mid : WorkView
-  pub room : HasMadeRoom old.work mid
-  pub out : IsOut mid job
-  pub commits : Commits mid new.work job.at
+  pub out : IsOut old.work job
+  pub commits : Commits old.work new.work job.at
   pub lines : new.lines ≡ old.lines
 
 -- A job that isn't the one that is out changes nothing.
 pub record IsStray (old new : WorkSideView) (job : JobView) : Type 0 where
-  pub room : HasRoomMade old new
-  pub stray : IsOut new.work job → ⊥
+  pub same : new ≡ old
+  pub stray : IsOut old.work job → ⊥
 
 -- A host's item was recorded: room was made, and it joined the log with what it tells, which is its answer.
 pub record HasRecorded (old new : WorkSideView) (host : ℕ) (item : ItemLabel) (answer : Shown) : Type 0 where

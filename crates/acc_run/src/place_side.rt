@@ -9,7 +9,7 @@ ghost use Rattle.acc_base.specs.Queues.{queue_count};
 ghost use Rattle.acc_place.specs.Closing.{left_open, place_after_begin};
 ghost use Rattle.acc_place.specs.Plans.{standing_in, without_batch};
 ghost use Rattle.acc_queue.specs.Tied.{WasHeld};
-ghost use Rattle.acc_run.specs.PlaceSides.{CanSend, ClosesOne, HasClosed, HasPlaced, HasRefused, IsUnsent, IsSent, lines_sent, lines_with};
+ghost use Rattle.acc_run.specs.PlaceSides.{CanSend, ClosesOne, HasClosed, HasPlaced, HasRefused, IsHeld, IsSent, lines_sent, lines_with};
 ghost use Rattle.acc_run.specs.WorkSides.{AreEnds, line_in};
 
 use acc_base::{Config, Fault, HostId, QUEUES, QueueAt};
@@ -23,7 +23,6 @@ use std::sync::Wait;
 /// The place, with the end of each queue that sends.
 #[derive(Drop)]
 pub struct PlaceSide {
-    alloc: Global,
     place: Place,
     // by device, then in queue order
     senders: Vec<Sender>,
@@ -67,11 +66,7 @@ impl PlaceSide {
         ensures fault { IfErr result (λ f. f ≡ Memory) }
     {
         let place = Place::new(alloc, config)?;
-        Ok(PlaceSide {
-            alloc,
-            place,
-            senders,
-        })
+        Ok(PlaceSide { place, senders })
     }
 
     /// The place, without the ends of the queues.
@@ -123,7 +118,7 @@ impl PlaceSide {
     {
         let _ = self.place.history();
         let plan = self.place.plan(host, items_done, directive)?;
-        let plan = send(rt, self.alloc, &mut self.senders, plan)?;
+        let plan = send(rt, &mut self.senders, plan)?;
         Ok(self.place.accept(plan))
     }
 
@@ -190,22 +185,16 @@ impl PlaceSide {
     }
 }
 
-// Sends the batch of a plan on its queue, if it has one, with room for its loop to be computed, and gives the plan back without it.
-fn send<R: Wait>(
-    rt: &R,
-    alloc: Global,
-    senders: &mut Vec<Sender>,
-    plan: Plan,
-) -> Result<Plan, Fault>
+// Sends the batch of a plan on its queue, if it has one, and gives the plan back without it.
+fn send<R: Wait>(rt: &R, senders: &mut Vec<Sender>, plan: Plan) -> Result<Plan, Fault>
     requires { IfSome plan.batch (CanSend senders.old.items) }
     ensures plan { IfOk result (λ q. q ≡ without_batch plan) }
     ensures sent { OnOk result (senders.new.items ≡ lines_sent senders.old.items plan.batch) }
     ensures kept { OnErr result (senders.new.items ≡ senders.old.items) }
-    ensures refused { IfErr result (λ fault. IsUnsent senders.old.items plan.batch fault) }
+    ensures refused { IfErr result (λ fault. (fault ≡ QueueFull) × IsHeld senders.old.items plan.batch) }
 {
     let mut plan = plan;
-    if let Some(mut batch) = plan.take_batch() {
-        batch.make_room(alloc)?;
+    if let Some(batch) = plan.take_batch() {
         push(rt, senders, batch)?;
     }
     Ok(plan)

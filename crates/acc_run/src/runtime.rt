@@ -23,8 +23,9 @@ use crate::work_side::WorkSide;
 use crate::workers::Crew;
 use acc_base::{Config, DeviceId, Fault, HostId, QUEUES, QueueAt, QueueCounts};
 use acc_host::Outcome;
+use acc_kernel::Job;
 use acc_place::{Directive, Placed};
-use acc_work::{Done, Item, ItemLabel, JobOut, Shown};
+use acc_work::{Ahead, Done, Item, ItemLabel, JobOut, Shown};
 use std::alloc::Global;
 use std::marker::Model;
 use std::sync::{Mutex, Wait};
@@ -33,10 +34,19 @@ use std::thread::Parker;
 /// A place and a work side for threads, each under a lock of its own. A contract sees the configuration that it was made for.
 #[derive(Drop)]
 pub struct Runtime {
+    alloc: Global,
     config: Config,
     place: Mutex<PlaceSide>,
     work: Mutex<WorkSide>,
     // where the worker of each queue sleeps that finds it empty, by device, then in queue order
+    parkers: Vec<Parker>,
+}
+
+// What of a runtime stands behind no lock.
+#[derive(Drop)]
+struct Frame {
+    alloc: Global,
+    config: Config,
     parkers: Vec<Parker>,
 }
 
@@ -76,8 +86,8 @@ enum Turn {
     Blocked,
     // Nothing is in the lane, and the queue gave nothing.
     Idle,
-    // A batch with this number is in the lane, which hasn't passed the gate.
-    Holds { number: u64 },
+    // A batch with this number is in the lane, which hasn't passed the gate; and its first loop.
+    Holds { number: u64, ahead: Option<Ahead> },
     // The next operation, a loop, is to be computed.
     Starts { job: JobOut },
     Ended,
@@ -100,6 +110,7 @@ impl Runtime {
         let parkers = parkers_of(alloc, config)?;
         let (place, work) = sides_of(alloc, config)?;
         let runtime = Runtime {
+            alloc,
             config: copy,
             place: Mutex::new(place),
             work: Mutex::new(work),
@@ -288,7 +299,7 @@ impl Runtime {
     }
 
     /// A worker of a queue: takes its batches, passes the gate with each, and performs them, one operation for each time that the lock
-    /// is got, but for loops, which it computes with no lock held. Where its next operation can't go on it pauses, each time longer, for a millisecond at most; where it finds nothing it
+    /// is got, but for loops, which it computes with no lock held, where it has memory for what they read and assign. Where its next operation can't go on it pauses, each time longer, for a millisecond at most; where it finds nothing it
     /// sleeps until a batch is placed, for fifty milliseconds at most. Ends behind the queue's close, where the gate answers false, or
     /// where there is no such queue.
     pub fn serve<R: Wait, G: Gate>(&self, rt: &R, at: QueueAt, gate: &G) {
@@ -298,41 +309,51 @@ impl Runtime {
         };
         // the last batch that passed the gate
         let mut passed = 0u64;
+        // where its last loop was computed
+        let mut room = None;
         let mut pause = Pause::new();
         for _ in rt.forever() {
-            match self.turn(rt, QueueAt { device, queue }, passed) {
+            match self.turn(rt, QueueAt { device, queue }, passed, &mut room) {
                 Turn::Did => pause.begin_anew(),
                 Turn::Blocked => pause.wait(rt),
                 Turn::Idle => pause.rest(rt, parker),
-                Turn::Holds { number } => {
+                Turn::Holds { number, ahead } => {
                     if !gate.pass(QueueAt { device, queue }, number) {
                         return;
                     }
                     passed = number;
-                    pause.begin_anew();
-                }
-                Turn::Starts { job } => {
-                    if !self.compute(rt, gate, job) {
-                        return;
+                    if let Some(ahead) = ahead {
+                        room = ahead.room(self.alloc, room);
                     }
                     pause.begin_anew();
                 }
+                Turn::Starts { job } => match self.compute(rt, gate, job) {
+                    None => return,
+                    Some(back) => {
+                        room = back;
+                        pause.begin_anew();
+                    }
+                },
                 Turn::Ended => return,
             }
         }
     }
 
-    // Computes a loop with no lock held, and gives it back under the work lock. Whether its lane still waited for it.
-    fn compute<R: Wait, G: Gate>(&self, rt: &R, gate: &G, job: JobOut) -> bool {
+    // Computes a loop with no lock held, and gives it back under the work lock. Answers with its room, if its lane still waited for it.
+    fn compute<R: Wait, G: Gate>(&self, rt: &R, gate: &G, job: JobOut) -> Option<Option<Box<Job>>> {
         let mut job = job;
         gate.work(job.queue(), job.number());
         job.compute();
         let mut pause = Pause::new();
         for _ in rt.forever() {
-            match self.work.lock(rt).commit_job(job) {
-                Ok(was_out) => return was_out,
-                Err(back) => job = back,
+            let mut work = self.work.lock(rt);
+            if !work.has_queue(job.queue()) {
+                return None;
             }
+            if work.has_room(job.queue()) {
+                return work.commit_job(job).ok();
+            }
+            drop(work);
             pause.wait(rt);
         }
         unreachable!()
@@ -355,19 +376,10 @@ impl Runtime {
         ensures runtime { IfErr result (λ r. r.runtime ≡ self) }
         ensures tokens { IfErr result (λ r. r.tokens ≡ tokens) }
     {
-        let Runtime {
-            config,
-            place,
-            work,
-            parkers,
-        } = self;
-        let sides = Sides {
-            place: place.into_inner(),
-            work: work.into_inner(),
-        };
-        match finish_sides(&config, sides, tokens) {
+        let (frame, sides) = self.into_parts();
+        match finish_sides(&frame.config, sides, tokens) {
             Ok(outcome) => Ok(outcome),
-            Err(refused) => Err(runtime_of(config, parkers, refused)),
+            Err(refused) => Err(runtime_of(frame, refused)),
         }
     }
 
@@ -388,7 +400,19 @@ impl Runtime {
         ensures runtime { IfErr result (λ r. r.runtime ≡ self) }
         ensures tokens { IfErr result (λ r. r.tokens ≡ tokens) }
     {
+        let (frame, sides) = self.into_parts();
+        match abandon_sides(alloc, &frame.config, sides, tokens) {
+            Ok(outcome) => Ok(outcome),
+            Err(refused) => Err(runtime_of(frame, refused)),
+        }
+    }
+
+    // Both sides out of their locks, and the rest.
+    fn into_parts(self) -> (Frame, Sides)
+        ensures { result.0.config ≡ self.config }
+    {
         let Runtime {
+            alloc,
             config,
             place,
             work,
@@ -398,14 +422,18 @@ impl Runtime {
             place: place.into_inner(),
             work: work.into_inner(),
         };
-        match abandon_sides(alloc, &config, sides, tokens) {
-            Ok(outcome) => Ok(outcome),
-            Err(refused) => Err(runtime_of(config, parkers, refused)),
-        }
+        (
+            Frame {
+                alloc,
+                config,
+                parkers,
+            },
+            sides,
+        )
     }
 
     // One turn of a worker, under the work lock.
-    fn turn<R: Wait>(&self, rt: &R, at: QueueAt, passed: u64) -> Turn {
+    fn turn<R: Wait>(&self, rt: &R, at: QueueAt, passed: u64, room: &mut Option<Box<Job>>) -> Turn {
         let QueueAt { device, queue } = at;
         let mut work = self.work.lock(rt);
         if !work.has_queue(QueueAt { device, queue }) || work.is_closed(QueueAt { device, queue }) {
@@ -414,24 +442,28 @@ impl Runtime {
         match work.in_lane(QueueAt { device, queue }) {
             None => match work.take(rt, QueueAt { device, queue }) {
                 None => Turn::Idle,
-                Some(number) => Turn::Holds { number },
+                Some(number) => {
+                    let ahead = work.ahead(QueueAt { device, queue });
+                    Turn::Holds { number, ahead }
+                }
             },
             Some(number) => {
                 if passed < number {
-                    return Turn::Holds { number };
+                    let ahead = work.ahead(QueueAt { device, queue });
+                    return Turn::Holds { number, ahead };
                 }
-                go_on(&mut work, QueueAt { device, queue })
+                go_on(&mut work, QueueAt { device, queue }, room)
             }
         }
     }
 }
 
 // The next operation of a queue is taken out, if it is a loop, and else performed, if it can be.
-fn go_on(work: &mut WorkSide, at: QueueAt) -> Turn
+fn go_on(work: &mut WorkSide, at: QueueAt, room: &mut Option<Box<Job>>) -> Turn
     requires { HasQueue work.old.work at }
 {
     let QueueAt { device, queue } = at;
-    match work.start_job(QueueAt { device, queue }) {
+    match work.start_job(QueueAt { device, queue }, room) {
         Some(job) => Turn::Starts { job },
         None => match work.perform(QueueAt { device, queue }) {
             Done::Op => Turn::Did,
@@ -441,9 +473,9 @@ fn go_on(work: &mut WorkSide, at: QueueAt) -> Turn
 }
 
 // The runtime that was refused, with both sides behind their locks again.
-fn runtime_of(config: Config, parkers: Vec<Parker>, refused: SidesRefused) -> FinishRefused
+fn runtime_of(frame: Frame, refused: SidesRefused) -> FinishRefused
     ensures fault { result.fault ≡ refused.fault }
-    ensures runtime { result.runtime.config ≡ config }
+    ensures runtime { result.runtime.config ≡ frame.config }
     ensures tokens { result.tokens ≡ refused.tokens }
 {
     let SidesRefused {
@@ -454,10 +486,11 @@ fn runtime_of(config: Config, parkers: Vec<Parker>, refused: SidesRefused) -> Fi
     FinishRefused {
         fault,
         runtime: Runtime {
-            config,
+            alloc: frame.alloc,
+            config: frame.config,
             place: Mutex::new(sides.place),
             work: Mutex::new(sides.work),
-            parkers,
+            parkers: frame.parkers,
         },
         tokens,
     }

@@ -4,6 +4,7 @@ ghost use Rattle.std.specs.Prelude.{Bool, ◌≡◌, ◌<◌, IfOk, IfErr, IfSom
 ghost use Rattle.acc_base.specs.declared.fault.Fault.TheVariants.{Memory};
 ghost use Rattle.acc_base.specs.declared.config.TheConstants.{MAX_HOSTS};
 ghost use Rattle.acc_base.specs.declared.ids.QueueAt.{QueueAt};
+ghost use Rattle.acc_batch.specs.Ops.{first_loop};
 ghost use Rattle.acc_host.specs.Engines.{MayRecord};
 ghost use Rattle.acc_run.specs.WorkSides.{AreEnds, HasComeBack, HasGoneOut, HasRoomMade, HasTaken, HasRecorded, Goes, IsLine, IsStray, closes, is_ended, line_in, number_left};
 ghost use Rattle.acc_work.specs.declared.item.ItemLabel.TheVariants as to_record;
@@ -18,8 +19,9 @@ ghost use Rattle.acc_work.specs.Lanes.{last_of};
 
 use acc_base::{Config, DeviceId, Fault, HostId, QUEUES, QueueAt, QueueCounts, Range};
 use acc_batch::OpLabel;
+use acc_kernel::Job;
 use acc_queue::Taker;
-use acc_work::{Done, Item, ItemLabel, JobOut, Shown, Work};
+use acc_work::{Ahead, Done, Item, ItemLabel, JobOut, Shown, Work};
 use std::alloc::Global;
 use std::marker::Model;
 use std::sync::Wait;
@@ -189,40 +191,49 @@ impl WorkSide {
         self.work.perform(QueueAt { device, queue })
     }
 
-    /// Takes the next operation of a queue out, to be computed with no lock held, where it is a loop that `perform` would perform. Until
-    /// it comes back the queue performs nothing. It takes no memory.
-    pub fn start_job(&mut self, at: QueueAt) -> Option<JobOut>
+    /// The first loop among what is left in a queue's lane, if there is one and it can be shared.
+    pub fn ahead(&self, at: QueueAt) -> Option<Ahead>
+        ensures { IfSome result (λ a. first_loop (lane_at self.now.work at).left ≡ Some a) }
+    {
+        self.work.ahead(at)
+    }
+
+    /// Takes the next operation of a queue out, to be computed with no lock held, where it is a loop that `perform` would perform: with
+    /// its inputs, in the room, if this is for it. Until it comes back the queue performs nothing. It takes no memory.
+    pub fn start_job(&mut self, at: QueueAt, room: &mut Option<Box<Job>>) -> Option<JobOut>
         requires queue { HasQueue self.old.work at }
         ensures started { IfSome result (λ job. HasGoneOut self.old self.new at job) }
         ensures none { IfNone result ((self.new ≡ self.old) × (StartsLoop self.old.work at → ⊥)) }
     {
         self.work.keeps();
-        self.work.start_job(at)
+        self.work.start_job(at, room)
     }
 
-    /// Performs the loop of a job that is out, as `perform` would now, and answers whether it is out: else it changes nothing. Where a
-    /// block that it uses isn't live any more, its lane has it back.
+    /// Makes room for one more operation of a queue. Whether there is some.
+    pub fn has_room(&mut self, at: QueueAt) -> bool
+        requires queue { HasQueue self.old.work at }
+        ensures made { HasRoomMade self.old self.new }
+        ensures queue { HasQueue self.new.work at }
+        ensures room { IsTrue result → length self.new.work.work < self.new.work.room }
+    {
+        self.work.keeps();
+        self.work.spare(at, 1).is_ok()
+    }
+
+    /// Performs the loop of a job that is out, as `perform` would now, and gives its room back. Where a block that it uses isn't live
+    /// any more, its lane has it back. It takes no memory, by `has_room`.
     ///
     /// # Errors
     ///
-    /// The job, where memory is refused.
-    pub fn commit_job(&mut self, job: JobOut) -> Result<bool, JobOut>
-        ensures back { result ≡ Ok true → HasComeBack self.old self.new job }
-        ensures stray { result ≡ Ok false → IsStray self.old self.new job }
-        ensures refused { IfErr result (λ back. back ≡ job) }
-        ensures kept { OnErr result (HasRoomMade self.old self.new) }
+    /// The job, where it isn't out; then nothing changes.
+    pub fn commit_job(&mut self, job: JobOut) -> Result<Option<Box<Job>>, JobOut>
+        requires queue { HasQueue self.old.work job.at }
+        requires room { length self.old.work.work < self.old.work.room }
+        ensures back { OnOk result (HasComeBack self.old self.new job) }
+        ensures stray { IfErr result (λ stray. (stray ≡ job) × IsStray self.old self.new job) }
     {
         self.work.keeps();
-        if !self.has_queue(job.queue()) {
-            return Ok(false);
-        }
-        let Ok(()) = self.work.spare(job.queue(), 1) else {
-            return Err(job);
-        };
-        match self.work.commit_job(job) {
-            Ok(()) => Ok(true),
-            Err(_) => Ok(false),
-        }
+        self.work.commit_job(job)
     }
 
     /// Records an item of a host, any but a Seen, and answers a test. An item that is refused comes back.

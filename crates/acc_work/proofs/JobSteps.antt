@@ -5,12 +5,13 @@ use Rattle.std.proofs.lemmas.Bool.{and_parts}
 use Rattle.acc_base.specs.declared.ids.QueueAt.{QueueAt}
 use Rattle.acc_batch.specs.declared.label.OpLabel.{OpLabel}
 use Rattle.acc_batch.specs.declared.label.OpLabel.TheVariants.{Make, CopyIn, CopyOut, Release, Run, Await, Close}
+use Rattle.acc_batch.specs.Ops.{loop_of}
 use Rattle.acc_kernel.specs.Jobs.{Use, Computation}
 use Rattle.acc_kernel.specs.Kernels.{Loop}
 use Rattle.acc_memory.specs.Memories.{MemoryView, MayPerform}
 use Rattle.acc_work.specs.inner.Jobs.{IsStarted, MayStart}
 use Rattle.acc_work.specs.Jobs.{JobView, IsJobNext, Commits, performed_now}
-use Rattle.acc_work.specs.Lanes.{LaneView, lane_with_out, last_of, loop_of, next_loop}
+use Rattle.acc_work.specs.Lanes.{LaneView, lane_with_out, last_of, next_loop}
 use Rattle.acc_work.specs.Logs.{await_allows, host_allows}
 use Rattle.acc_work.specs.Works.{WorkView, HasPerformed, IsWork, can_go, is_due, is_live, lane_at, taken_labels}
 use Rattle.acc_work.proofs.KeptSteps.{is_ready}

@@ -5,7 +5,7 @@ use Rattle.acc_base.specs.declared.ids.QueueAt.{QueueAt}
 use Rattle.acc_batch.specs.declared.label.Label.{Label}
 use Rattle.acc_batch.specs.declared.label.OpLabel.{OpLabel}
 use Rattle.acc_batch.specs.declared.label.OpLabel.TheVariants.{Run}
-use Rattle.acc_kernel.specs.Jobs.{Use, Computation, computed, shown}
+use Rattle.acc_kernel.specs.Jobs.{Use, Computation, computed, read_uses, shown}
 use Rattle.acc_kernel.specs.Kernels.{Loop}
 use Rattle.acc_memory.specs.Memories.{MemoryView, Shows}
 use Rattle.acc_memory.specs.Values.{Cell, cells_by}
@@ -35,9 +35,9 @@ pub record StartsLoop (w : WorkView) (at : QueueAt) : Type 0 where
 abbrev pub IsNumbered : WorkView → QueueAt → ℕ → Type 0
 IsNumbered w at number = (label : Label) × (last_of (lane_at w at).taken ≡ Some label) × (label.number ≡ number)
 
--- the inputs of a computation are what the memory shows of its uses on a device
+-- the inputs of a computation are what the memory shows on a device of what its loop reads
 abbrev pub IsLoaded : MemoryView → ℕ → Computation → Type 0
-IsLoaded m device c = (was : Cell → ℤ) → Shows m was → c.inputs ≡ shown c.uses (cells_by c.uses device was)
+IsLoaded m device c = (was : Cell → ℤ) → Shows m was → c.inputs ≡ shown (read_uses c.kernel c.uses) (cells_by c.uses device was)
 
 -- the next operation is the computation's loop; without a computation, it is some loop
 abbrev pub IsJobNext : Option Computation → List OpLabel → Type 0

@@ -6,6 +6,7 @@ use Rattle.acc_base.specs.declared.ids.QueueAt.{QueueAt}
 use Rattle.acc_base.specs.declared.ids.TheConstants.{QUEUES}
 use Rattle.acc_base.specs.Queues.{seat}
 use Rattle.acc_batch.specs.declared.label.OpLabel.{OpLabel}
+use Rattle.acc_batch.specs.Ops.{loop_of}
 use Rattle.acc_batch.specs.declared.label.OpLabel.TheVariants.{Make, CopyIn, CopyOut, Release, Run, Await, Close}
 use Rattle.acc_batch.specs.declared.label.Label.{Label}
 use Rattle.acc_kernel.specs.Jobs.{Use}
@@ -44,16 +45,6 @@ lane_with_left lane ops = record lane { left = ops; out = false }
 -- with its next operation out, or back
 abbrev pub lane_with_out : LaneView → Bool → LaneView
 lane_with_out lane out = record lane { out = out }
-
--- the loop that an operation is, with its uses
-abbrev pub loop_of : OpLabel → Option (Loop × List Use)
-loop_of (Make b r) = None
-loop_of (CopyIn b r) = None
-loop_of (CopyOut b r) = None
-loop_of (Release b) = None
-loop_of (Run k uses) = Some (k, uses)
-loop_of (Await q n) = None
-loop_of Close = None
 
 -- the loop that comes next
 abbrev pub next_loop : List OpLabel → Option (Loop × List Use)

@@ -70,16 +70,20 @@ impl JobOut {
     }
 
     // The computation, where its outputs were computed.
-    fn into_computed(self) -> Option<Box<Job>>
-        ensures job { IfSome result (λ b. self.job ≡ Some b.value) }
-        ensures outputs { IfSome result (λ b. b.value.outputs ≡ computed b.value) }
+    fn computed(&self) -> Option<&Job>
+        ensures job { IfSome result (λ j. self.now.job ≡ Some j.now) }
+        ensures outputs { IfSome result (λ j. j.now.outputs ≡ computed j.now) }
     {
-        let JobOut {
-            job,
-            has_outputs,
-            ..
-        } = self;
-        if has_outputs { job } else { None }
+        match &self.job {
+            Some(job) if self.has_outputs => Some(job),
+            _ => None,
+        }
+    }
+
+    /// The room that it was computed in, for another.
+    pub(crate) fn into_room(self) -> Option<Box<Job>> {
+        let JobOut { job, .. } = self;
+        job
     }
 }
 
@@ -92,12 +96,13 @@ fn compute(job: &mut Option<Box<Job>>)
     }
 }
 
-/// Takes the next operation of a lane, a loop, out, with its inputs.
+/// Takes the next operation of a lane, a loop, out, with its inputs, if the room is for it.
 pub(crate) fn start_on(
     memory: &mut Memory,
     device: DeviceId,
     queue: QueueId,
     lane: &mut Lane,
+    room: &mut Option<Box<Job>>,
 ) -> Option<JobOut>
     requires device { device < length memory.old.devices }
     requires may { MayStart memory.old device lane.old.left }
@@ -107,7 +112,7 @@ pub(crate) fn start_on(
 {
     let number = lane.last()?.number;
     let left = lane.ops_left();
-    let job = take_loaded(memory, device, lane);
+    let job = take_loaded(memory, device, lane, room);
     Some(JobOut {
         at: QueueAt { device, queue },
         number,
@@ -117,8 +122,13 @@ pub(crate) fn start_on(
     })
 }
 
-// Takes the next operation of a lane out, and gives the room for it, if there is some, with its inputs.
-fn take_loaded(memory: &mut Memory, device: DeviceId, lane: &mut Lane) -> Option<Box<Job>>
+// Takes the next operation of a lane out, and gives the room with its inputs, if it is for it.
+fn take_loaded(
+    memory: &mut Memory,
+    device: DeviceId,
+    lane: &mut Lane,
+    room: &mut Option<Box<Job>>,
+) -> Option<Box<Job>>
     requires device { device < length memory.old.devices }
     requires may { MayStart memory.old device lane.old.left }
     ensures memory { memory.new ≡ memory.old }
@@ -126,13 +136,13 @@ fn take_loaded(memory: &mut Memory, device: DeviceId, lane: &mut Lane) -> Option
     ensures next { IsJobNext (option_map (λ b. b.value) result) lane.old.left }
     ensures loaded { IfSome result (λ b. IsLoaded memory.old device b.value) }
 {
-    match lane.take_out() {
-        None => None,
-        Some(mut job) => {
-            memory.load(device, &mut job);
-            Some(job)
-        }
+    lane.take_out();
+    let mut job = room.take()?;
+    if !lane.is_next(&job) {
+        return None;
     }
+    memory.load(device, &mut job);
+    Some(job)
 }
 
 /// Whether a lane, of which an operation is out, has a job at its place.
@@ -159,26 +169,18 @@ fn is_next(lane: &Lane, job: &Option<Box<Job>>) -> bool
 
 /// Performs an operation, the loop of a job, on a device, and gives its label back: by the job's outputs, if they were
 /// computed of what the memory shows.
-pub(crate) fn commit_on(memory: &mut Memory, device: DeviceId, op: Op, job: JobOut) -> OpLabel
+pub(crate) fn commit_on(memory: &mut Memory, device: DeviceId, op: Op, job: &JobOut) -> OpLabel
     requires device { device < length memory.old.devices }
     requires allowed { IsAllowed memory.old device op }
-    requires next { IsJobNext job.job (op_label op ∷ []) }
+    requires next { IsJobNext job.now.job (op_label op ∷ []) }
     ensures op { result ≡ op_label op }
     ensures performed { PerformsOn device (op_label op) memory.old memory.new }
 {
-    match job.into_computed() {
+    match job.computed() {
         None => memory.do_op(device, op),
         Some(job) => {
-            memory.commit(device, &job);
+            memory.commit(device, job);
             op.into_label()
         }
     }
-}
-
-/// Puts a job back into its lane.
-pub(crate) fn give_back(lane: &mut Lane, job: JobOut)
-    ensures { lane.new ≡ lane_with_out lane.old false }
-{
-    let JobOut { job, .. } = job;
-    lane.put_back(job);
 }

@@ -1,12 +1,13 @@
 //! The batches that a queue took, and what is left of the last one.
 
-ghost use Rattle.std.specs.Prelude.{◌≡◌, ◌↔◌, IsTrue, true, false, ◌+◌, ◌<◌, ◌≤◌, [], ◌∷◌, List, length, slice_get, is_some, OnOk, OnErr, IfErr, IfSome, IfNone};
+ghost use Rattle.std.specs.Prelude.{◌≡◌, ◌↔◌, IsTrue, true, false, ◌+◌, ◌<◌, ◌≤◌, [], ◌∷◌, List, length, slice_get, is_some, Some, OnOk, OnErr, IfErr, IfSome, IfNone};
 ghost use Rattle.std.specs.Option.{option_map};
 ghost use Rattle.acc_base.specs.declared.fault.Fault.TheVariants as fault;
 ghost use Rattle.acc_batch.specs.declared.label.OpLabel.{OpLabel};
-ghost use Rattle.acc_batch.specs.Ops.{op_label, IsReady};
-ghost use Rattle.acc_work.specs.Lanes.{IsFresh, IsLoopNext, loop_of, next_loop, lane_with_batch, lane_with_left, lane_with_out, last_of, lane_done};
+ghost use Rattle.acc_batch.specs.Ops.{first_loop, loop_of, op_label, IsReady};
+ghost use Rattle.acc_work.specs.Lanes.{IsFresh, IsLoopNext, next_loop, lane_with_batch, lane_with_left, lane_with_out, last_of, lane_done};
 
+use crate::ahead::Ahead;
 use acc_base::{BlockId, Fault, Range};
 use acc_batch::{Batch, Label, Op, Ops};
 use acc_kernel::{Job, Kernel};
@@ -18,8 +19,6 @@ use std::marker::Model;
 pub struct Lane {
     taken: Vec<Label>,
     left: Ops,
-    // for the inputs and outputs of a loop among them
-    room: Option<Box<Job>>,
     // whether the next of them, a loop, is out
     out: bool,
 }
@@ -47,7 +46,6 @@ impl Lane {
         Lane {
             taken: Vec::new(alloc),
             left: Ops::none(alloc),
-            room: None,
             out: false,
         }
     }
@@ -105,11 +103,10 @@ impl Lane {
     }
 
     /// Takes a batch, of which all is left.
-    pub(crate) fn offer(&mut self, mut batch: Batch)
+    pub(crate) fn offer(&mut self, batch: Batch)
         requires { length self.old.taken < self.old.room }
         ensures { self.new ≡ lane_with_batch self.old batch }
     {
-        self.room = batch.take_room();
         let (label, ops) = batch.into_parts();
         self.taken.push_reserved(label);
         self.left = ops;
@@ -151,16 +148,19 @@ impl Lane {
         self.next_loop().is_some()
     }
 
-    /// Takes the next operation, a loop, out, with the room for it, if there is some.
-    pub(crate) fn take_out(&mut self) -> Option<Box<Job>>
-        ensures lane { self.new ≡ lane_with_out self.old true }
-        ensures job { IfSome result (λ job. IsLoopNext job.value.kernel job.value.uses self.old.left) }
+    /// The first loop that is left, with room to be made for it. None also where it can't be shared.
+    pub(crate) fn ahead(&self) -> Option<Ahead>
+        ensures { IfSome result (λ a. first_loop self.now.left ≡ Some a) }
+    {
+        let (kernel, uses) = self.left.first_loop()?;
+        Ahead::new(kernel, uses).ok()
+    }
+
+    /// Takes the next operation, a loop, out.
+    pub(crate) fn take_out(&mut self)
+        ensures { self.new ≡ lane_with_out self.old true }
     {
         self.out = true;
-        match self.room.take() {
-            None => None,
-            Some(job) => { if self.is_next(&job) { Some(job) } else { None } }
-        }
     }
 
     /// Whether the next operation is a job's loop.
@@ -173,11 +173,10 @@ impl Lane {
         }
     }
 
-    /// Takes back what was out, with its room.
-    pub(crate) fn put_back(&mut self, room: Option<Box<Job>>)
+    /// Takes back what was out.
+    pub(crate) fn put_back(&mut self)
         ensures { self.new ≡ lane_with_out self.old false }
     {
-        self.room = room;
         self.out = false;
     }
 }

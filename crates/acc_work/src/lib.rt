@@ -1,6 +1,7 @@
 //! The work side: what queues have performed and hosts have done, with the memory that shows it.
 #![tactic(auto)]
 
+mod ahead;
 mod counts;
 mod item;
 mod job;
@@ -11,6 +12,7 @@ mod log;
 mod makes;
 mod work;
 
+pub use ahead::Ahead;
 pub use counts::Counts;
 pub use item::{Item, ItemLabel, Shown};
 pub use job::JobOut;

@@ -17,19 +17,21 @@ ghost use Rattle.acc_work.specs.Logs.{items_of, all_items, batches_done, all_don
 ghost use Rattle.acc_work.specs.Orders.{ShowsTruth};
 ghost use Rattle.acc_work.specs.Remembering.{Remembers, blocks_in};
 ghost use Rattle.acc_batch.specs.Labels.{on_queue};
-ghost use Rattle.acc_batch.specs.Ops.{op_label};
+ghost use Rattle.acc_batch.specs.Ops.{first_loop, op_label};
 ghost use Rattle.acc_memory.specs.Memories.{Shows, IsAllowed, PerformsOn, find_block, has_array, has_cell, rows_on, room_on};
 ghost use Rattle.acc_memory.specs.Values.{Block_cell, Cell, Host_cell, values_of};
 ghost use Rattle.acc_work.specs.Works.{lane_at, taken_labels, HasQueue, goes_on, is_live, is_new, can_go, Performs, NextMayFollow, CanTell, Tells, HasTold, HasPrinted, HasMadeRoom, LacksRoom, KeepsOrder, item_fault};
 
+use crate::ahead::Ahead;
 use crate::item::{Form, Item, ItemLabel, Shown};
-use crate::job::{JobOut, commit_on, give_back, has_job, start_on};
+use crate::job::{JobOut, commit_on, has_job, start_on};
 use crate::lane::Lane;
 use crate::log::{Log, MAX_HOST_ITEMS, Told, WorkEntry};
 use acc_base::{
     BlockId, Config, DeviceId, Fault, HostId, Listed, QUEUES, QueueAt, QueueCounts, QueueId, Range,
 };
 use acc_batch::{Batch, Label, Op, OpLabel, are_same_labels};
+use acc_kernel::Job;
 use acc_memory::Memory;
 use std::alloc::Global;
 use std::marker::Model;
@@ -351,9 +353,17 @@ impl Work {
         }
     }
 
+    /// The first loop among what is left in a queue's lane, if there is one and it can be shared.
+    pub fn ahead(&self, at: QueueAt) -> Option<Ahead>
+        ensures { IfSome result (λ a. first_loop (lane_at self.now at).left ≡ Some a) }
+    {
+        self.lane(at)?.ahead()
+    }
+
     /// Takes the next operation of a queue out, to be computed while others have the work side, where it is a loop that `perform`
-    /// would perform. Until it comes back, `perform` doesn't go on with its queue. It takes no memory.
-    pub fn start_job(&mut self, at: QueueAt) -> Option<JobOut>
+    /// would perform: with its inputs, in the room, if this is for it. Until it comes back, `perform` doesn't go on with its queue.
+    /// It takes no memory.
+    pub fn start_job(&mut self, at: QueueAt, room: &mut Option<Box<Job>>) -> Option<JobOut>
         ensures started { IfSome result (λ job. HasStarted self.old self.new at job) }
         ensures none { IfNone result ((self.new ≡ self.old) × ¬ StartsLoop self.old at) }
     {
@@ -366,16 +376,17 @@ impl Work {
         if !lane.has_loop_next() {
             return None;
         }
-        start_on(&mut self.memory, device, queue, lane)
+        start_on(&mut self.memory, device, queue, lane, room)
     }
 
     /// Performs the loop of a job that is out, as `perform` would now: by its outputs, where its inputs are still what the memory
-    /// shows, and else anew. Where it uses a block that isn't live any more, its lane has it back. It takes no memory, by `spare`.
+    /// shows, and else anew. Where it uses a block that isn't live any more, its lane has it back. Gives its room back. It takes no
+    /// memory, by `spare`.
     ///
     /// # Errors
     ///
     /// The job, where it isn't the one that is out of its lane; then nothing changes.
-    pub fn commit_job(&mut self, job: JobOut) -> Result<(), JobOut>
+    pub fn commit_job(&mut self, job: JobOut) -> Result<Option<Box<Job>>, JobOut>
         requires room { length self.old.work < self.old.room }
         ensures committed { OnOk result (IsOut self.old job × Commits self.old self.new job.at) }
         ensures back { IfErr result (λ back. (back ≡ job) × (self.new ≡ self.old) × ¬ IsOut self.old job) }
@@ -387,15 +398,15 @@ impl Work {
         let live = self.is_live(QueueAt { device, queue });
         let lane = &mut self.lanes[QueueAt { device, queue }.seat()];
         if !live {
-            give_back(lane, job);
-            return Ok(());
+            lane.put_back();
+            return Ok(job.into_room());
         }
         match lane.next() {
-            None => Ok(()),
+            None => Ok(None),
             Some(op) => {
-                let what = commit_on(&mut self.memory, device, op, job);
+                let what = commit_on(&mut self.memory, device, op, &job);
                 self.log.push_op(QueueAt { device, queue }, what);
-                Ok(())
+                Ok(job.into_room())
             }
         }
     }

@@ -5,7 +5,7 @@ ghost use Rattle.std.specs.Prelude.{◌≤◌};
 use acc_base::{BlockId, Fault, Listed, Range, Shared};
 use acc_kernel::{Job, Kernel};
 use std::alloc::Global;
-use tool_loops::{LESS, PLUS, Part, TIMES, job_of, statements_of};
+use tool_loops::{LESS, PLUS, Part, TIMES, job_of, set_inputs, statements_of};
 
 /// How many cells a loop assigns, and the most that it may be told to.
 pub const CELLS: u32 = 1_000;
@@ -112,9 +112,10 @@ pub(crate) fn job_for(
         return Ok(None);
     };
     let uses = uses_of(alloc, cells)?;
-    let mut job = job_of(alloc, &kernel, &uses)?;
+    let mut job = job_of(alloc, None, &kernel, &uses)?;
     if let Some(job) = &mut job {
-        fill(alloc, job, cells)?;
+        // x[n] is 37 n modulo 101
+        set_inputs(alloc, job, |_, n| i64::from(n.wrapping_mul(37) % 101))?;
     }
     Ok(job)
 }
@@ -146,20 +147,4 @@ fn whole(block: u64, array: u8, cells: u32) -> (BlockId, Range)
 {
     let len = cells + 2;
     (BlockId::new(block), Range { array, lo: 0, len })
-}
-
-// Sets x[n] to 37 n modulo 101.
-fn fill(alloc: Global, job: &mut Job, cells: u32) -> Result<(), Fault>
-    requires { cells ≤ 1000 }
-{
-    let mut values = Vec::new(alloc);
-    for n in 0..cells + 2 {
-        values.push(i64::from(n * 37 % 101))?;
-    }
-    if let Some((_, range)) = job.uses().first() {
-        if values.len() == range.len as usize {
-            job.set_input(0, values.as_slice());
-        }
-    }
-    Ok(())
 }

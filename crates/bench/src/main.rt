@@ -22,11 +22,11 @@ use std::thread::Threads;
 use tally::{Tally, tally_of};
 use workloads::{Failure, workload_of};
 
-// What the job's second use holds, as one number.
+// What the job has for the array that it assigns, as one number.
 fn sum_of(job: &Job) -> i64 {
     let mut sum = 0i64;
-    if 1 < job.uses().len() {
-        for value in job.output(1) {
+    if !job.written_uses().is_empty() {
+        for value in job.output(0) {
             sum = sum.wrapping_mul(31).wrapping_add(*value);
         }
     }

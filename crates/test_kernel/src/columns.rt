@@ -8,7 +8,7 @@ use std::alloc::Global;
 use std::process::Abort;
 use std::test::Fail;
 use tool_loops::Part::{Choose, Index, Negate, Number, Read};
-use tool_loops::{LESS, MINUS, PLUS, Row, TIMES, job_of, statements_of};
+use tool_loops::{LESS, MINUS, PLUS, Row, TIMES, job_of, set_inputs, statements_of, store_outputs};
 
 /// What a loop does at index i of x, y and z, the arrays 0, 1 and 2.
 #[derive(Clone, Copy, Debug)]
@@ -216,45 +216,31 @@ fn uses_of(alloc: Global) -> Result<Shared<Listed<(BlockId, Range)>>, Fault> {
     Shared::new(alloc, Listed::from_vec(uses))
 }
 
-// Sets the inputs of a use that has as many cells.
-fn set_input(job: &mut Job, place: usize, values: &[i64]) {
-    if let Some((_, range)) = job.uses().get(place) {
-        if range.len as usize == values.len() {
-            job.set_input(place, values);
-        }
-    }
-}
-
 // The job of a loop from lo to hi - 1, if the arrays hold all cells that it refers to.
-fn job_over(alloc: Global, rows: &[Row], (lo, hi): (i64, i64)) -> Result<Option<Box<Job>>, Fail> {
+fn job_over(
+    alloc: Global,
+    spare: Option<Box<Job>>,
+    rows: &[Row],
+    (lo, hi): (i64, i64),
+) -> Result<Option<Box<Job>>, Fail> {
     let kernel = Kernel::new(alloc, lo, hi, statements_of(alloc, rows)?)?;
     let kernel = Shared::new(alloc, kernel)?;
     let uses = uses_of(alloc)?;
-    Ok(job_of(alloc, &kernel, &uses)?)
+    Ok(job_of(alloc, spare, &kernel, &uses)?)
 }
 
-// Computes a job.
-fn compute(alloc: Global, job: &mut Job) -> Result<(), Fault> {
-    for array in 0..3u8 {
-        let values = values_of(alloc, |cell| before(array, cell))?;
-        set_input(job, usize::from(array), values.as_slice());
-    }
-    job.compute();
-    Ok(())
-}
-
-// What a job computed for an array is what plain code gives.
-fn check_output(
+// What an array holds once a job's outputs are stored is what plain code gives.
+fn check_array(
     rt: &impl Abort,
     alloc: Global,
     job: &Job,
     array: u8,
     (body, span): (Body, (i64, i64)),
 ) -> Result<(), Fault> {
-    let place = usize::from(array);
-    assert!(rt; place < job.uses().len());
+    let mut cells = values_of(alloc, |cell| before(array, cell))?;
+    store_outputs(job, array, cells.as_mut_slice());
     let wanted = values_of(alloc, |cell| after(body, span, array, cell))?;
-    check_same(rt, (span, job.output(place)), (span, wanted.as_slice()));
+    check_same(rt, (span, cells.as_slice()), (span, wanted.as_slice()));
     Ok(())
 }
 
@@ -265,32 +251,37 @@ fn check_job(
     job: &mut Job,
     case: (Body, (i64, i64)),
 ) -> Result<(), Fault> {
-    compute(alloc, job)?;
+    set_inputs(alloc, job, |array, cell| before(array, i64::from(cell)))?;
+    job.compute();
     for array in 0..3u8 {
-        check_output(rt, alloc, job, array, case)?;
+        check_array(rt, alloc, job, array, case)?;
     }
     Ok(())
 }
 
+// A case in the memory of the job before it, if there is one. Answers with its job.
 fn check(
     rt: &impl Abort,
     alloc: Global,
+    spare: Option<Box<Job>>,
     (body, rows): (Body, &[Row]),
     (lo, turns): (i64, i64),
-) -> Result<(), Fail> {
+) -> Result<Option<Box<Job>>, Fail> {
     let span = (lo, lo.wrapping_add(turns));
-    match job_over(alloc, rows, span)? {
-        Some(mut job) => check_job(rt, alloc, &mut job, (body, span))?,
+    let mut job = job_over(alloc, spare, rows, span)?;
+    match &mut job {
+        Some(job) => check_job(rt, alloc, job, (body, span))?,
         None => assert!(rt; false, "{body:?} isn't held"),
     }
-    Ok(())
+    Ok(job)
 }
 
 #[test]
 fn columns_give_what_turns_give(rt: HostRuntime) -> Result<(), Fail> {
     for case in &BODIES {
+        let mut job = None;
         for span in &SPANS {
-            check(&rt, rt.alloc(), *case, *span)?;
+            job = check(&rt, rt.alloc(), job, *case, *span)?;
         }
     }
     Ok(())

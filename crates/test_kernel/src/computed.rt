@@ -10,7 +10,7 @@ use std::test::Fail;
 use tool_loops::Part::{self, Choose, Index, Negate, Number, Read};
 use tool_loops::{
     AT_LEAST, AT_MOST, Body, DIFFERS, EQUAL, LESS, Loop, MINUS, MORE, PLUS, TIMES, job_of,
-    kernel_of, statements_of,
+    kernel_of, set_inputs, statements_of, store_outputs,
 };
 
 /// A loop, and what its arrays 0 and 1 have before it and after it.
@@ -309,17 +309,24 @@ fn whole(array: u8, values: &[i64]) -> (BlockId, Range) {
     (BlockId::new(0), Range { array, lo: 0, len })
 }
 
-// Sets the inputs of a use that has as many cells.
-fn set_input(rt: &impl Abort, job: &mut Job, place: usize, values: &[i64]) {
-    match job.uses().get(place) {
-        Some((_, range)) if range.len as usize == values.len() => job.set_input(place, values),
-        _ => assert!(rt; false, "other uses"),
-    }
+// The value of a cell of x or y.
+fn value_of(x: &[i64], y: &[i64], array: u8, cell: u32) -> i64 {
+    let values = if array == 0 { x } else { y };
+    values.get(cell as usize).copied().unwrap_or(0)
 }
 
-fn assert_output(rt: &impl Abort, job: &Job, place: usize, values: &[i64]) {
-    assert!(rt; place < job.uses().len());
-    check_same(rt, job.output(place), values);
+// What an array holds once a job's outputs are stored.
+fn check_array(
+    rt: &impl Abort,
+    alloc: Global,
+    job: &Job,
+    array: u8,
+    (before, after): (&[i64], &[i64]),
+) -> Result<(), Fault> {
+    let mut cells = Vec::from_slice(alloc, before)?;
+    store_outputs(job, array, cells.as_mut_slice());
+    check_same(rt, cells.as_slice(), after);
+    Ok(())
 }
 
 // A loop as a job over x and y.
@@ -332,21 +339,21 @@ fn job_over(
     let kernel = Shared::new(alloc, kernel)?;
     let uses = vec![in alloc; whole(0, x), whole(1, y)]?;
     let uses = Shared::new(alloc, Listed::from_vec(uses))?;
-    job_of(alloc, &kernel, &uses)
+    job_of(alloc, None, &kernel, &uses)
 }
 
 // Computes a job over x and y, and compares each with what it has to have then.
 fn check_job(
     rt: &impl Abort,
+    alloc: Global,
     job: &mut Job,
-    (x, x_after): (&[i64], &[i64]),
-    (y, y_after): (&[i64], &[i64]),
-) {
-    set_input(rt, job, 0, x);
-    set_input(rt, job, 1, y);
+    x: (&[i64], &[i64]),
+    y: (&[i64], &[i64]),
+) -> Result<(), Fault> {
+    set_inputs(alloc, job, |array, cell| value_of(x.0, y.0, array, cell))?;
     job.compute();
-    assert_output(rt, job, 0, x_after);
-    assert_output(rt, job, 1, y_after);
+    check_array(rt, alloc, job, 0, x)?;
+    check_array(rt, alloc, job, 1, y)
 }
 
 // Runs a loop as a job over x and y.
@@ -361,7 +368,7 @@ pub fn check(
     match job_over(alloc, kernel, x.0, y.0)? {
         Some(mut job) => {
             check_same(rt, (job.kernel().lo(), job.kernel().hi()), bounds);
-            check_job(rt, &mut job, x, y);
+            check_job(rt, alloc, &mut job, x, y)?;
         }
         None => assert!(rt; false, "not held"),
     }

@@ -162,11 +162,10 @@ fn shared_loop(alloc: Global) -> Result<Option<Shared<Kernel>>, Fault> {
     }
 }
 
-// The parts of a job are its loop and these uses.
-fn check_parts(rt: &impl Abort, job: Job, uses: &[(BlockId, Range)]) {
-    let (kernel, parts) = job.into_parts();
-    check_same(rt, kernel.get().arrays(), [0, 1].as_slice());
-    check_same(rt, parts.get().as_slice(), uses);
+// A job is of the loop over these uses.
+fn check_parts(rt: &impl Abort, job: &Job, uses: &[(BlockId, Range)]) {
+    check_same(rt, job.kernel().arrays(), [0, 1].as_slice());
+    check_same(rt, job.uses(), uses);
 }
 
 #[test]
@@ -177,10 +176,10 @@ fn a_job_is_refused_until_there_is_memory(rt: HostRuntime) -> Result<(), Fail> {
         return Ok(());
     };
     let uses = uses_of(alloc, 4)?;
-    let (refusals, job) = at_each_amount(alloc, || job_of(alloc, &kernel, &uses))?;
+    let (refusals, job) = at_each_amount(alloc, || job_of(alloc, None, &kernel, &uses))?;
     check_refused(&rt, refusals, 6);
     match job {
-        Some(job) => check_parts(&rt, Box::into_inner(job), uses.get().as_slice()),
+        Some(job) => check_parts(&rt, &job, uses.get().as_slice()),
         None => assert!(rt; false, "not held"),
     }
     Ok(())
@@ -193,6 +192,6 @@ fn a_loop_that_its_uses_do_not_hold_has_no_job(rt: HostRuntime) -> Result<(), Fa
         assert!(rt; false, "refused");
         return Ok(());
     };
-    assert!(rt; job_of(alloc, &kernel, &uses_of(alloc, 3)?)?.is_none());
+    assert!(rt; job_of(alloc, None, &kernel, &uses_of(alloc, 3)?)?.is_none());
     Ok(())
 }

@@ -36,6 +36,10 @@ impl Window for Single {
         into[0] = self.value;
     }
 
+    fn has_values(&self, _array: u8, _first: i64, values: &[i64]) -> bool {
+        values[0] == self.value
+    }
+
     fn write(&mut self, _array: u8, _first: i64, values: &[i64]) {
         self.value = values[0];
     }

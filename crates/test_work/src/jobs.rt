@@ -8,11 +8,13 @@ ghost use Rattle.acc_work.specs.Works.{HasQueue};
 use crate::runs::range;
 use acc_base::{BlockId, Config, DeviceId, Fault, Few, HostId, Listed, QueueAt, QueueId, Shared};
 use acc_batch::{Batch, Label, OpLabel};
+use acc_kernel::Job;
 use acc_work::{Done, JobOut, Work};
 use std::alloc::Global;
 use std::process::Abort;
 use std::test::Fail;
 use tool_loops::{Body, Loop, kernel_of};
+use tool_scarce::at_each_amount;
 
 /// Where a work side stands: how many entries its log has; of queue `1`, how many operations are left, whether the next one goes on, and
 /// whether its blocks are live; and the first cell of b on the device.
@@ -97,9 +99,7 @@ fn batch_of(alloc: Global, at: QueueAt, ops: Few<OpLabel>) -> Result<Batch, Faul
     if label.ops.get().as_slice().is_empty() || !label.has_its_cells() {
         return Err(Fault::BadRange);
     }
-    let mut batch = Batch::new(alloc, label)?;
-    batch.make_room(alloc)?;
-    Ok(batch)
+    Batch::new(alloc, label)
 }
 
 // A queue takes a batch of these operations.
@@ -153,6 +153,23 @@ fn check(rt: &impl Abort, work: &Work, wanted: Stand) {
     assert_eq!(rt; found, wanted);
 }
 
+// Room for the loop of queue `1`.
+fn room(alloc: Global, work: &Work) -> Result<Option<Box<Job>>, Fault> {
+    match work.ahead(queue(3)) {
+        None => Err(Fault::Unfinished),
+        Some(ahead) => match ahead.room(alloc, None) {
+            None => Err(Fault::Memory),
+            room => Ok(room),
+        },
+    }
+}
+
+// The loop of queue `1` goes out, to be computed in room of its own, if it can.
+fn start(alloc: Global, work: &mut Work) -> Result<Option<JobOut>, Fault> {
+    let mut room = room(alloc, work)?;
+    Ok(work.start_job(queue(3), &mut room))
+}
+
 // A job is computed, and goes to a work side, which takes it or gives it back.
 fn commit(work: &mut Work, job: Option<JobOut>) -> Result<Option<JobOut>, Fault> {
     let Some(mut job) = job else {
@@ -164,13 +181,13 @@ fn commit(work: &mut Work, job: Option<JobOut>) -> Result<Option<JobOut>, Fault>
 }
 
 // Queue `2` releases a while the loop is out.
-fn check_released(rt: &impl Abort, work: &mut Work) -> Result<(), Fault> {
-    let job = work.start_job(queue(3));
+fn check_released(rt: &impl Abort, alloc: Global, work: &mut Work) -> Result<(), Fault> {
+    let job = start(alloc, work)?;
     assert!(rt; perform(work, queue(4))? == Done::Op);
     check(rt, work, (4, 1, false, false, Some(0)));
     assert!(rt; commit(work, job)?.is_none());
     check(rt, work, (4, 1, true, false, Some(0)));
-    assert!(rt; work.start_job(queue(3)).is_none());
+    assert!(rt; start(alloc, work)?.is_none());
     assert!(rt; perform(work, queue(3))? == Done::Idle);
     check(rt, work, (4, 1, true, false, Some(0)));
     Ok(())
@@ -182,15 +199,20 @@ fn check_released(rt: &impl Abort, work: &mut Work) -> Result<(), Fault> {
 fn a_loop_whose_block_was_released_stays_in_its_lane(rt: HostRuntime) -> Result<(), Fail> {
     let mut work = work_of(rt.alloc())?;
     check(&rt, &work, BEFORE);
-    check_released(&rt, &mut work)?;
+    check_released(&rt, rt.alloc(), &mut work)?;
     Ok(())
 }
 
 // The job of another work side goes to one of which no loop is out, before and behind its loop, and then to its own.
-fn check_strays(rt: &impl Abort, work: &mut Work, other: &mut Work) -> Result<(), Fault> {
-    let back = commit(work, other.start_job(queue(3)))?;
+fn check_strays(
+    rt: &impl Abort,
+    alloc: Global,
+    work: &mut Work,
+    other: &mut Work,
+) -> Result<(), Fault> {
+    let back = commit(work, start(alloc, other)?)?;
     check(rt, work, BEFORE);
-    let own = work.start_job(queue(3));
+    let own = start(alloc, work)?;
     assert!(rt; commit(work, own)?.is_none());
     check(rt, work, BEHIND);
     let again = commit(work, back)?;
@@ -205,6 +227,28 @@ fn check_strays(rt: &impl Abort, work: &mut Work, other: &mut Work) -> Result<()
 fn a_job_that_is_not_out_comes_back_and_changes_nothing(rt: HostRuntime) -> Result<(), Fail> {
     let mut work = work_of(rt.alloc())?;
     let mut other = work_of(rt.alloc())?;
-    check_strays(&rt, &mut work, &mut other)?;
+    check_strays(&rt, rt.alloc(), &mut work, &mut other)?;
+    Ok(())
+}
+
+/// Where there is no room for it, a loop is run as it comes back.
+#[test]
+fn a_loop_without_room_is_performed(rt: HostRuntime) -> Result<(), Fail> {
+    let mut work = work_of(rt.alloc())?;
+    let job = work.start_job(queue(3), &mut None);
+    assert!(rt; commit(&mut work, job)?.is_none());
+    check(&rt, &work, BEHIND);
+    Ok(())
+}
+
+/// Both rows of two cells take memory.
+#[test]
+fn room_for_a_loop_is_refused_until_there_is_memory(rt: HostRuntime) -> Result<(), Fail> {
+    let mut work = work_of(rt.alloc())?;
+    let (refusals, mut room) = at_each_amount(rt.alloc(), || room(rt.alloc(), &work))?;
+    assert!(rt; 2 < refusals);
+    let job = work.start_job(queue(3), &mut room);
+    assert!(rt; commit(&mut work, job)?.is_none());
+    check(&rt, &work, BEHIND);
     Ok(())
 }

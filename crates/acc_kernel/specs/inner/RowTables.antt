@@ -1,7 +1,7 @@
 -- How the rows of the uses are found: by a table of their places.
 use Rattle.std.specs.Prelude.{◌≡◌, ℕ, ℤ, ◌<◌, ◌+ℤ◌, pos, Bool, IsTrue, List, length, slice_index_or}
 use Rattle.acc_base.specs.declared.range.Range.{Range}
-use Rattle.acc_kernel.specs.Jobs.{Use, AreRows, place_of}
+use Rattle.acc_kernel.specs.Jobs.{Use, AreDistinct, AreRows, place_of}
 
 pub record RowsView : Type 0 where
   pub uses : List Use
@@ -15,6 +15,7 @@ pub record IsTable (uses : List Use) (places : List ℕ) : Type 0 where
 pub record IsStored (uses : List Use) (places : List ℕ) (rows : List (List ℤ)) : Type 0 where
   pub table : IsTable uses places
   pub shape : AreRows uses rows
+  pub distinct : AreDistinct uses
 
 -- a window has all cells of a range
 abbrev pub HasRange : Range → (ℕ → ℤ → Bool) → Type 0

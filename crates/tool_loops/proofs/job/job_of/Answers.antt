@@ -8,3 +8,9 @@ new-requires-clause-reached c =
     let given : c.as_slice-listed.result.now ≡ c.args.uses.now = search rules in
     subst (λ (uses : List Use). HoldReached c.args.kernel.now uses) given
     (subst (λ (k : Loop). HoldReached k c.as_slice-listed.result.now) c.get-else-not-are_distinct.ensures (c.is_held_by.ensures.0 c.if-not-is_held_by.false))
+
+pub renewed-requires-clause-reached : goal.renewed-requires-clause-reached
+renewed-requires-clause-reached c =
+    let given : c.as_slice-listed.result.now ≡ c.args.uses.now = search rules in
+    subst (λ (uses : List Use). HoldReached c.args.kernel.now uses) given
+    (subst (λ (k : Loop). HoldReached k c.as_slice-listed.result.now) c.get-else-not-are_distinct.ensures (c.is_held_by.ensures.0 c.if-not-is_held_by.false))

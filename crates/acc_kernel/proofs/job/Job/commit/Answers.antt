@@ -1,7 +1,7 @@
 use Rattle.std.proofs.Common.{ap, ◌∙◌, subst}
-use Rattle.acc_kernel.specs.Jobs.{stored}
+use Rattle.acc_kernel.specs.Jobs.{stored, written_uses}
 use Rattle.acc_kernel.specs.Kernels.{Loop, Reaches}
-use Rattle.acc_kernel.proofs.ShownRows.{commits}
+use Rattle.acc_kernel.proofs.JobValues.{commits}
 use Rattle.acc_kernel.proofs.job.Job.commit.Goals as goal
 
 pub run-requires : goal.run-requires
@@ -16,5 +16,5 @@ returns-then-same-clause-cells g c =
     let job = c.args.self.now in
     let cells = g.W.Window.cells c.args.window.now in
     c.store.ensures.cells
-    ∙ (ap (λ rows. stored job.uses rows cells) c.requires.computed
+    ∙ (ap (λ rows. stored (written_uses job.kernel job.uses) rows cells) c.requires.computed
     ∙ commits job.kernel job.uses job.inputs cells c.keeps.ensures.distinct c.keeps.ensures.reached (c.same.ensures.0 c.if-same.true))

@@ -1,38 +1,38 @@
-use Rattle.std.proofs.Common.{◌≡◌, List, ◌∙◌, ap, sym, subst}
-use Rattle.std.specs.Prelude.{ℤ}
-use Rattle.acc_kernel.specs.Jobs.{Use, Computation, AreDistinct, AreRows, HoldReached, cell_in, computed}
-use Rattle.acc_kernel.specs.Kernels.{Loop, value_after}
-use Rattle.acc_kernel.proofs.CellIn.{rows_are}
+use Rattle.std.proofs.Common.{◌≡◌, ℕ, ◌<◌, List, true, length, get_or, ◌∙◌, ap, sym, subst}
+use Rattle.std.specs.Prelude.{ℤ, pos, ◌+ℤ◌}
+use Rattle.acc_kernel.specs.Faults.{IsWithinLimits}
+use Rattle.acc_kernel.specs.Jobs.{Use, Computation, AreRows, no_use, computed, has_cell, is_used, read_uses, written_uses}
+use Rattle.acc_kernel.specs.Kernels.{Loop, Reaches, value_after}
+use Rattle.acc_kernel.specs.inner.JobViews.{cell_in_either}
+use Rattle.acc_kernel.proofs.JobValues.{computes}
+use Rattle.acc_kernel.proofs.ReadAndWritten.{begun_has, either_has}
+use Rattle.acc_kernel.proofs.ValueAfter.{CellsOf}
 use Rattle.acc_kernel.proofs.job.Job.compute.Goals as goal
+
+pub start-requires : goal.start-requires
+start-requires c =
+    let k = c.self.inside.kernel in
+    let uses = c.self.inside.uses in
+    rw (c.self.invariant.2, c.self.invariant.3) (record { has = λ place lt known n below. begun_has k uses place n c.self.invariant.0 c.self.invariant.1 lt known below })
 
 pub run-requires : goal.run-requires
 run-requires c =
-    record {
-      has = subst (λ (k : Loop). HoldReached k c.copy_rows.new.target.uses) (sym c.get.ensures)
-          (subst (λ (uses : List Use). HoldReached c.self.inside.kernel uses) (sym c.copy_rows.ensures.uses) c.self.invariant.2);
-    }
-
-pub invariant_of-self : goal.invariant_of-self
-invariant_of-self c =
-    let same = sym (c.run.ensures.keeps ∙ c.copy_rows.ensures.uses) in (
-      c.self.invariant.0 ∙ same,
-      subst AreDistinct same c.self.invariant.1,
-      subst (λ (uses : List Use). HoldReached c.self.inside.kernel uses) same c.self.invariant.2,
-      c.self.invariant.3 ∙ same,
-    )
+    let k = c.self.inside.kernel in
+    let uses = c.self.inside.uses in
+    let limits = rw c.get.ensures at c.keeps-2.ensures.limits in
+    rw (c.get-2.ensures, c.start.ensures.inputs, c.start.ensures.uses, c.self.invariant.2, c.self.invariant.3)
+    (record { has = either_has k uses limits c.self.invariant.0 c.self.invariant.1 })
 
 pub returns : goal.returns
 returns c =
-    let same : c.run.new.window.uses ≡ c.self.inside.outputs.uses = c.run.ensures.keeps ∙ c.copy_rows.ensures.uses in
-    let ran : cell_in c.self.inside.outputs.uses c.run.new.window.rows ≡ value_after c.self.inside.kernel (cell_in c.self.inside.outputs.uses c.self.inside.inputs.rows) =
-    sym (ap (λ (u : List Use). cell_in u c.run.new.window.rows) same)
-    ∙ (c.run.ensures.cells
-    ∙ (ap (λ (k : Loop). value_after k (cell_in c.copy_rows.new.target.uses c.copy_rows.new.target.rows)) c.get.ensures
-    ∙ (ap (λ (u : List Use). value_after c.self.inside.kernel (cell_in u c.copy_rows.new.target.rows)) c.copy_rows.ensures.uses
-    ∙ ap (λ (r : List (List ℤ)). value_after c.self.inside.kernel (cell_in c.self.inside.outputs.uses r)) c.copy_rows.ensures.rows))) in
-    let shape : AreRows c.self.inside.outputs.uses c.run.new.window.rows =
-    subst (λ (u : List Use). AreRows u c.run.new.window.rows) same c.keeps-3.ensures in
-    let rows = rows_are c.self.inside.outputs.uses c.run.new.window.rows (value_after c.self.inside.kernel (cell_in c.self.inside.outputs.uses c.self.inside.inputs.rows)) c.self.invariant.1 shape ran in
-    let make : List Use → List (List ℤ) → Computation = λ u r. record { kernel = c.self.inside.kernel; uses = u; inputs = c.self.inside.inputs.rows; outputs = r } in
-    subst (λ (w : Computation). make c.run.new.window.uses c.run.new.window.rows ≡ record w { outputs = computed w }) c.self.view_is
-    (ap (λ (u : List Use). make u c.run.new.window.rows) same ∙ ap (λ (r : List (List ℤ)). make c.self.inside.outputs.uses r) rows)
+    let k = c.self.inside.kernel in
+    let uses = c.self.inside.uses in
+    let cells = c.self.inside.cells in
+    let shape : AreRows cells.inputs.uses cells.inputs.rows = subst (λ (us : List Use). AreRows us cells.inputs.rows) (sym c.self.invariant.2) (rw (← c.self.view_is) at c.keeps.ensures.inputs) in
+    let done =
+    computes k uses (rw c.get.ensures at c.keeps-2.ensures.limits) c.self.invariant.0 c.self.invariant.1 cells.inputs cells.outputs c.start.new.self.inputs c.start.new.self.outputs
+    c.run.new.window.inputs c.run.new.window.outputs c.self.invariant.2 c.self.invariant.3 c.start.ensures.inputs c.start.ensures.uses c.start.ensures.outputs c.run.ensures.keeps
+    shape c.keeps-3.ensures.inputs c.keeps-3.ensures.outputs (rw c.get-2.ensures at c.run.ensures.cells) in
+    let made : List (List ℤ) → List (List ℤ) → Computation = λ ins outs. record { kernel = k; uses = uses; inputs = ins; outputs = outs } in
+    subst (λ (w : Computation). made c.run.new.window.inputs.rows c.run.new.window.outputs.rows ≡ record w { outputs = computed w }) c.self.view_is
+    (ap (λ (ins : List (List ℤ)). made ins c.run.new.window.outputs.rows) done.0 ∙ ap (made cells.inputs.rows) done.1)

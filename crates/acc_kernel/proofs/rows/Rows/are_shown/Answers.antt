@@ -11,7 +11,7 @@ is_shown-requires-clause-has g c =
     let low : c.loop-place.place < length uses = omega (arith, c.loop-place-test.true, c.len-place-end.ensures, c.self.invariant.shape.count) in
     let at = c.index.ensures ∙ get_or_default uses c.loop-place.place c.index.result.now no_use low in
     subst (λ (u : Use). HasRange u.1 (g.W.Window.has c.args.window.now)) (sym at)
-    (range_there uses (g.W.Window.has c.args.window.now) c.loop-place.place (rw (← c.self.view_is) at c.requires.distinct) low (rw (← c.self.view_is) at c.requires.has))
+    (range_there uses (g.W.Window.has c.args.window.now) c.loop-place.place c.self.invariant.distinct low (rw (← c.self.view_is) at c.requires.has))
 
 pub returns : goal.returns
 returns g c = (

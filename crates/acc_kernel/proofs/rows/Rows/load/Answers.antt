@@ -12,8 +12,7 @@ read_row-requires-clause-has g c =
     let has = g.W.Window.has c.args.window.now in
     let low : c.loop-place.place < length uses = omega (arith, c.loop-place-test.true, c.len-place-end.ensures, c.self.invariant.shape.count, ap (λ (v : RowsView). length v.uses) c.self.view_is, ap length i.1) in
     let at = c.index.ensures ∙ get_or_default uses c.loop-place.place c.index.result.now no_use low in
-    let distinct = rw (← i.1) at c.requires.distinct in
-    subst (λ (u : Use). HasRange u.1 has) (sym at) (range_there uses has c.loop-place.place distinct low (rw (← i.1) at c.requires.has))
+    subst (λ (u : Use). HasRange u.1 has) (sym at) (range_there uses has c.loop-place.place i.0.distinct low (rw (← i.1) at c.requires.has))
 
 pub loop-place-preserved : goal.loop-place-preserved
 loop-place-preserved g c =

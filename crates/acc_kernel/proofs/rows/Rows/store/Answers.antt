@@ -13,4 +13,4 @@ write_row-requires-clause-has g c =
     let at = c.index.ensures ∙ get_or_default uses c.loop-place.place c.index.result.now no_use low in
     let there : HasUses uses (g.W.Window.has c.loop-place.window) = subst (λ (has : HasOf). HasUses uses has) (sym c.loop-place.invariant.0) (rw (← c.self.view_is) at c.requires.has) in
     subst (λ (u : Use). HasRange u.1 (g.W.Window.has c.loop-place.window)) (sym at)
-    (range_there uses (g.W.Window.has c.loop-place.window) c.loop-place.place (rw (← c.self.view_is) at c.requires.distinct) low there)
+    (range_there uses (g.W.Window.has c.loop-place.window) c.loop-place.place c.self.invariant.distinct low there)

@@ -69,6 +69,7 @@ invariant_of-self c =
     rw (c.copy_from.ensures, row)
     (record {
       table = c.self.invariant.table;
+      distinct = c.self.invariant.distinct;
       shape =
           shape_kept c.self.inside.uses.items c.self.inside.rows.items c.args.array c.args.first (length c.args.values.now) c.index-place.result.now c.distance-at.result c.self.invariant.shape
           (spliced (get_or c.self.inside.rows.items c.index-place.result.now []) c.distance-at.result c.args.values.now) s.there

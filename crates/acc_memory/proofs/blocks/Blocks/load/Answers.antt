@@ -1,4 +1,6 @@
 use Rattle.std.proofs.Common.{ap, ◌∙◌}
+use Rattle.acc_kernel.specs.Jobs.{read_uses}
+use Rattle.acc_kernel.proofs.ReadAndWritten.{distinct_read, has_if_read}
 use Rattle.acc_kernel.proofs.ShownRows.{shown_alike}
 use Rattle.acc_memory.specs.inner.Windows.{window_cells}
 use Rattle.acc_memory.specs.Values.{cells_by}
@@ -33,5 +35,6 @@ returns-clause-job c device was shows =
     let loaded = rw c.as_mut_slice.ensures.value at c.load_over.ensures.job in
     loaded
     ∙ ap (λ rows. record job { inputs = rows })
-    (shown_alike job.uses (window_cells bs indices) (cells_by job.uses device was) c.keeps.ensures.distinct
-    (λ array cell has. seen_was bs indices job.kernel job.uses ready device was (rw (← c.self.view_is) at shows) array cell has))
+    (shown_alike (read_uses job.kernel job.uses) (window_cells bs indices) (cells_by job.uses device was) (distinct_read job.kernel job.uses c.keeps.ensures.distinct)
+    (λ array cell has.
+    seen_was bs indices job.kernel job.uses ready device was (rw (← c.self.view_is) at shows) array cell (has_if_read job.kernel job.uses array cell c.keeps.ensures.distinct has)))

@@ -16,7 +16,7 @@ invariant_of-self c =
     let at = c.queue-device.result in
     let there = rw (← c.self.view_is, ← c.queue-device.ensures) at (c.is_out.ensures.there c.if-not-is_out.false) in
     let lane = found w.lanes at c.index_mut-lane.result.now there.1.1 there.0 (rw c.seat.ensures at c.index_mut-lane.ensures.value) in
-    let back = c.give_back.ensures ∙ ap (λ l. lane_with_out l false) lane in
+    let back = c.put_back.ensures ∙ ap (λ l. lane_with_out l false) lane in
     rw (c.seat.ensures, back) (work_out w c.self.inside.log.devices at false c.self.invariant there.1 (not_out w.work (lane_with_out (lane_at w at) false) refl))
 
 pub commit_on-what-requires-clause-allowed : goal.commit_on-what-requires-clause-allowed

@@ -1,0 +1,23 @@
+use Rattle.std.proofs.Common.{◌≡◌, List, ap, ◌∙◌, sym, subst, rules}
+use Rattle.acc_kernel.specs.Jobs.{Use, AreDistinct, HoldReached, read_uses, written_uses}
+use Rattle.acc_kernel.specs.Kernels.{Loop}
+use Rattle.acc_kernel.proofs.ReadAndWritten.{distinct_read, distinct_written}
+use Rattle.acc_kernel.proofs.job.Job.renewed.Goals as goal
+
+pub renewed-requires : goal.renewed-requires
+renewed-requires c =
+    let read : c.in_ok-read_uses.field-0.items ≡ read_uses c.args.kernel.now c.args.uses.now = search rules in
+    record { distinct = subst AreDistinct (sym read) (distinct_read c.args.kernel.now c.args.uses.now c.requires.distinct) }
+
+pub renewed-requires-2 : goal.renewed-requires-2
+renewed-requires-2 c =
+    let written : c.in_ok-written_uses.field-0.items ≡ written_uses c.args.kernel.now c.args.uses.now = search rules in
+    record { distinct = subst AreDistinct (sym written) (distinct_written c.args.kernel.now c.args.uses.now c.requires.distinct) }
+
+pub invariant_of-result : goal.invariant_of-result
+invariant_of-result c =
+    let kernel : c.in_ok-kernel.kernel ≡ c.args.kernel.now = search rules in
+    let uses : c.in_ok-uses.uses ≡ c.args.uses.now = search rules in
+    let read : c.in_ok-inputs.inputs.uses ≡ read_uses c.args.kernel.now c.args.uses.now = search rules in
+    let written : c.in_ok-outputs.outputs.uses ≡ written_uses c.args.kernel.now c.args.uses.now = search rules in
+    rw (kernel, uses) (c.requires.distinct, c.requires.reached, read, written)

@@ -1,0 +1,13 @@
+use Rattle.std.proofs.Common.{◌≡◌, List, true, subst}
+use Rattle.acc_kernel.specs.Jobs.{Use, has_cell}
+use Rattle.acc_kernel.proofs.ReadAndWritten.{has_if_read}
+use Rattle.acc_kernel.proofs.job.Job.same.Goals as goal
+
+pub are_shown-requires : goal.are_shown-requires
+are_shown-requires g c =
+    let k = c.self.inside.kernel in
+    let uses = c.self.inside.uses in
+    record {
+      has = λ array cell has.
+          (rw (← c.self.view_is) at c.requires) array cell (has_if_read k uses array cell c.self.invariant.0 (subst (λ (us : List Use). has_cell us array cell ≡ true) c.self.invariant.2 has));
+    }
