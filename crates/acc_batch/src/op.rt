@@ -49,7 +49,7 @@ pub enum Op {
 }
 
 // A batch moves with two of them.
-const _: () = prove!(size_of::<Op>() == 56);
+const _: () = prove!(size_of::<Op>() == 48);
 
 impl Op {
     ghost use Rattle.acc_base.specs.declared.fault.Fault.TheVariants as fault;

@@ -1,1 +1,4 @@
+pub mod Blocks
+pub mod Lends
 pub mod Windows
+pub mod inner

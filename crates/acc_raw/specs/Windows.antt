@@ -19,9 +19,10 @@ cells_in w cells = take w.len (drop w.start cells)
 abbrev pub with_window : List ℤ → Window → List ℤ → List ℤ
 with_window cells w values = take w.start cells ++ (values ++ drop (w.start + w.len) cells)
 
--- the row with those of two windows replaced, of the one behind first, so that the other stays in its place.
--- A slice keeps its length, so the row keeps its own; `refill` cuts or fills up any other list.
+-- the row with those of two windows replaced, of the one behind first, so that the other stays in its place
+abbrev pub with_both : List ℤ → Window → Window → List ℤ → List ℤ → List ℤ
+with_both cells v w xs ys = if nat_le (v.start + v.len) w.start then with_window (with_window cells w ys) v xs else with_window (with_window cells v xs) w ys
+
+-- the same, as long as the row: a slice keeps its length, and any other list is cut or filled up
 abbrev pub with_windows : List ℤ → Window → Window → List ℤ → List ℤ → List ℤ
-with_windows cells v w xs ys =
-    refill (length cells) cells
-    (if nat_le (v.start + v.len) w.start then with_window (with_window cells w ys) v xs else with_window (with_window cells v xs) w ys)
+with_windows cells v w xs ys = refill (length cells) cells (with_both cells v w xs ys)

@@ -1,6 +1,18 @@
-//! Raw rows of numbers.
+//! Rows of numbers, and chains of linked nodes.
 #![tactic(auto)]
 
+mod block;
 mod cells;
+mod chain;
+mod chained;
+mod iter;
+mod keyed;
+mod link;
+mod nth;
+mod store;
 
 pub use cells::{Cells, Window};
+pub use chain::Chain;
+pub use iter::Iter;
+pub use keyed::Keyed;
+pub use link::Node;

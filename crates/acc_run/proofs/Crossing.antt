@@ -6,6 +6,7 @@ use denote.Param.Send.{IsSend, IsSync, sendable, shr_send}
 use denote.Ref.{ShrRef}
 use denote.Enum.Enum.{Enum}
 use denote.Enum.Declared.{shape}
+use Rattle.acc_raw.proofs.cells.Cells.TheSendSync as cells
 use Rattle.acc_kernel.specs.contracts.expr.Expr as expr
 use Rattle.acc_kernel.specs.contracts.assign.Assign as assign
 use Rattle.acc_kernel.specs.contracts.kernel.Kernel as kernel
@@ -92,7 +93,7 @@ label_sends : IsSend label.the_row
 label_sends = search (sendable, crosses, op_label_sends, op_label_syncs) depth 60 fits 9000
 
 op_form_sends : IsSend (Enum (shape op.the_type))
-op_form_sends = search (sendable, crosses, kernel_sends, kernel_syncs) depth 60 fits 9000
+op_form_sends = search (sendable, crosses, kernel_sends, kernel_syncs, cells.the_send) depth 60 fits 9000
 
 op_sends : IsSend op.the_row
 op_sends = search (sendable, crosses, op_form_sends) depth 60 fits 9000
@@ -203,10 +204,10 @@ lane_sends : IsSend lane.the_row
 lane_sends = search (sendable, crosses, label_sends, op_sends) depth 60 fits 9000
 
 blocks_sends : IsSend blocks.the_row
-blocks_sends = search (sendable, crosses) depth 60 fits 9000
+blocks_sends = search (sendable, crosses, cells.the_send) depth 60 fits 9000
 
 memory_sends : IsSend memory.the_row
-memory_sends = search (sendable, crosses, blocks_sends) depth 60 fits 9000
+memory_sends = search (sendable, crosses, blocks_sends, cells.the_send) depth 60 fits 9000
 
 work_sends : IsSend work.the_row
 work_sends = search (sendable, crosses, memory_sends, log_sends, lane_sends) depth 60 fits 9000

@@ -26,6 +26,9 @@ fn a_row_is_written_and_read(rt: HostRuntime) -> Result<(), Fail> {
     check_same(&rt, cells.get(0), 0);
     assert_eq!(rt; cells.len(), 3);
     check_same(&rt, Cells::zeroed(rt.alloc(), 0)?.len(), 0);
+    let mut one = Cells::zeroed(rt.alloc(), 1)?;
+    one.as_mut_slice()[0] -= 1;
+    check_same(&rt, one.as_slice(), &[-1]);
     Ok(())
 }
 

@@ -1,8 +1,10 @@
-//! Tests of configurations, faults, short lists, owned values, rows of cells and present tables: what no contract says.
+//! Tests of configurations, faults, short lists, owned values, rows of cells, chains and present tables: what no contract says.
 #![tactic(auto)]
 
 #[cfg(test)]
 mod cells;
+#[cfg(test)]
+mod chain;
 #[cfg(test)]
 mod config;
 #[cfg(test)]

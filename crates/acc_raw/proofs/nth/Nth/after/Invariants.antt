@@ -1,0 +1,5 @@
+use Rattle.std.proofs.Common.{◌+◌}
+use Rattle.acc_raw.proofs.nth.Nth.after.Given as goal
+
+abbrev pub ghost-nth_by : goal.ghost-nth_by
+ghost-nth_by a = a.from.now.n + 1

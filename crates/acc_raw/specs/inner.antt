@@ -1,0 +1,6 @@
+pub mod Chained
+pub mod Keys
+pub mod Lends
+pub mod Links
+pub mod Ownership
+pub mod Wired
