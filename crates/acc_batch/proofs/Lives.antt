@@ -6,9 +6,9 @@ use Rattle.acc_batch.specs.Lives.{blocks_made, blocks_released}
 
 pub made-append : (xs ys : List OpLabel) → blocks_made (xs ++ ys) ≡ blocks_made xs ++ blocks_made ys
 made-append [] ys = refl
-made-append (Make b r ∷ xs) ys = ap (λ ms. record { block = b; range = r } ∷ ms) (made-append xs ys)
-made-append (CopyIn b r ∷ xs) ys = made-append xs ys
-made-append (CopyOut b r ∷ xs) ys = made-append xs ys
+made-append (Make r b ∷ xs) ys = ap (λ ms. record { block = b; range = r } ∷ ms) (made-append xs ys)
+made-append (CopyIn r b ∷ xs) ys = made-append xs ys
+made-append (CopyOut r b ∷ xs) ys = made-append xs ys
 made-append (Release b ∷ xs) ys = made-append xs ys
 made-append (Run k uses ∷ xs) ys = made-append xs ys
 made-append (Await q n ∷ xs) ys = made-append xs ys
@@ -16,9 +16,9 @@ made-append (Close ∷ xs) ys = made-append xs ys
 
 pub released-append : (xs ys : List OpLabel) → blocks_released (xs ++ ys) ≡ blocks_released xs ++ blocks_released ys
 released-append [] ys = refl
-released-append (Make b r ∷ xs) ys = released-append xs ys
-released-append (CopyIn b r ∷ xs) ys = released-append xs ys
-released-append (CopyOut b r ∷ xs) ys = released-append xs ys
+released-append (Make r b ∷ xs) ys = released-append xs ys
+released-append (CopyIn r b ∷ xs) ys = released-append xs ys
+released-append (CopyOut r b ∷ xs) ys = released-append xs ys
 released-append (Release b ∷ xs) ys = ap (λ bs. b ∷ bs) (released-append xs ys)
 released-append (Run k uses ∷ xs) ys = released-append xs ys
 released-append (Await q n ∷ xs) ys = released-append xs ys

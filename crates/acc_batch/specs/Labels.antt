@@ -33,12 +33,12 @@ batch_at (l ∷ ls) n = if nat_lt n (length l.ops) then Some l else batch_at ls 
 
 -- the blocks that an operation makes, those that it copies or computes with, and those that it releases
 abbrev pub made_blocks : OpLabel → List ℕ
-made_blocks (Make b r) = b ∷ []
+made_blocks (Make r b) = b ∷ []
 made_blocks op = []
 
 abbrev pub used_blocks : OpLabel → List ℕ
-used_blocks (CopyIn b r) = b ∷ []
-used_blocks (CopyOut b r) = b ∷ []
+used_blocks (CopyIn r b) = b ∷ []
+used_blocks (CopyOut r b) = b ∷ []
 used_blocks (Run k uses) = map (λ (u : Use). u.0) uses
 used_blocks op = []
 

@@ -18,9 +18,9 @@ pub record Made : Type 0 where
 -- the blocks that were made, with their ranges, and those that were released
 abbrev pub blocks_made : List OpLabel → List Made
 blocks_made [] = []
-blocks_made (Make b r ∷ ops) = record { block = b; range = r } ∷ blocks_made ops
-blocks_made (CopyIn b r ∷ ops) = blocks_made ops
-blocks_made (CopyOut b r ∷ ops) = blocks_made ops
+blocks_made (Make r b ∷ ops) = record { block = b; range = r } ∷ blocks_made ops
+blocks_made (CopyIn r b ∷ ops) = blocks_made ops
+blocks_made (CopyOut r b ∷ ops) = blocks_made ops
 blocks_made (Release b ∷ ops) = blocks_made ops
 blocks_made (Run k uses ∷ ops) = blocks_made ops
 blocks_made (Await q n ∷ ops) = blocks_made ops
@@ -28,9 +28,9 @@ blocks_made (Close ∷ ops) = blocks_made ops
 
 abbrev pub blocks_released : List OpLabel → List ℕ
 blocks_released [] = []
-blocks_released (Make b r ∷ ops) = blocks_released ops
-blocks_released (CopyIn b r ∷ ops) = blocks_released ops
-blocks_released (CopyOut b r ∷ ops) = blocks_released ops
+blocks_released (Make r b ∷ ops) = blocks_released ops
+blocks_released (CopyIn r b ∷ ops) = blocks_released ops
+blocks_released (CopyOut r b ∷ ops) = blocks_released ops
 blocks_released (Release b ∷ ops) = b ∷ blocks_released ops
 blocks_released (Run k uses ∷ ops) = blocks_released ops
 blocks_released (Await q n ∷ ops) = blocks_released ops
@@ -45,9 +45,9 @@ pub record HoldsBlock (before : List OpLabel) (block : ℕ) (range : Range) : Ty
 
 -- An operation of a device uses live blocks, where these operations came before it.
 abbrev pub UsesLive : List (List ℤ) → OpLabel → List OpLabel → Type 0
-UsesLive arrays (Make b r) before = ¬ Contains (map (λ m. m.block) (blocks_made before)) b × IsTrue (has_range arrays r)
-UsesLive arrays (CopyIn b r) before = HoldsBlock before b r
-UsesLive arrays (CopyOut b r) before = HoldsBlock before b r
+UsesLive arrays (Make r b) before = ¬ Contains (map (λ m. m.block) (blocks_made before)) b × IsTrue (has_range arrays r)
+UsesLive arrays (CopyIn r b) before = HoldsBlock before b r
+UsesLive arrays (CopyOut r b) before = HoldsBlock before b r
 UsesLive arrays (Release b) before = (r : Range) × HoldsBlock before b r
 UsesLive arrays (Run k uses) before = All (λ (u : Use). HoldsBlock before u.0 u.1) uses
 UsesLive arrays (Await q n) before = Unit {0}

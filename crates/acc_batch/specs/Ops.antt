@@ -10,9 +10,9 @@ use Rattle.acc_kernel.specs.Kernels.{Loop}
 
 -- what a loop uses names each array at most once, and has all cells that the loop reaches
 abbrev pub HasItsCells : OpLabel → Type 0
-HasItsCells (label.Make b r) = Unit {0}
-HasItsCells (label.CopyIn b r) = Unit {0}
-HasItsCells (label.CopyOut b r) = Unit {0}
+HasItsCells (label.Make r b) = Unit {0}
+HasItsCells (label.CopyIn r b) = Unit {0}
+HasItsCells (label.CopyOut r b) = Unit {0}
 HasItsCells (label.Release b) = Unit {0}
 HasItsCells (label.Run k uses) = AreDistinct uses × HoldReached k uses
 HasItsCells (label.Await q n) = Unit {0}
@@ -20,9 +20,9 @@ HasItsCells label.Close = Unit {0}
 
 -- the label of an operation
 abbrev pub op_label : Op → OpLabel
-op_label (op.Make b) = label.Make b.block b.range
-op_label (op.CopyIn b r) = label.CopyIn b r
-op_label (op.CopyOut b r) = label.CopyOut b r
+op_label (op.Make b m) = label.Make b.range b.block
+op_label (op.CopyIn r b) = label.CopyIn r b
+op_label (op.CopyOut r b) = label.CopyOut r b
 op_label (op.Release b) = label.Release b
 op_label (op.Run k uses) = label.Run k uses
 op_label (op.Await q n) = label.Await q n
@@ -31,11 +31,11 @@ op_label op.Close = label.Close
 abbrev pub op_labels : List Op → List OpLabel
 op_labels ops = map op_label ops
 
--- a block that is made has the cells of its range, all zero, and a loop has its cells
+-- a block that is made has the cells of its range, all zero, and its mark, and a loop has its cells
 abbrev pub IsReady : Op → Type 0
-IsReady (op.Make b) = b.cells ≡ replicate b.range.len (pos 0)
-IsReady (op.CopyIn b r) = Unit {0}
-IsReady (op.CopyOut b r) = Unit {0}
+IsReady (op.Make b m) = (b.cells ≡ replicate b.range.len (pos 0)) × (m.block ≡ b.block)
+IsReady (op.CopyIn r b) = Unit {0}
+IsReady (op.CopyOut r b) = Unit {0}
 IsReady (op.Release b) = Unit {0}
 IsReady (op.Run k uses) = HasItsCells (label.Run k uses)
 IsReady (op.Await q n) = Unit {0}
@@ -47,9 +47,9 @@ AllReady (t ∷ ts) = IsReady t × AllReady ts
 
 -- the loop that an operation is, with its uses
 abbrev pub loop_of : OpLabel → Option (Loop × List Use)
-loop_of (label.Make b r) = None
-loop_of (label.CopyIn b r) = None
-loop_of (label.CopyOut b r) = None
+loop_of (label.Make r b) = None
+loop_of (label.CopyIn r b) = None
+loop_of (label.CopyOut r b) = None
 loop_of (label.Release b) = None
 loop_of (label.Run k uses) = Some (k, uses)
 loop_of (label.Await q n) = None

@@ -3,26 +3,32 @@
 ghost use Rattle.std.specs.Prelude.{◌≡◌, ◌<◌, length, IfOk, IfErr};
 ghost use Rattle.std.specs.List.{All};
 ghost use Rattle.acc_batch.specs.Ops.{op_labels, HasItsCells, AllReady};
+ghost use Rattle.acc_batch.specs.Pages.{HasRoomFor};
 
 use crate::label::Label;
 use crate::ops::Ops;
+use crate::page::Page;
 use acc_base::Fault;
+use acc_raw::Node;
 use std::alloc::Global;
 use std::marker::Model;
 
-/// A batch in a queue: its label, and the operations that the label describes, with their memory. Contracts see the label.
+/// A batch in a queue: its label, the operations that the label describes, and a page with room for what the log will tell of
+/// them, all in memory of their own. Contracts see the label.
 #[derive(Drop)]
 pub struct Batch {
-    label: Label,
+    label: Node<Label>,
     ops: Ops,
+    page: Node<Page>,
 }
 
 impl Model for Batch {
-    ghost use Rattle.std.specs.Prelude.{◌≡◌};
+    ghost use Rattle.std.specs.Prelude.{◌≡◌, length};
     ghost use Rattle.std.specs.Coded.{codes};
     ghost use Rattle.acc_kernel.specs.contracts.expr.Expr as expr;
     ghost use Rattle.acc_batch.specs.declared.label.Label.{Label};
     ghost use Rattle.acc_batch.specs.Ops.{op_labels, AllReady};
+    ghost use Rattle.acc_batch.specs.Pages.{HasRoomFor};
 
     ghost Value = { Label };
 
@@ -30,7 +36,7 @@ impl Model for Batch {
 
     ghost view = { λ b. b.label };
 
-    ghost invariant = { λ b. (op_labels b.ops ≡ b.label.ops) × AllReady b.ops };
+    ghost invariant = { λ b. (op_labels b.ops ≡ b.label.ops) × AllReady b.ops × HasRoomFor b.page (length b.label.ops) };
 }
 
 impl Batch {
@@ -49,21 +55,26 @@ impl Batch {
         ensures fault { IfErr result (λ f. f ≡ fault.Memory) }
     {
         let ops = Ops::new(alloc, label.ops.get().as_slice())?;
-        Ok(Batch { label, ops })
+        let page = Page::new(alloc, ops.len())?;
+        match Node::new(alloc, label) {
+            Ok(label) => Ok(Batch { label, ops, page }),
+            Err((_, fault)) => Err(fault),
+        }
     }
 
     /// Its plain description.
     pub fn label(&self) -> &Label
         ensures { result.now ≡ self.now }
     {
-        &self.label
+        self.label.value()
     }
 
     /// Gives the label this number. It changes nothing else, and takes no memory.
     pub fn renumber(&mut self, number: u64)
         ensures { self.new ≡ record self.old { number = number } }
     {
-        self.label.number = number;
+        let label = self.label.value_mut();
+        label.number = number;
     }
 
     /// Its operations, in their order.
@@ -74,13 +85,14 @@ impl Batch {
         &self.ops
     }
 
-    /// Its label, and its operations, in their order.
-    pub fn into_parts(self) -> (Label, Ops)
+    /// Its label, its operations, in their order, and a page of the log with room for them.
+    pub fn into_parts(self) -> (Node<Label>, Ops, Node<Page>)
         ensures label { result.0 ≡ self }
         ensures ops { op_labels result.1 ≡ self.ops }
         ensures ready { AllReady result.1 }
+        ensures page { HasRoomFor result.2 (length self.ops) }
     {
-        let Batch { label, ops } = self;
-        (label, ops)
+        let Batch { label, ops, page } = self;
+        (label, ops, page)
     }
 }

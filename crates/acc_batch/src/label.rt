@@ -14,18 +14,18 @@ use std::mem::size_of;
 pub enum OpLabel {
     /// Makes the block, with the cells of the range, all zero.
     Make {
-        block: BlockId,
         range: Range,
+        block: BlockId,
     },
     /// Copies the range's cells from the host array into the block.
     CopyIn {
-        block: BlockId,
         range: Range,
+        block: BlockId,
     },
     /// Copies the range's cells from the block into the host array.
     CopyOut {
-        block: BlockId,
         range: Range,
+        block: BlockId,
     },
     /// Releases the block.
     Release {
@@ -50,16 +50,16 @@ pub enum OpLabel {
 #[derive(Drop)]
 pub struct Label {
     pub at: QueueAt,
-    pub number: u64,
     pub host: HostId,
+    pub number: u64,
     pub items_done: u64,
     pub ops: Shared<Few<OpLabel>>,
 }
 
 // The histories keep each operation and each label.
-const _: () = prove!(size_of::<OpLabel>() == 32);
+const _: () = prove!(size_of::<OpLabel>() == 24);
 
-const _: () = prove!(size_of::<Label>() == 40);
+const _: () = prove!(size_of::<Label>() == 32);
 
 impl OpLabel {
     /// Whether it is no loop, or what the loop uses names each array at most once and has all cells that it reaches.

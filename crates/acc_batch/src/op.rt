@@ -1,12 +1,13 @@
 //! An operation in a queue, with the memory that performing it needs.
 
-ghost use Rattle.std.specs.Prelude.{◌≡◌, IfOk, IfErr};
+ghost use Rattle.std.specs.Prelude.{◌≡◌, replicate, pos, IfOk, IfErr};
+ghost use Rattle.acc_base.specs.declared.fault.Fault.TheVariants as fault;
 ghost use Rattle.acc_batch.specs.Ops.{op_label, HasItsCells, IsReady};
 
 use crate::label::OpLabel;
 use acc_base::{BlockId, Fault, Listed, QueueId, Range, Shared};
 use acc_kernel::Kernel;
-use acc_raw::Cells;
+use acc_raw::{Cells, Keyed, Node};
 use std::alloc::Global;
 use std::mem::size_of;
 
@@ -18,20 +19,43 @@ pub struct Block {
     pub cells: Cells,
 }
 
+impl Keyed for Block {
+    ghost key_of = { λ b. b.block };
+
+    fn key(&self) -> u64 {
+        self.block.number()
+    }
+}
+
+/// The mark of a block that was made, found by its number.
+#[derive(Clone, Copy, Debug, PartialEq, Eq)]
+pub struct Mark {
+    pub block: BlockId,
+}
+
+impl Keyed for Mark {
+    ghost key_of = { λ m. m.block };
+
+    fn key(&self) -> u64 {
+        self.block.number()
+    }
+}
+
 /// An operation in a queue, with the memory that performing it needs.
 #[derive(Drop)]
 pub enum Op {
-    /// The block's cells are as many as its range has, all zero.
+    /// The block is in the node in which the memory keeps it, and its mark too. Its cells are as many as its range has, all zero.
     Make {
-        block: Block,
+        block: Node<Block>,
+        mark: Node<Mark>,
     },
     CopyIn {
-        block: BlockId,
         range: Range,
+        block: BlockId,
     },
     CopyOut {
-        block: BlockId,
         range: Range,
+        block: BlockId,
     },
     Release {
         block: BlockId,
@@ -49,11 +73,9 @@ pub enum Op {
 }
 
 // A batch moves with two of them.
-const _: () = prove!(size_of::<Op>() == 48);
+const _: () = prove!(size_of::<Op>() == 24);
 
 impl Op {
-    ghost use Rattle.acc_base.specs.declared.fault.Fault.TheVariants as fault;
-
     /// The operation of a label, one that has its cells, by `OpLabel::has_its_cells`.
     ///
     /// # Errors
@@ -67,13 +89,9 @@ impl Op {
     {
         match label {
             OpLabel::Make { block, range } => {
-                let cells = Cells::zeroed(alloc, range.len as usize)?;
-                let block = Block {
-                    block: *block,
-                    range: *range,
-                    cells,
-                };
-                Ok(Op::Make { block })
+                let mark = mark_of(alloc, *block)?;
+                let block = zero_block(alloc, *block, *range)?;
+                Ok(Op::Make { block, mark })
             }
             OpLabel::CopyIn { block, range } => Ok(Op::CopyIn {
                 block: *block,
@@ -102,9 +120,9 @@ impl Op {
         ensures { result ≡ op_label self }
     {
         match self {
-            Op::Make { block } => OpLabel::Make {
-                block: block.block,
-                range: block.range,
+            Op::Make { block, .. } => OpLabel::Make {
+                block: block.value().block,
+                range: block.value().range,
             },
             Op::CopyIn { block, range } => OpLabel::CopyIn { block, range },
             Op::CopyOut { block, range } => OpLabel::CopyOut { block, range },
@@ -113,5 +131,33 @@ impl Op {
             Op::Await { queue, number } => OpLabel::Await { queue, number },
             Op::Close => OpLabel::Close,
         }
+    }
+}
+
+// A block whose cells are all zero, in its node.
+fn zero_block(alloc: Global, block: BlockId, range: Range) -> Result<Node<Block>, Fault>
+    ensures block { IfOk result (λ b. b ≡ record { block = block; range = range; cells = replicate range.len (pos 0) }) }
+    ensures fault { IfErr result (λ f. f ≡ fault.Memory) }
+{
+    let cells = Cells::zeroed(alloc, range.len as usize)?;
+    let block = Block {
+        block,
+        range,
+        cells,
+    };
+    match Node::new(alloc, block) {
+        Ok(block) => Ok(block),
+        Err((_, fault)) => Err(fault),
+    }
+}
+
+// The mark of a block, in its node.
+fn mark_of(alloc: Global, block: BlockId) -> Result<Node<Mark>, Fault>
+    ensures mark { IfOk result (λ m. m ≡ record { block = block }) }
+    ensures fault { IfErr result (λ f. f ≡ fault.Memory) }
+{
+    match Node::new(alloc, Mark { block }) {
+        Ok(mark) => Ok(mark),
+        Err((_, fault)) => Err(fault),
     }
 }

@@ -1,53 +1,40 @@
 -- A directive is accepted, and its batch placed on the queue.
-use Rattle.std.proofs.Common.{◌≡◌, ℕ, ◌+◌, ◌<◌, ◌≤◌, true, false, List, [], ◌∷◌, ◌++◌, length, refl, sym, ap, subst, ◌∙◌, arith, Option, None, Some}
+use Rattle.std.proofs.Common.{◌≡◌, ℕ, ◌<◌, false, List, [], ◌∷◌, ◌++◌, length, refl, sym, ap, subst, ◌∙◌, arith, Option, None, Some}
 use Rattle.std.specs.Prelude.{◌==◌, ◌&&◌, not, All, Ok, Err}
 use Rattle.std.proofs.lemmas.Bool.{eq-eqb, ne_eqb}
 use Rattle.std.proofs.lemmas.List.{append_assoc, append-nil, length-append, length-set}
 use Rattle.std.proofs.lemmas.List.Elements.{All-head, All-push}
-use Rattle.acc_place.specs.Closing.{left_open}
 use Rattle.acc_base.proofs.Lists.{All-behind}
 use Rattle.acc_base.specs.declared.config.TheConstants.{MAX_HOSTS}
 use Rattle.acc_place.specs.Directives.{Directive}
 use Rattle.acc_batch.specs.declared.label.Label.{Label}
 use Rattle.acc_batch.specs.declared.label.OpLabel.{OpLabel}
-use Rattle.acc_base.specs.declared.fault.Fault.{Fault}
-use Rattle.acc_base.specs.declared.fault.Fault.TheVariants.{Memory, QueueFull}
+use Rattle.acc_base.specs.declared.fault.Fault.TheVariants.{QueueFull}
 use Rattle.acc_base.specs.declared.ids.QueueAt.{QueueAt}
 use Rattle.acc_base.specs.declared.ids.TheConstants.{QUEUES}
-use Rattle.acc_base.specs.Configurations.{Configuration}
-use Rattle.acc_base.specs.Queues.{queue_count, same_queue, seat}
+use Rattle.acc_base.specs.Queues.{same_queue, seat}
 use Rattle.acc_place.specs.Accepting.{refusal}
 use Rattle.acc_core.specs.inner.Answers.{Places}
 use Rattle.acc_place.specs.declared.directive.Placed.{Placed}
 use Rattle.acc_place.specs.Batches.{batch_of, answer_of, next_number, walk_at}
-use Rattle.acc_place.specs.Histories.{is_closed, standing, IsQueue}
+use Rattle.acc_place.specs.Histories.{standing}
 use Rattle.acc_place.specs.Plans.{PlaceView, PlanView, standing_in, Fits, label_for, label_in}
-use Rattle.acc_batch.specs.Labels.{on_queue, ops_of}
+use Rattle.acc_batch.specs.Labels.{on_queue}
 use Rattle.acc_core.specs.Legality.{Legal}
 use Rattle.acc_work.specs.Logs.{items_of}
 use Rattle.acc_core.specs.Machine.{State, standing_of, with_directive, fault_of_place, place_fault, queue_fault, is_empty, is_full, batches_held, labels_of}
 use Rattle.acc_place.specs.Standings.{walk_of}
-use Rattle.acc_memory.specs.Memories.{rows_on, room_on}
 use Rattle.acc_core.specs.inner.Queues.{QueueView, no_queue, queue_in, queues_with, queue_pushed}
 use Rattle.acc_core.specs.inner.Ties.{QueueIs, Queued, IsAccelerator}
-use Rattle.acc_work.specs.Lanes.{LaneView}
-use Rattle.acc_work.specs.Works.{WorkView, KeepsOrder, IsRoomier, HasMadeRoom, lane_at}
+use Rattle.acc_work.specs.Works.{WorkView, KeepsOrder, lane_at}
 use Rattle.acc_core.proofs.LegalSteps.{legal_accepted, labels_accepted}
 use Rattle.acc_base.proofs.SameQueue.{same_queue_itself}
-use Rattle.acc_batch.proofs.Labels.{on_queue-append, ops_of-append}
+use Rattle.acc_batch.proofs.Labels.{on_queue-append}
 use Rattle.acc_batch.proofs.Seats.{each_seat}
-use Rattle.acc_place.proofs.LeftOpen.{left_same, left_some}
 use Rattle.acc_core.proofs.AddedLabels.{added}
-use Rattle.acc_core.proofs.Lanes.{few_batches}
 use Rattle.acc_place.proofs.LabelsThere.{labels_there}
-use Rattle.acc_core.proofs.BatchesDone.{held_filled}
-use Rattle.acc_core.proofs.Seats.{IsSeated, seated, room_changed, waiting_changed, waiting_low}
+use Rattle.acc_core.proofs.Seats.{IsSeated, seated, room_changed}
 use Rattle.acc_core.proofs.TakeBatch.{with_taken, held_is}
-
--- a directive closes no queue
-closed_accepted : (w : State) (host : ℕ) (d : Directive) (at : QueueAt) → is_closed (standing_of (with_directive w host d)) at ≡ is_closed (standing_of w) at
-unfolding standing
-closed_accepted w host d at = refl
 
 -- an empty batch adds no label
 labels_empty : (w : State) (host : ℕ) (d : Directive) → batch_of (standing_of w) (walk_of (standing_of w) host d) ≡ [] → labels_of (with_directive w host d) ≡ labels_of w
@@ -75,33 +62,16 @@ labels_more w host d some =
     labels_accepted w host d
     ∙ ap (λ ls. labels_of w ++ ls) (added_one at (next_number at (labels_of w)) host (items_of host w.work) (batch_of (standing_of w) (walk_of (standing_of w) host d)) some)
 
--- the queues and their lanes depend on the labels and the log alone
-pub queued_same : (w w' : State) (v : WorkView) (queues : List QueueView) (waiting : ℕ) → w'.config ≡ w.config → labels_of w' ≡ labels_of w → ((at : QueueAt) → is_closed (standing_of w') at ≡ is_closed (standing_of w) at) → w'.work ≡ w.work → Queued w v queues waiting → Queued w' v queues waiting
-queued_same w w' v queues waiting c e closed f q = record {
+-- the queues and their lanes depend on the labels alone
+pub queued_same : (w w' : State) (v : WorkView) (queues : List QueueView) → w'.config ≡ w.config → labels_of w' ≡ labels_of w → Queued w v queues → Queued w' v queues
+queued_same w w' v queues c e q = record {
   each = λ at. subst (λ ls. QueueIs w'.config ls at (lane_at v at) (queue_in queues at)) (sym e) (subst (λ x. QueueIs x (labels_of w) at (lane_at v at) (queue_in queues at)) (sym c) (q.each at));
   count = rw c q.count;
   devices = rw c q.devices;
   roomy = rw c q.roomy;
-  all_waiting = omega (arith, q.all_waiting, left_same (standing_of w) (standing_of w') (queue_count w.config) closed, ap (λ x. left_open (standing_of w') (queue_count x)) c);
-  close_room = λ at there early. q.close_room at (rw c at there) (sym (closed at) ∙ early);
   filled = rw e q.filled;
   hosts = rw e q.hosts;
-  log_room = rw f q.log_room;
-  block_room = rw c q.block_room;
 }
-
--- more room for a lane leaves its queue what it is
-pub is_roomier : {config : Configuration} {labels : List Label} {at : QueueAt} {lane lane' : LaneView} {queue : QueueView} → IsRoomier lane lane' → QueueIs config labels at lane queue → QueueIs config labels at lane' queue
-is_roomier {lane = lane} {lane' = lane'} more h =
-    let taken : lane'.taken ≡ lane.taken = ap (λ (l : LaneView). l.taken) more.kept in
-    let left : lane'.left ≡ lane.left = ap (λ (l : LaneView). l.left) more.kept in
-    record {
-      split = rw taken h.split;
-      counted = rw left h.counted;
-      held_low = h.held_low;
-      lane_room = omega (arith, h.lane_room, ap length taken, more.room);
-      in_place = ap (λ (l : LaneView). l.out) more.kept ∙ h.in_place;
-    }
 
 -- a queue's labels, where one more is placed on it, and where it is placed on another
 placed_here : (labels : List Label) (b : Label) → on_queue b.at (labels ++ b ∷ []) ≡ on_queue b.at labels ++ b ∷ []
@@ -110,65 +80,40 @@ placed_here labels b = on_queue-append b.at labels (b ∷ []) ∙ rw (same_queue
 placed_elsewhere : (labels : List Label) (b : Label) (other : QueueAt) → same_queue b.at other ≡ false → on_queue other (labels ++ b ∷ []) ≡ on_queue other labels
 placed_elsewhere labels b other differ = on_queue-append other labels (b ∷ []) ∙ rw differ (append-nil (on_queue other labels))
 
--- the operations of one more label stand behind all others
-ops_more : (ls : List Label) (l : Label) → ops_of (ls ++ l ∷ []) ≡ ops_of ls ++ l.ops
-ops_more ls l = ops_of-append ls (l ∷ []) ∙ ap (λ r. ops_of ls ++ r) (append-nil l.ops)
-
--- batches that wait in a queue, and the queues that aren't closed, are no more than what waits
-few_wait : (w : State) (v : WorkView) (queues : List QueueView) (waiting : ℕ) (at : QueueAt) → IsSeated w.config.devices v queues at → Queued w v queues waiting → length (queue_in queues at).held + left_open (standing_of w) (queue_count w.config) ≤ waiting
-few_wait w v queues waiting at s q =
-    let h = q.each at in
-    omega (arith, few_batches (queue_in queues at).held (held_filled w v queues waiting at q), h.counted, waiting_low queues at s.queue s.held, q.all_waiting)
-
--- One more batch joins its queue, where there is room for its operations.
-queued_more : (w w' : State) (v v' : WorkView) (queues : List QueueView) (b : Label) (waiting waiting' : ℕ) → IsSeated w.config.devices v queues b.at → Queued w v queues waiting → KeepsOrder v → w'.config ≡ w.config
-    → labels_of w' ≡ labels_of w ++ b ∷ [] → ((at : QueueAt) → is_closed (standing_of w') at ≡ is_closed (standing_of w) at) → w'.work ≡ w.work → HasMadeRoom v v' → b.host < MAX_HOSTS → 0 < length b.ops → length (queue_in queues b.at).held < w.config.room → waiting' ≡ waiting + length b.ops
-    → length w.work + waiting' ≤ v'.room → length (lane_at v' b.at).taken + waiting' ≤ (lane_at v' b.at).room → ((d : ℕ) → d < length v'.memory.devices → length (rows_on v'.memory d) + waiting' ≤ room_on v'.memory d)
-    → Queued w' v' (queues_with queues b.at (queue_pushed (queue_in queues b.at) b (length b.ops))) waiting'
-queued_more w w' v v' queues b waiting waiting' s q order c e closed f k host some fits more log_room lane_room block_room =
+-- One more batch joins its queue.
+pub queued_more : (w w' : State) (v : WorkView) (queues : List QueueView) (b : Label) → IsSeated w.config.devices v queues b.at → Queued w v queues → w'.config ≡ w.config → labels_of w' ≡ labels_of w ++ b ∷ [] → b.host < MAX_HOSTS
+    → 0 < length b.ops → length (queue_in queues b.at).held < w.config.room → Queued w' v (queues_with queues b.at (queue_pushed (queue_in queues b.at) b))
+queued_more w w' v queues b s q c e host some fits =
     let at = b.at in
     let ls = labels_of w in
     let queue = queue_in queues at in
-    let new = queue_pushed queue b (length b.ops) in
-    let few = few_wait w v queues waiting at s q in
-    let room =
-    each_seat (λ other x. IsQueue w.config other → is_closed (standing_of w) other ≡ false → length (lane_at v' other).taken + length x.held < (lane_at v' other).room)
-    (λ other x. IsQueue w.config other → is_closed (standing_of w) other ≡ false → length (lane_at v' other).taken + length x.held < (lane_at v' other).room) no_queue queues at new s.queue s.held
-    (λ other there early. (let m = k.lanes other in omega (arith, q.close_room other there early, m.room, ap (λ (l : LaneView). length l.taken) m.kept)))
-    (λ there early. omega (arith, lane_room, length-append queue.held (b ∷ []), few, more, some, left_some w.config (standing_of w) at there early))
-    (λ other differ x same. same) in
-    let h = is_roomier (k.lanes at) (q.each at) in
-    let sum = waiting_changed queues at new s.queue s.held in
-    let each = each_seat (λ other x. QueueIs w.config ls other (lane_at v' other) x) (λ other x. QueueIs w.config (ls ++ b ∷ []) other (lane_at v' other) x) no_queue queues at new s.queue s.held (λ other. is_roomier (k.lanes other) (q.each other))
+    let new = queue_pushed queue b in
+    let h = q.each at in
+    let each =
+    each_seat (λ other x. QueueIs w.config ls other (lane_at v other) x) (λ other x. QueueIs w.config (ls ++ b ∷ []) other (lane_at v other) x) no_queue queues at new s.queue s.held q.each
     (record {
-      split = placed_here ls b ∙ (ap (λ r. r ++ b ∷ []) h.split ∙ append_assoc (lane_at v' at).taken queue.held (b ∷ []));
-      counted = omega (arith, h.counted, ap length (ops_more queue.held b), length-append (ops_of queue.held) b.ops);
+      split = placed_here ls b ∙ (ap (λ r. r ++ b ∷ []) h.split ∙ append_assoc (lane_at v at).taken queue.held (b ∷ []));
       held_low = omega (arith, fits, length-append queue.held (b ∷ []));
-      lane_room = omega (arith, lane_room, length-append queue.held (b ∷ []), few, more, some);
       in_place = h.in_place;
     })
-    (λ other differ x same. record { split = placed_elsewhere ls b other differ ∙ same.split; counted = same.counted; held_low = same.held_low; lane_room = same.lane_room; in_place = same.in_place }) in
+    (λ other differ x same. record { split = placed_elsewhere ls b other differ ∙ same.split; held_low = same.held_low; in_place = same.in_place }) in
     record {
-      each = λ other. subst (λ x. QueueIs w'.config x other (lane_at v' other) (queue_in (queues_with queues at new) other)) (sym e) (subst (λ x. QueueIs x (ls ++ b ∷ []) other (lane_at v' other) (queue_in (queues_with queues at new) other)) (sym c) (each other));
+      each = λ other. subst (λ x. QueueIs w'.config x other (lane_at v other) (queue_in (queues_with queues at new) other)) (sym e) (subst (λ x. QueueIs x (ls ++ b ∷ []) other (lane_at v other) (queue_in (queues_with queues at new) other)) (sym c) (each other));
       count = rw c (length-set queues (seat at) new ∙ q.count);
-      devices = rw c (k.devices ∙ q.devices);
+      devices = rw c q.devices;
       roomy = rw c (room_changed w.config.room queues at new s.queue s.held q.roomy refl);
-      all_waiting = omega (arith, q.all_waiting, sum, more, left_same (standing_of w) (standing_of w') (queue_count w.config) closed, ap (λ x. left_open (standing_of w') (queue_count x)) c);
-      close_room = λ other there early. room other (rw c at there) (sym (closed other) ∙ early);
       filled = rw e (All-push (λ (x : Label). 0 < length x.ops) ls b q.filled some);
       hosts = rw e (All-push (λ (x : Label). x.host < MAX_HOSTS) ls b q.hosts host);
-      log_room = rw f log_room;
-      block_room = λ d low. block_room d (omega (arith, low, ap (λ x. x.devices) c, k.devices, q.devices));
     }
 
 -- An accelerator that accepted a directive with an empty batch.
-pub keeps_empty : (w w' : State) (v : WorkView) (queues : List QueueView) (waiting host : ℕ) (d : Directive) → IsAccelerator w v queues waiting → refusal w.config (standing_of w) host d ≡ None
-    → batch_of (standing_of w) (walk_of (standing_of w) host d) ≡ [] → w' ≡ with_directive w host d → IsAccelerator w' v queues waiting
-keeps_empty w w' v queues waiting host d a e none is =
+pub keeps_empty : (w w' : State) (v : WorkView) (queues : List QueueView) (host : ℕ) (d : Directive) → IsAccelerator w v queues → refusal w.config (standing_of w) host d ≡ None
+    → batch_of (standing_of w) (walk_of (standing_of w) host d) ≡ [] → w' ≡ with_directive w host d → IsAccelerator w' v queues
+keeps_empty w w' v queues host d a e none is =
     rw is (record {
       legal = legal_accepted w host d a.legal e;
       few_items = a.few_items;
-      parts = queued_same w (with_directive w host d) v queues waiting refl (labels_empty w host d none) (closed_accepted w host d) refl a.parts;
+      parts = queued_same w (with_directive w host d) v queues refl (labels_empty w host d none) a.parts;
       opening = a.opening;
     })
 
@@ -210,18 +155,15 @@ placed_there w host d b l e p =
     (there.0, there.1)
 
 -- An accelerator that accepted a directive and put its batch on its queue.
-pub keeps_batch : (w w' : State) (v v' : WorkView) (queues : List QueueView) (b : Label) (waiting waiting' host : ℕ) (d : Directive) → IsAccelerator w v queues waiting → IsSeated w.config.devices v queues b.at
-    → refusal w.config (standing_of w) host d ≡ None → w' ≡ with_directive w host d → HasMadeRoom v v' → IsPlaced w host d b → host < MAX_HOSTS → length (queue_in queues b.at).held < w.config.room
-    → waiting' ≡ waiting + length b.ops → length w.work + waiting' ≤ v'.room → length (lane_at v' b.at).taken + waiting' ≤ (lane_at v' b.at).room
-    → ((n : ℕ) → n < length v'.memory.devices → length (rows_on v'.memory n) + waiting' ≤ room_on v'.memory n) → KeepsOrder v
-    → IsAccelerator w' v' (queues_with queues b.at (queue_pushed (queue_in queues b.at) b (length b.ops))) waiting'
-keeps_batch w w' v v' queues b waiting waiting' host d a s e is k l low fits more log_room lane_room block_room order =
+pub keeps_batch : (w w' : State) (v : WorkView) (queues : List QueueView) (b : Label) (host : ℕ) (d : Directive) → IsAccelerator w v queues → IsSeated w.config.devices v queues b.at → refusal w.config (standing_of w) host d ≡ None
+    → w' ≡ with_directive w host d → IsPlaced w host d b → host < MAX_HOSTS → length (queue_in queues b.at).held < w.config.room → IsAccelerator w' v (queues_with queues b.at (queue_pushed (queue_in queues b.at) b))
+keeps_batch w w' v queues b host d a s e is l low fits =
     let labels : labels_of (with_directive w host d) ≡ labels_of w ++ b ∷ [] = rw l.same (labels_more w host d l.some) in
     rw is (record {
       legal = legal_accepted w host d a.legal e;
       few_items = a.few_items;
-      parts = queued_more w (with_directive w host d) v v' queues b waiting waiting' s a.parts order refl labels (closed_accepted w host d) refl k (rw l.same low) (rw l.same l.some) fits more log_room lane_room block_room;
-      opening = k.opening ∙ a.opening;
+      parts = queued_more w (with_directive w host d) v queues b s a.parts refl labels (rw l.same low) (rw l.same l.some) fits;
+      opening = a.opening;
     })
 
 -- operations that are there aren't none
@@ -230,9 +172,9 @@ not_empty [] some = absurd (omega (arith, some))
 not_empty (op ∷ ops) some = refl
 
 -- a batch that isn't empty finds its queue full where that holds its room
-full_at : (w : State) (v : WorkView) (queues : List QueueView) (waiting host : ℕ) (d : Directive) (b : Label) → Queued w v queues waiting → IsSeated w.config.devices v queues b.at → IsPlaced w host d b
+full_at : (w : State) (v : WorkView) (queues : List QueueView) (host : ℕ) (d : Directive) (b : Label) → Queued w v queues → IsSeated w.config.devices v queues b.at → IsPlaced w host d b
     → is_full (with_taken w v) (standing_of w) (walk_of (standing_of w) host d) ≡ (length (queue_in queues b.at).held == w.config.room)
-full_at w v queues waiting host d b q s p =
+full_at w v queues host d b q s p =
     let ops = batch_of (standing_of w) (walk_of (standing_of w) host d) in
     let at = walk_at (walk_of (standing_of w) host d) in
     let here : at ≡ b.at = ap (λ (x : Label). x.at) (sym p.same) in
@@ -240,26 +182,22 @@ full_at w v queues waiting host d b q s p =
     ∙ (ap (λ other. batches_held (with_taken w v) (labels_of w) other == w.config.room) here ∙ ap (λ n. n == w.config.room) (held_is w v queues b.at (queue_in queues b.at) s (q.each b.at)))
 
 -- the fault is by that
-fault_is : (w : State) (v : WorkView) (queues : List QueueView) (waiting host : ℕ) (d : Directive) (b : Label) → Queued w v queues waiting → IsSeated w.config.devices v queues b.at → refusal w.config (standing_of w) host d ≡ None
+fault_is : (w : State) (v : WorkView) (queues : List QueueView) (host : ℕ) (d : Directive) (b : Label) → Queued w v queues → IsSeated w.config.devices v queues b.at → refusal w.config (standing_of w) host d ≡ None
     → IsPlaced w host d b → fault_of_place false (with_taken w v) host d ≡ queue_fault (length (queue_in queues b.at).held == w.config.room)
-fault_is w v queues waiting host d b q s e p = ap (place_fault false (with_taken w v) host d) e ∙ ap queue_fault (full_at w v queues waiting host d b q s p)
+fault_is w v queues host d b q s e p = ap (place_fault false (with_taken w v) host d) e ∙ ap queue_fault (full_at w v queues host d b q s p)
 
 -- A directive whose queue holds its room is refused.
-pub places_full : (w w' : State) (v : WorkView) (queues : List QueueView) (waiting host : ℕ) (d : Directive) (b : Label) → Queued w v queues waiting → IsSeated w.config.devices v queues b.at → refusal w.config (standing_of w) host d ≡ None
+pub places_full : (w w' : State) (v : WorkView) (queues : List QueueView) (host : ℕ) (d : Directive) (b : Label) → Queued w v queues → IsSeated w.config.devices v queues b.at → refusal w.config (standing_of w) host d ≡ None
     → IsPlaced w host d b → length (queue_in queues b.at).held ≡ w.config.room → w' ≡ with_taken w v → Places (with_taken w v) host d (Err QueueFull) w'
-places_full w w' v queues waiting host d b q s e p full is =
-    (false, fault_is w v queues waiting host d b q s e p ∙ ap queue_fault (eq-eqb (length (queue_in queues b.at).held) w.config.room full), is)
+places_full w w' v queues host d b q s e p full is =
+    (false, fault_is w v queues host d b q s e p ∙ ap queue_fault (eq-eqb (length (queue_in queues b.at).held) w.config.room full), is)
 
 -- A directive with a batch is answered with the batch's queue and number.
-pub places_batch : (w w' : State) (v : WorkView) (queues : List QueueView) (waiting host : ℕ) (d : Directive) (b : Label) (placed : Placed) → Queued w v queues waiting → IsSeated w.config.devices v queues b.at
+pub places_batch : (w w' : State) (v : WorkView) (queues : List QueueView) (host : ℕ) (d : Directive) (b : Label) (placed : Placed) → Queued w v queues → IsSeated w.config.devices v queues b.at
     → refusal w.config (standing_of w) host d ≡ None → IsPlaced w host d b → ¬ length (queue_in queues b.at).held ≡ w.config.room → placed ≡ answer_of (standing_of w) d (walk_of (standing_of w) host d)
     → w' ≡ with_directive (with_taken w v) host d → Places (with_taken w v) host d (Ok placed) w'
-places_batch w w' v queues waiting host d b placed q s e p room answer is =
-    (fault_is w v queues waiting host d b q s e p ∙ ap queue_fault (ne_eqb (length (queue_in queues b.at).held) w.config.room room), answer, is)
-
--- A directive that is planned and finds no memory is refused.
-pub places_memory : (w w' : State) (host : ℕ) (d : Directive) (fault : Fault) → refusal w.config (standing_of w) host d ≡ None → fault ≡ Memory → w' ≡ w → Places w host d (Err fault) w'
-places_memory w w' host d fault e same is = (true, ap (place_fault true w host d) e ∙ ap Some (sym same), is)
+places_batch w w' v queues host d b placed q s e p room answer is =
+    (fault_is w v queues host d b q s e p ∙ ap queue_fault (ne_eqb (length (queue_in queues b.at).held) w.config.room room), answer, is)
 
 -- What a plan says of the place before it, in which it changed nothing but spare memory.
 pub record IsPlanned (p : PlaceView) (host items_done : ℕ) (d : Directive) (label : Option Label) : Type 0 where
@@ -288,9 +226,9 @@ pub record Goes (w : State) (v : WorkView) (queues : List QueueView) (host : ℕ
   pub placed : IsPlaced w host d b
   pub seat : IsSeated w.config.devices v queues b.at
 
-pub batch_goes : (w : State) (v : WorkView) (queues : List QueueView) (waiting host items_done : ℕ) (d : Directive) (b : Label) → IsAccelerator w v queues waiting → KeepsOrder v → refusal w.config (standing_of w) host d ≡ None
+pub batch_goes : (w : State) (v : WorkView) (queues : List QueueView) (host items_done : ℕ) (d : Directive) (b : Label) → IsAccelerator w v queues → KeepsOrder v → refusal w.config (standing_of w) host d ≡ None
     → items_done ≡ items_of host w.work → Some b ≡ label_in (standing_of w) host items_done (walk_of (standing_of w) host d) → Goes w v queues host d b
-batch_goes w v queues waiting host items_done d b a k e items named =
+batch_goes w v queues host items_done d b a k e items named =
     let p = batch_placed w host d b (named ∙ ap (λ n. label_in (standing_of w) host n (walk_of (standing_of w) host d)) items) in
     let there = placed_there w host d b a.legal e p in
-    record { placed = p; seat = seated w v queues waiting b.at a.parts k there.0 there.1 }
+    record { placed = p; seat = seated w v queues b.at a.parts k there.0 there.1 }

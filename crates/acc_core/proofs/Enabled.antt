@@ -1,19 +1,18 @@
 -- A queue goes on where labels, log and what was taken let it; so some queue does, as long as an operation is left.
-use Rattle.std.proofs.Common.{inl, inr, ◌≡◌, ◌⊎◌, ℕ, suc, ◌+◌, ◌<◌, ◌≤◌, Bool, true, false, cond, List, [], ◌∷◌, length, refl, sym, ap, ◌∙◌, arith}
-use Rattle.std.specs.Prelude.{Contains, nat_lt, ◌||◌, ◌==◌, ◌/◌, ◌%◌, slice_index_or, slice_set}
-use Rattle.std.specs.List.{list_any, sum_by}
-use Rattle.std.proofs.lemmas.Bool.{and_from, cases_Bool, cases_lt, le-ltb, lt-ltb}
-use Rattle.std.proofs.lemmas.List.Elements.{All-contains}
-use Rattle.std.proofs.lemmas.List.Sums.{sum_by-cons}
-use Rattle.acc_place.specs.Closing.{left_open}
+use Rattle.std.proofs.Common.{inl, inr, ◌≡◌, ℕ, ◌+◌, ◌<◌, Bool, true, false, cond, List, [], ◌∷◌, length, refl, sym, ap, subst, ◌∙◌, arith}
+use Rattle.std.specs.Prelude.{All, Contains, nat_lt, ◌||◌, ◌==◌, slice_set}
+use Rattle.std.specs.List.{list_any}
+use Rattle.std.proofs.lemmas.Bool.{and_from, cases_Bool, lt-ltb, ltb-true}
+use Rattle.std.proofs.lemmas.List.Elements.{All-contains, All-head, All-tail, All-weaker}
 use Rattle.acc_base.specs.declared.ids.QueueAt.{QueueAt}
 use Rattle.acc_base.specs.declared.ids.TheConstants.{QUEUES}
-use Rattle.acc_base.specs.Queues.{queue_count, same_queue, seat}
+use Rattle.acc_base.specs.Queues.{at_seat, queue_count, same_queue, seat}
 use Rattle.acc_base.proofs.Members.{member_first, member_rest}
 use Rattle.acc_base.proofs.SameQueue.{same_queue_is}
 use Rattle.acc_batch.specs.declared.label.Label.{Label}
 use Rattle.acc_batch.specs.declared.label.OpLabel.{OpLabel}
 use Rattle.acc_batch.specs.Labels.{on_queue, ops_of}
+use Rattle.acc_batch.proofs.Seats.{one_seat}
 use Rattle.acc_place.proofs.LabelsSound.{labels_sound}
 use Rattle.acc_place.proofs.LabelsThere.{labels_there}
 use Rattle.acc_work.specs.Enabled.{enabled, enabled_by, has_left}
@@ -22,12 +21,11 @@ use Rattle.acc_work.specs.Works.{WorkView, KeepsOrder, goes_on, lane_at}
 use Rattle.acc_work.proofs.NeverStuck.{passing, passes, never_stuck}
 use Rattle.acc_core.specs.Enabled.{is_did, is_enabled, is_left, SomeEnabled}
 use Rattle.acc_core.specs.Legality.{Legal}
-use Rattle.acc_core.specs.Machine.{State, is_there, labels_of, standing_of, taken_on, batches_held, ops_left, take_step, perform_step, can_perform, did, idle, with_op}
-use Rattle.acc_core.specs.inner.Queues.{QueueView, no_queue, queue_in}
+use Rattle.acc_core.specs.Machine.{State, is_there, labels_of, taken_on, batches_held, ops_left, take_step, perform_step, can_perform, did, idle, with_op}
+use Rattle.acc_core.specs.inner.Queues.{QueueView, queue_in}
 use Rattle.acc_core.specs.inner.Ties.{Queued}
 use Rattle.acc_core.proofs.PerformOp.{goes_next}
 use Rattle.acc_core.proofs.HavingItems.{have_items}
-use Rattle.acc_core.proofs.QueueTotals.{operations_are, waiting_most}
 use Rattle.acc_core.proofs.Seats.{IsSeated}
 use Rattle.acc_core.proofs.TakeBatch.{with_taken, lane_is_rest}
 
@@ -43,14 +41,14 @@ pub enabled_says : (w : State) (at : QueueAt) → is_there w at ≡ true → is_
 enabled_says w at there = rw there (by_rest w at (ops_left w (labels_of w) at))
 
 -- by the lane, where something is left in it
-pub enabled_filled : (w : State) (v : WorkView) (queues : List QueueView) (waiting : ℕ) (at : QueueAt) → IsSeated w.config.devices v queues at → Queued w v queues waiting → Queued (with_taken w v) v queues waiting → KeepsOrder v → v.work ≡ w.work
+pub enabled_filled : (w : State) (v : WorkView) (queues : List QueueView) (at : QueueAt) → IsSeated w.config.devices v queues at → Queued w v queues → Queued (with_taken w v) v queues → KeepsOrder v → v.work ≡ w.work
     → is_there w at ≡ true → (length (lane_at v at).left == 0) ≡ false → is_enabled (with_taken w v) at ≡ goes_on v at (lane_at v at).left
-enabled_filled w v queues waiting at s q now k same there some =
+enabled_filled w v queues at s q now k same there some =
     enabled_says (with_taken w v) at there ∙ rw (lane_is_rest w v queues at (queue_in queues at) s (q.each at) k same) (by_left (lane_at v at).left refl)
   where
     by_left : (left : List OpLabel) → (lane_at v at).left ≡ left → enabled_by (labels_of w) w.work (batches_held (with_taken w v) (labels_of w) at) at left ≡ goes_on v at left
     by_left [] e = absurd (let wrong : true ≡ false = sym (ap (λ ops. length ops == 0) e) ∙ some in cc)
-    by_left (op ∷ ops) e = goes_next (with_taken w v) v queues waiting at op ops now k e same
+    by_left (op ∷ ops) e = goes_next (with_taken w v) v queues at op ops now k e same
 
 -- Some queue goes on.
 pub some_enabled : (w : State) → Legal w → is_left w ≡ true → SomeEnabled w
@@ -63,14 +61,6 @@ some_enabled w legal left =
     let place = All-contains (λ (l : Label). (l.at.device < w.config.devices) × (l.at.queue < 8) × (0 < length l.ops)) labels p.it (labels_there w.config w.history w.counts legal.accepted) p.member in
     let there : is_there w at ≡ true = and_from (nat_lt at.device w.config.devices) (nat_lt at.queue QUEUES) (lt-ltb at.device w.config.devices place.0) (lt-ltb at.queue QUEUES place.1) in
     (at, enabled_says w at there ∙ p.holds)
-
--- a queue on which an operation waits
-waits_at : (queues : List QueueView) → 0 < sum_by (λ (q : QueueView). q.waiting) queues → (i : ℕ) × (0 < (slice_index_or queues i no_queue).waiting)
-waits_at [] some = absurd (omega (arith, some))
-waits_at (q ∷ queues) some = elim (cases_lt 0 q.waiting) [
-  | inl here ↦ (0, here)
-  | inr none ↦ (let later = waits_at queues (omega (arith, some, none, sum_by-cons (λ (k : QueueView). k.waiting) q queues)) in (suc later.0, later.1))
-]
 
 -- the first label of a queue
 record FirstOn (labels : List Label) (at : QueueAt) : Type 0 where
@@ -87,38 +77,25 @@ first_on (l ∷ labels) at some = elim (cases_Bool (same_queue l.at at)) [
       record { label = later.label; member = member_rest later.label l labels later.member; here = later.here }
 ]
 
-none_passes : {X : Type 0} (p : X → Bool) → ((x : X) → p x ≡ false) → (xs : List X) → list_any p xs ≡ false
-none_passes p h [] = refl
-none_passes p h (x ∷ xs) = rw (h x) (none_passes p h xs)
+none_passes : {X : Type 0} (p : X → Bool) (xs : List X) → All (λ x. p x ≡ false) xs → list_any p xs ≡ false
+none_passes p [] h = refl
+none_passes p (x ∷ xs) h = rw (All-head (λ y. p y ≡ false) x xs h) (none_passes p xs (All-tail (λ y. p y ≡ false) x xs h))
 
--- An operation is left where more wait than the closes to come.
-pub left_is : (w : State) (v : WorkView) (queues : List QueueView) (waiting unclosed : ℕ) → Queued w v queues waiting → KeepsOrder v → v.work ≡ w.work → unclosed ≡ left_open (standing_of w) (queue_count w.config)
-    → is_left w ≡ nat_lt unclosed waiting
-left_is w v queues waiting unclosed q k same to_come = by_waiting (cases_lt 0 total)
+-- An operation is left where one of some queue is.
+pub left_on : (w : State) (at : QueueAt) → has_left (labels_of w) w.work at ≡ true → is_left w ≡ true
+left_on w at left =
+    let waits = ltb-true (length (performed at w.work)) (length (ops_of (on_queue at (labels_of w)))) left in
+    let f = first_on (labels_of w) at (omega (arith, waits)) in
+    passes (λ (l : Label). has_left (labels_of w) w.work l.at) (labels_of w) f.label f.member (rw f.here left)
+
+-- and none where none of any queue is
+pub none_left : (w : State) → Legal w → ((n : ℕ) → n < queue_count w.config → has_left (labels_of w) w.work (at_seat n) ≡ false) → is_left w ≡ false
+none_left w legal none =
+    none_passes (λ (l : Label). has_left (labels_of w) w.work l.at) (labels_of w)
+    (All-weaker (λ (l : Label). (l.at.device < w.config.devices) × (l.at.queue < 8) × (0 < length l.ops)) (λ (l : Label). has_left (labels_of w) w.work l.at ≡ false) (λ l there. here l.at there.0 there.1) (labels_of w)
+    (labels_there w.config w.history w.counts legal.accepted))
   where
-    total : ℕ
-    total = sum_by (λ (x : QueueView). x.waiting) queues
-
-    none : (at : QueueAt) → total ≤ 0 → has_left (labels_of w) w.work at ≡ false
-    none at low =
-        let all = operations_are w v queues waiting at q k same in
-        le-ltb (length (performed at w.work)) (length (ops_of (on_queue at (labels_of w)))) (omega (arith, all, waiting_most queues at, low))
-
-    some : 0 < total → is_left w ≡ true
-    some high =
-        let found = waits_at queues high in
-        let at : QueueAt = record { device = found.0 / 8; queue = found.0 % 8 } in
-        let place : seat at ≡ found.0 = omega arith in
-        let low : nat_lt at.queue QUEUES ≡ true = lt-ltb at.queue QUEUES (omega arith) in
-        let queue : queue_in queues at ≡ slice_index_or queues found.0 no_queue = rw (low, place) refl in
-        let all = operations_are w v queues waiting at q k same in
-        let waits : length (performed at w.work) < length (ops_of (on_queue at (labels_of w))) = omega (arith, all, ap (λ (x : QueueView). x.waiting) queue, found.1) in
-        let f = first_on (labels_of w) at (omega (arith, waits)) in
-        passes (λ (l : Label). has_left (labels_of w) w.work l.at) (labels_of w) f.label f.member
-        (rw f.here (lt-ltb (length (performed at w.work)) (length (ops_of (on_queue at (labels_of w)))) waits))
-
-    by_waiting : (0 < total) ⊎ (total ≤ 0) → is_left w ≡ nat_lt unclosed waiting
-    by_waiting (inl high) = some high ∙ sym (lt-ltb unclosed waiting (omega (arith, high, q.all_waiting, to_come)))
-    by_waiting (inr low) =
-        none_passes (λ (l : Label). has_left (labels_of w) w.work l.at) (λ l. none l.at low) (labels_of w)
-        ∙ sym (le-ltb unclosed waiting (omega (arith, low, q.all_waiting, to_come)))
+    here : (at : QueueAt) → at.device < w.config.devices → at.queue < 8 → has_left (labels_of w) w.work at ≡ false
+    here at device low =
+        let same : at_seat (seat at) ≡ at = same_queue_is (at_seat (seat at)) at (one_seat (at_seat (seat at)) at (omega arith) low (omega arith)) in
+        subst (λ q. has_left (labels_of w) w.work q ≡ false) same (none (seat at) (omega (arith, device, low)))

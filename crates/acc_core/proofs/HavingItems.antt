@@ -13,7 +13,7 @@ use Rattle.acc_place.specs.Histories.{standing}
 use Rattle.acc_place.specs.Standings.{walk_of}
 use Rattle.acc_place.specs.declared.directive.PlaceEntry.{PlaceEntry}
 use Rattle.acc_place.specs.declared.directive.PlaceEntry.TheVariants as noted
-use Rattle.acc_work.specs.declared.log.WorkEntry.{WorkEntry}
+use Rattle.acc_batch.specs.declared.entry.WorkEntry.{WorkEntry}
 use Rattle.acc_work.specs.Enabled.{HaveItems}
 use Rattle.acc_work.specs.Logs.{one_more, items_of}
 use Rattle.acc_core.specs.Legality.{AllRise, Rise}

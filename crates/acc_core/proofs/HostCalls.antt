@@ -10,14 +10,14 @@ use Rattle.acc_place.specs.Standings.{walk_of}
 use Rattle.acc_work.specs.declared.item.ItemLabel.{ItemLabel}
 use Rattle.acc_work.specs.declared.item.ItemLabel.TheVariants as to_record
 use Rattle.acc_work.specs.declared.item.Shown.{Shown}
-use Rattle.acc_work.specs.declared.log.Told.{Told}
-use Rattle.acc_work.specs.declared.log.Told.TheVariants as told
+use Rattle.acc_batch.specs.declared.entry.Told.{Told}
+use Rattle.acc_batch.specs.declared.entry.Told.TheVariants as told
 use Rattle.acc_work.specs.Items.{shown_by}
 use Rattle.acc_work.specs.Works.{item_fault}
 use Rattle.acc_core.specs.inner.Answers.{Makes, Places}
 use Rattle.acc_core.specs.Legality.{AllRise, entries_of}
 use Rattle.acc_core.specs.Machine.{State, standing_of, unless, fault_of_place, placed_state, told_of, can_tell, with_item, waited_state, item_state}
-use Rattle.acc_core.proofs.Entries.{entries_accept, entries_accept_other, entries_item, entries_item_other}
+use Rattle.acc_core.proofs.LogEntries.{entries_accept, entries_accept_other, entries_item, entries_item_other}
 
 -- an answer that is given is the defined one
 given : {A : Type 0} (fault : Option Fault) (defined answer : A) → Ok answer ≡ unless fault defined → answer ≡ defined

@@ -7,7 +7,7 @@ use Rattle.acc_base.specs.declared.ids.QueueAt.{QueueAt}
 use Rattle.acc_place.specs.Directives.{Directive}
 use Rattle.acc_host.specs.declared.event.Event.{Event}
 use Rattle.acc_host.specs.declared.state.Reply.{Reply}
-use Rattle.acc_work.specs.declared.log.Told.{Told}
+use Rattle.acc_batch.specs.declared.entry.Told.{Told}
 use Rattle.acc_batch.specs.declared.label.Label.{Label}
 use Rattle.acc_batch.specs.declared.label.OpLabel.{OpLabel}
 use Rattle.acc_host.specs.Hosts.{HostView}
@@ -26,7 +26,7 @@ use Rattle.acc_place.specs.Sound.{is_close, CloseLast}
 use Rattle.acc_place.proofs.LastClose.{closes_last}
 use Rattle.acc_core.proofs.StepChanges.{Step-by}
 use Rattle.acc_core.proofs.ClosedState.{legal_close}
-use Rattle.acc_core.proofs.Entries.{rise_accept, rise_item}
+use Rattle.acc_core.proofs.LogEntries.{rise_accept, rise_item}
 use Rattle.acc_core.proofs.NextOfQueue.{next_of_all, next_uses_live}
 use Rattle.acc_core.proofs.AddedLabels.{added, added_filled, labelled_is}
 

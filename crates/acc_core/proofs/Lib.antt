@@ -7,7 +7,7 @@ mod CloseStep
 mod ClosedState
 mod ClosesOne
 mod Enabled
-mod Entries
+mod LogEntries
 mod HavingItems
 mod HostCalls
 mod HostLaws
@@ -15,7 +15,6 @@ mod HostSteps
 mod ItemAnswer
 mod Lanes
 mod LegalSteps
-mod MadeRows
 mod Merged
 mod NextOfQueue
 mod PerformOp

@@ -3,8 +3,8 @@ use Rattle.std.proofs.Common.{◌≡◌, ℕ, ◌+◌, ◌-◌, ◌≤◌, true,
 use Rattle.std.specs.Prelude.{◌==◌}
 use Rattle.std.proofs.lemmas.List.{append_assoc, take-append-le, drop-append-le, take_all, drop_all, length-drop, length_push}
 use Rattle.acc_host.specs.Engines.{HostEntry, Gave, Had}
-use Rattle.acc_work.specs.declared.log.WorkEntry.{WorkEntry}
-use Rattle.acc_work.specs.declared.log.WorkEntry.TheVariants as entry
+use Rattle.acc_batch.specs.declared.entry.WorkEntry.{WorkEntry}
+use Rattle.acc_batch.specs.declared.entry.WorkEntry.TheVariants as entry
 use Rattle.acc_work.specs.Logs.{one_more, items_of, if_one}
 use Rattle.acc_core.specs.Legality.{Rise}
 use Rattle.acc_host.specs.Entries.{Own, items_shown, entries_merged}

@@ -1,33 +1,30 @@
 -- A queue performs an operation.
-use Rattle.std.proofs.Common.{◌≡◌, ℕ, ◌+◌, ◌-◌, ◌<◌, ◌≤◌, true, false, List, [], ◌∷◌, length, refl, sym, ap, subst, ◌∙◌, arith}
+use Rattle.std.proofs.Common.{◌≡◌, ◌<◌, true, false, List, [], ◌∷◌, length, refl, sym, ap, subst, ◌∙◌, arith}
 use Rattle.std.specs.Prelude.{not, ◌&&◌}
-use Rattle.std.proofs.lemmas.List.{length-set}
 use Rattle.acc_base.specs.declared.ids.QueueAt.{QueueAt}
-use Rattle.acc_base.specs.Queues.{seat}
 use Rattle.acc_batch.specs.declared.label.OpLabel.{OpLabel}
-use Rattle.acc_batch.specs.declared.label.OpLabel.TheVariants.{Make, CopyIn, CopyOut, Release, Run, Await, Close}
 use Rattle.acc_batch.specs.Labels.{on_queue, batch_at}
-use Rattle.acc_batch.specs.Lives.{blocks_made, UsesLive}
+use Rattle.acc_batch.specs.Lives.{UsesLive}
+use Rattle.acc_batch.proofs.Seats.{each_seat}
 use Rattle.acc_host.specs.declared.event.Event.TheVariants as event
-use Rattle.acc_core.specs.Machine.{State, is_there, perform_step, queue_step, step, idle, did, ops_left, can_perform, with_op, labels_of, standing_of}
-use Rattle.acc_place.specs.Histories.{is_closed, IsQueue}
-use Rattle.acc_core.specs.inner.Queues.{QueueView, queue_in, queues_with}
+use Rattle.acc_core.specs.Machine.{State, is_there, perform_step, queue_step, step, idle, did, ops_left, can_perform, with_op, labels_of}
+use Rattle.acc_core.specs.inner.Queues.{QueueView, queue_in}
 use Rattle.acc_core.specs.inner.Ties.{IsAccelerator, QueueIs, Queued}
-use Rattle.acc_work.specs.declared.log.WorkEntry.TheVariants as entry
-use Rattle.acc_work.specs.Lanes.{lane_with_left, last_of}
+use Rattle.acc_batch.specs.declared.entry.WorkEntry.TheVariants as entry
+use Rattle.acc_work.specs.Lanes.{no_lane, lane_with_left, last_of}
 use Rattle.acc_work.specs.Logs.{performed, device_ops, await_allows, host_allows}
-use Rattle.acc_memory.specs.Memories.{MemoryView, rows_on, room_on}
 use Rattle.acc_work.specs.Kept.{IsKept}
 use Rattle.acc_work.specs.Remembering.{Remembers}
-use Rattle.acc_work.specs.Works.{WorkView, lane_at, taken_counts, taken_labels, goes_on, is_due, can_go, KeepsOrder, HasPerformed, HasRoomToMake, NextMayFollow}
+use Rattle.acc_work.specs.Works.{WorkView, lane_at, taken_counts, taken_labels, goes_on, is_due, can_go, KeepsOrder, HasPerformed, Performs}
+use Rattle.acc_work.specs.declared.work.Done.{Done}
+use Rattle.acc_work.specs.declared.work.Done.TheVariants as done
 use Rattle.acc_work.proofs.LaneChanges.{count_kept}
 use Rattle.acc_core.proofs.BatchesDone.{awaits_taken}
 use Rattle.acc_core.proofs.LegalSteps.{legal_performed, legal_taken}
-use Rattle.acc_work.proofs.KeptSteps.{Advanced, Waited, next_batch}
+use Rattle.acc_work.proofs.KeptSteps.{Advanced, Waited, has_advanced, has_waited, next_batch}
 use Rattle.acc_work.proofs.RemembersWork.{can_go_on}
 use Rattle.acc_core.proofs.NextOfQueue.{next_uses_live}
-use Rattle.acc_core.proofs.MadeRows.{length_rows}
-use Rattle.acc_core.proofs.Seats.{IsSeated, both_changed, room_changed, waiting_changed, waiting_low}
+use Rattle.acc_core.proofs.Seats.{IsSeated}
 use Rattle.acc_core.proofs.TakeBatch.{with_taken, lane_is_rest}
 
 -- What a work side keeps, by `Work::keeps`.
@@ -40,127 +37,84 @@ pub record KeepsWork (v : WorkView) : Type 0 where
 abbrev pub with_work : State → WorkView → State
 with_work w v = record w { work = v.work }
 
--- an operation makes one block at most
-makes_one : (op : OpLabel) → length (blocks_made (op ∷ [])) ≤ 1
-makes_one (Make b r) = omega arith
-makes_one (CopyIn b r) = omega arith
-makes_one (CopyOut b r) = omega arith
-makes_one (Release b) = omega arith
-makes_one (Run k uses) = omega arith
-makes_one (Await q n) = omega arith
-makes_one Close = omega arith
-
--- what is left in a lane is waiting
-pub lane_waits : (w : State) (v : WorkView) (queues : List QueueView) (waiting : ℕ) (at : QueueAt) → IsSeated w.config.devices v queues at → Queued w v queues waiting → length (lane_at v at).left ≤ waiting
-lane_waits w v queues waiting at s q = (let h = q.each at in omega (arith, h.counted, waiting_low queues at s.queue s.held, q.all_waiting))
-
--- there is room for the block that an operation makes, where there is for one more
-room_to_make : (m : MemoryView) (d : ℕ) (op : OpLabel) → length (rows_on m d) + 1 ≤ room_on m d → HasRoomToMake m d op
-room_to_make m d (Make b r) more = omega (arith, more)
-room_to_make m d (CopyIn b r) more = tt
-room_to_make m d (CopyOut b r) more = tt
-room_to_make m d (Release b) more = tt
-room_to_make m d (Run k uses) more = tt
-room_to_make m d (Await q n) more = tt
-room_to_make m d Close more = tt
-
--- there is room for the next operation
-pub next_may_follow : (w : State) (v : WorkView) (queues : List QueueView) (waiting : ℕ) (at : QueueAt) → IsSeated w.config.devices v queues at → Queued w v queues waiting → v.work ≡ w.work → NextMayFollow v at (lane_at v at).left
-next_may_follow w v queues waiting at s q same = may (lane_at v at).left refl
-  where
-    may : (ops : List OpLabel) → (lane_at v at).left ≡ ops → NextMayFollow v at ops
-    may [] e = tt
-    may (op ∷ ops) e =
-        let waits : 1 ≤ waiting = omega (arith, ap length e, lane_waits w v queues waiting at s q) in
-        record {
-          block = room_to_make v.memory at.device op (omega (arith, q.block_room at.device s.device, waits));
-          room = omega (arith, q.log_room, ap length same, waits);
-        }
-
 -- the machine lets the next operation be performed where the work side does
-pub goes_next : (w : State) (v : WorkView) (queues : List QueueView) (waiting : ℕ) (at : QueueAt) (op : OpLabel) (ops : List OpLabel) → Queued w v queues waiting → KeepsOrder v → (lane_at v at).left ≡ op ∷ ops → v.work ≡ w.work
+pub goes_next : (w : State) (v : WorkView) (queues : List QueueView) (at : QueueAt) (op : OpLabel) (ops : List OpLabel) → Queued w v queues → KeepsOrder v → (lane_at v at).left ≡ op ∷ ops → v.work ≡ w.work
     → can_perform (labels_of w) w.work at op ≡ goes_on v at (op ∷ ops)
-goes_next w v queues waiting at op ops q k e same =
+goes_next w v queues at op ops q k e same =
     let lane = lane_at v at in
     let o = k.order at in
     let some : 0 < length lane.left = omega (arith, ap length e) in
     let next = next_batch lane (queue_in queues at).held (performed at v.work) o.batches o.in_order some in
     let batch = ap (λ work. batch_at (on_queue at (labels_of w)) (length (performed at work))) (sym same) ∙ (ap (λ ls. batch_at ls (length (performed at v.work))) (q.each at).split ∙ next) in
-    ap (λ b. b && host_allows (batch_at (on_queue at (labels_of w)) (length (performed at w.work))) w.work) (sym (awaits_taken w v queues waiting at.device op q k same))
+    ap (λ b. b && host_allows (batch_at (on_queue at (labels_of w)) (length (performed at w.work))) w.work) (sym (awaits_taken w v queues at.device op q k same))
     ∙ ap (λ b. await_allows (taken_labels v) v.work at.device op && b) (ap (λ l. host_allows l w.work) batch ∙ ap (host_allows (last_of lane.taken)) (sym same))
     ∙ sym (ap (λ out. not out && is_due v at op) (q.each at).in_place)
 
 -- The work side performs it at the same time: as it uses live blocks, it is never held back for want of one.
-can_next : (w : State) (v : WorkView) (queues : List QueueView) (waiting : ℕ) (at : QueueAt) (op : OpLabel) (ops : List OpLabel) → IsSeated w.config.devices v queues at → IsAccelerator (with_taken w v) v queues waiting → KeepsWork v → v.work ≡ w.work
+can_next : (w : State) (v : WorkView) (queues : List QueueView) (at : QueueAt) (op : OpLabel) (ops : List OpLabel) → IsSeated w.config.devices v queues at → IsAccelerator (with_taken w v) v queues → KeepsWork v → v.work ≡ w.work
     → (lane_at v at).left ≡ op ∷ ops → can_perform (labels_of w) w.work at op ≡ can_go v at (op ∷ ops)
-can_next w v queues waiting at op ops s a k same e =
+can_next w v queues at op ops s a k same e =
     let next = lane_is_rest (with_taken w v) v queues at (queue_in queues at) s (a.parts.each at) k.order same ∙ e in
     let uses : UsesLive v.arrays op (device_ops at.device v.work) = rw (a.opening, same) (next_uses_live (with_taken w v) at op ops a.legal next) in
-    goes_next (with_taken w v) v queues waiting at op ops a.parts k.order e same ∙ sym (can_go_on v.arrays v at op ops k.memory k.kept.live_blocks uses)
+    goes_next (with_taken w v) v queues at op ops a.parts k.order e same ∙ sym (can_go_on v.arrays v at op ops k.memory k.kept.live_blocks uses)
 
 -- as many batches are taken where one more operation is performed
 taken_stays : (v v' : WorkView) (queues : List QueueView) (w : State) (at : QueueAt) (op : OpLabel) (ops : List OpLabel) → IsSeated w.config.devices v queues at → HasPerformed v v' at op ops → taken_counts v' ≡ taken_counts v
 taken_stays v v' queues w at op ops s h = ap (λ lanes. taken_counts (record v { lanes = lanes })) h.lanes ∙ count_kept v.lanes at (lane_with_left (lane_at v at) ops) s.queue s.lane refl
 
-pub performs_did : (w : State) (v v' : WorkView) (queues : List QueueView) (waiting : ℕ) (at : QueueAt) → IsSeated w.config.devices v queues at → IsAccelerator (with_taken w v) v queues waiting → KeepsWork v → v.work ≡ w.work
+pub performs_did : (w : State) (v v' : WorkView) (queues : List QueueView) (at : QueueAt) → IsSeated w.config.devices v queues at → IsAccelerator (with_taken w v) v queues → KeepsWork v → v.work ≡ w.work
     → is_there w at ≡ true → Advanced v v' at → step false (with_taken w v) (event.Perform at) ≡ did (with_work (with_taken w v') v')
-performs_did w v v' queues waiting at s a k same there d =
+performs_did w v v' queues at s a k same there d =
     let next = lane_is_rest (with_taken w v) v queues at (queue_in queues at) s (a.parts.each at) k.order same ∙ d.left in
-    let allowed = can_next w v queues waiting at d.op d.ops s a k same d.left ∙ d.can in
+    let allowed = can_next w v queues at d.op d.ops s a k same d.left ∙ d.can in
     rw (there, next, allowed, taken_stays v v' queues w at d.op d.ops s d.performed, d.performed.work, same) refl
 
-pub performed_more : (w : State) (v v' : WorkView) (queues : List QueueView) (waiting : ℕ) (at : QueueAt) → IsSeated w.config.devices v queues at → IsAccelerator (with_taken w v) v queues waiting → KeepsWork v → v.work ≡ w.work → Advanced v v' at
-    → IsAccelerator (with_work (with_taken w v') v') v' (queues_with queues at (record (queue_in queues at) { waiting = (queue_in queues at).waiting - 1 })) (waiting - 1)
-performed_more w v v' queues waiting at s a k same d =
+pub performed_more : (w : State) (v v' : WorkView) (queues : List QueueView) (at : QueueAt) → IsSeated w.config.devices v queues at → IsAccelerator (with_taken w v) v queues → KeepsWork v → v.work ≡ w.work → Advanced v v' at
+    → IsAccelerator (with_work (with_taken w v') v') v' queues
+performed_more w v v' queues at s a k same d =
     let w0 = with_taken w v in
     let q = a.parts in
-    let queue = queue_in queues at in
-    let new : QueueView = record queue { waiting = queue.waiting - 1 } in
     let lane = lane_at v at in
     let h = q.each at in
-    let next = lane_is_rest w0 v queues at queue s h k.order same ∙ d.left in
-    let allowed = can_next w v queues waiting at d.op d.ops s a k same d.left ∙ d.can in
-    let left : length lane.left ≡ 1 + length d.ops = omega (arith, ap length d.left) in
-    let waits : 1 ≤ queue.waiting = omega (arith, h.counted, left) in
-    let all : queue.waiting ≤ waiting = omega (arith, waiting_low queues at s.queue s.held, q.all_waiting) in
-    let work : v'.work ≡ entry.Op at d.op ∷ w.work = d.performed.work ∙ ap (λ r. entry.Op at d.op ∷ r) same in
     let labels = labels_of w in
-    let each = both_changed (λ other l k. QueueIs w.config labels other l k) (λ other l k. QueueIs w.config labels other l k) v.lanes queues at (lane_with_left lane d.ops) new s.queue s.lane s.held q.each
-    (record { split = h.split; counted = omega (arith, h.counted, left); held_low = h.held_low; lane_room = h.lane_room; in_place = refl }) (λ other differ l k same. same) in
-    let sum = waiting_changed queues at new s.queue s.held in
-    let room =
-    both_changed (λ other l k. IsQueue w.config other → is_closed (standing_of w) other ≡ false → length l.taken + length k.held < l.room)
-    (λ other l k. IsQueue w.config other → is_closed (standing_of w) other ≡ false → length l.taken + length k.held < l.room) v.lanes queues at (lane_with_left lane d.ops) new s.queue s.lane s.held q.close_room
-    (λ there early. q.close_room at there early) (λ other differ l k same. same) in
-    subst (λ log. IsAccelerator (record w { taken = taken_counts v'; work = log }) v' (queues_with queues at new) (waiting - 1)) (sym work) (record {
+    let next = lane_is_rest w0 v queues at (queue_in queues at) s h k.order same ∙ d.left in
+    let allowed = can_next w v queues at d.op d.ops s a k same d.left ∙ d.can in
+    let work : v'.work ≡ entry.Op at d.op ∷ w.work = d.performed.work ∙ ap (λ r. entry.Op at d.op ∷ r) same in
+    let each =
+    each_seat (λ other l. QueueIs w.config labels other l (queue_in queues other)) (λ other l. QueueIs w.config labels other l (queue_in queues other)) no_lane v.lanes at (lane_with_left lane d.ops) s.queue s.lane q.each
+    (record { split = h.split; held_low = h.held_low; in_place = refl }) (λ other differ l kept. kept) in
+    subst (λ log. IsAccelerator (record w { taken = taken_counts v'; work = log }) v' queues) (sym work) (record {
       legal = legal_taken (with_op w0 at d.op) (taken_counts v') (legal_performed w0 at d.op d.ops a.legal next allowed);
       few_items = a.few_items;
       parts = record {
         each = rw d.performed.lanes each;
-        count = length-set queues (seat at) new ∙ q.count;
+        count = q.count;
         devices = d.performed.memory.devices ∙ q.devices;
-        roomy = room_changed w.config.room queues at new s.queue s.held q.roomy refl;
-        all_waiting = omega (arith, q.all_waiting, sum, waits, all);
-        close_room = rw d.performed.lanes room;
+        roomy = q.roomy;
         filled = q.filled;
         hosts = q.hosts;
-        log_room = omega (arith, q.log_room, d.performed.room, waits, all);
-        block_room = λ n low. (let rows = length_rows v v' at d.op d.ops n d.performed in let room = d.performed.memory.room n in omega (arith, q.block_room n low, room, rows, makes_one d.op, waits, all));
       };
       opening = d.performed.opening ∙ a.opening;
     })
 
 -- Where the work side performed none, the machine is idle.
-pub performs_idle : (w : State) (v v' : WorkView) (queues : List QueueView) (waiting : ℕ) (at : QueueAt) → IsSeated w.config.devices v queues at → IsAccelerator (with_taken w v) v queues waiting → KeepsWork v → v.work ≡ w.work
+pub performs_idle : (w : State) (v v' : WorkView) (queues : List QueueView) (at : QueueAt) → IsSeated w.config.devices v queues at → IsAccelerator (with_taken w v) v queues → KeepsWork v → v.work ≡ w.work
     → is_there w at ≡ true → Waited v v' at → step false (with_taken w v) (event.Perform at) ≡ idle (with_taken w v)
-performs_idle w v v' queues waiting at s a k same there none =
+performs_idle w v v' queues at s a k same there none =
     rw (there, lane_is_rest (with_taken w v) v queues at (queue_in queues at) s (a.parts.each at) k.order same) (by_left (lane_at v at).left refl)
   where
     by_left : (left : List OpLabel) → (lane_at v at).left ≡ left → perform_step (with_taken w v) (labels_of w) at left ≡ idle (with_taken w v)
     by_left [] e = refl
     by_left (op ∷ ops) e =
-        let allowed = can_next w v queues waiting at op ops s a k same e ∙ rw e at none.cannot in
+        let allowed = can_next w v queues at op ops s a k same e ∙ rw e at none.cannot in
         rw allowed refl
+
+-- Whatever it answers, what holds of an accelerator goes on to hold.
+pub keeps_performed : (w : State) (v v' : WorkView) (queues : List QueueView) (at : QueueAt) (answer : Done) → IsSeated w.config.devices v queues at → IsAccelerator (with_taken w v) v queues → KeepsWork v → v.work ≡ w.work → Performs v at answer v'
+    → IsAccelerator (with_work (with_taken w v') v') v' queues
+keeps_performed w v v' queues at done.Op s a k same p = performed_more w v v' queues at s a k same (has_advanced v v' at p)
+keeps_performed w v v' queues at done.Idle s a k same p =
+    subst (λ x. IsAccelerator (with_work (with_taken w x) x) x queues) (sym (has_waited v v' at p).same) (subst (λ log. IsAccelerator (record (with_taken w v) { work = log }) v queues) (sym same) a)
 
 -- a queue that isn't there performs none
 pub performs_absent : (w : State) (at : QueueAt) → is_there w at ≡ false → step false w (event.Perform at) ≡ idle w

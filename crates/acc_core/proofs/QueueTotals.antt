@@ -1,38 +1,44 @@
--- How many operations were placed on a queue, and how many of these are performed.
-use Rattle.std.proofs.Common.{◌≡◌, ℕ, zero, suc, ◌+◌, ◌≤◌, true, false, cond, List, [], ◌∷◌, length, ap, arith}
-use Rattle.std.specs.Prelude.{nat_lt, slice_index_or}
-use Rattle.std.specs.List.{sum_by}
-use Rattle.std.proofs.lemmas.List.Sums.{sum_by-cons}
+-- How many operations were placed on a queue, and whether one of these isn't performed.
+use Rattle.std.proofs.Common.{◌≡◌, ◌+◌, ◌<◌, true, List, [], ◌∷◌, length, refl, sym, ap, ◌∙◌, arith}
+use Rattle.std.specs.Prelude.{nat_lt}
+use Rattle.std.proofs.lemmas.Bool.{le-ltb, lt-ltb}
 use Rattle.std.proofs.lemmas.List.{length-append}
 use Rattle.acc_base.specs.declared.ids.QueueAt.{QueueAt}
-use Rattle.acc_base.specs.declared.ids.TheConstants.{QUEUES}
-use Rattle.acc_base.specs.Queues.{seat}
+use Rattle.acc_batch.specs.declared.label.Label.{Label}
 use Rattle.acc_batch.specs.Labels.{on_queue, ops_of}
 use Rattle.acc_batch.proofs.Labels.{ops_of-append}
 use Rattle.acc_core.specs.Machine.{State, labels_of}
-use Rattle.acc_core.specs.inner.Queues.{QueueView, no_queue, queue_in}
+use Rattle.acc_core.specs.inner.Queues.{QueueView, queue_in}
 use Rattle.acc_core.specs.inner.Ties.{Queued}
+use Rattle.acc_work.specs.Enabled.{has_left}
 use Rattle.acc_work.specs.Logs.{performed}
 use Rattle.acc_work.specs.Works.{WorkView, KeepsOrder, lane_at}
+use Rattle.acc_core.proofs.BatchesDone.{held_filled}
+use Rattle.acc_core.proofs.Lanes.{few_batches}
 
--- those that are performed, and those that wait
-pub operations_are : (w : State) (v : WorkView) (queues : List QueueView) (waiting : ℕ) (at : QueueAt) → Queued w v queues waiting → KeepsOrder v → v.work ≡ w.work
-    → length (performed at w.work) + (queue_in queues at).waiting ≡ length (ops_of (on_queue at (labels_of w)))
-operations_are w v queues waiting at q k same =
+-- those that are performed, those that are left in the lane, and those of the batches that the queue holds
+operations_are : (w : State) (v : WorkView) (queues : List QueueView) (at : QueueAt) → Queued w v queues → KeepsOrder v → v.work ≡ w.work
+    → length (performed at w.work) + length (lane_at v at).left + length (ops_of (queue_in queues at).held) ≡ length (ops_of (on_queue at (labels_of w)))
+operations_are w v queues at q k same =
     let lane = lane_at v at in
     let held = (queue_in queues at).held in
-    let h = q.each at in
     let done : length (performed at v.work) + length lane.left ≡ length (ops_of lane.taken) = omega (arith, length-append (performed at v.work) lane.left, ap length (k.order at).in_order) in
-    let all : length (ops_of (on_queue at (labels_of w))) ≡ length (ops_of lane.taken) + length (ops_of held) =
-    omega (arith, ap (λ ls. length (ops_of ls)) h.split, ap length (ops_of-append lane.taken held), length-append (ops_of lane.taken) (ops_of held)) in
-    omega (arith, h.counted, done, all, ap (λ work. length (performed at work)) same)
+    omega (arith, ap (λ ls. length (ops_of ls)) (q.each at).split, ap length (ops_of-append lane.taken held), length-append (ops_of lane.taken) (ops_of held), done, ap (λ work. length (performed at work)) same)
 
--- no queue has more waiting than all, also one that isn't there
-pub waiting_most : (queues : List QueueView) (at : QueueAt) → (queue_in queues at).waiting ≤ sum_by (λ (q : QueueView). q.waiting) queues
-waiting_most queues at =
-    elim (nat_lt at.queue QUEUES) as (λ b. (cond b (slice_index_or queues (seat at) no_queue) no_queue).waiting ≤ sum_by (λ (q : QueueView). q.waiting) queues) [ true ↦ each queues (seat at) | false ↦ omega arith ]
+-- One isn't performed where its lane has one, or the queue holds a batch.
+pub left_there : (w : State) (v : WorkView) (queues : List QueueView) (at : QueueAt) → Queued w v queues → KeepsOrder v → v.work ≡ w.work → 0 < length (lane_at v at).left + length (queue_in queues at).held
+    → has_left (labels_of w) w.work at ≡ true
+left_there w v queues at q k same some =
+    lt-ltb (length (performed at w.work)) (length (ops_of (on_queue at (labels_of w))))
+    (omega (arith, operations_are w v queues at q k same, few_batches (queue_in queues at).held (held_filled w v queues at q), some))
+
+-- Where its lane has none, one is left where the queue holds a batch.
+pub left_by_held : (w : State) (v : WorkView) (queues : List QueueView) (at : QueueAt) → Queued w v queues → KeepsOrder v → v.work ≡ w.work → length (lane_at v at).left ≡ 0
+    → has_left (labels_of w) w.work at ≡ nat_lt 0 (length (queue_in queues at).held)
+left_by_held w v queues at q k same none = by_held (queue_in queues at).held refl
   where
-    each : (qs : List QueueView) (n : ℕ) → (slice_index_or qs n no_queue).waiting ≤ sum_by (λ (q : QueueView). q.waiting) qs
-    each [] n = omega arith
-    each (q ∷ qs) zero = omega (arith, sum_by-cons (λ (k : QueueView). k.waiting) q qs)
-    each (q ∷ qs) (suc n) = omega (arith, sum_by-cons (λ (k : QueueView). k.waiting) q qs, each qs n)
+    by_held : (held : List Label) → (queue_in queues at).held ≡ held → has_left (labels_of w) w.work at ≡ nat_lt 0 (length held)
+    by_held [] empty =
+        le-ltb (length (performed at w.work)) (length (ops_of (on_queue at (labels_of w))))
+        (omega (arith, operations_are w v queues at q k same, none, ap (λ ls. length (ops_of ls)) empty))
+    by_held (l ∷ ls) first = left_there w v queues at q k same (omega (arith, ap length first)) ∙ sym (lt-ltb 0 (length (l ∷ ls)) (omega arith))

@@ -1,10 +1,8 @@
 -- The queues and their lanes, of which those of one queue change.
-use Rattle.std.proofs.Common.{inl, inr, ◌≡◌, ℕ, ◌+◌, ◌<◌, ◌≤◌, true, false, List, length, sym, ap, subst, ◌∙◌, arith}
+use Rattle.std.proofs.Common.{inl, inr, ◌≡◌, ℕ, ◌<◌, ◌≤◌, true, false, List, length, sym, ap, subst, arith}
 use Rattle.std.specs.Prelude.{All, nat_lt, slice_index_or}
-use Rattle.std.specs.List.{sum_by}
 use Rattle.std.proofs.lemmas.Bool.{cases_Bool, and_parts, ltb-true}
 use Rattle.std.proofs.lemmas.List.Elements.{All-get_or, All-set}
-use Rattle.std.proofs.lemmas.List.Sums.{sum_by-set}
 use Rattle.acc_base.specs.declared.ids.QueueAt.{QueueAt}
 use Rattle.acc_base.specs.declared.ids.TheConstants.{QUEUES}
 use Rattle.acc_base.specs.Queues.{same_queue, seat}
@@ -24,8 +22,8 @@ pub record IsSeated (devices : ℕ) (v : WorkView) (queues : List QueueView) (at
   pub lane : seat at < length v.lanes
   pub held : seat at < length queues
 
-pub seated : (w : State) (v : WorkView) (queues : List QueueView) (waiting : ℕ) (at : QueueAt) → Queued w v queues waiting → KeepsOrder v → at.device < w.config.devices → at.queue < QUEUES → IsSeated w.config.devices v queues at
-seated w v queues waiting at q k device queue = record {
+pub seated : (w : State) (v : WorkView) (queues : List QueueView) (at : QueueAt) → Queued w v queues → KeepsOrder v → at.device < w.config.devices → at.queue < QUEUES → IsSeated w.config.devices v queues at
+seated w v queues at q k device queue = record {
   device = device;
   queue = queue;
   has = (omega (arith, device, q.devices), queue);
@@ -33,10 +31,10 @@ seated w v queues waiting at q k device queue = record {
   held = omega (arith, device, queue, q.count);
 }
 
-pub seated_there : (w : State) (v : WorkView) (queues : List QueueView) (waiting : ℕ) (at : QueueAt) → Queued w v queues waiting → KeepsOrder v → is_there w at ≡ true → IsSeated w.config.devices v queues at
-seated_there w v queues waiting at q k there =
+pub seated_there : (w : State) (v : WorkView) (queues : List QueueView) (at : QueueAt) → Queued w v queues → KeepsOrder v → is_there w at ≡ true → IsSeated w.config.devices v queues at
+seated_there w v queues at q k there =
     let both = and_parts (nat_lt at.device w.config.devices) (nat_lt at.queue QUEUES) there in
-    seated w v queues waiting at q k (ltb-true at.device w.config.devices both.0) (ltb-true at.queue QUEUES both.1)
+    seated w v queues at q k (ltb-true at.device w.config.devices both.0) (ltb-true at.queue QUEUES both.1)
 
 -- What holds of each queue and its lane, where those of one queue change.
 pub both_changed : (P Q : QueueAt → LaneView → QueueView → Type 0) (lanes : List LaneView) (queues : List QueueView) (at : QueueAt) (lane : LaneView) (queue : QueueView)
@@ -51,17 +49,6 @@ both_changed P Q lanes queues at lane queue low there held all mine others other
       subst (λ l. Q other l (queue_in (queues_with queues at queue) other)) (sym (seat_kept no_lane lanes at other lane low differ))
       (subst (Q other (lane_in lanes other)) (sym (seat_kept no_queue queues at other queue low differ)) (others other differ (lane_in lanes other) (queue_in queues other) (all other)))
 ]
-
--- how many operations wait on all queues, where one of them has more or fewer
-pub waiting_changed : (queues : List QueueView) (at : QueueAt) (queue : QueueView) → at.queue < QUEUES → seat at < length queues
-    → sum_by (λ (q : QueueView). q.waiting) (queues_with queues at queue) + (queue_in queues at).waiting ≡ sum_by (λ (q : QueueView). q.waiting) queues + queue.waiting
-waiting_changed queues at queue low there =
-    ap (λ (q : QueueView). sum_by (λ (k : QueueView). k.waiting) (queues_with queues at queue) + q.waiting) (seat_there no_queue queues at low)
-    ∙ sum_by-set (λ (q : QueueView). q.waiting) queues (seat at) queue no_queue there
-
--- no queue has more than all
-pub waiting_low : (queues : List QueueView) (at : QueueAt) → at.queue < QUEUES → seat at < length queues → (queue_in queues at).waiting ≤ sum_by (λ (q : QueueView). q.waiting) queues
-waiting_low queues at low there = omega (arith, waiting_changed queues at no_queue low there)
 
 -- the room of the queues, where one of them has as much as before
 pub room_changed : (room : ℕ) (queues : List QueueView) (at : QueueAt) (queue : QueueView) → at.queue < QUEUES → seat at < length queues → All (λ (q : QueueView). room ≤ q.room) queues

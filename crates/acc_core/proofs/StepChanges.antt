@@ -14,8 +14,8 @@ use Rattle.acc_host.specs.Steps.{Want, stays, sets, refuses, places, awaits, rec
 use Rattle.acc_work.specs.declared.item.ItemLabel.{ItemLabel}
 use Rattle.acc_work.specs.declared.item.ItemLabel.TheVariants as to_record
 use Rattle.acc_work.specs.declared.item.Shown.{Shown}
-use Rattle.acc_work.specs.declared.log.Told.{Told}
-use Rattle.acc_work.specs.declared.log.Told.TheVariants as told
+use Rattle.acc_batch.specs.declared.entry.Told.{Told}
+use Rattle.acc_batch.specs.declared.entry.Told.TheVariants as told
 use Rattle.acc_work.specs.declared.log.TheConstants.{MAX_HOST_ITEMS}
 use Rattle.acc_batch.specs.declared.label.OpLabel.{OpLabel}
 use Rattle.acc_place.specs.Accepting.{refusal}

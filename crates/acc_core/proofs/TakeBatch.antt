@@ -1,5 +1,5 @@
 -- A queue takes a batch.
-use Rattle.std.proofs.Common.{◌≡◌, ℕ, true, false, cond, refl, ◌+◌, ◌<◌, List, [], ◌∷◌, ◌++◌, length, take, drop, sym, ap, ◌∙◌, arith}
+use Rattle.std.proofs.Common.{◌≡◌, true, false, cond, refl, ◌+◌, ◌<◌, List, [], ◌∷◌, ◌++◌, length, take, drop, sym, ap, ◌∙◌, arith}
 use Rattle.std.specs.Prelude.{Contains, nat_lt, slice_set, ◌==◌}
 use Rattle.std.proofs.lemmas.Bool.{lt-ltb, le-ltb}
 use Rattle.std.proofs.lemmas.List.{append_assoc, get_or-map, length-append, length-set, map-set}
@@ -15,15 +15,14 @@ use Rattle.acc_batch.specs.declared.label.OpLabel.{OpLabel}
 use Rattle.acc_batch.specs.Labels.{on_queue, ops_of}
 use Rattle.acc_batch.proofs.Seats.{seat_there}
 use Rattle.acc_host.specs.declared.event.Event.TheVariants as event
-use Rattle.acc_core.specs.Machine.{State, did, idle, is_there, taken_on, batches_held, ops_left, queue_step, step, take_step, labels_of, standing_of}
-use Rattle.acc_place.specs.Histories.{is_closed, IsQueue}
+use Rattle.acc_core.specs.Machine.{State, did, idle, is_there, taken_on, batches_held, ops_left, queue_step, step, take_step, labels_of}
 use Rattle.acc_core.specs.inner.Queues.{QueueView, queue_in, queues_with}
 use Rattle.acc_core.specs.inner.Ties.{QueueIs, Queued}
 use Rattle.acc_work.specs.Lanes.{LaneView, no_lane, lane_with_batch, lanes_with}
 use Rattle.acc_work.specs.Logs.{performed}
 use Rattle.acc_work.specs.Works.{WorkView, KeepsOrder, lane_at, taken_counts}
 use Rattle.acc_core.proofs.Lanes.{left_is}
-use Rattle.acc_core.proofs.Seats.{IsSeated, both_changed, room_changed, waiting_changed}
+use Rattle.acc_core.proofs.Seats.{IsSeated, both_changed, room_changed}
 
 -- the state where the queues took what their lanes say
 abbrev pub with_taken : State → WorkView → State
@@ -58,43 +57,32 @@ taken_with w v at b low there =
     let more : taken_on (with_taken w v) at + 1 ≡ length ((lane_at v at).taken ++ b ∷ []) = omega (arith, taken_is w v at low there, length-append (lane_at v at).taken (b ∷ [])) in
     ap (λ n. slice_set (taken_counts v) (seat at) n) more ∙ sym (map-set (λ (l : LaneView). length l.taken) v.lanes (seat at) (lane_with_batch (lane_at v at) b))
 
-pub taken_more : (w : State) (v : WorkView) (queues : List QueueView) (waiting : ℕ) (at : QueueAt) (b : Label) (more : List Label) → IsSeated w.config.devices v queues at → Queued w v queues waiting → (lane_at v at).left ≡ []
-    → (queue_in queues at).held ≡ b ∷ more → Queued (with_taken w (filled_with v at b)) (filled_with v at b) (queues_with queues at (record (queue_in queues at) { held = more })) waiting
-taken_more w v queues waiting at b more s q none first =
+pub taken_more : (w : State) (v : WorkView) (queues : List QueueView) (at : QueueAt) (b : Label) (more : List Label) → IsSeated w.config.devices v queues at → Queued w v queues → (queue_in queues at).held ≡ b ∷ more
+    → Queued (with_taken w (filled_with v at b)) (filled_with v at b) (queues_with queues at (record (queue_in queues at) { held = more }))
+taken_more w v queues at b more s q first =
     let lane = lane_at v at in
     let queue = queue_in queues at in
     let new : QueueView = record queue { held = more } in
     let h = q.each at in
-    let sum = waiting_changed queues at new s.queue s.held in
     record {
       each = both_changed (λ other l k. QueueIs w.config (labels_of w) other l k) (λ other l k. QueueIs w.config (labels_of w) other l k) v.lanes queues at (lane_with_batch lane b) new s.queue s.lane s.held q.each
           (record {
             split = h.split ∙ (ap (λ ls. lane.taken ++ ls) first ∙ sym (append_assoc lane.taken (b ∷ []) more));
-            counted = omega (arith, h.counted, ap length none, ap (λ ls. length (ops_of ls)) first, length-append b.ops (ops_of more));
             held_low = omega (arith, h.held_low, ap length first);
-            lane_room = omega (arith, h.lane_room, ap length first, length-append lane.taken (b ∷ []));
             in_place = refl;
           })
           (λ other differ l k same. same);
       count = length-set queues (seat at) new ∙ q.count;
       devices = q.devices;
       roomy = room_changed w.config.room queues at new s.queue s.held q.roomy refl;
-      all_waiting = omega (arith, q.all_waiting, sum);
-      close_room =
-          both_changed (λ other l k. IsQueue w.config other → is_closed (standing_of w) other ≡ false → length l.taken + length k.held < l.room)
-          (λ other l k. IsQueue w.config other → is_closed (standing_of w) other ≡ false → length l.taken + length k.held < l.room) v.lanes queues at (lane_with_batch lane b) new s.queue s.lane s.held q.close_room
-          (λ there early. omega (arith, q.close_room at there early, ap length first, length-append lane.taken (b ∷ [])))
-          (λ other differ l k same. same);
       filled = q.filled;
       hosts = q.hosts;
-      log_room = q.log_room;
-      block_room = q.block_room;
     }
 
 -- and the machine says that it did
-pub takes_did : (w : State) (v : WorkView) (queues : List QueueView) (waiting : ℕ) (at : QueueAt) (b : Label) (more : List Label) → IsSeated w.config.devices v queues at → Queued w v queues waiting → KeepsOrder v → v.work ≡ w.work
+pub takes_did : (w : State) (v : WorkView) (queues : List QueueView) (at : QueueAt) (b : Label) (more : List Label) → IsSeated w.config.devices v queues at → Queued w v queues → KeepsOrder v → v.work ≡ w.work
     → is_there w at ≡ true → (lane_at v at).left ≡ [] → (queue_in queues at).held ≡ b ∷ more → step false (with_taken w v) (event.Take at) ≡ did (with_taken w (filled_with v at b))
-takes_did w v queues waiting at b more s q k same there none first =
+takes_did w v queues at b more s q k same there none first =
     let now = with_taken w v in
     let queue = queue_in queues at in
     let h = q.each at in
@@ -110,9 +98,9 @@ pub takes_absent : (w : State) (at : QueueAt) → is_there w at ≡ false → st
 takes_absent w at e = ap (λ there. queue_step there w (take_step w (labels_of w) at (ops_left w (labels_of w) at))) e
 
 -- where something is left in the lane, none is taken
-pub takes_idle : (w : State) (v : WorkView) (queues : List QueueView) (waiting : ℕ) (at : QueueAt) → IsSeated w.config.devices v queues at → Queued w v queues waiting → KeepsOrder v → v.work ≡ w.work → is_there w at ≡ true
+pub takes_idle : (w : State) (v : WorkView) (queues : List QueueView) (at : QueueAt) → IsSeated w.config.devices v queues at → Queued w v queues → KeepsOrder v → v.work ≡ w.work → is_there w at ≡ true
     → (length (lane_at v at).left == 0) ≡ false → step false (with_taken w v) (event.Take at) ≡ idle (with_taken w v)
-takes_idle w v queues waiting at s q k same there some =
+takes_idle w v queues at s q k same there some =
     rw (there, lane_is_rest w v queues at (queue_in queues at) s (q.each at) k same) (by_left (lane_at v at).left refl)
   where
     by_left : (left : List OpLabel) → (lane_at v at).left ≡ left → take_step (with_taken w v) (labels_of w) at left ≡ idle (with_taken w v)
@@ -120,9 +108,9 @@ takes_idle w v queues waiting at s q k same there some =
     by_left (op ∷ ops) e = refl
 
 -- nor where the queue holds none
-pub takes_none : (w : State) (v : WorkView) (queues : List QueueView) (waiting : ℕ) (at : QueueAt) → IsSeated w.config.devices v queues at → Queued w v queues waiting → KeepsOrder v → v.work ≡ w.work → is_there w at ≡ true
+pub takes_none : (w : State) (v : WorkView) (queues : List QueueView) (at : QueueAt) → IsSeated w.config.devices v queues at → Queued w v queues → KeepsOrder v → v.work ≡ w.work → is_there w at ≡ true
     → (lane_at v at).left ≡ [] → (queue_in queues at).held ≡ [] → step false (with_taken w v) (event.Take at) ≡ idle (with_taken w v)
-takes_none w v queues waiting at s q k same there none empty =
+takes_none w v queues at s q k same there none empty =
     let now = with_taken w v in
     let queue = queue_in queues at in
     let h = q.each at in
@@ -137,14 +125,12 @@ pub record CanTake (v : WorkView) (queue : QueueAt) (b : Label) : Type 0 where
   pub at : b.at ≡ queue
   pub host : b.host < MAX_HOSTS
   pub some : 0 < length b.ops
-  pub room : length (lane_at v queue).taken < (lane_at v queue).room
 
-pub can_take : (w : State) (v : WorkView) (queues : List QueueView) (waiting : ℕ) (at : QueueAt) (b : Label) (more : List Label) → Queued w v queues waiting → (queue_in queues at).held ≡ b ∷ more → CanTake v at b
-can_take w v queues waiting at b more q first = record {
+pub can_take : (w : State) (v : WorkView) (queues : List QueueView) (at : QueueAt) (b : Label) (more : List Label) → Queued w v queues → (queue_in queues at).held ≡ b ∷ more → CanTake v at b
+can_take w v queues at b more q first = record {
   at = same_queue_is b.at at mine.0;
   host = All-contains (λ (l : Label). l.host < MAX_HOSTS) (labels_of w) b q.hosts mine.1;
   some = All-contains (λ (l : Label). 0 < length l.ops) (labels_of w) b q.filled mine.1;
-  room = (let h = q.each at in omega (arith, h.lane_room, ap length first));
 }
   where
     split : on_queue at (labels_of w) ≡ (lane_at v at).taken ++ b ∷ more

@@ -21,10 +21,10 @@ use Rattle.acc_host.specs.Steps.{Want, stays, sets, refuses, places, awaits, rec
 use Rattle.acc_work.specs.declared.item.ItemLabel.{ItemLabel}
 use Rattle.acc_work.specs.declared.item.ItemLabel.TheVariants as to_record
 use Rattle.acc_work.specs.declared.item.Shown.{Shown}
-use Rattle.acc_work.specs.declared.log.Told.{Told}
-use Rattle.acc_work.specs.declared.log.Told.TheVariants as told
-use Rattle.acc_work.specs.declared.log.WorkEntry.{WorkEntry}
-use Rattle.acc_work.specs.declared.log.WorkEntry.TheVariants as entry
+use Rattle.acc_batch.specs.declared.entry.Told.{Told}
+use Rattle.acc_batch.specs.declared.entry.Told.TheVariants as told
+use Rattle.acc_batch.specs.declared.entry.WorkEntry.{WorkEntry}
+use Rattle.acc_batch.specs.declared.entry.WorkEntry.TheVariants as entry
 use Rattle.acc_batch.specs.declared.label.Label.{Label}
 use Rattle.acc_batch.specs.declared.label.OpLabel.{OpLabel}
 use Rattle.acc_place.specs.Accepting.{refusal}
@@ -124,7 +124,7 @@ abbrev pub told_of : State → ItemLabel → Told
 told_of w (to_record.Write array cell new_value) = told.Write array cell new_value
 told_of w (to_record.Print range) = told.Print range (values_of (value w.config.arrays w.work) range)
 told_of w (to_record.Seen device counts) = told.Seen device counts
-told_of w (to_record.Test device counts) = told.Test device counts (all_done (labels_of w) w.work device 0 counts)
+told_of w (to_record.Test device counts) = told.Test device (all_done (labels_of w) w.work device 0 counts) counts
 
 -- its cells are there, and what it tells as seen is performed
 abbrev pub can_tell : State → ItemLabel → Bool

@@ -1,32 +1,33 @@
 //! The place, the queues and the work side as one: the machine without its hosts, and their engine.
 
-ghost use Rattle.std.specs.Prelude.{reverse, ◌≡◌, ◌+◌, ◌<◌, ◌≤◌, ℕ, [], length, IfOk, IfErr, IfSome, OnOk, OnErr, OnSome, true, false, is_some, slice_get, IsTrue, ◌^◌, Ok};
+ghost use Rattle.std.specs.Prelude.{reverse, ◌≡◌, ◌+◌, ◌<◌, [], IfOk, IfErr, IfSome, OnOk, OnErr, OnSome, true, false, is_some, slice_get, IsTrue, ◌^◌, Ok};
 ghost use Rattle.acc_base.specs.declared.config.TheConstants.{MAX_HOSTS};
 ghost use Rattle.acc_host.specs.Engines.{Wait, Record, MayRecord, without_item};
 ghost use Rattle.acc_core.specs.inner.Answers.{Makes, Places};
 ghost use Rattle.acc_core.specs.Enabled.{is_enabled, is_left, SomeEnabled};
 ghost use Rattle.acc_core.specs.Legality.{AllRise};
-ghost use Rattle.acc_core.specs.inner.Ties.{HasRoom};
 ghost use Rattle.acc_place.specs.Histories.{is_closed, IsQueue};
 ghost use Rattle.acc_base.specs.Configurations.{has_range};
-ghost use Rattle.acc_base.specs.Queues.{queue_count};
-ghost use Rattle.acc_memory.specs.Memories.{find_block, has_cell, rows_on, room_on};
+ghost use Rattle.acc_memory.specs.Memories.{find_block, has_cell};
 ghost use Rattle.acc_memory.specs.Values.{Block_cell, Host_cell};
-ghost use Rattle.acc_work.specs.Works.{HasMadeRoom, HasQueue, lane_at};
-ghost use Rattle.acc_work.specs.Logs.{all_done, performed, value};
+ghost use Rattle.acc_work.specs.declared.log.TheConstants.{MAX_HOST_ITEMS};
+ghost use Rattle.acc_work.specs.Enabled.{has_left};
+ghost use Rattle.acc_work.specs.Items.{shown_by};
+ghost use Rattle.acc_work.specs.Logs.{all_done, all_items, value};
 ghost use Rattle.acc_work.specs.Remembering.{blocks_in};
 ghost use Rattle.acc_core.specs.inner.Closing.{closing_begun, closes_one};
-ghost use Rattle.acc_core.specs.Machine.{state_at_first, step, standing_of, labels_of};
+ghost use Rattle.acc_core.specs.Machine.{state_at_first, step, standing_of, labels_of, can_tell, told_of, with_item};
 ghost use Rattle.std.specs.Option.{option_map};
 ghost use Rattle.acc_present.specs.Presences.{presences, holder};
 ghost use Rattle.acc_present.specs.Tables.{entry_presence};
 
 use crate::queue::{Queue, queues_of};
 use acc_base::{BlockId, Config, DeviceId, Fault, HostId, QUEUES, QueueAt, QueueCounts, Range};
+use acc_batch::Page;
 use acc_host::{Engine, Reply};
 use acc_place::{Directive, Place, Placed};
 use acc_present::Entry;
-use acc_work::{Done, Item, ItemLabel, Shown, Work, WorkEntry};
+use acc_work::{Done, Item, Shown, Work, WorkLog};
 use std::alloc::Global;
 use std::marker::Model;
 
@@ -38,10 +39,6 @@ pub struct Accelerator {
     work: Work,
     // by device, then in queue order
     queues: Vec<Queue>,
-    // how many operations of all queues were placed and aren't performed, those of the closes to come among them
-    waiting: usize,
-    // how many queues aren't closed
-    unclosed: usize,
 }
 
 impl Model for Accelerator {
@@ -56,14 +53,14 @@ impl Model for Accelerator {
 
     ghost view = { λ a. state_of_parts a.place a.work };
 
-    ghost invariant = { λ a. IsAccelerator (state_of_parts a.place a.work) a.work a.queues.items a.waiting × HasCloses a.place a.unclosed };
+    ghost invariant = { λ a. IsAccelerator (state_of_parts a.place a.work) a.work a.queues.items × HasCloses a.place };
 }
 
 impl Accelerator {
     ghost use Rattle.acc_base.specs.declared.fault.Fault.TheVariants.{Memory as no_memory};
     ghost use Rattle.acc_host.specs.declared.event.Event.TheVariants as event;
 
-    /// Nothing is accepted, performed or shown yet. There is the memory that closing needs.
+    /// Nothing is accepted, performed or shown yet.
     ///
     /// # Errors
     ///
@@ -72,18 +69,14 @@ impl Accelerator {
         ensures opened { IfOk result (λ a. a ≡ state_at_first config []) }
         ensures fault { IfErr result (λ f. f ≡ no_memory) }
     {
-        let mut work = Work::new(alloc, &config)?;
-        let queues = queues_of(alloc, &config)?;
+        let work = Work::new(alloc, &config)?;
         work.keeps();
-        spare_closes(&mut work, &config)?;
-        let waiting = queues.len();
+        let queues = queues_of(alloc, &config)?;
         Ok(Accelerator {
             alloc,
             place: Place::new(alloc, config)?,
             work,
             queues,
-            waiting,
-            unclosed: waiting,
         })
     }
 
@@ -98,15 +91,12 @@ impl Accelerator {
         match plan.take_batch() {
             None => Ok(self.place.accept(plan)),
             Some(batch) => {
-                let QueueAt { device, queue } = batch.label().at;
-                let seat = QueueAt { device, queue }.seat();
-                let count = batch.ops().len();
-                let has_room = self.queues[seat].len() < self.place.config().room() as usize;
-                let at = QueueAt { device, queue };
-                let waiting = room_for(&mut self.work, at, has_room, self.waiting, count)?;
+                let seat = batch.label().at.seat();
+                if self.place.config().room() as usize <= self.queues[seat].len() {
+                    return Err(Fault::QueueFull);
+                }
                 let placed = self.place.accept(plan);
-                self.queues[seat].push(batch, count);
-                self.waiting = waiting;
+                self.queues[seat].push(batch);
                 Ok(placed)
             }
         }
@@ -127,15 +117,13 @@ impl Accelerator {
         ensures refused { OnErr result (self.new ≡ self.old) }
         ensures back { IfErr result (λ r. r.0 ≡ item) }
     {
-        if let Err(fault) = self.work.spare_item(self.waiting) {
-            return Err((item, fault));
+        if self.work.is_full_of_items() {
+            return Err((item, Fault::TooMany));
         }
-        self.work.keeps();
         if !self.work.has_cells(item.label()) {
             return Err((item, Fault::BadRange));
         }
-        self.place.config().keeps();
-        Ok(self.work.host_item(host, item))
+        self.tell(host, item)
     }
 
     // Records that each queue of a device has performed so many batches, if it has.
@@ -148,11 +136,35 @@ impl Accelerator {
         if !self.reached(device, &counts) {
             return Ok(false);
         }
-        self.work.keeps();
+        if self.work.is_full_of_items() {
+            return Err(Fault::TooMany);
+        }
         let item = Item::seen(self.alloc, device, counts)?;
-        self.work.spare_item(self.waiting)?;
-        let _ = self.work.host_item(host, item);
-        Ok(true)
+        match self.tell(host, item) {
+            Ok(_) => Ok(true),
+            Err((_, fault)) => Err(fault),
+        }
+    }
+
+    // Records an item that can be told, while the run may have one more, with a page for the log where it needs one.
+    fn tell(&mut self, host: HostId, item: Item) -> Result<Shown, (Item, Fault)>
+        requires host { host < MAX_HOSTS }
+        requires item { can_tell self.old item ≡ true }
+        requires few { all_items self.old.work < MAX_HOST_ITEMS }
+        ensures told { IfOk result (λ shown. shown ≡ shown_by (told_of self.old item)) }
+        ensures recorded { OnOk result (self.new ≡ with_item self.old host (told_of self.old item)) }
+        ensures refused { OnErr result (self.new ≡ self.old) }
+        ensures back { IfErr result (λ r. r ≡ (item, no_memory)) }
+    {
+        self.work.keeps();
+        self.place.config().keeps();
+        match self.work.try_item(host, item) {
+            Ok(shown) => Ok(shown),
+            Err(item) => match Page::new(self.alloc, 1) {
+                Ok(page) => Ok(self.work.host_item(host, item, page)),
+                Err(fault) => Err((item, fault)),
+            },
+        }
     }
 
     /// The structured and the dynamic counter on a device of the range, or of the present range that contains it.
@@ -196,8 +208,8 @@ impl Accelerator {
     }
 
     /// What was performed and shown so far, the first entry first.
-    pub(crate) fn log(&self) -> &[WorkEntry]
-        ensures { result.now ≡ reverse self.now.work }
+    pub(crate) fn log(&self) -> &WorkLog
+        ensures { result.now.items ≡ reverse self.now.work }
     {
         self.work.log()
     }
@@ -241,13 +253,8 @@ impl Accelerator {
             return Reply::Idle;
         }
         self.work.keeps();
-        let seat = QueueAt { device, queue }.seat();
         match self.work.perform(QueueAt { device, queue }) {
-            Done::Op => {
-                self.queues[seat].count_performed();
-                self.waiting -= 1;
-                Reply::Did
-            }
+            Done::Op => Reply::Did,
             Done::Idle => Reply::Idle,
         }
     }
@@ -292,8 +299,7 @@ impl Accelerator {
                     return false;
                 }
                 self.place.close_done(QueueAt { device, queue });
-                self.queues[seat].push(batch, 1);
-                self.unclosed -= 1;
+                self.queues[seat].push(batch);
                 true
             }
         }
@@ -319,12 +325,31 @@ impl Accelerator {
         ensures left { result ≡ is_left self.now }
         ensures enabled { IsTrue result → SomeEnabled self.now }
     {
+        let _ = &self.work;
+        for index in 0..u16::from(self.config().devices()) * u16::from(QUEUES) {
+            if self.is_left(QueueAt::at_seat(index)) {
+                return true;
+            }
+        }
+        false
+    }
+
+    // Whether an operation of a queue was placed and isn't performed: in its lane, or in a batch that it holds.
+    fn is_left(&self, at: QueueAt) -> bool
+        requires { IsQueue self.now.config at }
+        ensures { result ≡ has_left (labels_of self.now) self.now.work at }
+    {
         self.work.keeps();
-        self.waiting > self.unclosed
+        let QueueAt { device, queue } = at;
+        let seat = QueueAt { device, queue }.seat();
+        if self.work.ops_left(QueueAt { device, queue }) > 0 {
+            return true;
+        }
+        self.queues[seat].len() > 0
     }
 
     /// The place, and the work log with the latest entry last.
-    pub(crate) fn into_parts(self) -> (Place, Vec<WorkEntry>)
+    pub(crate) fn into_parts(self) -> (Place, WorkLog)
         ensures config { result.0.config ≡ self.config }
         ensures history { result.0.history ≡ self.history }
         ensures counts { result.0.counts ≡ self.counts }
@@ -371,52 +396,5 @@ impl Engine for Accelerator {
 
     fn ask(&self) -> u8 {
         self.config().devices()
-    }
-}
-
-// Makes room for the close of each queue: in its lane, in the log, and beside the blocks of each device.
-fn spare_closes(work: &mut Work, config: &Config) -> Result<(), Fault>
-    requires devices { length work.old.memory.devices ≡ config.now.devices }
-    requires log { length work.old.work ≤ work.old.room }
-    ensures kept { HasMadeRoom work.old work.new }
-    ensures room { OnOk result (HasRoom work.new (queue_count config.now)) }
-    ensures fault { IfErr result (λ f. f ≡ Fault.Memory) }
-{
-    let count = u16::from(config.devices()) * u16::from(QUEUES);
-    for index in 0..count {
-        work.spare(QueueAt::at_seat(index), usize::from(count))?;
-    }
-    Ok(())
-}
-
-// Makes room for a batch of so many operations beside those that wait, where its queue has room for it: in its lane, in the log,
-// and beside the blocks of each device. Answers how many wait with it.
-fn room_for(
-    work: &mut Work,
-    at: QueueAt,
-    has_room: bool,
-    waiting: usize,
-    count: usize,
-) -> Result<usize, Fault>
-    requires queue { HasQueue work.old at }
-    ensures kept { HasMadeRoom work.old work.new }
-    ensures full { IfErr result (λ f. has_room ≡ false → f ≡ Fault.QueueFull) }
-    ensures fault { IfErr result (λ f. has_room ≡ true → f ≡ Fault.Memory) }
-    ensures some { OnOk result (has_room ≡ true) }
-    ensures waiting { IfOk result (λ more. more ≡ waiting + count) }
-    ensures fits { IfOk result (λ more. more < 2 ^ 64) }
-    ensures log { IfOk result (λ more. length work.new.work + more ≤ work.new.room) }
-    ensures lane { IfOk result (λ more. length (lane_at work.new at).taken + more ≤ (lane_at work.new at).room) }
-    ensures blocks { IfOk result (λ more. (d : ℕ) → d < length work.new.memory.devices → length (rows_on work.new.memory d) + more ≤ room_on work.new.memory d) }
-{
-    if !has_room {
-        return Err(Fault::QueueFull);
-    }
-    match waiting.checked_add(count) {
-        Some(more) => {
-            work.spare(at, more)?;
-            Ok(more)
-        }
-        None => Err(Fault::Memory),
     }
 }

@@ -13,7 +13,7 @@ pub use acc_place::{
     PlaceEntry, Placed, Region, Target, Waits, Written,
 };
 pub use acc_present::Entry;
-pub use acc_work::{Counts, MAX_HOST_ITEMS, Told, WorkEntry};
+pub use acc_work::{Counts, Entries, MAX_HOST_ITEMS, Told, Values, WorkEntry, WorkLog};
 pub use laws::{
     each_queue_is_counted, runs_are_legal, worked_closes, worked_hosts, worked_programs,
     worked_queues,

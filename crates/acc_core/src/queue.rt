@@ -1,6 +1,6 @@
-//! The batches that a queue holds, and how many of its operations wait.
+//! The batches that a queue holds.
 
-ghost use Rattle.std.specs.Prelude.{◌≡◌, ◌+◌, ◌*◌, ◌-◌, ◌<◌, ◌≤◌, [], ◌∷◌, List, All, length, IfOk, IfErr, IfSome, IfNone, ◌^◌};
+ghost use Rattle.std.specs.Prelude.{◌≡◌, ◌*◌, ◌<◌, [], ◌∷◌, List, All, length, IfOk, IfErr, IfSome, IfNone};
 ghost use Rattle.acc_base.specs.declared.ids.TheConstants.{QUEUES};
 ghost use Rattle.acc_batch.specs.declared.label.Label.{Label};
 ghost use Rattle.acc_core.specs.inner.Queues.{IsEmptyQueue, queue_pushed, queue_in};
@@ -11,11 +11,10 @@ use std::alloc::Global;
 use std::collections::VecDeque;
 use std::marker::Model;
 
-/// The batches of a queue that were placed and not taken, and how many of its operations were placed and aren't performed.
+/// The batches of a queue that were placed and not taken.
 #[derive(Drop)]
 pub struct Queue {
     batches: VecDeque<Batch>,
-    waiting: usize,
 }
 
 impl Model for Queue {
@@ -28,7 +27,7 @@ impl Model for Queue {
 
     ghost coded = { Prim.hlevel (codes, expr.the_row.coded) };
 
-    ghost view = { λ q. record { held = q.batches.items; room = deque_capacity q.batches; waiting = q.waiting } };
+    ghost view = { λ q. record { held = q.batches.items; room = deque_capacity q.batches } };
 }
 
 impl Queue {
@@ -45,10 +44,7 @@ impl Queue {
     {
         let mut batches = VecDeque::new(alloc);
         batches.reserve(room)?;
-        Ok(Queue {
-            batches,
-            waiting: 0,
-        })
+        Ok(Queue { batches })
     }
 
     /// How many batches it holds.
@@ -58,14 +54,12 @@ impl Queue {
         self.batches.len()
     }
 
-    /// Puts a batch of so many operations behind the others.
-    pub(crate) fn push(&mut self, batch: Batch, count: usize)
-        requires room { length self.old.held < self.old.room }
-        requires few { self.old.waiting + count < 2 ^ 64 }
-        ensures { self.new ≡ queue_pushed self.old batch count }
+    /// Puts a batch behind the others.
+    pub(crate) fn push(&mut self, batch: Batch)
+        requires { length self.old.held < self.old.room }
+        ensures { self.new ≡ queue_pushed self.old batch }
     {
         self.batches.push_back_reserved(batch);
-        self.waiting += count;
     }
 
     /// Takes the first batch out.
@@ -74,14 +68,6 @@ impl Queue {
         ensures none { IfNone result ((self.old.held ≡ []) × (self.new ≡ self.old)) }
     {
         self.batches.pop_front()
-    }
-
-    /// Counts one operation fewer.
-    pub(crate) fn count_performed(&mut self)
-        requires { 0 < self.old.waiting }
-        ensures { self.new ≡ record self.old { waiting = self.old.waiting - 1 } }
-    {
-        self.waiting -= 1;
     }
 }
 

@@ -22,7 +22,7 @@ use acc_base::{BlockId, Config, DeviceId, Fault, HostId, QueueAt, Range};
 use acc_host::{Event, Host, HostProgram, HostState, Outcome, Reply, hosts_follow, ready_hosts};
 use acc_place::Place;
 use acc_present::Entry;
-use acc_work::WorkEntry;
+use acc_work::WorkLog;
 use std::alloc::Global;
 use std::marker::Model;
 
@@ -197,8 +197,8 @@ impl World {
     }
 
     /// What was performed and shown so far, in order.
-    pub fn log(&self) -> &[WorkEntry]
-        ensures { result.now ≡ reverse self.now.work }
+    pub fn log(&self) -> &WorkLog
+        ensures { result.now.items ≡ reverse self.now.work }
     {
         self.accelerator.log()
     }
@@ -240,7 +240,7 @@ impl World {
 
     /// What the run so far leaves, its place itself: the place, the work log with the latest entry last, and where each host
     /// stands. Takes no memory.
-    pub fn into_parts(self) -> (Place, Vec<WorkEntry>, Vec<HostState>)
+    pub fn into_parts(self) -> (Place, WorkLog, Vec<HostState>)
         ensures config { result.0.config ≡ self.config }
         ensures history { result.0.history ≡ self.history }
         ensures counts { result.0.counts ≡ self.counts }

@@ -189,7 +189,7 @@ fn run<W: Write>(
     let (place, works, hosts) = world.into_parts();
     let left = Run {
         place: &place,
-        works: works.as_slice(),
+        works: &works,
         hosts: hosts.as_slice(),
         discarded: &[],
     };

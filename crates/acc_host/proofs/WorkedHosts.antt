@@ -1,6 +1,6 @@
 -- The worked programs' lists follow them.
 use Rattle.std.proofs.Common.{◌≡◌, inl, inr, pos, true, false, [], ◌∷◌, refl, Some, None, arith}
-use Rattle.acc_work.specs.declared.log.Told.TheVariants as told
+use Rattle.acc_batch.specs.declared.entry.Told.TheVariants as told
 use Rattle.acc_host.specs.declared.state.HostState.TheVariants as state
 use Rattle.acc_host.specs.Engines.{Gave, Had}
 use Rattle.acc_host.specs.worked.Hosts.{answered, counts_of, asked, sync_create, writes_and_creates, waiting, QuestionsAreAnswered, SynchronousIsSeen, DefaultStays}

@@ -6,8 +6,8 @@ use Rattle.acc_place.specs.Directives.{Directive}
 use Rattle.acc_work.specs.declared.item.ItemLabel.{ItemLabel}
 use Rattle.acc_work.specs.declared.item.ItemLabel.TheVariants as to_record
 use Rattle.acc_work.specs.declared.item.Shown.{Shown}
-use Rattle.acc_work.specs.declared.log.Told.{Told}
-use Rattle.acc_work.specs.declared.log.Told.TheVariants as told
+use Rattle.acc_batch.specs.declared.entry.Told.{Told}
+use Rattle.acc_batch.specs.declared.entry.Told.TheVariants as told
 use Rattle.acc_work.specs.Items.{shown_by}
 
 -- an entry of a host's own list: a directive with its answer, or an item
@@ -26,7 +26,7 @@ abbrev pub Tells : ItemLabel → Told → Type 0
 Tells (to_record.Write array cell value) what = what ≡ told.Write array cell value
 Tells (to_record.Print range) what = (values : List ℤ) × (what ≡ told.Print range values)
 Tells (to_record.Seen device counts) what = what ≡ told.Seen device counts
-Tells (to_record.Test device counts) what = (answer : Bool) × (what ≡ told.Test device counts answer)
+Tells (to_record.Test device counts) what = (answer : Bool) × (what ≡ told.Test device answer counts)
 
 -- The list has one more entry.
 abbrev pub Gains : HostEntry → List HostEntry → List HostEntry → Type 0

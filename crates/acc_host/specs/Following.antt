@@ -1,7 +1,7 @@
 -- How a host's list follows its program: its directives with their answers, and its items.
 use Rattle.std.specs.Prelude.{◌≡◌, ◌⊎◌, ℕ, zero, suc, ◌<◌, IsTrue, List, [], ◌∷◌, ◌++◌, length, slice_get, Option, Some, None, ℤ, Bool}
 use Rattle.acc_place.specs.declared.directive.Placed.{Placed}
-use Rattle.acc_work.specs.declared.log.Told.TheVariants as told
+use Rattle.acc_batch.specs.declared.entry.Told.TheVariants as told
 use Rattle.acc_host.specs.declared.program.Act.{Act}
 use Rattle.acc_host.specs.declared.program.Act.TheVariants as act
 use Rattle.acc_host.specs.Engines.{HostEntry, Gave, Had}
@@ -18,7 +18,7 @@ use Rattle.acc_host.specs.Steps.{Owed, nothing_owed, owes_seen, owes_test, owed_
 abbrev pub Settles : Owed → List HostEntry → Type 0
 Settles nothing_owed list = list ≡ []
 Settles (owes_seen device counts) list = list ≡ Had (told.Seen device counts) ∷ []
-Settles (owes_test device counts) list = (answer : Bool) × (list ≡ Had (told.Test device counts answer) ∷ [])
+Settles (owes_test device counts) list = (answer : Bool) × (list ≡ Had (told.Test device answer counts) ∷ [])
 
 -- The entries of one statement that has ended, where there are so many devices and the host has these ids.
 abbrev pub Ends : ℕ → Ids → Act → List HostEntry → Type 0

@@ -4,7 +4,7 @@ use crate::state::HostState;
 use acc_base::{Config, QueueAt};
 use acc_batch::OpLabel;
 use acc_place::PlaceEntry;
-use acc_work::WorkEntry;
+use acc_work::WorkLog;
 
 /// An operation that was placed on a queue, and that it never performs, as its run was abandoned.
 #[derive(Drop)]
@@ -21,7 +21,7 @@ pub struct Outcome {
     pub config: Config,
     pub places: Vec<PlaceEntry>,
     pub counts: Vec<u64>,
-    pub works: Vec<WorkEntry>,
+    pub works: WorkLog,
     pub hosts: Vec<HostState>,
     pub discarded: Vec<Discarded>,
 }

@@ -8,7 +8,7 @@ ghost use Rattle.acc_host.specs.inner.Unread.{IsFirst};
 
 use acc_base::HostId;
 use acc_place::{Answer, Directive, Place, PlaceEntry, Placed};
-use acc_work::{Told, WorkEntry};
+use acc_work::{Entries, Told, WorkEntry, WorkLog};
 use std::marker::Model;
 
 /// A directive of a host, how many items the host had before it, and its answer.
@@ -86,7 +86,7 @@ impl<'a> OwnDirectives<'a> {
 pub struct OwnItems<'a> {
     host: HostId,
     // the entries of all hosts and queues
-    works: &'a [WorkEntry],
+    works: Entries<'a>,
 }
 
 impl<'a> Model for OwnItems<'a> {
@@ -100,23 +100,25 @@ impl<'a> Model for OwnItems<'a> {
 
     ghost coded = { Prim.hlevel (codes, expr.the_row.coded) };
 
-    ghost view = { λ i. items_by i.host i.works.now };
+    ghost view = { λ i. items_by i.host i.works };
 }
 
 impl<'a> OwnItems<'a> {
     /// All items of a host in a work log.
-    pub fn new(works: &'a [WorkEntry], host: HostId) -> Self
-        ensures { result ≡ items_shown host (reverse works.now) }
+    pub fn new(works: &'a WorkLog, host: HostId) -> Self
+        ensures { result ≡ items_shown host (reverse works.now.items) }
     {
-        OwnItems { host, works }
+        OwnItems {
+            host,
+            works: works.iter(),
+        }
     }
 
     /// The next item, which is then read.
     pub fn next(&mut self) -> Option<&'a Told>
         ensures { Takes self.old (option_map Had (option_copied result)) self.new }
     {
-        while let Some((entry, works)) = self.works.split_first() {
-            self.works = works;
+        while let Some(entry) = self.works.next() {
             if let WorkEntry::Item { host, what } = entry
                 && *host == self.host
             {
@@ -162,8 +164,8 @@ impl<'a> Model for OwnEntries<'a> {
 
 impl<'a> OwnEntries<'a> {
     /// All entries of a host.
-    pub fn new(place: &'a Place, works: &'a [WorkEntry], host: HostId) -> Self
-        ensures { result ≡ entries_merged 0 (own_of place.now.config host place.now.history place.now.counts) (items_shown host (reverse works.now)) }
+    pub fn new(place: &'a Place, works: &'a WorkLog, host: HostId) -> Self
+        ensures { result ≡ entries_merged 0 (own_of place.now.config host place.now.history place.now.counts) (items_shown host (reverse works.now.items)) }
     {
         let mut directives = OwnDirectives::new(place, host);
         let mut items = OwnItems::new(works, host);

@@ -1,17 +1,9 @@
 -- Which block is found after one is inserted or released.
-use Rattle.std.proofs.Common.{inl, inr, ◌≡◌, ℕ, Bool, true, false, cond, List, [], ◌∷◌, refl, sym, ap, arith, Some, None, Option}
-use Rattle.std.specs.Prelude.{not, filter, nat_lt, ◌==◌}
-use Rattle.std.specs.Option.{option_or}
-use Rattle.std.proofs.lemmas.Bool.{cases_Bool, eqb-true, eq-eqb, ne_eqb, le-ltb}
-use Rattle.std.proofs.lemmas.List.Folds.{find-append}
-use Rattle.acc_memory.specs.Memories.{block_inserted, find_block}
+use Rattle.std.proofs.Common.{inl, inr, ◌≡◌, ℕ, Bool, true, false, cond, List, [], ◌∷◌, refl, sym, ap, Some, None, Option}
+use Rattle.std.specs.Prelude.{not, filter, ◌==◌}
+use Rattle.std.proofs.lemmas.Bool.{cases_Bool, eqb-true, eq-eqb, ne_eqb}
+use Rattle.acc_memory.specs.Memories.{find_block}
 use Rattle.acc_batch.specs.Lives.{Made}
-
--- one value behind a test, or else behind its contrary, is that value
-either_way : (t : Bool) (o : Option Made) → option_or (cond t o None) (cond (not t) o None) ≡ o
-either_way true None = refl
-either_way true (Some b) = refl
-either_way false o = refl
 
 -- a choice between a value and itself is that value
 no_choice : (t : Bool) (o : Option Made) → o ≡ cond t o o
@@ -19,7 +11,7 @@ no_choice true o = refl
 no_choice false o = refl
 
 -- a block is found among those whose numbers pass a test, where its own passes
-find_passed : (p : ℕ → Bool) (bs : List Made) (c : ℕ) → find_block (filter (λ k. p k.block) bs) c ≡ cond (p c) (find_block bs c) None
+pub find_passed : (p : ℕ → Bool) (bs : List Made) (c : ℕ) → find_block (filter (λ k. p k.block) bs) c ≡ cond (p c) (find_block bs c) None
 find_passed p [] c = no_choice (p c) None
 find_passed p (x ∷ xs) c =
     let ih = find_passed p xs c in
@@ -36,26 +28,13 @@ find_passed p (x ∷ xs) c =
       ]
     ]
 
--- a block that was inserted is found
-pub find_inserted : (b : Made) (bs : List Made) → find_block (block_inserted b bs) b.block ≡ Some b
-find_inserted b bs =
-    rw (
-      find-append (λ k. k.block == b.block) (filter (λ k. nat_lt k.block b.block) bs) (b ∷ filter (λ k. not (nat_lt k.block b.block)) bs),
-      find_passed (λ n. nat_lt n b.block) bs b.block,
-      le-ltb b.block b.block (omega arith),
-      eq-eqb b.block b.block refl,
-    ) refl
+-- a block that was put in is found
+pub find_inserted : (b : Made) (bs : List Made) → find_block (b ∷ bs) b.block ≡ Some b
+find_inserted b bs = rw (eq-eqb b.block b.block refl) refl
 
--- where a block was inserted, each other block is found as before
-pub find_beside : (b : Made) (bs : List Made) (c : ℕ) → (b.block ≡ c → ⊥) → find_block (block_inserted b bs) c ≡ find_block bs c
-find_beside b bs c differ =
-    rw (
-      find-append (λ k. k.block == c) (filter (λ k. nat_lt k.block b.block) bs) (b ∷ filter (λ k. not (nat_lt k.block b.block)) bs),
-      ne_eqb b.block c differ,
-      find_passed (λ n. nat_lt n b.block) bs c,
-      find_passed (λ n. not (nat_lt n b.block)) bs c,
-    )
-    (either_way (nat_lt c b.block) (find_block bs c))
+-- where a block was put in, each other block is found as before
+pub find_beside : (b : Made) (bs : List Made) (c : ℕ) → (b.block ≡ c → ⊥) → find_block (b ∷ bs) c ≡ find_block bs c
+find_beside b bs c differ = rw (ne_eqb b.block c differ) refl
 
 -- a block other than the one that is released is found as before
 pub find_kept : (b : ℕ) (bs : List Made) (c : ℕ) → (c ≡ b → ⊥) → find_block (filter (λ k. not (k.block == b)) bs) c ≡ find_block bs c

@@ -2,13 +2,18 @@ mod AfterOp
 mod BlockCalls
 mod BlocksFit
 mod BlocksRun
+mod ByNumber
+mod CellsIn
 mod CopyCells
 pub mod FindBlock
+mod Found
 pub mod HeldBlocks
 mod HostArrays
-mod IndexOf
+mod LoadedJobs
+mod Marked
 mod MemoryCalls
 mod Rows
-mod WindowCell
-pub mod WindowColumn
 pub mod ShownValues
+mod Spread
+mod StoredRow
+mod WindowCell

@@ -1,9 +1,8 @@
 -- What a memory shows of its cells and blocks.
-use Rattle.std.proofs.Common.{◌≡◌, ℕ, zero, suc, ◌+◌, ◌∷◌, length, refl, ap}
+use Rattle.std.proofs.Common.{◌≡◌, ℕ, zero, suc, ◌+◌, ◌∷◌, refl, ap}
 use Rattle.std.specs.Prelude.{ℤ, IsTrue}
-use Rattle.std.proofs.lemmas.List.{length-map}
 use Rattle.acc_base.specs.declared.range.Range.{Range}
-use Rattle.acc_memory.specs.Memories.{MemoryView, Shows, is_held, cell_of, rows_on, held_blocks}
+use Rattle.acc_memory.specs.Memories.{MemoryView, Shows, is_held, cell_of, rows_on}
 use Rattle.acc_memory.specs.Values.{Cell, Host_cell, Block_cell, values_from, values_of}
 
 -- A memory with the same cells shows the same.
@@ -23,7 +22,3 @@ same_values f g lo (suc n) same = rw (same lo) (ap (λ zs. g lo ∷ zs) (same_va
 pub shows_values : (m : MemoryView) (r : Range) (was : Cell → ℤ) → Shows m was → values_of (cell_of m) r ≡ values_of was r
 shows_values m r was shows =
     same_values (λ i. cell_of m (Host_cell r.array i)) (λ i. was (Host_cell r.array i)) r.lo r.len (λ i. shows (Host_cell r.array i) refl)
-
--- the rows are as many as the blocks that are there
-pub length_held : (m : MemoryView) → length (held_blocks m 0) ≡ length (rows_on m 0)
-length_held m = length-map (rows_on m 0) (λ row. record { block = row.block; range = row.range })

@@ -1,4 +1,3 @@
-pub mod Blocks
 pub mod Memories
 pub mod Values
 pub mod inner

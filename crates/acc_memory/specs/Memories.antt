@@ -1,47 +1,66 @@
 -- What a memory shows, cell by cell.
-use Rattle.std.specs.Prelude.{◌≡◌, ℕ, ◌+◌, ◌-◌, ◌<◌, Bool, true, false, ◌&&◌, ◌==◌, not, nat_lt, nat_le, IsTrue, List, [], ◌∷◌, ◌++◌, length, map, filter, find, slice_get, Option, Some, None, is_some, All, ℤ, pos, if◌then◌else◌}
-use Rattle.std.specs.List.{list_all, position_or_len}
+use Rattle.std.specs.Prelude.{◌≡◌, ℕ, ◌+◌, ◌-◌, Bool, true, false, ◌&&◌, ◌||◌, ◌==◌, not, nat_lt, nat_le, IsTrue, List, [], ◌∷◌, length, map, filter, find, slice_get, Option, Some, None, is_some, All, ℤ, pos, if◌then◌else◌}
+use Rattle.std.specs.List.{list_all}
 use Rattle.acc_base.specs.declared.range.Range.{Range}
 use Rattle.acc_base.specs.Configurations.{lengths_of}
 use Rattle.acc_base.specs.Ranges.{Includes, range_contains}
+use Rattle.acc_batch.specs.Labels.{has_number}
 use Rattle.acc_batch.specs.Lives.{Made}
 use Rattle.acc_batch.specs.declared.label.OpLabel.{OpLabel}
 use Rattle.acc_batch.specs.declared.label.OpLabel.TheVariants.{Make, CopyIn, CopyOut, Release, Run, Await, Close}
+use Rattle.acc_batch.specs.declared.op.Block.{Block}
 use Rattle.acc_batch.specs.declared.op.Op.{Op}
 use Rattle.acc_batch.specs.Ops.{op_label, IsReady}
 use Rattle.acc_kernel.specs.Jobs.{Use}
 use Rattle.acc_memory.specs.Values.{Cell, Host_cell, Block_cell, is_in, after_op, or_empty, or_zero}
 
 -- A block: its number, its range, and the cells of that range.
-pub record Row : Type 0 where
-  pub block : ℕ
-  pub range : Range
-  pub cells : List ℤ
+abbrev pub Row : Type 0
+Row = Block
 
--- The blocks of a device, a row for each, by number; and how many rows there is memory for.
-pub record BlocksView : Type 0 where
+-- the one with these
+abbrev pub row_with : ℕ → Range → List ℤ → Row
+row_with block range cells = record { block = block; range = range; cells = cells }
+
+-- The blocks that were ever made: each from number 1 to a bound, and these others, in no particular order.
+pub record MakesView : Type 0 where
+  pub all_to : ℕ
+  pub others : List ℕ
+
+-- a block is among them
+abbrev pub is_made : MakesView → ℕ → Bool
+is_made makes block = (nat_lt 0 block && nat_le block makes.all_to) || has_number makes.others block
+
+-- A device: a row for each block that is there, in no particular order, and which blocks were ever made.
+pub record DeviceView : Type 0 where
   pub rows : List Row
-  pub room : ℕ
+  pub makes : MakesView
 
--- The host arrays, and the blocks of each device.
+-- The host arrays, and the devices.
 pub record MemoryView : Type 0 where
   pub arrays : List (List ℤ)
-  pub devices : List BlocksView
+  pub devices : List DeviceView
 
-abbrev pub rows_in : Option BlocksView → List Row
+abbrev pub rows_in : Option DeviceView → List Row
 rows_in None = []
 rows_in (Some device) = device.rows
 
-abbrev pub room_in : Option BlocksView → ℕ
-room_in None = 0
-room_in (Some device) = device.room
-
--- the rows of a device, and how many there is memory for
+-- the rows of a device
 abbrev pub rows_on : MemoryView → ℕ → List Row
 rows_on m device = rows_in (slice_get m.devices device)
 
-abbrev pub room_on : MemoryView → ℕ → ℕ
-room_on m device = room_in (slice_get m.devices device)
+abbrev pub was_made_in : Option DeviceView → ℕ → Bool
+was_made_in None block = false
+was_made_in (Some device) block = is_made device.makes block
+
+-- an operation of a device made a block, whether or not it is still there
+abbrev pub was_made_on : MemoryView → ℕ → ℕ → Bool
+was_made_on m device block = was_made_in (slice_get m.devices device) block
+
+-- an operation makes a block
+abbrev pub made_by : ℕ → OpLabel → Bool
+made_by block (Make r b) = b == block
+made_by block op = false
 
 abbrev pub find_row : List Row → ℕ → Option Row
 find_row rows block = find (λ row. row.block == block) rows
@@ -83,16 +102,11 @@ made_of row = record { block = row.block; range = row.range }
 abbrev pub held_blocks : MemoryView → ℕ → List Made
 held_blocks m device = map made_of (rows_on m device)
 
--- a block is inserted behind those with smaller numbers
-abbrev pub block_inserted : Made → List Made → List Made
-block_inserted b bs =
-    filter (λ k. nat_lt k.block b.block) bs ++ b ∷ filter (λ k. not (nat_lt k.block b.block)) bs
-
 -- what one operation makes of the blocks that are there
 abbrev pub blocks_after : OpLabel → List Made → List Made
-blocks_after (Make b r) bs = block_inserted (record { block = b; range = r }) bs
-blocks_after (CopyIn b r) bs = bs
-blocks_after (CopyOut b r) bs = bs
+blocks_after (Make r b) bs = record { block = b; range = r } ∷ bs
+blocks_after (CopyIn r b) bs = bs
+blocks_after (CopyOut r b) bs = bs
 blocks_after (Release b) bs = filter (λ k. not (k.block == b)) bs
 blocks_after (Run k uses) bs = bs
 blocks_after (Await q n) bs = bs
@@ -106,26 +120,13 @@ abbrev pub has_cell : Option Made → ℕ → Bool
 has_cell None cell = false
 has_cell (Some b) cell = is_in b.range cell
 
--- the index of the first row whose number is not smaller
-abbrev pub index_of : List Row → ℕ → ℕ
-index_of rows block = position_or_len (λ row. nat_le block row.block) rows
-
-abbrev pub is_before_all : ℕ → List Row → Bool
-is_before_all block rows = list_all (λ row. nat_lt block row.block) rows
-
--- rows stand strictly by block
-abbrev pub is_ascending : List Row → Bool
-is_ascending [] = true
-is_ascending (row ∷ rows) = is_before_all row.block rows && is_ascending rows
+-- The same blocks are there.
+abbrev pub SameBlocks : List Made → List Made → Type 0
+SameBlocks xs bs = (n : ℕ) → find_block xs n ≡ find_block bs n
 
 -- a row has as many cells as its range
 abbrev pub is_whole : Row → Bool
 is_whole row = length row.cells == row.range.len
-
--- What the rows of every device keep.
-pub record IsMemory (rows : List Row) : Type 0 where
-  pub ascending : is_ascending rows ≡ true
-  pub whole : list_all is_whole rows ≡ true
 
 abbrev pub reaches : Option ℕ → ℕ → Bool
 reaches None end = false
@@ -140,7 +141,7 @@ has_array m range = ends_in (lengths_of m.arrays) range
 
 -- What every memory keeps: each block's range ends in its array.
 abbrev pub AllFit : MemoryView → Type 0
-AllFit m = (d : ℕ) → All (λ (b : Made). ends_in (lengths_of m.arrays) b.range ≡ true) (held_blocks m d)
+AllFit m = (d n : ℕ) (b : Made) → find_block (held_blocks m d) n ≡ Some b → ends_in (lengths_of m.arrays) b.range ≡ true
 
 -- The block is there, and each cell of this range is one of its own.
 pub record HasRange (bs : List Made) (block : ℕ) (range : Range) : Type 0 where
@@ -152,13 +153,13 @@ pub record HasRange (bs : List Made) (block : ℕ) (range : Range) : Type 0 wher
 abbrev pub HasRanges : List Made → List Use → Type 0
 HasRanges bs uses = All (λ (u : Use). HasRange bs u.0 u.1) uses
 
--- When an operation may be performed on a device: a block that is made isn't there, its range ends in its array, and there
--- is room for it; a block that is copied, released or used by a loop is there.
+-- When an operation may be performed on a device: a block that is made isn't there, and its range ends in its array; a block
+-- that is copied, released or used by a loop is there.
 abbrev pub MayPerform : MemoryView → ℕ → OpLabel → Type 0
-MayPerform m device (Make b r) =
-    (find_block (held_blocks m device) b ≡ None) × (has_array m r ≡ true) × (length (rows_on m device) < room_on m device)
-MayPerform m device (CopyIn b r) = HasRange (held_blocks m device) b r
-MayPerform m device (CopyOut b r) = HasRange (held_blocks m device) b r
+MayPerform m device (Make r b) =
+    (find_block (held_blocks m device) b ≡ None) × (has_array m r ≡ true)
+MayPerform m device (CopyIn r b) = HasRange (held_blocks m device) b r
+MayPerform m device (CopyOut r b) = HasRange (held_blocks m device) b r
 MayPerform m device (Release b) = is_some (find_block (held_blocks m device) b) ≡ true
 MayPerform m device (Run k uses) = HasRanges (held_blocks m device) uses
 MayPerform m device (Await q n) = Unit {0}
@@ -171,9 +172,9 @@ is_within (Some b) range = range_contains b.range range
 -- The blocks are as an operation needs them: what it makes isn't there, and what it copies, releases or uses is, with the range
 -- among its own cells.
 abbrev pub finds_blocks : List Made → OpLabel → Bool
-finds_blocks bs (Make b r) = not (is_some (find_block bs b))
-finds_blocks bs (CopyIn b r) = is_within (find_block bs b) r
-finds_blocks bs (CopyOut b r) = is_within (find_block bs b) r
+finds_blocks bs (Make r b) = not (is_some (find_block bs b))
+finds_blocks bs (CopyIn r b) = is_within (find_block bs b) r
+finds_blocks bs (CopyOut r b) = is_within (find_block bs b) r
 finds_blocks bs (Release b) = is_some (find_block bs b)
 finds_blocks bs (Run k uses) = list_all (λ (u : Use). is_within (find_block bs u.0) u.1) uses
 finds_blocks bs (Await q n) = true
@@ -186,11 +187,12 @@ IsAllowed m device t = MayPerform m device (op_label t) × IsReady t
 -- An operation was performed on a device: the memory shows its effect, and nothing else changed.
 pub record PerformsOn (device : ℕ) (op : OpLabel) (old new : MemoryView) : Type 0 where
   pub shows : (was : Cell → ℤ) → Shows old was → Shows new (after_op device op was)
-  pub blocks : held_blocks new device ≡ blocks_after op (held_blocks old device)
+  pub blocks : SameBlocks (held_blocks new device) (blocks_after op (held_blocks old device))
   pub others : (d : ℕ) → (d ≡ device → ⊥) → held_blocks new d ≡ held_blocks old d
+  pub made : (b : ℕ) → was_made_on new device b ≡ (made_by b op || was_made_on old device b)
+  pub others_made : (d : ℕ) → (d ≡ device → ⊥) → (b : ℕ) → was_made_on new d b ≡ was_made_on old d b
   pub lengths : lengths_of new.arrays ≡ lengths_of old.arrays
   pub devices : length new.devices ≡ length old.devices
-  pub room : (d : ℕ) → room_on new d ≡ room_on old d
 
 -- So many of the source's cells, from one index on, stand in the target from another on.
 pub record IsCopy (source old new : List ℤ) (from at count : ℕ) : Type 0 where

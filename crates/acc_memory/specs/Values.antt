@@ -36,11 +36,11 @@ after_loop k cells (Some u) cell was = value_after k cells u.1.array (pos cell)
 
 -- the cells of a block after one more operation on its device
 abbrev pub block_after : OpLabel → ℕ → (Cell → ℤ) → ℕ → ℕ → ℤ
-block_after (Make b r) device was block cell =
+block_after (Make r b) device was block cell =
     if (block == b) && is_in r cell then pos 0 else was (Block_cell device block cell)
-block_after (CopyIn b r) device was block cell =
+block_after (CopyIn r b) device was block cell =
     if (block == b) && is_in r cell then was (Host_cell r.array cell) else was (Block_cell device block cell)
-block_after (CopyOut b r) device was block cell = was (Block_cell device block cell)
+block_after (CopyOut r b) device was block cell = was (Block_cell device block cell)
 block_after (Release b) device was block cell = was (Block_cell device block cell)
 block_after (Await q n) device was block cell = was (Block_cell device block cell)
 block_after Close device was block cell = was (Block_cell device block cell)
@@ -49,10 +49,10 @@ block_after (Run k uses) device was block cell =
 
 -- the cells of the host arrays after it
 abbrev pub host_after : OpLabel → ℕ → (Cell → ℤ) → ℕ → ℕ → ℤ
-host_after (CopyOut b r) device was array cell =
+host_after (CopyOut r b) device was array cell =
     if (array == r.array) && is_in r cell then was (Block_cell device b cell) else was (Host_cell array cell)
-host_after (Make b r) device was array cell = was (Host_cell array cell)
-host_after (CopyIn b r) device was array cell = was (Host_cell array cell)
+host_after (Make r b) device was array cell = was (Host_cell array cell)
+host_after (CopyIn r b) device was array cell = was (Host_cell array cell)
 host_after (Release b) device was array cell = was (Host_cell array cell)
 host_after (Run k uses) device was array cell = was (Host_cell array cell)
 host_after (Await q n) device was array cell = was (Host_cell array cell)

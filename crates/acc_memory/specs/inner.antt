@@ -1,1 +1,5 @@
+pub mod Buckets
+pub mod Devices
+pub mod Marks
+pub mod Rows
 pub mod Windows

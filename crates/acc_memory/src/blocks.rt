@@ -1,37 +1,37 @@
-//! The blocks of one device by number, found by a binary search.
+//! The blocks of one device.
 
-ghost use Rattle.std.specs.Prelude.{◌≡◌, ◌+◌, ◌-◌, ◌<◌, ◌≤◌, ℕ, ℤ, pos, [], length, map, replicate, slice_get, is_some, true, None, Some, IfSome, IfErr, OnOk, OnErr};
-ghost use Rattle.std.specs.Option.{option_map};
-ghost use Rattle.acc_kernel.specs.Jobs.{AreDistinct, HoldReached, computed, read_uses, shown};
-ghost use Rattle.acc_memory.specs.Blocks.{row_of};
-ghost use Rattle.acc_memory.specs.Memories.{ShowsRows, ShowsArray, HasRange, HasRanges, IsCopy, made_of, blocks_after, find_row, find_block, index_of, has_cell, is_ascending, is_whole, row_cell, row_has};
-ghost use Rattle.acc_memory.specs.inner.Windows.{AreIndices};
+ghost use Rattle.std.specs.Prelude.{◌≡◌, ◌+◌, ◌-◌, ◌<◌, ◌≤◌, ℕ, ℤ, pos, [], length, map, replicate, is_some, true, None, Some, IfSome, IfOk, IfErr};
+ghost use Rattle.std.specs.Option.{option_copied, option_map};
+ghost use Rattle.acc_kernel.specs.Jobs.{AreDistinct, HoldReached, IsJob, computed, no_use, read_uses, shown};
+ghost use Rattle.acc_memory.specs.Memories.{Row, ShowsRows, ShowsArray, HasRange, HasRanges, SameBlocks, IsCopy, made_of, blocks_after, find_row, find_block, has_cell, is_whole, row_cell, row_has};
 ghost use Rattle.acc_memory.specs.Values.{Cell, after_op, cells_by, is_in};
+ghost use Rattle.acc_memory.specs.inner.Rows.{AreWhole, HasRoom, IsSetAt, range_values, stored};
 
-use crate::window::{commit_over, load_over, run_over};
+use crate::buckets::Buckets;
+use crate::window::{commit_over, run_over};
 use acc_base::{BlockId, Fault, Range};
 use acc_batch::Block;
 use acc_kernel::{Job, Kernel};
-use acc_raw::Cells;
+use acc_raw::{Cells, Node};
 use std::alloc::Global;
 use std::marker::Model;
 
-/// The blocks of a device, by number.
+/// The blocks of a device, each with as many cells as its range. Contracts see a row for each.
 #[derive(Drop)]
 pub struct Blocks {
-    blocks: Vec<Block>,
+    buckets: Buckets<Block>,
 }
 
 impl Model for Blocks {
-    ghost use Rattle.std.specs.Prelude.{map, vec_capacity};
-    ghost use Rattle.acc_memory.specs.Blocks.{row_of};
-    ghost use Rattle.acc_memory.specs.Memories.{BlocksView, IsMemory};
+    ghost use Rattle.std.specs.Prelude.{List};
+    ghost use Rattle.acc_memory.specs.Memories.{Row};
+    ghost use Rattle.acc_memory.specs.inner.Rows.{AreWhole};
 
-    ghost Value = { BlocksView };
+    ghost Value = { List Row };
 
-    ghost view = { λ b. record { rows = map row_of b.blocks.items; room = vec_capacity b.blocks } };
+    ghost view = { λ b. b.buckets };
 
-    ghost invariant = { λ b. IsMemory (map row_of b.blocks.items) };
+    ghost invariant = { λ b. AreWhole b.buckets };
 }
 
 impl Blocks {
@@ -39,169 +39,169 @@ impl Blocks {
     ghost use Rattle.acc_batch.specs.declared.label.OpLabel.TheVariants as op;
 
     /// No block.
-    pub(crate) fn new(alloc: Global) -> Self
-        ensures { result.rows ≡ [] }
-    {
-        Blocks {
-            blocks: Vec::new(alloc),
-        }
-    }
-
-    /// Makes room for this many more blocks.
     ///
     /// # Errors
     ///
-    /// `Memory` where the room was missing and memory is refused; then nothing changes.
-    pub(crate) fn spare(&mut self, count: usize) -> Result<(), Fault>
-        ensures rows { self.new.rows ≡ self.old.rows }
-        ensures room { self.old.room ≤ self.new.room }
-        ensures ok { OnOk result (length self.new.rows + count ≤ self.new.room) }
+    /// `Memory` where memory is refused.
+    pub(crate) fn new(alloc: Global) -> Result<Self, Fault>
+        ensures rows { IfOk result (λ b. b ≡ []) }
         ensures fault { IfErr result (λ f. f ≡ fault.Memory) }
-        ensures kept { OnErr result (self.new ≡ self.old) }
-        ensures missing { OnErr result (self.old.room < length self.old.rows + count) }
     {
-        self.blocks.reserve(count)?;
-        Ok(())
+        let buckets = Buckets::new(alloc)?;
+        Ok(Blocks { buckets })
     }
 
     /// The block of this number, if it is there.
     pub(crate) fn get(&self, block: BlockId) -> Option<&Block>
-        ensures row { option_map (λ b. row_of b.now) result ≡ find_row self.now.rows block }
-        ensures whole { IfSome result (λ b. is_whole (row_of b.now) ≡ true) }
+        ensures { option_copied result ≡ find_row self.now block }
     {
-        let index = index_of(self.blocks.as_slice(), block);
-        match self.nth(index) {
-            None => None,
-            Some(held) => {
-                if held.block == block {
-                    Some(held)
-                } else {
-                    None
-                }
-            }
-        }
+        self.buckets.get(block.number())
     }
 
     /// What a cell of a block holds, if the block is there and has the cell.
     pub(crate) fn cell(&self, block: BlockId, cell: u32) -> Option<i64>
-        ensures there { is_some result ≡ has_cell (find_block (map made_of self.now.rows) block) cell }
-        ensures held { is_some result ≡ row_has (find_row self.now.rows block) cell }
-        ensures value { IfSome result (λ x. x ≡ row_cell (find_row self.now.rows block) cell) }
+        ensures there { is_some result ≡ has_cell (find_block (map made_of self.now) block) cell }
+        ensures held { is_some result ≡ row_has (find_row self.now block) cell }
+        ensures value { IfSome result (λ x. x ≡ row_cell (find_row self.now block) cell) }
     {
+        self.keeps();
         match self.get(block) {
             None => None,
             Some(held) => cell_in(held, cell),
         }
     }
 
-    // The block at this index.
-    fn nth(&self, index: usize) -> Option<&Block>
-        ensures { option_map (λ b. row_of b.now) result ≡ slice_get self.now.rows index }
+    /// Writes some cells of a block, if it is there, side by side from one on, which is named by its number in the host array. Takes no
+    /// memory.
+    pub(crate) fn store(&mut self, block: BlockId, first: usize, values: &[i64])
+        requires { (row : Row) → find_row self.old block ≡ Some row → HasRoom row first (length values.now) }
+        ensures { IsSetAt block (option_map (λ row. stored row (first - row.range.lo) values.now) (find_row self.old block)) self.old self.new }
     {
-        self.blocks.get(index)
+        self.buckets.store(block.number(), first, values);
     }
 
-    /// Takes a block whose cells are all zero. Takes no memory.
-    pub(crate) fn make(&mut self, block: Block)
-        requires fresh { find_block (map made_of self.old.rows) block.block ≡ None }
+    /// Takes in a block whose cells are all zero. Takes no memory.
+    pub(crate) fn make(&mut self, block: Node<Block>)
+        requires fresh { find_block (map made_of self.old) block.block ≡ None }
         requires zeros { block.cells ≡ replicate block.range.len (pos 0) }
-        requires room { length self.old.rows < self.old.room }
-        ensures shows { (device : ℕ) (was : Cell → ℤ) → ShowsRows device self.old.rows was → ShowsRows device self.new.rows (after_op device (op.Make block.block block.range) was) }
-        ensures blocks { map made_of self.new.rows ≡ blocks_after (op.Make block.block block.range) (map made_of self.old.rows) }
-        ensures room { self.new.room ≡ self.old.room }
+        ensures shows { (device : ℕ) (was : Cell → ℤ) → ShowsRows device self.old was → ShowsRows device self.new (after_op device (op.Make block.range block.block) was) }
+        ensures blocks { SameBlocks (map made_of self.new) (blocks_after (op.Make block.range block.block) (map made_of self.old)) }
     {
-        let index = index_of(self.blocks.as_slice(), block.block);
-        // There is room for it.
-        let _ = self.blocks.insert(index, block);
+        self.buckets.put(block);
     }
 
-    /// Copies the range's cells, of which there is one, from the host array into the block.
+    /// Copies the range's cells, of which there is one, from the host array into the block. Takes no memory.
     pub(crate) fn copy_in(&mut self, block: BlockId, range: Range, cells: &[i64])
-        requires held { HasRange (map made_of self.old.rows) block range }
+        requires held { HasRange (map made_of self.old) block range }
         requires some { 0 < range.len }
         requires array { range.lo + range.len ≤ length cells.now }
-        ensures shows { (device : ℕ) (was : Cell → ℤ) → ShowsArray range.array cells.now was → ShowsRows device self.old.rows was → ShowsRows device self.new.rows (after_op device (op.CopyIn block range) was) }
-        ensures blocks { map made_of self.new.rows ≡ map made_of self.old.rows }
-        ensures room { self.new.room ≡ self.old.room }
+        ensures shows { (device : ℕ) (was : Cell → ℤ) → ShowsArray range.array cells.now was → ShowsRows device self.old was → ShowsRows device self.new (after_op device (op.CopyIn range block) was) }
+        ensures blocks { SameBlocks (map made_of self.new) (map made_of self.old) }
     {
-        let index = index_of(self.blocks.as_slice(), block);
-        fill(&mut self.blocks[index], range, cells);
+        self.keeps();
+        let first = range.lo as usize;
+        self.store(block, first, &cells[first..first + range.len as usize]);
     }
 
     /// Copies the range's cells, of which there is one, from the block into the host array.
     pub(crate) fn copy_out(&self, block: BlockId, range: Range, cells: &mut [i64])
-        requires held { HasRange (map made_of self.now.rows) block range }
+        requires held { HasRange (map made_of self.now) block range }
         requires some { 0 < range.len }
         requires array { range.lo + range.len ≤ length cells.old }
-        ensures shows { (device : ℕ) (was : Cell → ℤ) → ShowsArray range.array cells.old was → ShowsRows device self.now.rows was → ShowsArray range.array cells.new (after_op device (op.CopyOut block range) was) }
+        ensures shows { (device : ℕ) (was : Cell → ℤ) → ShowsArray range.array cells.old was → ShowsRows device self.now was → ShowsArray range.array cells.new (after_op device (op.CopyOut range block) was) }
         ensures len { length cells.new ≡ length cells.old }
     {
-        let index = index_of(self.blocks.as_slice(), block);
-        let held = &self.blocks[index];
-        copy_cells(
-            &held.cells,
-            (range.lo - held.range.lo) as usize,
-            cells,
-            range.lo as usize,
-            range.len as usize,
-        );
+        self.keeps();
+        match self.get(block) {
+            None => (),
+            Some(held) => copy_cells(
+                &held.cells,
+                (range.lo - held.range.lo) as usize,
+                cells,
+                range.lo as usize,
+                range.len as usize,
+            ),
+        }
     }
 
     /// Lets the block go.
     pub(crate) fn release(&mut self, block: BlockId)
-        requires held { is_some (find_block (map made_of self.old.rows) block) ≡ true }
-        ensures shows { (device : ℕ) (was : Cell → ℤ) → ShowsRows device self.old.rows was → ShowsRows device self.new.rows (after_op device (op.Release block) was) }
-        ensures blocks { map made_of self.new.rows ≡ blocks_after (op.Release block) (map made_of self.old.rows) }
-        ensures room { self.new.room ≡ self.old.room }
+        requires held { is_some (find_block (map made_of self.old) block) ≡ true }
+        ensures shows { (device : ℕ) (was : Cell → ℤ) → ShowsRows device self.old was → ShowsRows device self.new (after_op device (op.Release block) was) }
+        ensures blocks { SameBlocks (map made_of self.new) (blocks_after (op.Release block) (map made_of self.old)) }
     {
-        let index = index_of(self.blocks.as_slice(), block);
-        self.blocks.remove(index);
+        self.buckets.remove(block.number());
     }
 
     /// Runs the loop over the blocks that it uses. Takes no memory.
     pub(crate) fn run(&mut self, kernel: &Kernel, uses: &[(BlockId, Range)])
-        requires held { HasRanges (map made_of self.old.rows) uses.now }
+        requires held { HasRanges (map made_of self.old) uses.now }
         requires distinct { AreDistinct uses.now }
         requires reached { HoldReached kernel.now uses.now }
-        ensures shows { (device : ℕ) (was : Cell → ℤ) → ShowsRows device self.old.rows was → ShowsRows device self.new.rows (after_op device (op.Run kernel.now uses.now) was) }
-        ensures blocks { map made_of self.new.rows ≡ map made_of self.old.rows }
-        ensures room { self.new.room ≡ self.old.room }
+        ensures shows { (device : ℕ) (was : Cell → ℤ) → ShowsRows device self.old was → ShowsRows device self.new (after_op device (op.Run kernel.now uses.now) was) }
+        ensures blocks { SameBlocks (map made_of self.new) (map made_of self.old) }
     {
-        let indices = indices_of(self.blocks.as_slice(), uses);
-        run_over(self.blocks.as_mut_slice(), indices, kernel);
-    }
-
-    /// Makes a job's inputs the values of the blocks that it uses. Takes no memory.
-    pub(crate) fn load(&mut self, job: &mut Job)
-        requires { HasRanges (map made_of self.old.rows) job.old.uses }
-        ensures kept { self.new ≡ self.old }
-        ensures job { (device : ℕ) (was : Cell → ℤ) → ShowsRows device self.old.rows was → job.new ≡ record job.old { inputs = shown (read_uses job.old.kernel job.old.uses) (cells_by job.old.uses device was) } }
-    {
-        job.keeps();
-        let indices = indices_of(self.blocks.as_slice(), job.uses());
-        load_over(self.blocks.as_mut_slice(), indices, job);
+        self.keeps();
+        run_over(self, uses, kernel);
     }
 
     /// Gives the blocks that a job uses what its loop gives them, as `run` does. Its outputs were computed, and serve where
     /// its inputs are what the blocks show. Takes no memory.
     pub(crate) fn commit(&mut self, job: &Job)
         requires computed { job.now.outputs ≡ computed job.now }
-        requires held { HasRanges (map made_of self.old.rows) job.now.uses }
-        ensures shows { (device : ℕ) (was : Cell → ℤ) → ShowsRows device self.old.rows was → ShowsRows device self.new.rows (after_op device (op.Run job.now.kernel job.now.uses) was) }
-        ensures blocks { map made_of self.new.rows ≡ map made_of self.old.rows }
-        ensures room { self.new.room ≡ self.old.room }
+        requires held { HasRanges (map made_of self.old) job.now.uses }
+        ensures shows { (device : ℕ) (was : Cell → ℤ) → ShowsRows device self.old was → ShowsRows device self.new (after_op device (op.Run job.now.kernel job.now.uses) was) }
+        ensures blocks { SameBlocks (map made_of self.new) (map made_of self.old) }
+    {
+        self.keeps();
+        job.keeps();
+        commit_over(self, job);
+    }
+
+    /// Makes a job's inputs the values of the blocks that it uses. Takes no memory.
+    pub(crate) fn load(&self, job: &mut Job)
+        requires { HasRanges (map made_of self.now) job.old.uses }
+        ensures { (device : ℕ) (was : Cell → ℤ) → ShowsRows device self.now was → job.new ≡ record job.old { inputs = shown (read_uses job.old.kernel job.old.uses) (cells_by job.old.uses device was) } }
     {
         job.keeps();
-        let indices = indices_of(self.blocks.as_slice(), job.uses());
-        commit_over(self.blocks.as_mut_slice(), indices, job);
+        for place in 0..job.read_uses().len() {
+            let used = job.read_uses()[place];
+            job.set_input(place, self.values(used.0, used.1));
+        }
+    }
+
+    // The values of a range's cells, which a block has.
+    fn values(&self, block: BlockId, range: Range) -> &[i64]
+        requires { HasRange (map made_of self.now) block range }
+        ensures len { length result.now ≡ range.len }
+        ensures cells { (device : ℕ) (was : Cell → ℤ) → ShowsRows device self.now was → result.now ≡ range_values device block range was }
+    {
+        if range.len == 0 {
+            return &[];
+        }
+        self.keeps();
+        match self.get(block) {
+            None => &[],
+            Some(held) => {
+                let first = (range.lo - held.range.lo) as usize;
+                &held.cells.as_slice()[first..first + range.len as usize]
+            }
+        }
+    }
+
+    // A block that is there has as many cells as its range.
+    fn keeps(&self)
+        ensures { AreWhole self.now }
+    {
+        let _ = &self.buckets;
     }
 }
 
 // What a cell of a block holds, if the block has it.
 fn cell_in(block: &Block, cell: u32) -> Option<i64>
-    requires { is_whole (row_of block.now) ≡ true }
+    requires { is_whole block.now ≡ true }
     ensures there { is_some result ≡ is_in block.now.range cell }
-    ensures value { IfSome result (λ x. x ≡ row_cell (Some (row_of block.now)) cell) }
+    ensures value { IfSome result (λ x. x ≡ row_cell (Some block.now) cell) }
 {
     let index = cell.checked_sub(block.range.lo)? as usize;
     if index < block.cells.len() {
@@ -209,43 +209,6 @@ fn cell_in(block: &Block, cell: u32) -> Option<i64>
     } else {
         None
     }
-}
-
-// Of each array that a loop uses, the index of its block.
-fn indices_of(blocks: &[Block], uses: &[(BlockId, Range)]) -> [usize; 256]
-    requires ascending { is_ascending (map row_of blocks.now) ≡ true }
-    requires distinct { AreDistinct uses.now }
-    ensures { AreIndices (map row_of blocks.now) uses.now result }
-{
-    let mut indices = [blocks.len(); 256];
-    for (block, range) in uses {
-        indices[usize::from(range.array)] = index_of(blocks, *block);
-    }
-    indices
-}
-
-// The index of a block, or where it would stand.
-fn index_of(blocks: &[Block], block: BlockId) -> usize
-    requires { is_ascending (map row_of blocks.now) ≡ true }
-    ensures index { result ≡ index_of (map row_of blocks.now) block }
-    ensures within { result ≤ length blocks.now }
-{
-    blocks.partition_point(|b| b.block.number() < block.number())
-}
-
-// Copies the range's cells from a host array into a block.
-fn fill(block: &mut Block, range: Range, cells: &[i64])
-    requires whole { is_whole (row_of block.old) ≡ true }
-    requires low { block.old.range.lo ≤ range.lo }
-    requires high { range.lo + range.len ≤ block.old.range.lo + block.old.range.len }
-    requires array { range.lo + range.len ≤ length cells.now }
-    ensures row { row_of block.new ≡ record { block = block.old.block; range = block.old.range; cells = block.new.cells } }
-    ensures copied { IsCopy cells.now block.old.cells block.new.cells range.lo (range.lo - block.old.range.lo) range.len }
-{
-    let first = range.lo as usize;
-    let source = &cells[first..first + range.len as usize];
-    let at = (range.lo - block.range.lo) as usize;
-    block.cells.copy_from(at, source);
 }
 
 // Copies so many cells of a block, from one index on, to another of a host array.

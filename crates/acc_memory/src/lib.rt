@@ -1,8 +1,11 @@
-//! The memory: the host arrays, and the blocks of each device.
+//! The memory: the host arrays, and the devices.
 #![tactic(auto)]
 
 mod blocks;
+mod buckets;
+mod device;
 mod laws;
+mod makes;
 mod memory;
 mod window;
 

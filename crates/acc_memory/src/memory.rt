@@ -1,28 +1,30 @@
 //! The memory: performs an operation on a device, reads and writes host arrays, shows a block.
 
-ghost use Rattle.std.specs.Prelude.{◌≡◌, ◌+◌, ◌<◌, ◌≤◌, ℕ, ℤ, pos, [], length, map, replicate, slice_get, is_some, true, Some, IfOk, IfErr, IfSome, OnOk, OnErr};
+ghost use Rattle.std.specs.Prelude.{◌≡◌, ◌<◌, ℕ, ℤ, pos, [], length, map, replicate, slice_get, is_some, false, true, Some, IfOk, IfErr, IfSome};
+ghost use Rattle.std.specs.List.{All, list_all};
 ghost use Rattle.std.specs.Option.{option_map};
-ghost use Rattle.acc_batch.specs.Ops.{op_label, HasItsCells};
-ghost use Rattle.acc_memory.specs.Blocks.{row_with};
-ghost use Rattle.acc_memory.specs.Memories.{Shows, HasRanges, MayPerform, IsAllowed, PerformsOn, rows_in, room_in, rows_on, room_on, cell_of, has_cell, is_held, find_row, find_block, has_array, held_blocks, is_within, finds_blocks};
-ghost use Rattle.acc_kernel.specs.Jobs.{Use, computed, read_uses, shown};
-ghost use Rattle.std.specs.List.{list_all};
 ghost use Rattle.acc_base.specs.Configurations.{lengths_of, has_range};
+ghost use Rattle.acc_batch.specs.Ops.{op_label, HasItsCells};
+ghost use Rattle.acc_kernel.specs.Jobs.{Use, computed, read_uses, shown};
+ghost use Rattle.acc_memory.specs.Memories.{Shows, HasRanges, MayPerform, IsAllowed, PerformsOn, rows_on, was_made_on, row_with, cell_of, has_cell, is_held, find_row, find_block, has_array, held_blocks, is_within, finds_blocks};
 ghost use Rattle.acc_memory.specs.Values.{Cell, Block_cell, Host_cell, after_write, cells_by, values_of};
+ghost use Rattle.acc_memory.specs.inner.Devices.{IsFresh};
 
 use crate::blocks::Blocks;
+use crate::device::Device;
+use crate::makes::Makes;
 use acc_base::{BlockId, Config, DeviceId, Fault, Range};
-use acc_batch::{Block, Op, OpLabel};
+use acc_batch::{Block, Mark, Op, OpLabel};
 use acc_kernel::{Job, Kernel};
-use acc_raw::Cells;
+use acc_raw::{Cells, Node};
 use std::alloc::Global;
 use std::marker::Model;
 
-/// The host arrays, and the blocks of each device. Contracts see the cells and the blocks that are there.
+/// The host arrays, and the devices. Contracts see the cells, the blocks that are there, and which were ever made.
 #[derive(Drop)]
 pub struct Memory {
     arrays: Vec<Vec<i64>>,
-    devices: Vec<Blocks>,
+    devices: Vec<Device>,
 }
 
 impl Model for Memory {
@@ -31,9 +33,11 @@ impl Model for Memory {
 
     ghost Value = { MemoryView };
 
-    ghost view = { λ m. record { arrays = map (λ v. v.items) m.arrays.items; devices = m.devices.items } };
+    ghost use Rattle.acc_memory.specs.inner.Devices.{memory_of};
 
-    ghost invariant = { λ m. AllFit (record { arrays = map (λ v. v.items) m.arrays.items; devices = m.devices.items }) };
+    ghost view = { λ m. memory_of (map (λ v. v.items) m.arrays.items) m.devices.items };
+
+    ghost invariant = { λ m. AllFit (memory_of (map (λ v. v.items) m.arrays.items) m.devices.items) };
 }
 
 impl Memory {
@@ -49,6 +53,7 @@ impl Memory {
         ensures arrays { IfOk result (λ m. m.arrays ≡ config.now.arrays) }
         ensures devices { IfOk result (λ m. length m.devices ≡ config.now.devices) }
         ensures rows { IfOk result (λ m. (d : ℕ) → rows_on m d ≡ []) }
+        ensures made { IfOk result (λ m. (d b : ℕ) → was_made_on m d b ≡ false) }
         ensures fault { IfErr result (λ f. f ≡ fault.Memory) }
     {
         let arrays = arrays_of(alloc, config)?;
@@ -56,29 +61,11 @@ impl Memory {
         Ok(Memory { arrays, devices })
     }
 
-    /// Makes room for this many more blocks on each device.
-    ///
-    /// # Errors
-    ///
-    /// `Memory` where room was missing and memory is refused; then no block or cell changes.
-    pub fn spare(&mut self, count: usize) -> Result<(), Fault>
-        ensures arrays { self.new.arrays ≡ self.old.arrays }
-        ensures devices { length self.new.devices ≡ length self.old.devices }
-        ensures rows { (d : ℕ) → rows_on self.new d ≡ rows_on self.old d }
-        ensures room { (d : ℕ) → room_on self.old d ≤ room_on self.new d }
-        ensures ok { OnOk result ((d : ℕ) → d < length self.old.devices → length (rows_on self.new d) + count ≤ room_on self.new d) }
-        ensures fault { IfErr result (λ f. f ≡ fault.Memory) }
-        ensures missing { OnErr result ((d : ℕ) × (d < length self.old.devices) × (room_on self.old d < length (rows_on self.old d) + count)) }
-    {
-        spare_all(&mut self.devices, count)
-    }
-
     /// Performs an operation on a device, one that `Config::has_device` knows, and gives its label back. Takes no memory.
     ///
     /// A block that is made has its cells, all zero, and a loop has all cells that it reaches, as `Op::new` gives them. A
-    /// block that is made isn't there, its range ends in its array, and there is room for it, as `spare` makes. A block that
-    /// is copied, released or used by a loop is there, as `block` tells, and its range contains the one that is copied or
-    /// used.
+    /// block that is made isn't there, and its range ends in its array. A block that is copied, released or used by a loop is
+    /// there, as `block` tells, and its range contains the one that is copied or used.
     pub fn do_op(&mut self, device: DeviceId, op: Op) -> OpLabel
         requires device { device < length self.old.devices }
         requires allowed { IsAllowed self.old device op }
@@ -86,9 +73,9 @@ impl Memory {
         ensures performed { PerformsOn device (op_label op) self.old self.new }
     {
         match op {
-            Op::Make { block } => {
-                let (id, range) = (block.block, block.range);
-                self.make(device, block);
+            Op::Make { block, mark } => {
+                let (id, range) = (block.value().block, block.value().range);
+                self.make(device, block, mark);
                 OpLabel::Make { block: id, range }
             }
             Op::CopyIn { block, range } => {
@@ -114,13 +101,12 @@ impl Memory {
 
     /// Makes a job's inputs the values of the cells that it uses on a device, which are there, by `finds_blocks`. Takes
     /// no memory.
-    pub fn load(&mut self, device: DeviceId, job: &mut Job)
-        requires device { device < length self.old.devices }
-        requires held { HasRanges (held_blocks self.old device) job.old.uses }
-        ensures kept { self.new ≡ self.old }
-        ensures job { (was : Cell → ℤ) → Shows self.old was → job.new ≡ record job.old { inputs = shown (read_uses job.old.kernel job.old.uses) (cells_by job.old.uses device was) } }
+    pub fn load(&self, device: DeviceId, job: &mut Job)
+        requires device { device < length self.now.devices }
+        requires held { HasRanges (held_blocks self.now device) job.old.uses }
+        ensures { (was : Cell → ℤ) → Shows self.now was → job.new ≡ record job.old { inputs = shown (read_uses job.old.kernel job.old.uses) (cells_by job.old.uses device was) } }
     {
-        self.devices[usize::from(device.number())].load(job);
+        self.devices[usize::from(device.number())].blocks.load(job);
     }
 
     /// Performs the loop of a job on a device as `do_op` does; what it uses is there, by `finds_blocks`. Its outputs were computed,
@@ -131,7 +117,7 @@ impl Memory {
         requires held { HasRanges (held_blocks self.old device) job.now.uses }
         ensures { PerformsOn device (op.Run job.now.kernel job.now.uses) self.old self.new }
     {
-        let blocks = &mut self.devices[usize::from(device.number())];
+        let blocks = &mut self.devices[usize::from(device.number())].blocks;
         blocks.commit(job);
     }
 
@@ -170,7 +156,7 @@ impl Memory {
         requires { device < length self.now.devices }
         ensures { option_map (λ b. row_with id b.0 b.1.now) result ≡ find_row (rows_on self.now device) id }
     {
-        let blocks = &self.devices[usize::from(device.number())];
+        let blocks = &self.devices[usize::from(device.number())].blocks;
         match blocks.get(id) {
             Some(held) => Some((held.range, &held.cells)),
             None => None,
@@ -185,8 +171,17 @@ impl Memory {
     {
         match self.devices.get(usize::from(device.number())) {
             None => None,
-            Some(blocks) => blocks.cell(block, cell),
+            Some(device) => device.blocks.cell(block, cell),
         }
+    }
+
+    /// Whether an operation of the device, one that `Config::has_device` knows, made the block, whether or not it is still there.
+    pub fn was_made(&self, device: DeviceId, block: BlockId) -> bool
+        requires { device < length self.now.devices }
+        ensures { result ≡ was_made_on self.now device block }
+    {
+        let makes = &self.devices[usize::from(device.number())].makes;
+        makes.is_made(block)
     }
 
     /// Whether a range has a cell, and lies in its host array.
@@ -208,7 +203,7 @@ impl Memory {
         ensures { result ≡ finds_blocks (held_blocks self.now device) (op_label op.now) }
     {
         match op {
-            Op::Make { block } => self.range_of(device, block.block).is_none(),
+            Op::Make { block, .. } => self.range_of(device, block.value().block).is_none(),
             Op::CopyIn { block, range } | Op::CopyOut { block, range } => {
                 self.is_within(device, *block, range)
             }
@@ -249,35 +244,37 @@ impl Memory {
             .all(|(block, range)| self.is_within(device, *block, range))
     }
 
-    fn make(&mut self, device: DeviceId, block: Block)
+    fn make(&mut self, device: DeviceId, block: Node<Block>, mark: Node<Mark>)
         requires device { device < length self.old.devices }
-        requires allowed { MayPerform self.old device (op.Make block.block block.range) }
+        requires allowed { MayPerform self.old device (op.Make block.range block.block) }
         requires zeros { block.cells ≡ replicate block.range.len (pos 0) }
-        ensures { PerformsOn device (op.Make block.block block.range) self.old self.new }
+        requires mark { mark.block ≡ block.block }
+        ensures { PerformsOn device (op.Make block.range block.block) self.old self.new }
     {
-        let blocks = &mut self.devices[usize::from(device.number())];
-        blocks.make(block);
+        let device = &mut self.devices[usize::from(device.number())];
+        device.blocks.make(block);
+        device.makes.note(mark);
     }
 
     fn copy_in(&mut self, device: DeviceId, block: BlockId, range: Range)
         requires device { device < length self.old.devices }
-        requires allowed { MayPerform self.old device (op.CopyIn block range) }
-        ensures { PerformsOn device (op.CopyIn block range) self.old self.new }
+        requires allowed { MayPerform self.old device (op.CopyIn range block) }
+        ensures { PerformsOn device (op.CopyIn range block) self.old self.new }
     {
         if range.len > 0 {
             let cells = self.arrays[usize::from(range.array)].as_slice();
-            let blocks = &mut self.devices[usize::from(device.number())];
+            let blocks = &mut self.devices[usize::from(device.number())].blocks;
             blocks.copy_in(block, range, cells);
         }
     }
 
     fn copy_out(&mut self, device: DeviceId, block: BlockId, range: Range)
         requires device { device < length self.old.devices }
-        requires allowed { MayPerform self.old device (op.CopyOut block range) }
-        ensures { PerformsOn device (op.CopyOut block range) self.old self.new }
+        requires allowed { MayPerform self.old device (op.CopyOut range block) }
+        ensures { PerformsOn device (op.CopyOut range block) self.old self.new }
     {
         if range.len > 0 {
-            let blocks = &self.devices[usize::from(device.number())];
+            let blocks = &self.devices[usize::from(device.number())].blocks;
             let cells = self.arrays[usize::from(range.array)].as_mut_slice();
             blocks.copy_out(block, range, cells);
         }
@@ -288,7 +285,7 @@ impl Memory {
         requires allowed { MayPerform self.old device (op.Release block) }
         ensures { PerformsOn device (op.Release block) self.old self.new }
     {
-        let blocks = &mut self.devices[usize::from(device.number())];
+        let blocks = &mut self.devices[usize::from(device.number())].blocks;
         blocks.release(block);
     }
 
@@ -298,7 +295,7 @@ impl Memory {
         requires cells { HasItsCells (op.Run kernel.now uses.now) }
         ensures { PerformsOn device (op.Run kernel.now uses.now) self.old self.new }
     {
-        let blocks = &mut self.devices[usize::from(device.number())];
+        let blocks = &mut self.devices[usize::from(device.number())].blocks;
         blocks.run(kernel, uses);
     }
 }
@@ -325,29 +322,17 @@ fn arrays_of(alloc: Global, config: &Config) -> Result<Vec<Vec<i64>>, Fault>
 }
 
 // So many devices without a block.
-fn devices_of(alloc: Global, count: u8) -> Result<Vec<Blocks>, Fault>
+fn devices_of(alloc: Global, count: u8) -> Result<Vec<Device>, Fault>
     ensures count { IfOk result (λ devices. length devices.items ≡ count) }
-    ensures rows { IfOk result (λ devices. (d : ℕ) → rows_in (slice_get devices.items d) ≡ []) }
+    ensures fresh { IfOk result (λ devices. All IsFresh devices.items) }
     ensures fault { IfErr result (λ f. f ≡ Fault.Memory) }
 {
     let mut devices = Vec::new(alloc);
     for _ in 0..count {
-        devices.push(Blocks::new(alloc))?;
+        devices.push(Device {
+            blocks: Blocks::new(alloc)?,
+            makes: Makes::new(alloc)?,
+        })?;
     }
     Ok(devices)
-}
-
-// Makes room for so many more blocks on each device.
-fn spare_all(devices: &mut Vec<Blocks>, count: usize) -> Result<(), Fault>
-    ensures devices { length devices.new.items ≡ length devices.old.items }
-    ensures rows { (d : ℕ) → rows_in (slice_get devices.new.items d) ≡ rows_in (slice_get devices.old.items d) }
-    ensures room { (d : ℕ) → room_in (slice_get devices.old.items d) ≤ room_in (slice_get devices.new.items d) }
-    ensures ok { OnOk result ((d : ℕ) → d < length devices.old.items → length (rows_in (slice_get devices.new.items d)) + count ≤ room_in (slice_get devices.new.items d)) }
-    ensures fault { IfErr result (λ f. f ≡ Fault.Memory) }
-    ensures missing { OnErr result ((d : ℕ) × (d < length devices.old.items) × (room_in (slice_get devices.old.items d) < length (rows_in (slice_get devices.old.items d)) + count)) }
-{
-    for n in 0..devices.len() {
-        devices[n].spare(count)?;
-    }
-    Ok(())
 }

@@ -84,10 +84,10 @@ regrouped n c r u o e =
 abbrev pub HasCells : Use → Type 0
 HasCells u = 0 < u.1.len
 
-pub cells_of_in : (op : OpLabel) (b : ℕ) (r : Range) → op ≡ CopyIn b r → All HasCells (used_ranges op) → 0 < r.len
+pub cells_of_in : (op : OpLabel) (b : ℕ) (r : Range) → op ≡ CopyIn r b → All HasCells (used_ranges op) → 0 < r.len
 cells_of_in op b r is all = (let here : All HasCells ((b, r) ∷ []) = rw is at all in All-head HasCells (b, r) [] here)
 
-pub cells_of_out : (op : OpLabel) (b : ℕ) (r : Range) → op ≡ CopyOut b r → All HasCells (used_ranges op) → 0 < r.len
+pub cells_of_out : (op : OpLabel) (b : ℕ) (r : Range) → op ≡ CopyOut r b → All HasCells (used_ranges op) → 0 < r.len
 cells_of_out op b r is all = (let here : All HasCells ((b, r) ∷ []) = rw is at all in All-head HasCells (b, r) [] here)
 
 -- ## The operations of a batch

@@ -111,9 +111,9 @@ awaits_so P (op ∷ ops) h = All-cons (NotesSo P) op ops (by_op op (All-head (λ
   where
     by_op : (o : OpLabel) → is_await o ≡ true → NotesSo P o
     by_op (Await q n) is = All-nil P
-    by_op (Make b r) is = cc
-    by_op (CopyIn b r) is = cc
-    by_op (CopyOut b r) is = cc
+    by_op (Make r b) is = cc
+    by_op (CopyIn r b) is = cc
+    by_op (CopyOut r b) is = cc
     by_op (Release b) is = cc
     by_op (Run k uses) is = cc
     by_op Close is = cc

@@ -50,9 +50,9 @@ holds_uses before makings gone uses e f h = All-weaker (IsUsed makings gone) (λ
 
 -- An operation that makes and releases no block, and uses live ones.
 abbrev pub Copies : List Made → List ℕ → OpLabel → Type 0
-Copies makings gone (Make b r) = ⊥
-Copies makings gone (CopyIn b r) = HoldsIn makings gone r b
-Copies makings gone (CopyOut b r) = HoldsIn makings gone r b
+Copies makings gone (Make r b) = ⊥
+Copies makings gone (CopyIn r b) = HoldsIn makings gone r b
+Copies makings gone (CopyOut r b) = HoldsIn makings gone r b
 Copies makings gone (Release b) = ⊥
 Copies makings gone (Run k uses) = All (IsUsed makings gone) uses
 Copies makings gone (Await q n) = Unit {0}
@@ -69,14 +69,14 @@ released_same before op gone none e = released-append before (op ∷ []) ∙ (ap
 -- a list of such copies uses live blocks
 pub copies_use : (arrays : List (List ℤ)) (ops before : List OpLabel) (makings : List Made) (gone : List ℕ) → blocks_made before ≡ makings → blocks_released before ≡ gone → All (Copies makings gone) ops → AllUse arrays before ops
 copies_use arrays [] before makings gone e f h = tt
-copies_use arrays (Make b r ∷ ops) before makings gone e f h = absurd (All-head (Copies makings gone) (Make b r) ops h)
-copies_use arrays (CopyIn b r ∷ ops) before makings gone e f h = (
-  holds_block before makings gone r b e f (All-head (Copies makings gone) (CopyIn b r) ops h),
-  copies_use arrays ops (before ++ CopyIn b r ∷ []) makings gone (made_same before (CopyIn b r) makings refl e) (released_same before (CopyIn b r) gone refl f) (All-tail (Copies makings gone) (CopyIn b r) ops h),
+copies_use arrays (Make r b ∷ ops) before makings gone e f h = absurd (All-head (Copies makings gone) (Make r b) ops h)
+copies_use arrays (CopyIn r b ∷ ops) before makings gone e f h = (
+  holds_block before makings gone r b e f (All-head (Copies makings gone) (CopyIn r b) ops h),
+  copies_use arrays ops (before ++ CopyIn r b ∷ []) makings gone (made_same before (CopyIn r b) makings refl e) (released_same before (CopyIn r b) gone refl f) (All-tail (Copies makings gone) (CopyIn r b) ops h),
 )
-copies_use arrays (CopyOut b r ∷ ops) before makings gone e f h = (
-  holds_block before makings gone r b e f (All-head (Copies makings gone) (CopyOut b r) ops h),
-  copies_use arrays ops (before ++ CopyOut b r ∷ []) makings gone (made_same before (CopyOut b r) makings refl e) (released_same before (CopyOut b r) gone refl f) (All-tail (Copies makings gone) (CopyOut b r) ops h),
+copies_use arrays (CopyOut r b ∷ ops) before makings gone e f h = (
+  holds_block before makings gone r b e f (All-head (Copies makings gone) (CopyOut r b) ops h),
+  copies_use arrays ops (before ++ CopyOut r b ∷ []) makings gone (made_same before (CopyOut r b) makings refl e) (released_same before (CopyOut r b) gone refl f) (All-tail (Copies makings gone) (CopyOut r b) ops h),
 )
 copies_use arrays (Release b ∷ ops) before makings gone e f h = absurd (All-head (Copies makings gone) (Release b) ops h)
 copies_use arrays (Run k uses ∷ ops) before makings gone e f h = (
@@ -92,9 +92,9 @@ copies_use arrays (Close ∷ ops) before makings gone e f h = absurd (All-head (
 -- a list of such copies makes and releases nothing
 pub no_copy_makes : (ops : List OpLabel) (makings : List Made) (gone : List ℕ) → All (Copies makings gone) ops → (blocks_made ops ≡ []) × (blocks_released ops ≡ [])
 no_copy_makes [] makings gone h = (refl, refl)
-no_copy_makes (Make b r ∷ ops) makings gone h = absurd (All-head (Copies makings gone) (Make b r) ops h)
-no_copy_makes (CopyIn b r ∷ ops) makings gone h = no_copy_makes ops makings gone (All-tail (Copies makings gone) (CopyIn b r) ops h)
-no_copy_makes (CopyOut b r ∷ ops) makings gone h = no_copy_makes ops makings gone (All-tail (Copies makings gone) (CopyOut b r) ops h)
+no_copy_makes (Make r b ∷ ops) makings gone h = absurd (All-head (Copies makings gone) (Make r b) ops h)
+no_copy_makes (CopyIn r b ∷ ops) makings gone h = no_copy_makes ops makings gone (All-tail (Copies makings gone) (CopyIn r b) ops h)
+no_copy_makes (CopyOut r b ∷ ops) makings gone h = no_copy_makes ops makings gone (All-tail (Copies makings gone) (CopyOut r b) ops h)
 no_copy_makes (Release b ∷ ops) makings gone h = absurd (All-head (Copies makings gone) (Release b) ops h)
 no_copy_makes (Run k uses ∷ ops) makings gone h = no_copy_makes ops makings gone (All-tail (Copies makings gone) (Run k uses) ops h)
 no_copy_makes (Await q n ∷ ops) makings gone h = no_copy_makes ops makings gone (All-tail (Copies makings gone) (Await q n) ops h)
@@ -113,23 +113,23 @@ pub record Holds (makings : List Made) (gone : List ℕ) (v : Visit) : Type 0 wh
 -- a visit's copies in are such copies
 pub copy_ins_of : (makings : List Made) (gone : List ℕ) (v : Visit) → Holds makings gone v → All (Copies makings gone) (copy_ins v)
 copy_ins_of makings gone v h =
-    elim (copies_in v.item.clause) as (λ t. All (Copies makings gone) (cond t (map (λ b. CopyIn b v.item.range) (opened_blocks v)) [])) [
-      | true ↦ All-map (Copies makings gone) (λ b. CopyIn b v.item.range) (opened_blocks v) (all_from_members (λ b. HoldsIn makings gone v.item.range b) (opened_blocks v) h.opened_held)
+    elim (copies_in v.item.clause) as (λ t. All (Copies makings gone) (cond t (map (λ b. CopyIn v.item.range b) (opened_blocks v)) [])) [
+      | true ↦ All-map (Copies makings gone) (λ b. CopyIn v.item.range b) (opened_blocks v) (all_from_members (λ b. HoldsIn makings gone v.item.range b) (opened_blocks v) h.opened_held)
       | false ↦ All-nil (Copies makings gone)
     ]
 
 -- a visit's copies out are such copies
 pub copy_outs_of : (makings : List Made) (gone : List ℕ) (v : Visit) → Holds makings gone v → All (Copies makings gone) (copy_outs v)
 copy_outs_of makings gone v h =
-    elim (copies_out v.item.clause) as (λ t. All (Copies makings gone) (cond t (map (λ b. CopyOut b v.item.range) (ended_blocks v)) [])) [
-      | true ↦ All-map (Copies makings gone) (λ b. CopyOut b v.item.range) (ended_blocks v) (all_from_members (λ b. HoldsIn makings gone v.item.range b) (ended_blocks v) h.ended_held)
+    elim (copies_out v.item.clause) as (λ t. All (Copies makings gone) (cond t (map (λ b. CopyOut v.item.range b) (ended_blocks v)) [])) [
+      | true ↦ All-map (Copies makings gone) (λ b. CopyOut v.item.range b) (ended_blocks v) (all_from_members (λ b. HoldsIn makings gone v.item.range b) (ended_blocks v) h.ended_held)
       | false ↦ All-nil (Copies makings gone)
     ]
 
 -- copies of held blocks, whichever way they go
 updates_held : (c : Clause) (r : Range) (blocks : List ℕ) (makings : List Made) (gone : List ℕ) → All (HoldsIn makings gone r) blocks → All (Copies makings gone) (updates_by c r blocks)
-updates_held UpdateSelf r blocks makings gone h = All-map (Copies makings gone) (λ b. CopyOut b r) blocks h
-updates_held UpdateDevice r blocks makings gone h = All-map (Copies makings gone) (λ b. CopyIn b r) blocks h
+updates_held UpdateSelf r blocks makings gone h = All-map (Copies makings gone) (λ b. CopyOut r b) blocks h
+updates_held UpdateDevice r blocks makings gone h = All-map (Copies makings gone) (λ b. CopyIn r b) blocks h
 updates_held Copy r blocks makings gone h = All-nil (Copies makings gone)
 updates_held Copyin r blocks makings gone h = All-nil (Copies makings gone)
 updates_held Copyout r blocks makings gone h = All-nil (Copies makings gone)

@@ -88,14 +88,14 @@ uses_low arrays before (op ∷ ops) n h low b c =
     lower x k = low x (rw (made-append before (op ∷ ops)) (Contains-append_left (blocks_made before) (blocks_made (op ∷ ops)) x k))
 
     first : (o : OpLabel) → UsesLive arrays o before → Contains (used_blocks o) b → b ≤ n
-    first (CopyIn k r) u used = (let e = member_one b k used in let z = lower _ u.is_made in omega (arith, e, z))
-    first (CopyOut k r) u used = (let e = member_one b k used in let z = lower _ u.is_made in omega (arith, e, z))
+    first (CopyIn r k) u used = (let e = member_one b k used in let z = lower _ u.is_made in omega (arith, e, z))
+    first (CopyOut r k) u used = (let e = member_one b k used in let z = lower _ u.is_made in omega (arith, e, z))
     first (Run k uses) u used =
         let f = member_map (λ (y : Use). y.0) uses b used in
         let k = All-contains (λ (y : Use). HoldsBlock before y.0 y.1) uses f.source u f.member in
         let z = lower _ k.is_made in
         omega (arith, f.same, z)
-    first (Make k r) u used = absurd (no_member b used)
+    first (Make r k) u used = absurd (no_member b used)
     first (Release k) u used = absurd (no_member b used)
     first (Await q m) u used = absurd (no_member b used)
     first Close u used = absurd (no_member b used)
@@ -105,19 +105,19 @@ pub record MakesIt (ops : List OpLabel) (b : ℕ) : Type 0 where
   pub range : Range
   pub before : List OpLabel
   pub more : List OpLabel
-  pub split : ops ≡ before ++ Make b range ∷ more
+  pub split : ops ≡ before ++ Make range b ∷ more
 
 more_makes : (o : OpLabel) (ops : List OpLabel) (b : ℕ) → MakesIt ops b → MakesIt (o ∷ ops) b
 more_makes o ops b m = record { range = m.range; before = o ∷ m.before; more = m.more; split = ap (λ r. o ∷ r) m.split }
 
 pub makes_it : (ops : List OpLabel) (b : ℕ) → has_number (flat_map made_blocks ops) b ≡ true → MakesIt ops b
 makes_it [] b h = cc
-makes_it (Make k r ∷ ops) b h = elim (cases_Bool (k == b)) [
-  | inl same ↦ record { range = r; before = []; more = ops; split = ap (λ n. Make n r ∷ ops) (eqb-true k b same) }
-  | inr other ↦ more_makes (Make k r) ops b (makes_it ops b (rw other at h))
+makes_it (Make r k ∷ ops) b h = elim (cases_Bool (k == b)) [
+  | inl same ↦ record { range = r; before = []; more = ops; split = ap (λ n. Make r n ∷ ops) (eqb-true k b same) }
+  | inr other ↦ more_makes (Make r k) ops b (makes_it ops b (rw other at h))
 ]
-makes_it (CopyIn k r ∷ ops) b h = more_makes (CopyIn k r) ops b (makes_it ops b h)
-makes_it (CopyOut k r ∷ ops) b h = more_makes (CopyOut k r) ops b (makes_it ops b h)
+makes_it (CopyIn r k ∷ ops) b h = more_makes (CopyIn r k) ops b (makes_it ops b h)
+makes_it (CopyOut r k ∷ ops) b h = more_makes (CopyOut r k) ops b (makes_it ops b h)
 makes_it (Release k ∷ ops) b h = more_makes (Release k) ops b (makes_it ops b h)
 makes_it (Run k uses ∷ ops) b h = more_makes (Run k uses) ops b (makes_it ops b h)
 makes_it (Await q n ∷ ops) b h = more_makes (Await q n) ops b (makes_it ops b h)
@@ -126,12 +126,12 @@ makes_it (Close ∷ ops) b h = more_makes Close ops b (makes_it ops b h)
 -- its block is among what is made
 pub makes_made : (ops : List OpLabel) (b : ℕ) (k : MakesIt ops b) → Contains (blocks_made ops) (record { block = b; range = k.range })
 makes_made ops b k =
-    rw (ap blocks_made k.split ∙ made-append k.before (Make b k.range ∷ k.more))
+    rw (ap blocks_made k.split ∙ made-append k.before (Make k.range b ∷ k.more))
     (Contains-append_right (blocks_made k.before) (record { block = b; range = k.range } ∷ blocks_made k.more) (record { block = b; range = k.range }) (member_first (record { block = b; range = k.range }) (blocks_made k.more)))
 
 -- what is made is made by no operation behind
 pub made_once : (arrays : List (List ℤ)) (before ops : List OpLabel) (b : ℕ) → AllUse arrays before ops → Contains (map (λ (m : Made). m.block) (blocks_made before)) b → MakesIt ops b → ⊥
-made_once arrays before ops b h c m = (use_at arrays before m.before (Make b m.range) m.more (rw m.split at h)).0 there
+made_once arrays before ops b h c m = (use_at arrays before m.before (Make m.range b) m.more (rw m.split at h)).0 there
   where
     use_at : (arrays : List (List ℤ)) (first xs : List OpLabel) (op : OpLabel) (ys : List OpLabel) → AllUse arrays first (xs ++ op ∷ ys) → UsesLive arrays op (first ++ xs)
     use_at arrays first [] op ys h = rw (append-nil first) h.0
@@ -149,7 +149,7 @@ makes_more [] ys b m = m
 makes_more (x ∷ xs) ys b m = more_makes x (xs ++ ys) b (makes_more xs ys b m)
 
 makes_less : (xs ys : List OpLabel) (b : ℕ) → MakesIt xs b → MakesIt (xs ++ ys) b
-makes_less xs ys b m = record { range = m.range; before = m.before; more = m.more ++ ys; split = ap (λ r. r ++ ys) m.split ∙ append_assoc m.before (Make b m.range ∷ m.more) ys }
+makes_less xs ys b m = record { range = m.range; before = m.before; more = m.more ++ ys; split = ap (λ r. r ++ ys) m.split ∙ append_assoc m.before (Make m.range b ∷ m.more) ys }
 
 -- a label of a device that makes a block, among them all
 pub label_makes : (device : ℕ) (labels : List Label) (b : ℕ) (m : Label) → Contains labels m → m.at.device ≡ device → makes_block b m ≡ true → MakesIt (ops_of (on_device device labels)) b

@@ -48,17 +48,17 @@ one_so : (P : Use → Type 0) (u : Use) → P u → All P (u ∷ [])
 one_so P u h = All-cons P u [] h (All-nil P)
 
 makes_so : (P : Use → Type 0) (v : Visit) → IsSoAt P v → All (NotesSo P) (makes v)
-makes_so P v h = each_so P (λ b. Make b v.item.range) (opened_blocks v) (λ b c. one_so P (b, v.item.range) (h.opened_so b c))
+makes_so P v h = each_so P (λ b. Make v.item.range b) (opened_blocks v) (λ b c. one_so P (b, v.item.range) (h.opened_so b c))
 
 copy_ins_so : (P : Use → Type 0) (v : Visit) → IsSoAt P v → All (NotesSo P) (copy_ins v)
-copy_ins_so P v h = elim (copies_in v.item.clause) as (λ t. All (NotesSo P) (cond t (map (λ b. CopyIn b v.item.range) (opened_blocks v)) [])) [
-  | true ↦ each_so P (λ b. CopyIn b v.item.range) (opened_blocks v) (λ b c. one_so P (b, v.item.range) (h.opened_so b c))
+copy_ins_so P v h = elim (copies_in v.item.clause) as (λ t. All (NotesSo P) (cond t (map (λ b. CopyIn v.item.range b) (opened_blocks v)) [])) [
+  | true ↦ each_so P (λ b. CopyIn v.item.range b) (opened_blocks v) (λ b c. one_so P (b, v.item.range) (h.opened_so b c))
   | false ↦ All-nil (NotesSo P)
 ]
 
 copy_outs_so : (P : Use → Type 0) (v : Visit) → IsSoAt P v → All (NotesSo P) (copy_outs v)
-copy_outs_so P v h = elim (copies_out v.item.clause) as (λ t. All (NotesSo P) (cond t (map (λ b. CopyOut b v.item.range) (ended_blocks v)) [])) [
-  | true ↦ each_so P (λ b. CopyOut b v.item.range) (ended_blocks v) (λ b c. one_so P (b, v.item.range) (h.ended_so b c))
+copy_outs_so P v h = elim (copies_out v.item.clause) as (λ t. All (NotesSo P) (cond t (map (λ b. CopyOut v.item.range b) (ended_blocks v)) [])) [
+  | true ↦ each_so P (λ b. CopyOut v.item.range b) (ended_blocks v) (λ b c. one_so P (b, v.item.range) (h.ended_so b c))
   | false ↦ All-nil (NotesSo P)
 ]
 
@@ -72,8 +72,8 @@ updates_so P v h = by_clause v.item.clause
     blocks = holding_blocks v.before v.item.range
 
     by_clause : (c : Clause) → All (NotesSo P) (updates_by c v.item.range blocks)
-    by_clause UpdateSelf = each_so P (λ b. CopyOut b v.item.range) blocks (λ b c. one_so P (b, v.item.range) (h.held_so b c))
-    by_clause UpdateDevice = each_so P (λ b. CopyIn b v.item.range) blocks (λ b c. one_so P (b, v.item.range) (h.held_so b c))
+    by_clause UpdateSelf = each_so P (λ b. CopyOut v.item.range b) blocks (λ b c. one_so P (b, v.item.range) (h.held_so b c))
+    by_clause UpdateDevice = each_so P (λ b. CopyIn v.item.range b) blocks (λ b c. one_so P (b, v.item.range) (h.held_so b c))
     by_clause Copy = All-nil (NotesSo P)
     by_clause Copyin = All-nil (NotesSo P)
     by_clause Copyout = All-nil (NotesSo P)

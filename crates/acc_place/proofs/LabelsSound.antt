@@ -50,9 +50,9 @@ use Rattle.acc_place.proofs.WalkLives.{made_quiet, released_quiet, walk_uses, no
 awaits_use : (arrays : List (List ℤ)) (before ops : List OpLabel) → All (λ op. is_await op ≡ true) ops → AllUse arrays before ops
 awaits_use arrays before [] h = tt
 awaits_use arrays before (Await q n ∷ ops) h = (tt, awaits_use arrays (before ++ Await q n ∷ []) ops (All-tail (λ op. is_await op ≡ true) (Await q n) ops h))
-awaits_use arrays before (Make b r ∷ ops) h = (let no : false ≡ true = All-head (λ op. is_await op ≡ true) (Make b r) ops h in absurd (cc))
-awaits_use arrays before (CopyIn b r ∷ ops) h = (let no : false ≡ true = All-head (λ op. is_await op ≡ true) (CopyIn b r) ops h in absurd (cc))
-awaits_use arrays before (CopyOut b r ∷ ops) h = (let no : false ≡ true = All-head (λ op. is_await op ≡ true) (CopyOut b r) ops h in absurd (cc))
+awaits_use arrays before (Make r b ∷ ops) h = (let no : false ≡ true = All-head (λ op. is_await op ≡ true) (Make r b) ops h in absurd (cc))
+awaits_use arrays before (CopyIn r b ∷ ops) h = (let no : false ≡ true = All-head (λ op. is_await op ≡ true) (CopyIn r b) ops h in absurd (cc))
+awaits_use arrays before (CopyOut r b ∷ ops) h = (let no : false ≡ true = All-head (λ op. is_await op ≡ true) (CopyOut r b) ops h in absurd (cc))
 awaits_use arrays before (Release b ∷ ops) h = (let no : false ≡ true = All-head (λ op. is_await op ≡ true) (Release b) ops h in absurd (cc))
 awaits_use arrays before (Run k uses ∷ ops) h = (let no : false ≡ true = All-head (λ op. is_await op ≡ true) (Run k uses) ops h in absurd (cc))
 awaits_use arrays before (Close ∷ ops) h = (let no : false ≡ true = All-head (λ op. is_await op ≡ true) Close ops h in absurd (cc))
@@ -60,9 +60,9 @@ awaits_use arrays before (Close ∷ ops) h = (let no : false ≡ true = All-head
 awaits_quiet : (ops : List OpLabel) → All (λ op. is_await op ≡ true) ops → (blocks_made ops ≡ []) × (blocks_released ops ≡ [])
 awaits_quiet [] h = (refl, refl)
 awaits_quiet (Await q n ∷ ops) h = awaits_quiet ops (All-tail (λ op. is_await op ≡ true) (Await q n) ops h)
-awaits_quiet (Make b r ∷ ops) h = (let no : false ≡ true = All-head (λ op. is_await op ≡ true) (Make b r) ops h in absurd (cc))
-awaits_quiet (CopyIn b r ∷ ops) h = (let no : false ≡ true = All-head (λ op. is_await op ≡ true) (CopyIn b r) ops h in absurd (cc))
-awaits_quiet (CopyOut b r ∷ ops) h = (let no : false ≡ true = All-head (λ op. is_await op ≡ true) (CopyOut b r) ops h in absurd (cc))
+awaits_quiet (Make r b ∷ ops) h = (let no : false ≡ true = All-head (λ op. is_await op ≡ true) (Make r b) ops h in absurd (cc))
+awaits_quiet (CopyIn r b ∷ ops) h = (let no : false ≡ true = All-head (λ op. is_await op ≡ true) (CopyIn r b) ops h in absurd (cc))
+awaits_quiet (CopyOut r b ∷ ops) h = (let no : false ≡ true = All-head (λ op. is_await op ≡ true) (CopyOut r b) ops h in absurd (cc))
 awaits_quiet (Release b ∷ ops) h = (let no : false ≡ true = All-head (λ op. is_await op ≡ true) (Release b) ops h in absurd (cc))
 awaits_quiet (Run k uses ∷ ops) h = (let no : false ≡ true = All-head (λ op. is_await op ≡ true) (Run k uses) ops h in absurd (cc))
 awaits_quiet (Close ∷ ops) h = (let no : false ≡ true = All-head (λ op. is_await op ≡ true) Close ops h in absurd (cc))
@@ -81,8 +81,8 @@ if_each true f bs h = each_of f bs h
 if_each false f bs h = All-nil NoAwait
 
 update_each : (c : Clause) (r : Range) (bs : List ℕ) → All NoAwait (updates_by c r bs)
-update_each UpdateSelf r bs = each_of (λ b. CopyOut b r) bs (λ b. refl)
-update_each UpdateDevice r bs = each_of (λ b. CopyIn b r) bs (λ b. refl)
+update_each UpdateSelf r bs = each_of (λ b. CopyOut r b) bs (λ b. refl)
+update_each UpdateDevice r bs = each_of (λ b. CopyIn r b) bs (λ b. refl)
 update_each Copy r bs = All-nil NoAwait
 update_each Copyin r bs = All-nil NoAwait
 update_each Copyout r bs = All-nil NoAwait
@@ -100,11 +100,11 @@ run_each (Some k) items ms = All-cons NoAwait (Run k _) [] refl (All-nil NoAwait
 
 none_awaits : (run : List OpLabel) (vs : List Visit) → All NoAwait run → All NoAwait (grouped run vs)
 none_awaits run vs h =
-    All-append NoAwait (flat_map makes vs) _ (each_visit makes vs (λ v. each_of (λ b. Make b v.item.range) (opened_blocks v) (λ b. refl)))
-    (All-append NoAwait (flat_map copy_ins vs) _ (each_visit copy_ins vs (λ v. if_each (copies_in v.item.clause) (λ b. CopyIn b v.item.range) (opened_blocks v) (λ b. refl)))
+    All-append NoAwait (flat_map makes vs) _ (each_visit makes vs (λ v. each_of (λ b. Make v.item.range b) (opened_blocks v) (λ b. refl)))
+    (All-append NoAwait (flat_map copy_ins vs) _ (each_visit copy_ins vs (λ v. if_each (copies_in v.item.clause) (λ b. CopyIn v.item.range b) (opened_blocks v) (λ b. refl)))
     (All-append NoAwait run _ h
     (All-append NoAwait (flat_map updates vs) _ (each_visit updates vs (λ v. update_each v.item.clause v.item.range (holding_blocks v.before v.item.range)))
-    (All-append NoAwait (flat_map copy_outs vs) _ (each_visit copy_outs vs (λ v. if_each (copies_out v.item.clause) (λ b. CopyOut b v.item.range) (ended_blocks v) (λ b. refl)))
+    (All-append NoAwait (flat_map copy_outs vs) _ (each_visit copy_outs vs (λ v. if_each (copies_out v.item.clause) (λ b. CopyOut v.item.range b) (ended_blocks v) (λ b. refl)))
     (each_visit releases vs (λ v. each_of Release (ended_blocks v) (λ b. refl)))))))
 
 -- ## One more label

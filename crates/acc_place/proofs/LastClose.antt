@@ -44,8 +44,8 @@ if_each true f bs h = each_of f bs h
 if_each false f bs h = All-nil Goes
 
 update_each : (c : Clause) (r : Range) (bs : List ℕ) → All Goes (updates_by c r bs)
-update_each UpdateSelf r bs = each_of (λ b. CopyOut b r) bs (λ b. refl)
-update_each UpdateDevice r bs = each_of (λ b. CopyIn b r) bs (λ b. refl)
+update_each UpdateSelf r bs = each_of (λ b. CopyOut r b) bs (λ b. refl)
+update_each UpdateDevice r bs = each_of (λ b. CopyIn r b) bs (λ b. refl)
 update_each Copy r bs = All-nil Goes
 update_each Copyin r bs = All-nil Goes
 update_each Copyout r bs = All-nil Goes
@@ -63,18 +63,18 @@ run_each (Some k) items ms = All-cons Goes (Run k _) [] refl (All-nil Goes)
 
 groups_go : (run : List OpLabel) (vs : List Visit) → All Goes run → All Goes (grouped run vs)
 groups_go run vs h =
-    All-append Goes (flat_map makes vs) _ (each_visit makes vs (λ v. each_of (λ b. Make b v.item.range) (opened_blocks v) (λ b. refl)))
-    (All-append Goes (flat_map copy_ins vs) _ (each_visit copy_ins vs (λ v. if_each (copies_in v.item.clause) (λ b. CopyIn b v.item.range) (opened_blocks v) (λ b. refl)))
+    All-append Goes (flat_map makes vs) _ (each_visit makes vs (λ v. each_of (λ b. Make v.item.range b) (opened_blocks v) (λ b. refl)))
+    (All-append Goes (flat_map copy_ins vs) _ (each_visit copy_ins vs (λ v. if_each (copies_in v.item.clause) (λ b. CopyIn v.item.range b) (opened_blocks v) (λ b. refl)))
     (All-append Goes run _ h
     (All-append Goes (flat_map updates vs) _ (each_visit updates vs (λ v. update_each v.item.clause v.item.range (holding_blocks v.before v.item.range)))
-    (All-append Goes (flat_map copy_outs vs) _ (each_visit copy_outs vs (λ v. if_each (copies_out v.item.clause) (λ b. CopyOut b v.item.range) (ended_blocks v) (λ b. refl)))
+    (All-append Goes (flat_map copy_outs vs) _ (each_visit copy_outs vs (λ v. if_each (copies_out v.item.clause) (λ b. CopyOut v.item.range b) (ended_blocks v) (λ b. refl)))
     (each_visit releases vs (λ v. each_of Release (ended_blocks v) (λ b. refl)))))))
 
 await_goes : (op : OpLabel) → is_await op ≡ true → Goes op
 await_goes (Await q n) h = refl
-await_goes (Make b r) h = refl
-await_goes (CopyIn b r) h = refl
-await_goes (CopyOut b r) h = refl
+await_goes (Make r b) h = refl
+await_goes (CopyIn r b) h = refl
+await_goes (CopyOut r b) h = refl
 await_goes (Release b) h = refl
 await_goes (Run k uses) h = refl
 await_goes Close h = (let w : false ≡ true = h in absurd cc)

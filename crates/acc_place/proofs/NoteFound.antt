@@ -167,9 +167,9 @@ map_append f (x ∷ xs) ys = ap (λ r. f x ∷ r) (map_append f xs ys)
 
 pub used_are : (ops : List OpLabel) → map (λ (u : Use). u.0) (flat_map used_ranges ops) ≡ flat_map used_blocks ops
 used_are [] = refl
-used_are (Make b r ∷ ops) = used_are ops
-used_are (CopyIn b r ∷ ops) = ap (λ bs. b ∷ bs) (used_are ops)
-used_are (CopyOut b r ∷ ops) = ap (λ bs. b ∷ bs) (used_are ops)
+used_are (Make r b ∷ ops) = used_are ops
+used_are (CopyIn r b ∷ ops) = ap (λ bs. b ∷ bs) (used_are ops)
+used_are (CopyOut r b ∷ ops) = ap (λ bs. b ∷ bs) (used_are ops)
 used_are (Release b ∷ ops) = used_are ops
 used_are (Run k uses ∷ ops) = map_append (λ u. u.0) uses (flat_map used_ranges ops) ∙ ap (λ bs. map (λ (u : Use). u.0) uses ++ bs) (used_are ops)
 used_are (Await q n ∷ ops) = used_are ops
@@ -195,8 +195,8 @@ none_if true f bs h = none_each f bs h
 none_if false f bs h = refl
 
 none_updates : (c : Clause) (r : Range) (bs : List ℕ) → flat_map released_blocks (updates_by c r bs) ≡ []
-none_updates UpdateSelf r bs = none_each (λ b. CopyOut b r) bs (λ b. refl)
-none_updates UpdateDevice r bs = none_each (λ b. CopyIn b r) bs (λ b. refl)
+none_updates UpdateSelf r bs = none_each (λ b. CopyOut r b) bs (λ b. refl)
+none_updates UpdateDevice r bs = none_each (λ b. CopyIn r b) bs (λ b. refl)
 none_updates Copy r bs = refl
 none_updates Copyin r bs = refl
 none_updates Copyout r bs = refl
@@ -228,11 +228,11 @@ release_all (v ∷ vs) =
 -- The blocks that a walk releases are those that its visits ended, in their order.
 pub released_are : (k : Option Loop) (items : List DataItem) (ms : List Mark) (vs : List Visit) → flat_map released_blocks (grouped (runs_by k items ms) vs) ≡ flat_map ended_blocks vs
 released_are k items ms vs =
-    skip (flat_map makes vs) _ (none_group makes vs (λ v. none_each (λ b. Make b v.item.range) (opened_blocks v) (λ b. refl)))
-    ∙ (skip (flat_map copy_ins vs) _ (none_group copy_ins vs (λ v. none_if (copies_in v.item.clause) (λ b. CopyIn b v.item.range) (opened_blocks v) (λ b. refl)))
+    skip (flat_map makes vs) _ (none_group makes vs (λ v. none_each (λ b. Make v.item.range b) (opened_blocks v) (λ b. refl)))
+    ∙ (skip (flat_map copy_ins vs) _ (none_group copy_ins vs (λ v. none_if (copies_in v.item.clause) (λ b. CopyIn v.item.range b) (opened_blocks v) (λ b. refl)))
     ∙ (skip (runs_by k items ms) _ (none_runs k items ms)
     ∙ (skip (flat_map updates vs) _ (none_group updates vs (λ v. none_updates v.item.clause v.item.range (holding_blocks v.before v.item.range)))
-    ∙ (skip (flat_map copy_outs vs) (flat_map releases vs) (none_group copy_outs vs (λ v. none_if (copies_out v.item.clause) (λ b. CopyOut b v.item.range) (ended_blocks v) (λ b. refl)))
+    ∙ (skip (flat_map copy_outs vs) (flat_map releases vs) (none_group copy_outs vs (λ v. none_if (copies_out v.item.clause) (λ b. CopyOut v.item.range b) (ended_blocks v) (λ b. refl)))
     ∙ release_all vs))))
 
 -- numbers read off what is found are those read off the notes of the blocks

@@ -83,9 +83,9 @@ noted_is q n b whole (op ∷ ops) notes h = by_op op (All-head (NotesSo (IsOf wh
 
     by_op : (o : OpLabel) → NotesSo (IsOf whole b) o → ((f : Range → ℕ → Note) → noted_by q n ops f whole b ≡ becomes q n made used (f whole b))
         → noted_by q n (o ∷ ops) notes whole b ≡ becomes q n (has_number (flat_map made_blocks (o ∷ ops)) b) (has_number (flat_map used_blocks (o ∷ ops)) b) (notes whole b)
-    by_op (Make k r) is rest = rest (changed_at r (made_by q n) notes) ∙ one_made q n b whole (k, r) notes made used (All-head (IsOf whole b) (k, r) [] is)
-    by_op (CopyIn k r) is rest = rest (changed_at r (used_by q n) notes) ∙ one_used q n b whole (k, r) notes made used (All-head (IsOf whole b) (k, r) [] is)
-    by_op (CopyOut k r) is rest = rest (changed_at r (used_by q n) notes) ∙ one_used q n b whole (k, r) notes made used (All-head (IsOf whole b) (k, r) [] is)
+    by_op (Make r k) is rest = rest (changed_at r (made_by q n) notes) ∙ one_made q n b whole (k, r) notes made used (All-head (IsOf whole b) (k, r) [] is)
+    by_op (CopyIn r k) is rest = rest (changed_at r (used_by q n) notes) ∙ one_used q n b whole (k, r) notes made used (All-head (IsOf whole b) (k, r) [] is)
+    by_op (CopyOut r k) is rest = rest (changed_at r (used_by q n) notes) ∙ one_used q n b whole (k, r) notes made used (All-head (IsOf whole b) (k, r) [] is)
     by_op (Release k) is rest = rest notes
     by_op (Run k uses) is rest =
         rest (changed_all (used_by q n) uses notes)

@@ -20,11 +20,11 @@ use Rattle.acc_place.specs.inner.Noting.{awaits_from}
 use Rattle.acc_place.specs.Plans.{label_for}
 use Rattle.acc_place.specs.inner.Judging.{op_for, update_for, op_of, group_ops, block_of, marked_ops}
 
-copied_in : (copies : Bool) (b : ℕ) (r : Range) → IfSome (if copies then Some (op.CopyIn b r) else None) HasItsCells
+copied_in : (copies : Bool) (b : ℕ) (r : Range) → IfSome (if copies then Some (op.CopyIn r b) else None) HasItsCells
 copied_in true b r = tt
 copied_in false b r = tt
 
-copied_out : (copies : Bool) (b : ℕ) (r : Range) → IfSome (if copies then Some (op.CopyOut b r) else None) HasItsCells
+copied_out : (copies : Bool) (b : ℕ) (r : Range) → IfSome (if copies then Some (op.CopyOut r b) else None) HasItsCells
 copied_out true b r = tt
 copied_out false b r = tt
 

@@ -322,8 +322,8 @@ updates_are Copyout r bs o is = for_none o
 updates_are Create r bs o is = for_none o
 updates_are Present r bs o is = for_none o
 updates_are Delete r bs o is = for_none o
-updates_are UpdateSelf r bs o is = op_each (λ b. op.CopyOut b r) bs o is
-updates_are UpdateDevice r bs o is = op_each (λ b. op.CopyIn b r) bs o is
+updates_are UpdateSelf r bs o is = op_each (λ b. op.CopyOut r b) bs o is
+updates_are UpdateDevice r bs o is = op_each (λ b. op.CopyIn r b) bs o is
 
 both : {X : Type 0} (xs ys zs ws : List X) → xs ≡ ys → zs ≡ ws → xs ++ zs ≡ ys ++ ws
 both xs ys zs ws e f = ap (λ us. us ++ zs) e ∙ ap (λ us. ys ++ us) f
@@ -340,10 +340,10 @@ ops_first change ms i vs ts h cells rest =
     let over = ended_by change (presences ms) r in
     let had = holder (presences ms) r in
     record {
-      made = both (makes v) _ (flat_map makes vs) (flat_map (group_ops Makes) ts) (op_each (λ b. op.Make b r) (opened_blocks v) one opens) rest.made;
-      filled = both (copy_ins v) _ (flat_map copy_ins vs) (flat_map (group_ops CopyIns) ts) (op_where (copies_in i.clause) (λ b. op.CopyIn b r) (opened_blocks v) one opens) rest.filled;
+      made = both (makes v) _ (flat_map makes vs) (flat_map (group_ops Makes) ts) (op_each (λ b. op.Make r b) (opened_blocks v) one opens) rest.made;
+      filled = both (copy_ins v) _ (flat_map copy_ins vs) (flat_map (group_ops CopyIns) ts) (op_where (copies_in i.clause) (λ b. op.CopyIn r b) (opened_blocks v) one opens) rest.filled;
       updated = both (updates v) _ (flat_map updates vs) (flat_map (group_ops Updates) ts) (updates_are i.clause r (holding_blocks ms r) (block_held had) (found_is_held had)) rest.updated;
-      copied = both (copy_outs v) _ (flat_map copy_outs vs) (flat_map (group_ops CopyOuts) ts) (op_where (copies_out i.clause) (λ b. op.CopyOut b r) (ended_blocks v) over ends) rest.copied;
+      copied = both (copy_outs v) _ (flat_map copy_outs vs) (flat_map (group_ops CopyOuts) ts) (op_where (copies_out i.clause) (λ b. op.CopyOut r b) (ended_blocks v) over ends) rest.copied;
       released = both (releases v) _ (flat_map releases vs) (flat_map (group_ops Releases) ts) (op_each op.Release (ended_blocks v) over ends) rest.released;
       ended = both (ended_uses v) _ (flat_map ended_uses vs) (flat_map ended_range ts) (ap (map (λ b. (b, r))) ends) rest.ended;
     }

@@ -28,7 +28,7 @@ pub released_quiet : (before ops : List OpLabel) → blocks_released ops ≡ [] 
 released_quiet before ops none = released-append before ops ∙ (ap (λ r. blocks_released before ++ r) none ∙ append-nil (blocks_released before))
 
 -- makings of blocks release none
-make_releases_none : (bs : List ℕ) (r : Range) → blocks_released (map (λ b. Make b r) bs) ≡ []
+make_releases_none : (bs : List ℕ) (r : Range) → blocks_released (map (λ b. Make r b) bs) ≡ []
 make_releases_none [] r = refl
 make_releases_none (b ∷ bs) r = make_releases_none bs r
 

@@ -51,14 +51,14 @@ abbrev pub ended_blocks : Visit → List ℕ
 ended_blocks v = blocks_of (filter (λ l. not (lives v.after l)) (live_lifetimes v.before))
 
 abbrev pub makes : Visit → List OpLabel
-makes v = map (λ b. Make b v.item.range) (opened_blocks v)
+makes v = map (λ b. Make v.item.range b) (opened_blocks v)
 
 abbrev pub copy_ins : Visit → List OpLabel
-copy_ins v = if copies_in v.item.clause then map (λ b. CopyIn b v.item.range) (opened_blocks v) else []
+copy_ins v = if copies_in v.item.clause then map (λ b. CopyIn v.item.range b) (opened_blocks v) else []
 
 -- a copy out moves the range of the item whose exit ended the lifetime
 abbrev pub copy_outs : Visit → List OpLabel
-copy_outs v = if copies_out v.item.clause then map (λ b. CopyOut b v.item.range) (ended_blocks v) else []
+copy_outs v = if copies_out v.item.clause then map (λ b. CopyOut v.item.range b) (ended_blocks v) else []
 
 -- and the whole block is released
 abbrev pub releases : Visit → List OpLabel
@@ -74,8 +74,8 @@ holding_blocks marks r = found_block (holder (presences marks) r)
 
 -- `self` copies from the device to the host, `device` from the host to the device; an absent range is left alone
 abbrev pub updates_by : Clause → Range → List ℕ → List OpLabel
-updates_by UpdateSelf r blocks = map (λ b. CopyOut b r) blocks
-updates_by UpdateDevice r blocks = map (λ b. CopyIn b r) blocks
+updates_by UpdateSelf r blocks = map (λ b. CopyOut r b) blocks
+updates_by UpdateDevice r blocks = map (λ b. CopyIn r b) blocks
 updates_by c r blocks = []
 
 abbrev pub updates : Visit → List OpLabel

@@ -296,7 +296,7 @@ fn op_for(group: Group, clause: Clause, block: BlockId, range: Range) -> Option<
 
 // The copy to a block that an item of this clause opened.
 fn copy_in_for(clause: Clause, block: BlockId, range: Range) -> Option<OpLabel>
-    ensures { result ≡ (if copies_in clause then Some (op.CopyIn block range) else None) }
+    ensures { result ≡ (if copies_in clause then Some (op.CopyIn range block) else None) }
 {
     match clause {
         Clause::Copy | Clause::Copyin => Some(OpLabel::CopyIn { block, range }),
@@ -307,7 +307,7 @@ fn copy_in_for(clause: Clause, block: BlockId, range: Range) -> Option<OpLabel>
 
 // The copy from a block that an item of this clause ended.
 fn copy_out_for(clause: Clause, block: BlockId, range: Range) -> Option<OpLabel>
-    ensures { result ≡ (if copies_out clause then Some (op.CopyOut block range) else None) }
+    ensures { result ≡ (if copies_out clause then Some (op.CopyOut range block) else None) }
 {
     match clause {
         Clause::Copy | Clause::Copyout => Some(OpLabel::CopyOut { block, range }),

@@ -1,12 +1,11 @@
 -- What a binary search of a table finds: only the last range that does not begin behind another can contain it,
 -- and only that one and the next can be the first to overlap it.
 use Rattle.std.proofs.Common.{◌≡◌, ℕ, zero, suc, ◌+◌, ◌-◌, ◌<◌, ◌≤◌, Bool, true, false, List, [], ◌∷◌, length, map, get_or, Option, Some, None, refl, sym, ap, ◌∙◌, arith, inl, inr}
-use Rattle.std.specs.Prelude.{◌||◌, not, nat_lt, slice_get, is_some}
-use Rattle.std.specs.List.{position_or_len, AllWithin}
-use Rattle.std.specs.List.Sorted.{IsPartitionedBy}
+use Rattle.std.specs.Prelude.{◌||◌, nat_lt, slice_get, is_some}
+use Rattle.std.specs.List.{position_or_len}
 use Rattle.std.specs.Option.{option_map_or}
 use Rattle.std.proofs.Math.Bool.{and-false}
-use Rattle.std.proofs.lemmas.Bool.{cases_Bool, and_parts, not-true, not-false}
+use Rattle.std.proofs.lemmas.Bool.{cases_Bool, and_parts}
 use Rattle.std.proofs.lemmas.Bool.Decides.{nat_tests}
 use Rattle.acc_base.specs.declared.range.Range.{Range}
 use Rattle.acc_base.specs.Ranges.{range_contains, range_overlaps}
@@ -31,37 +30,44 @@ behind-miss r p ps miss =
     let one : behind r (p ∷ ps) ≡ 1 + behind r ps = rw miss refl in
     omega (arith, one)
 
--- ## The index that a partition point gives
+-- ## The index that a search by halves gives
 
-ends_before_entry : (a : Range) (es : List Entry) (j : ℕ) (d : Entry) → ends_before_all a (map entry_presence es) ≡ true → j < length es → ends_before a (get_or es j d).range ≡ true
-ends_before_entry a [] j d h low = absurd (omega arith)
-ends_before_entry a (e ∷ es) zero d h low = (and_parts (ends_before a e.range) (ends_before_all a (map entry_presence es)) h).0
-ends_before_entry a (e ∷ es) (suc j) d h low = ends_before_entry a es j d (and_parts (ends_before a e.range) (ends_before_all a (map entry_presence es)) h).1 (omega arith)
+ends_before_entry : (a : Range) (es : List Entry) (j : ℕ) (x : Entry) → ends_before_all a (map entry_presence es) ≡ true → slice_get es j ≡ Some x → ends_before a x.range ≡ true
+ends_before_entry a [] j x h at = cc
+ends_before_entry a (e ∷ es) zero x h at =
+    let same : e ≡ x = cc in ap (λ (y : Entry). ends_before a y.range) (sym same) ∙ (and_parts (ends_before a e.range) (ends_before_all a (map entry_presence es)) h).0
+ends_before_entry a (e ∷ es) (suc j) x h at = ends_before_entry a es j x (and_parts (ends_before a e.range) (ends_before_all a (map entry_presence es)) h).1 at
 
-pub IsPartitionedBy-table : (r : Range) (es : List Entry) → is_table (map entry_presence es) ≡ true → IsPartitionedBy (λ e. not (is_before r e.range)) es
-IsPartitionedBy-table r [] t i j d low high h = absurd (omega arith)
-IsPartitionedBy-table r (e ∷ es) t zero zero d low high h = h
-IsPartitionedBy-table r (e ∷ es) t zero (suc j) d low high h =
-    let b = get_or es j d in
-    let k = ends_before_entry e.range es j d (table_parts (entry_presence e) (map entry_presence es) t).first (omega arith) in
+pub behind_within : (r : Range) (es : List Entry) → behind r (map entry_presence es) ≤ length es
+behind_within r [] = omega arith
+behind_within r (e ∷ es) = elim (cases_Bool (is_before r e.range)) [
+  | inl hit ↦ (let first = behind-hit r (entry_presence e) (map entry_presence es) hit in omega (arith, first))
+  | inr miss ↦ (let later = behind-miss r (entry_presence e) (map entry_presence es) miss in let rest = behind_within r es in omega (arith, later, rest))
+]
+
+-- the first entry behind the range's first cell comes no later than any such
+pub behind_until : (r : Range) (es : List Entry) (m : ℕ) (x : Entry) → slice_get es m ≡ Some x → is_before r x.range ≡ true → behind r (map entry_presence es) ≤ m
+behind_until r [] m x at h = cc
+behind_until r (e ∷ es) zero x at h =
+    let same : e ≡ x = cc in
+    let first = behind-hit r (entry_presence e) (map entry_presence es) (ap (λ (y : Entry). is_before r y.range) same ∙ h) in omega (arith, first)
+behind_until r (e ∷ es) (suc m) x at h = elim (cases_Bool (is_before r e.range)) [
+  | inl hit ↦ (let first = behind-hit r (entry_presence e) (map entry_presence es) hit in omega (arith, first))
+  | inr miss ↦ (let later = behind-miss r (entry_presence e) (map entry_presence es) miss in let rest = behind_until r es m x at h in omega (arith, later, rest))
+]
+
+-- it comes after each that begins no later than the range
+pub behind_from : (r : Range) (es : List Entry) (m : ℕ) (x : Entry) → is_table (map entry_presence es) ≡ true → slice_get es m ≡ Some x → is_before r x.range ≡ false → m < behind r (map entry_presence es)
+behind_from r [] m x t at h = cc
+behind_from r (e ∷ es) zero x t at h =
+    let same : e ≡ x = cc in
+    let later = behind-miss r (entry_presence e) (map entry_presence es) (ap (λ (y : Entry). is_before r y.range) same ∙ h) in omega (arith, later)
+behind_from r (e ∷ es) (suc m) x t at h =
+    let parts = table_parts (entry_presence e) (map entry_presence es) t in
     elim (cases_Bool (is_before r e.range)) [
-      | inl hit ↦ (let f = before_through r e.range b.range hit k in let g : not true ≡ true = rw f at h in cc)
-      | inr miss ↦ rw miss refl
+      | inl hit ↦ (let through = before_through r e.range x.range hit (ends_before_entry e.range es m x parts.first at) in cc)
+      | inr miss ↦ (let later = behind-miss r (entry_presence e) (map entry_presence es) miss in let rest = behind_from r es m x parts.others at h in omega (arith, later, rest))
     ]
-IsPartitionedBy-table r (e ∷ es) t (suc i) zero d low high h = absurd (omega arith)
-IsPartitionedBy-table r (e ∷ es) t (suc i) (suc j) d low high h =
-    IsPartitionedBy-table r es (table_parts (entry_presence e) (map entry_presence es) t).others i j d (omega arith) (omega arith) h
-
-pub partition_is_behind : (r : Range) (es : List Entry) (i : ℕ) → i ≤ length es
-    → AllWithin (λ e. not (is_before r e.range) ≡ true) es 0 i → AllWithin (λ e. not (is_before r e.range) ≡ false) es i (length es)
-    → i ≡ behind r (map entry_presence es)
-partition_is_behind r [] i low before after = omega arith
-partition_is_behind r (e ∷ es) zero low before after =
-    sym (behind-hit r (entry_presence e) (map entry_presence es) (not-false (is_before r e.range) (after 0 e (omega arith) (omega arith))))
-partition_is_behind r (e ∷ es) (suc i) low before after =
-    let miss = not-true (is_before r e.range) (before 0 e (omega arith) (omega arith)) in
-    let ih = partition_is_behind r es i (omega arith) (λ k d l h. before (suc k) d (omega arith) (omega arith)) (λ k d l h. after (suc k) d (omega arith) (omega arith)) in
-    omega (arith, ih, behind-miss r (entry_presence e) (map entry_presence es) miss)
 
 -- ## The entry that contains a range
 

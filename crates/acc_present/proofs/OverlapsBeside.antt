@@ -1,10 +1,11 @@
 -- What a search of a table finds beside changed entries: only those from the last that doesn't begin behind a range
 -- up to the first that does, and doesn't overlap it, are asked.
-use Rattle.std.proofs.Common.{◌≡◌, ℕ, zero, suc, ◌<◌, Bool, true, false, List, [], ◌∷◌, length, map, get_or, refl, sym, ap, ◌∙◌, arith, inl, inr, ◌-◌, take, drop}
-use Rattle.std.specs.Prelude.{◌||◌, not, filter}
+use Rattle.std.proofs.Common.{◌≡◌, ℕ, zero, suc, Bool, true, false, List, [], ◌∷◌, map, refl, sym, ap, ap₂, subst, ◌∙◌, arith, inl, inr, ◌+◌, ◌-◌, drop}
+use Rattle.std.specs.Prelude.{◌||◌, ◌&&◌, not, filter, slice_get, Some}
 use Rattle.std.specs.List.{list_any}
 use Rattle.std.proofs.lemmas.Bool.{cases_Bool, and_parts}
-use Rattle.std.proofs.lemmas.List.{take_rest, drop-map}
+use Rattle.std.proofs.lemmas.List.{drop-map, drop_more}
+use Rattle.std.proofs.lemmas.Option.{slice_get_within, get_or_from_slice_get}
 use Rattle.acc_base.specs.declared.range.Range.{Range}
 use Rattle.acc_base.specs.Ranges.{range_overlaps}
 use Rattle.acc_present.specs.declared.table.Entry.{Entry}
@@ -21,15 +22,17 @@ list_any-map t h [] = refl
 list_any-map t h (x ∷ xs) = ap (λ b. t (h x) || b) (list_any-map t h xs)
 
 -- an entry that begins behind the range and doesn't overlap it is the last to be asked
-pub beside_stops : (cs : List Presence) (es : List Entry) (x : Entry) (r : Range) → is_table (map entry_presence es) ≡ true → 0 < length es → x ≡ get_or es 0 x → range_overlaps x.range r ≡ false → is_before r x.range ≡ true
-    → overlaps_any (beside cs (map entry_presence es)) r ≡ false
-beside_stops cs [] x r t some is apart before = absurd (omega arith)
-beside_stops cs (e ∷ es) x r t some is apart before =
-    let ps = map entry_presence (e ∷ es) in
-    let miss : range_overlaps e.range r ≡ false = ap (λ (k : Entry). range_overlaps k.range r) (sym is) ∙ apart in
-    let first : is_before r e.range ≡ true = ap (λ (k : Entry). is_before r k.range) (sym is) ∙ before in
-    let none : overlaps_any ps r ≡ false = overlaps_is ps r t ∙ (ap (met_at ps r) (behind-hit r (entry_presence e) (map entry_presence es) first) ∙ miss) in
+beside_stops : (cs : List Presence) (x : Entry) (es : List Entry) (r : Range) → is_table (map entry_presence (x ∷ es)) ≡ true → range_overlaps x.range r ≡ false → is_before r x.range ≡ true
+    → overlaps_any (beside cs (map entry_presence (x ∷ es))) r ≡ false
+beside_stops cs x es r t apart before =
+    let ps = map entry_presence (x ∷ es) in
+    let none : overlaps_any ps r ≡ false = overlaps_is ps r t ∙ (ap (met_at ps r) (behind-hit r (entry_presence x) (map entry_presence es) before) ∙ apart) in
     overlaps_any-filter_none (λ (p : Presence). not (overlaps_any cs p.range)) ps r none
+
+-- the first entry is asked, and then the others
+asks_first : (cs : List Presence) (x : Entry) (es : List Entry) (r : Range)
+    → overlaps_any (beside cs (map entry_presence (x ∷ es))) r ≡ (not (overlaps_any cs x.range) && range_overlaps x.range r) || overlaps_any (beside cs (map entry_presence es)) r
+asks_first cs x es r = elim (cases_Bool (overlaps_any cs x.range)) [ inl hit ↦ rw hit refl | inr miss ↦ rw miss refl ]
 
 is_table-drop : (k : ℕ) (ps : List Presence) → is_table ps ≡ true → is_table (drop k ps) ≡ true
 is_table-drop zero ps t = t
@@ -67,12 +70,34 @@ pub record GoesOn (cs : List Presence) (es rest : List Entry) (r : Range) : Type
   pub table : is_table (map entry_presence rest) ≡ true
   pub same : overlaps_any (beside cs (map entry_presence rest)) r ≡ overlaps_any (beside cs (map entry_presence es)) r
 
-pub goes_on : (cs : List Presence) (es : List Entry) (r : Range) (k : ℕ) → is_table (map entry_presence es) ≡ true → k ≡ behind r (map entry_presence es) - 1 → GoesOn cs es (take (length es - k) (drop k es)) r
+pub goes_on : (cs : List Presence) (es : List Entry) (r : Range) (k : ℕ) → is_table (map entry_presence es) ≡ true → k ≡ behind r (map entry_presence es) - 1 → GoesOn cs es (drop k es) r
 goes_on cs es r k t is =
     let ps = map entry_presence es in
-    let shown : map entry_presence (take (length es - k) (drop k es)) ≡ drop (behind r ps - 1) ps =
-    ap (map entry_presence) (take_rest es k) ∙ (sym (drop-map entry_presence k es) ∙ ap (λ n. drop n ps) is) in
+    let shown : map entry_presence (drop k es) ≡ drop (behind r ps - 1) ps = sym (drop-map entry_presence k es) ∙ ap (λ n. drop n ps) is in
     record {
       table = rw shown (is_table-drop (behind r ps - 1) ps t);
       same = rw shown (from_last (λ (p : Presence). not (overlaps_any cs p.range)) ps r t);
     }
+
+-- the n-th entry is x
+module _ (cs : List Presence) (es : List Entry) (n : ℕ) (r : Range) (on : GoesOn cs es (drop n es) r) (x : Entry) (at : slice_get es n ≡ Some x) where
+  from_here : GoesOn cs es (x ∷ drop (n + 1) es) r
+  from_here =
+      let here : drop n es ≡ x ∷ drop (n + 1) es = drop_more es n x (slice_get_within es n x at) ∙ ap (λ y. y ∷ drop (n + 1) es) (get_or_from_slice_get es n x x at) in
+      subst (λ l. GoesOn cs es l r) here on
+
+  asked : overlaps_any (beside cs (map entry_presence es)) r ≡ (not (overlaps_any cs x.range) && range_overlaps x.range r) || overlaps_any (beside cs (map entry_presence (drop (n + 1) es))) r
+  asked = sym from_here.same ∙ asks_first cs x (drop (n + 1) es) r
+
+  -- the others are asked, where x doesn't count
+  pub goes_past : not (overlaps_any cs x.range) && range_overlaps x.range r ≡ false → GoesOn cs es (drop (n + 1) es) r
+  goes_past none = record {
+    table = (table_parts (entry_presence x) (map entry_presence (drop (n + 1) es)) from_here.table).others;
+    same = sym (asked ∙ ap (λ b. b || overlaps_any (beside cs (map entry_presence (drop (n + 1) es))) r) none);
+  }
+
+  pub meets_here : overlaps_any cs x.range ≡ false → range_overlaps x.range r ≡ true → overlaps_any (beside cs (map entry_presence es)) r ≡ true
+  meets_here alone meets = asked ∙ ap₂ (λ b c. (not b && c) || overlaps_any (beside cs (map entry_presence (drop (n + 1) es))) r) alone meets
+
+  pub stops_here : range_overlaps x.range r ≡ false → is_before r x.range ≡ true → overlaps_any (beside cs (map entry_presence es)) r ≡ false
+  stops_here apart before = sym from_here.same ∙ beside_stops cs x (drop (n + 1) es) r from_here.table apart before

@@ -1,33 +1,35 @@
-//! Entries in slots of their own, and slots for entries to come.
+//! Entries in linked nodes, and nodes for entries to come.
 
-ghost use Rattle.std.specs.Prelude.{◌≡◌, ◌+◌, ◌^◌, ◌<◌, ◌≤◌, [], length, slice_get, slice_set, insert, remove, IfOk, IfErr, OnOk, OnErr, OnSome, vec_len};
+ghost use Rattle.std.specs.Prelude.{◌≡◌, ◌+◌, ◌^◌, ◌<◌, ◌≤◌, [], length, slice_get, slice_set, insert, remove, IfOk, IfErr, OnOk, OnErr, OnSome};
 ghost use Rattle.std.specs.Option.{option_map};
 ghost use Rattle.std.proofs.Common.{get_or};
 ghost use Rattle.acc_base.specs.declared.fault.Fault.TheVariants as fault;
 
 use crate::table::Entry;
-use acc_base::{BlockId, Boxed, Fault, QUEUES, QueueId, Range};
+use acc_base::{BlockId, Fault, QUEUES, QueueId, Range};
+use acc_raw::{Chain, Indexed, Node};
 use std::alloc::Global;
 use std::marker::Model;
 
-/// Entries in their order, each in a slot of its own, so that one that comes or goes moves no other; with slots for entries
-/// to come.
+/// Entries in their order, each in a node that is linked to its neighbours, so that one that comes or goes moves no other;
+/// with nodes for entries to come.
 #[derive(Drop)]
 pub struct Entries {
     alloc: Global,
-    slots: Vec<Boxed<Entry>>,
-    spare: Vec<Boxed<Entry>>,
+    listed: Indexed<Entry>,
+    spare: Chain<Entry>,
+    // how many nodes both have
+    room: usize,
 }
 
 impl Model for Entries {
-    ghost use Rattle.std.specs.Prelude.{◌+◌, vec_len, vec_capacity};
-    ghost use Rattle.acc_present.specs.inner.Invariants.{EntriesView, HasSlots};
+    ghost use Rattle.acc_present.specs.inner.Invariants.{EntriesView, HasNodes};
 
     ghost Value = { EntriesView };
 
-    ghost view = { λ e. record { items = e.slots.items; room = vec_len e.slots + vec_len e.spare } };
+    ghost view = { λ e. record { items = e.listed.items; room = e.room } };
 
-    ghost invariant = { λ e. HasSlots (vec_len e.slots + vec_len e.spare) (vec_capacity e.slots) (vec_capacity e.spare) };
+    ghost invariant = { λ e. HasNodes e.listed e.spare e.room };
 }
 
 impl Entries {
@@ -36,8 +38,9 @@ impl Entries {
     {
         Entries {
             alloc,
-            slots: Vec::new(alloc),
-            spare: Vec::new(alloc),
+            listed: Indexed::new(alloc),
+            spare: Chain::new(alloc),
+            room: 0,
         }
     }
 
@@ -50,30 +53,34 @@ impl Entries {
         ensures kept { OnErr result (self.new ≡ self.old) }
         ensures missing { OnErr result (self.old.room < length self.old.items + count) }
     {
-        let spare = self.spare.len();
+        let listed = self.listed.len();
+        let spare = self.room - listed;
         if count <= spare {
             return Ok(());
         }
-        let mut more = slots(self.alloc, count - spare)?;
-        self.slots.reserve(count)?;
-        self.spare.reserve(self.slots.len() + (count - spare))?;
-        let _ = self.spare.append(&mut more);
+        let mut more = nodes(self.alloc, count - spare)?;
+        self.listed.spare(count)?;
+        move_all(&mut more, &mut self.spare);
+        // the index has room to name so many
+        let _room = self.listed.room();
+        self.room = listed + count;
         Ok(())
     }
 
-    pub(crate) fn as_slice(&self) -> &[Boxed<Entry>]
-        ensures { result.now ≡ self.now.items }
+    pub(crate) fn listed(&self) -> &Indexed<Entry>
+        ensures { result.now.items ≡ self.now.items }
     {
-        self.slots.as_slice()
+        &self.listed
     }
 
     pub(crate) fn get(&self, index: usize) -> Option<&Entry>
         ensures entry { option_map (λ e. e.now) result ≡ slice_get self.now.items index }
         ensures next { OnSome result (index + 1 < 2 ^ 64) }
     {
-        match self.slots.get(index) {
-            Some(entry) => Some(entry.get()),
-            None => None,
+        if index < self.listed.len() {
+            Some(self.listed.get(index))
+        } else {
+            None
         }
     }
 
@@ -81,7 +88,7 @@ impl Entries {
         requires { index < length self.now.items }
         ensures { result.now ≡ get_or self.now.items index result.now }
     {
-        self.slots[index].get()
+        self.listed.get(index)
     }
 
     pub(crate) fn set(&mut self, index: usize, entry: Entry)
@@ -89,49 +96,72 @@ impl Entries {
         ensures items { self.new.items ≡ slice_set self.old.items index entry }
         ensures room { self.new.room ≡ self.old.room }
     {
-        self.slots[index].set(entry);
+        *self.listed.get_mut(index) = entry;
     }
 
-    /// Puts an entry before the one at this index.
+    /// Puts an entry before the one at this index, in a node that was spare.
     pub(crate) fn insert(&mut self, index: usize, entry: Entry)
         requires within { index ≤ length self.old.items }
         requires room { length self.old.items < self.old.room }
         ensures items { self.new.items ≡ insert self.old.items index entry }
         ensures room { self.new.room ≡ self.old.room }
     {
-        match self.spare.pop() {
-            Some(mut at) => {
-                at.set(entry);
-                // there is room, so this isn't refused
-                let _ = self.slots.insert(index, at);
-            }
-            None => {}
+        if let Some(mut node) = self.spare.pop_front() {
+            *node.value_mut() = entry;
+            self.listed.insert(index, node);
         }
     }
 
+    /// Takes an entry out. Its node is spare from then on.
     pub(crate) fn remove(&mut self, index: usize)
         requires { index < length self.old.items }
         ensures items { self.new.items ≡ remove self.old.items index }
         ensures room { self.new.room ≡ self.old.room }
     {
-        let at = self.slots.remove(index);
-        self.spare.push_reserved(at);
+        let node = self.listed.remove(index);
+        self.spare.push_back(node);
+    }
+
+    /// The chain of the entries, and that of the spare nodes.
+    pub(crate) fn into_chains(self) -> (Chain<Entry>, Chain<Entry>)
+        ensures items { result.0 ≡ self.items }
+        ensures spare { length result.0 + length result.1 ≡ self.room }
+    {
+        let Entries {
+            alloc: _,
+            listed,
+            spare,
+            room: _,
+        } = self;
+        (listed.into_chain(), spare)
     }
 }
 
-// So many slots without an entry.
-fn slots(alloc: Global, count: usize) -> Result<Vec<Boxed<Entry>>, Fault>
-    ensures count { IfOk result (λ slots. vec_len slots ≡ count) }
+// So many nodes for entries to come.
+fn nodes(alloc: Global, count: usize) -> Result<Chain<Entry>, Fault>
+    ensures count { IfOk result (λ nodes. length nodes ≡ count) }
     ensures fault { IfErr result (λ f. f ≡ fault.Memory) }
 {
-    let mut slots = Vec::with_capacity(alloc, count)?;
+    let mut nodes = Chain::new(alloc);
     for _ in 0..count {
-        slots.push_reserved(Boxed::new(alloc, no_entry())?);
+        match Node::new(alloc, no_entry()) {
+            Ok(node) => nodes.push_back(node),
+            Err((_, fault)) => return Err(fault),
+        }
     }
-    Ok(slots)
+    Ok(nodes)
 }
 
-// What stands in a slot that no entry has.
+// Moves the nodes of one chain behind those of another.
+fn move_all(from: &mut Chain<Entry>, to: &mut Chain<Entry>)
+    ensures { length to.new ≡ length to.old + length from.old }
+{
+    while let Some(node) = from.pop_front() {
+        to.push_back(node);
+    }
+}
+
+// What stands in a node that no entry has.
 fn no_entry() -> Entry {
     let range = Range {
         array: 0,

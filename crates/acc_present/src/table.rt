@@ -16,7 +16,8 @@ ghost use Rattle.acc_present.specs.Notes.{Note, entry_note, entry_noted, HasNote
 
 use crate::change::Change;
 use crate::entries::Entries;
-use acc_base::{BlockId, Boxed, Fault, QUEUES, QueueCounts, QueueId, Range};
+use acc_base::{BlockId, Fault, QUEUES, QueueCounts, QueueId, Range};
+use acc_raw::{Chain, Indexed};
 use std::alloc::Global;
 use std::marker::Model;
 
@@ -133,7 +134,7 @@ impl Table {
         ensures look { IsLook self.now.presences range result }
         ensures noted { (notes : Range → ℕ → Note) → HasNotes notes self.now.notes → IsNoted notes result }
     {
-        let entries = self.entries.as_slice();
+        let entries = self.entries.listed();
         let behind = index_behind(entries, range);
         match held_before(entries, behind, range) {
             Some(i) => Look::Present(*self.entries.at(i)),
@@ -163,7 +164,7 @@ impl Table {
         ensures room { self.new.room ≡ self.old.room }
         ensures result { result ≡ (if is_present self.old.presences range then Entered.Counted else Entered.Opened) }
     {
-        let entries = self.entries.as_slice();
+        let entries = self.entries.listed();
         let behind = index_behind(entries, range);
         match held_before(entries, behind, range) {
             Some(i) => {
@@ -217,7 +218,7 @@ impl Table {
         ensures room { self.new.room ≡ self.old.room }
         ensures result { result ≡ left_of (holder self.old.presences range) change }
     {
-        match index_of(self.entries.as_slice(), range) {
+        match index_of(self.entries.listed(), range) {
             None => Left::Nothing,
             Some(i) => {
                 let entry = self.entries.at(i);
@@ -252,9 +253,9 @@ impl Table {
     pub(crate) fn overlaps_beside(&self, range: Range, changed: &[Entry]) -> bool
         ensures { result ≡ overlaps_any (beside (map entry_presence changed.now) self.now.presences) range }
     {
-        let entries = self.entries.as_slice();
+        let entries = self.entries.listed();
         let behind = index_behind(entries, range);
-        overlaps_beside_in(&entries[behind.saturating_sub(1)..], range, changed)
+        overlaps_beside_in(entries, behind, range, changed)
     }
 
     /// Notes that this batch of a queue used what a range with a cell is part of, if it is present.
@@ -266,7 +267,7 @@ impl Table {
         ensures capacity { self.new.capacity ≡ self.old.capacity }
         ensures room { self.new.room ≡ self.old.room }
     {
-        match index_of(self.entries.as_slice(), range) {
+        match index_of(self.entries.listed(), range) {
             None => {}
             Some(i) => {
                 let entry = used_by(self.entries.at(i), queue, batch);
@@ -284,7 +285,7 @@ impl Table {
         ensures capacity { self.new.capacity ≡ self.old.capacity }
         ensures room { self.new.room ≡ self.old.room }
     {
-        match index_of(self.entries.as_slice(), range) {
+        match index_of(self.entries.listed(), range) {
             None => {}
             Some(i) => {
                 let entry = made_by(self.entries.at(i), queue, batch);
@@ -298,7 +299,7 @@ impl Table {
         requires { 0 < range.len }
         ensures { result ≡ option_map (λ p. (p.s, p.d)) (holder self.now.presences range) }
     {
-        match index_of(self.entries.as_slice(), range) {
+        match index_of(self.entries.listed(), range) {
             Some(i) => {
                 let entry = self.entries.at(i);
                 Some((entry.s, entry.d))
@@ -323,6 +324,20 @@ impl Table {
         self.entries.get(index)
     }
 
+    /// The chain of the present entries, in the order of `nth`, and that of the nodes which no entry has. Takes no memory.
+    pub fn into_chains(self) -> (Chain<Entry>, Chain<Entry>)
+        ensures presences { map entry_presence result.0 ≡ self.presences }
+        ensures notes { map entry_noted result.0 ≡ self.notes }
+        ensures spare { length result.0 + length result.1 ≡ self.room }
+    {
+        let Table {
+            entries,
+            capacity: _,
+            used: _,
+        } = self;
+        entries.into_chains()
+    }
+
     /// Every table's presences are in order and apart, each with a cell and a count, and with its note; and fit the capacity.
     pub fn keeps(&self)
         ensures table { is_table self.now.presences ≡ true }
@@ -343,38 +358,48 @@ fn stands_before(first: Range, second: Range) -> bool
 }
 
 // The index of the first entry that begins behind the range's first cell, or the end.
-fn index_behind(entries: &[Boxed<Entry>], range: Range) -> usize
-    requires { is_table (map entry_presence entries.now) ≡ true }
-    ensures index { result ≡ position_or_len (λ p. is_before range p.range) (map entry_presence entries.now) }
-    ensures within { result ≤ length entries.now }
+fn index_behind(entries: &Indexed<Entry>, range: Range) -> usize
+    requires { is_table (map entry_presence entries.now.items) ≡ true }
+    ensures index { result ≡ position_or_len (λ p. is_before range p.range) (map entry_presence entries.now.items) }
+    ensures within { result ≤ length entries.now.items }
 {
-    entries.partition_point(|e| !stands_before(range, e.get().range))
+    let mut low = 0;
+    let mut high = entries.len();
+    while low < high {
+        let middle = low + (high - low) / 2;
+        if stands_before(range, entries.get(middle).range) {
+            high = middle;
+        } else {
+            low = middle + 1;
+        }
+    }
+    low
 }
 
 // The index of the entry that contains the range.
-fn index_of(entries: &[Boxed<Entry>], range: Range) -> Option<usize>
-    requires table { is_table (map entry_presence entries.now) ≡ true }
+fn index_of(entries: &Indexed<Entry>, range: Range) -> Option<usize>
+    requires table { is_table (map entry_presence entries.now.items) ≡ true }
     requires cells { 0 < range.len }
-    ensures held { holder (map entry_presence entries.now) range ≡ option_and_then (slice_get (map entry_presence entries.now)) result }
-    ensures within { IfSome result (λ i. i < length entries.now) }
+    ensures held { holder (map entry_presence entries.now.items) range ≡ option_and_then (slice_get (map entry_presence entries.now.items)) result }
+    ensures within { IfSome result (λ i. i < length entries.now.items) }
 {
     held_before(entries, index_behind(entries, range), range)
 }
 
 // The same, where the first entry that begins behind the range's first cell stands at this index: no other entry contains
 // the range than the one before.
-fn held_before(entries: &[Boxed<Entry>], behind: usize, range: Range) -> Option<usize>
-    requires table { is_table (map entry_presence entries.now) ≡ true }
+fn held_before(entries: &Indexed<Entry>, behind: usize, range: Range) -> Option<usize>
+    requires table { is_table (map entry_presence entries.now.items) ≡ true }
     requires cells { 0 < range.len }
-    requires index { behind ≡ position_or_len (λ p. is_before range p.range) (map entry_presence entries.now) }
-    requires within { behind ≤ length entries.now }
-    ensures held { holder (map entry_presence entries.now) range ≡ option_and_then (slice_get (map entry_presence entries.now)) result }
-    ensures within { IfSome result (λ i. i < length entries.now) }
+    requires index { behind ≡ position_or_len (λ p. is_before range p.range) (map entry_presence entries.now.items) }
+    requires within { behind ≤ length entries.now.items }
+    ensures held { holder (map entry_presence entries.now.items) range ≡ option_and_then (slice_get (map entry_presence entries.now.items)) result }
+    ensures within { IfSome result (λ i. i < length entries.now.items) }
 {
     if behind == 0 {
         return None;
     }
-    if entries[behind - 1].get().range.contains(&range) {
+    if entries.get(behind - 1).range.contains(&range) {
         Some(behind - 1)
     } else {
         None
@@ -382,10 +407,10 @@ fn held_before(entries: &[Boxed<Entry>], behind: usize, range: Range) -> Option<
 }
 
 // If any entry overlaps the range, one of the two on both sides of its first cell does.
-fn overlaps_around(entries: &[Boxed<Entry>], behind: usize, range: Range) -> bool
-    requires table { is_table (map entry_presence entries.now) ≡ true }
-    requires index { behind ≡ position_or_len (λ p. is_before range p.range) (map entry_presence entries.now) }
-    ensures { result ≡ overlaps_any (map entry_presence entries.now) range }
+fn overlaps_around(entries: &Indexed<Entry>, behind: usize, range: Range) -> bool
+    requires table { is_table (map entry_presence entries.now.items) ≡ true }
+    requires index { behind ≡ position_or_len (λ p. is_before range p.range) (map entry_presence entries.now.items) }
+    ensures { result ≡ overlaps_any (map entry_presence entries.now.items) range }
 {
     if behind == 0 {
         return overlaps_at(entries, 0, range);
@@ -394,10 +419,10 @@ fn overlaps_around(entries: &[Boxed<Entry>], behind: usize, range: Range) -> boo
 }
 
 // Whether there is an entry at this index, and it overlaps the range.
-fn overlaps_at(entries: &[Boxed<Entry>], at: usize, range: Range) -> bool
-    ensures { result ≡ option_map_or (λ p. range_overlaps p.range range) (slice_get (map entry_presence entries.now) at) false }
+fn overlaps_at(entries: &Indexed<Entry>, at: usize, range: Range) -> bool
+    ensures { result ≡ option_map_or (λ p. range_overlaps p.range range) (slice_get (map entry_presence entries.now.items) at) false }
 {
-    at < entries.len() && entries[at].get().range.overlaps(&range)
+    at < entries.len() && entries.get(at).range.overlaps(&range)
 }
 
 // Whether one of the entries overlaps the range.
@@ -407,23 +432,31 @@ pub(crate) fn overlaps_one(entries: &[Entry], range: Range) -> bool
     entries.iter().any(|entry| entry.range.overlaps(&range))
 }
 
-// Whether the range overlaps an entry that no changed one overlaps. Goes along the entries until one begins
-// behind the range.
-fn overlaps_beside_in(entries: &[Boxed<Entry>], range: Range, changed: &[Entry]) -> bool
-    requires { is_table (map entry_presence entries.now) ≡ true }
-    ensures { result ≡ overlaps_any (beside (map entry_presence changed.now) (map entry_presence entries.now)) range }
+// Whether the range overlaps an entry that no changed one overlaps, where the first entry that begins behind the range's first
+// cell stands at this index. Goes along the entries until one begins behind the range.
+fn overlaps_beside_in(
+    entries: &Indexed<Entry>,
+    behind: usize,
+    range: Range,
+    changed: &[Entry],
+) -> bool
+    requires table { is_table (map entry_presence entries.now.items) ≡ true }
+    requires index { behind ≡ position_or_len (λ p. is_before range p.range) (map entry_presence entries.now.items) }
+    ensures { result ≡ overlaps_any (beside (map entry_presence changed.now) (map entry_presence entries.now.items)) range }
 {
-    match entries {
-        [] => false,
-        [first, rest @ ..] => {
-            let first = first.get();
-            if first.range.overlaps(&range) {
-                !overlaps_one(changed, first.range) || overlaps_beside_in(rest, range, changed)
-            } else {
-                !stands_before(range, first.range) && overlaps_beside_in(rest, range, changed)
+    let mut at = behind.saturating_sub(1);
+    while at < entries.len() {
+        let entry = entries.get(at);
+        if entry.range.overlaps(&range) {
+            if !overlaps_one(changed, entry.range) {
+                return true;
             }
+        } else if stands_before(range, entry.range) {
+            return false;
         }
+        at += 1;
     }
+    false
 }
 
 // An entry for a range that was absent, counted once.

@@ -5,6 +5,7 @@ pub mod Changing
 pub mod Crosses
 pub mod Filling
 pub mod Heap
+pub mod Indexing
 pub mod Lending
 pub mod Linking
 pub mod Making

@@ -1,9 +1,10 @@
 -- A node comes among the others.
 use Rattle.std.proofs.Common.{◌≡◌, ℕ, ◌<◌, ◌≤◌, zero, suc, refl, sym, ap, ◌∙◌, List, [], ◌∷◌, ◌++◌, length, insert, Option, Some, None, arith}
+use denote.RawPtr.{Ptr}
 use Rattle.acc_raw.specs.declared.link.Place.{Place}
 use Rattle.acc_raw.specs.inner.Links.{Placed, with_at}
 use Rattle.acc_raw.specs.inner.Wired.{place, place_at, place_before, last_place, next_set, IsWired, IsWiredChain, spliced, values, end_after}
-use Rattle.acc_raw.proofs.Naming.{values-next_set, values-prev_set}
+use Rattle.acc_raw.proofs.Naming.{shown, shown-next_set, shown-prev_set}
 use Rattle.acc_raw.proofs.Places.{some_at}
 
 -- the end stays where a node is on that side
@@ -70,18 +71,20 @@ module _ {X : Type 0} where
     last = ap (λ o. end_after o (Some (place n.0)) t) q ∙ last-in None ps i n t w.last le;
   }
 
-  values-with_at : (ps : List (Placed X)) (i : ℕ) (n : Placed X) → values (with_at ps i n) ≡ insert (values ps) i n.1.value
-  values-with_at [] zero n = refl
-  values-with_at [] (suc i) n = refl
-  values-with_at (q ∷ ps) zero n = refl
-  values-with_at (q ∷ ps) (suc i) n = ap (λ vs. q.1.value ∷ vs) (values-with_at ps i n)
-
-  pub values-spliced : (ps : List (Placed X)) (i : ℕ) (n : Placed X) → values (spliced ps i n) ≡ insert (values ps) i n.1.value
-  values-spliced ps i n =
-      let b = Some (place n.0) in
-      values-prev_set (next_set (with_at ps i n) i b) (suc i) b ∙ values-next_set (with_at ps i n) i b ∙ values-with_at ps i n
-
   pub values-end : (ps : List (Placed X)) (n : Placed X) → values (spliced ps (length ps) n) ≡ values ps ++ n.1.value ∷ []
   values-end [] n = refl
   values-end (q ∷ []) n = refl
   values-end (q ∷ r ∷ ps) n = ap (λ l. q.1.value ∷ l) (values-end (r ∷ ps) n)
+
+module _ {X Y : Type 0} (f : Ptr → X → Y) where
+  shown-with_at : (ps : List (Placed X)) (i : ℕ) (n : Placed X) → shown f (with_at ps i n) ≡ insert (shown f ps) i (f n.0 n.1.value)
+  shown-with_at [] zero n = refl
+  shown-with_at [] (suc i) n = refl
+  shown-with_at (q ∷ ps) zero n = refl
+  shown-with_at (q ∷ ps) (suc i) n = ap (λ ys. f q.0 q.1.value ∷ ys) (shown-with_at ps i n)
+
+  -- what all show has the new node's in its place
+  pub shown-spliced : (ps : List (Placed X)) (i : ℕ) (n : Placed X) → shown f (spliced ps i n) ≡ insert (shown f ps) i (f n.0 n.1.value)
+  shown-spliced ps i n =
+      let b = Some (place n.0) in
+      shown-prev_set f (next_set (with_at ps i n) i b) (suc i) b ∙ shown-next_set f (with_at ps i n) i b ∙ shown-with_at ps i n

@@ -1,10 +1,10 @@
 -- A node names another neighbour than before.
-use Rattle.std.proofs.Common.{◌≡◌, ℕ, zero, suc, refl, sym, ap, List, [], ◌∷◌, slice_get, slice_set, Option, Some, None}
+use Rattle.std.proofs.Common.{◌≡◌, ℕ, zero, suc, refl, sym, ap, List, [], ◌∷◌, map, slice_get, slice_set, Option, Some, None}
 use denote.RawPtr.{Ptr}
 use Rattle.acc_raw.specs.declared.link.Link.{Link}
 use Rattle.acc_raw.specs.declared.link.Place.{Place}
 use Rattle.acc_raw.specs.inner.Links.{Placed}
-use Rattle.acc_raw.specs.inner.Wired.{place_at, place_before, with_next, with_prev, next_set, prev_set, values}
+use Rattle.acc_raw.specs.inner.Wired.{place_at, place_before, with_next, with_prev, next_set, prev_set}
 
 module _ {X : Type 0} where
   pub prev_set_is : (ps : List (Placed X)) (i : ℕ) (p : Ptr) (x : Link X) (a : Option Place) → slice_get ps i ≡ Some (p, x) → slice_set ps i (with_prev a (p, x)) ≡ prev_set ps i a
@@ -36,13 +36,18 @@ module _ {X : Type 0} where
   place_at-next_set (q ∷ ps) (suc (suc i)) a zero = refl
   place_at-next_set (q ∷ ps) (suc (suc i)) a (suc k) = place_at-next_set ps (suc i) a k
 
-  pub values-next_set : (ps : List (Placed X)) (i : ℕ) (a : Option Place) → values (next_set ps i a) ≡ values ps
-  values-next_set [] i a = refl
-  values-next_set (q ∷ ps) zero a = refl
-  values-next_set (q ∷ ps) (suc zero) a = refl
-  values-next_set (q ∷ ps) (suc (suc i)) a = ap (λ vs. q.1.value ∷ vs) (values-next_set ps (suc i) a)
+-- what nodes show of where they lie and of their values
+module _ {X Y : Type 0} (f : Ptr → X → Y) where
+  abbrev pub shown : List (Placed X) → List Y
+  shown ps = map (λ p. f p.0 p.1.value) ps
 
-  pub values-prev_set : (ps : List (Placed X)) (i : ℕ) (a : Option Place) → values (prev_set ps i a) ≡ values ps
-  values-prev_set [] i a = refl
-  values-prev_set (q ∷ ps) zero a = refl
-  values-prev_set (q ∷ ps) (suc i) a = ap (λ vs. q.1.value ∷ vs) (values-prev_set ps i a)
+  pub shown-next_set : (ps : List (Placed X)) (i : ℕ) (a : Option Place) → shown (next_set ps i a) ≡ shown ps
+  shown-next_set [] i a = refl
+  shown-next_set (q ∷ ps) zero a = refl
+  shown-next_set (q ∷ ps) (suc zero) a = refl
+  shown-next_set (q ∷ ps) (suc (suc i)) a = ap (λ ys. f q.0 q.1.value ∷ ys) (shown-next_set ps (suc i) a)
+
+  pub shown-prev_set : (ps : List (Placed X)) (i : ℕ) (a : Option Place) → shown (prev_set ps i a) ≡ shown ps
+  shown-prev_set [] i a = refl
+  shown-prev_set (q ∷ ps) zero a = refl
+  shown-prev_set (q ∷ ps) (suc i) a = ap (λ ys. f q.0 q.1.value ∷ ys) (shown-prev_set ps i a)

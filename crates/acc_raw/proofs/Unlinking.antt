@@ -7,7 +7,7 @@ use Rattle.acc_raw.specs.declared.link.Place.{Place}
 use Rattle.acc_raw.specs.inner.Links.{Placed, without}
 use Rattle.acc_raw.specs.inner.Wired.{place, place_at, place_before, last_place, next_set, IsWired, IsWiredChain, unspliced, values, end_after}
 use Rattle.acc_raw.proofs.Linking.{end_stays}
-use Rattle.acc_raw.proofs.Naming.{values-next_set, values-prev_set}
+use Rattle.acc_raw.proofs.Naming.{shown, shown-next_set, shown-prev_set}
 
 module _ {X : Type 0} where
   below-without : (ps : List (Placed X)) (i j : ℕ) → j < i → i < length ps → place_at (without ps i) j ≡ place_at ps j
@@ -87,17 +87,19 @@ module _ {X : Type 0} where
         last = ap (λ o. end_after o l.prev t) b ∙ last-out None ps i p l t w.last e a;
       }
 
-  values-without : (ps : List (Placed X)) (i : ℕ) → values (without ps i) ≡ remove (values ps) i
-  values-without [] zero = refl
-  values-without [] (suc i) = refl
-  values-without (q ∷ ps) zero = refl
-  values-without (q ∷ ps) (suc i) = ap (λ vs. q.1.value ∷ vs) (values-without ps i)
-
-  pub values-unspliced : (ps : List (Placed X)) (i : ℕ) (l : Link X) → values (unspliced ps i l) ≡ remove (values ps) i
-  values-unspliced ps i l =
-      values-prev_set (next_set (without ps i) i l.next) i l.prev ∙ values-next_set (without ps i) i l.next ∙ values-without ps i
-
   pub values-front : (ps : List (Placed X)) (p : Ptr) (l : Link X) → slice_get ps 0 ≡ Some (p, l) → values ps ≡ l.value ∷ values (unspliced ps 0 l)
   values-front [] p l e = cc
   values-front (q ∷ []) p l e = let same : q ≡ (p, l) = cc in ap (λ (r : Placed X). r.1.value ∷ []) same
   values-front (q ∷ r ∷ ps) p l e = let same : q ≡ (p, l) = cc in ap (λ (s : Placed X). s.1.value ∷ values (r ∷ ps)) same
+
+module _ {X Y : Type 0} (f : Ptr → X → Y) where
+  shown-without : (ps : List (Placed X)) (i : ℕ) → shown f (without ps i) ≡ remove (shown f ps) i
+  shown-without [] zero = refl
+  shown-without [] (suc i) = refl
+  shown-without (q ∷ ps) zero = refl
+  shown-without (q ∷ ps) (suc i) = ap (λ ys. f q.0 q.1.value ∷ ys) (shown-without ps i)
+
+  -- what all show lacks that of the node that went
+  pub shown-unspliced : (ps : List (Placed X)) (i : ℕ) (l : Link X) → shown f (unspliced ps i l) ≡ remove (shown f ps) i
+  shown-unspliced ps i l =
+      shown-prev_set f (next_set (without ps i) i l.next) i l.prev ∙ shown-next_set f (without ps i) i l.next ∙ shown-without ps i

@@ -1,4 +1,5 @@
 pub mod Blocks
+pub mod Indices
 pub mod Lends
 pub mod Windows
 pub mod inner

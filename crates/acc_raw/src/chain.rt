@@ -3,6 +3,8 @@ ghost use Rattle.std.specs.Prelude.{◌≡◌, ◌-◌, ◌++◌, ◌∷◌, ◌
 ghost use Rattle.std.specs.Borrow.{sem, LendsIf};
 ghost use Rattle.std.specs.List.{position_or_len};
 ghost use Rattle.std.specs.Option.{option_copied, option_copied_mut};
+ghost use Rattle.acc_raw.specs.inner.Wired.{values};
+ghost use Rattle.acc_raw.specs.inner.Chained.{IsChained};
 
 use crate::chained::{Chained, link_at, unlink_at};
 use crate::iter::Iter;
@@ -45,6 +47,14 @@ impl<T> Chain<T> {
             },
             alloc,
         }
+    }
+
+    /// The chain of these nodes, whose blocks are this allocator's.
+    pub(crate) fn of(alloc: Global, nodes: Chained<T>) -> Self
+        requires { IsChained nodes }
+        ensures { result ≡ values nodes.store.links }
+    {
+        Chain { nodes, alloc }
     }
 
     /// The values, in their order.

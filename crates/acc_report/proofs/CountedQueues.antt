@@ -15,10 +15,10 @@ use Rattle.acc_host.specs.declared.outcome.Discarded.{Discarded}
 use Rattle.acc_host.specs.Discards.{discarded_on}
 use Rattle.acc_place.specs.Sound.{is_close}
 use Rattle.acc_report.specs.Totals.{plain_ops}
-use Rattle.acc_work.specs.declared.log.WorkEntry.{WorkEntry}
-use Rattle.acc_work.specs.declared.log.WorkEntry.TheVariants as entry
+use Rattle.acc_batch.specs.declared.entry.WorkEntry.{WorkEntry}
+use Rattle.acc_batch.specs.declared.entry.WorkEntry.TheVariants as entry
 use Rattle.acc_work.specs.Logs.{one_more, performed}
-use Rattle.acc_report.specs.inner.Counting.{AreCounted, HasCountRoom, HasEntryRoom, counted_behind, counted_with, has_seat, one_counted}
+use Rattle.acc_report.specs.inner.Counting.{AreCounted, counted_behind, counted_with, has_seat, one_counted}
 
 -- one more operation, which is a close or not
 plain_close : (mine : Bool) (ops : List OpLabel) (op : OpLabel) → is_close op ≡ true → length (plain_ops (one_more mine ops op)) ≡ length (plain_ops ops)
@@ -34,26 +34,11 @@ plain_more ops op plain =
     let all = ap length (filter-append (λ (o : OpLabel). not (is_close o)) ops (op ∷ [])) in
     omega (arith, all, length-append (plain_ops ops) (plain_ops (op ∷ [])), ap length one)
 
--- one more operation is at most one more
-plain_most : (mine : Bool) (ops : List OpLabel) (op : OpLabel) → length (plain_ops (one_more mine ops op)) ≤ length (plain_ops ops) + 1
-plain_most false ops op = omega arith
-plain_most true ops op = elim (cases_Bool (is_close op)) [
-  | inl close ↦ (let s = plain_close true ops op close in omega (arith, s))
-  | inr plain ↦ (let s = plain_more ops op plain in omega (arith, s))
-]
-
 -- a queue that is there has a count
 seated : (devices : ℕ) (at : QueueAt) (counts : List ℕ) → length counts ≡ devices * QUEUES → at.device < devices → at.queue < QUEUES → has_seat at counts ≡ true
 seated devices at counts all device queue =
     let low : seat at < length counts = omega (arith, all, device, queue) in
     and_from (nat_lt at.queue QUEUES) (nat_lt (seat at) (length counts)) (lt-ltb at.queue QUEUES queue) (lt-ltb (seat at) (length counts) low)
-
--- one that has a count is there
-has_device : (devices : ℕ) (at : QueueAt) (counts : List ℕ) → length counts ≡ devices * QUEUES → has_seat at counts ≡ true → at.device < devices
-has_device devices at counts all has =
-    let parts = and_parts (nat_lt at.queue QUEUES) (nat_lt (seat at) (length counts)) has in
-    let low = ltb-true (seat at) (length counts) parts.1 in
-    omega (arith, all, low)
 
 -- the own count
 counted_own : (at : QueueAt) (counts : List ℕ) → has_seat at counts ≡ true → slice_index_or (one_counted at counts) (seat at) 0 ≡ slice_index_or counts (seat at) 0 + 1
@@ -105,46 +90,12 @@ counted_more devices before after at op counts more h = elim (cases_Bool (is_clo
           counted_other at q counts differ queue ∙ (h.each q device queue ∙ sym (ap (λ (ops : List OpLabel). length (plain_ops ops)) (more q ∙ ap (λ b. one_more b (before q) op) differ)))
     ]
 
--- there is room for one more, where no queue has more than so many
-pub count_room : (devices most : ℕ) (ops : QueueAt → List OpLabel) (at : QueueAt) (counts : List ℕ) → ((q : QueueAt) → length (plain_ops (ops q)) ≤ most) → AreCounted devices ops counts → most + 1 < 2 ^ 64 → HasCountRoom at counts
-count_room devices most ops at counts few h fits = λ there.
-    let has : has_seat at counts ≡ true = there in
-    let parts = and_parts (nat_lt at.queue QUEUES) (nat_lt (seat at) (length counts)) has in
-    let is = h.each at (has_device devices at counts h.all has) (ltb-true at.queue QUEUES parts.0) in
-    omega (arith, is, few at, fits)
-
 -- ## The work log
 
--- the entries so far, the latest first
-pub one_logged : (works : List WorkEntry) (i : ℕ) (e : WorkEntry) → i < length works → e ≡ get_or works i e → reverse (take (i + 1) works) ≡ e ∷ reverse (take i works)
-one_logged works i e low is =
-    ap reverse (take_more works i e low) ∙ (reverse-append (take i works) (get_or works i e ∷ []) ∙ ap (λ (x : WorkEntry). x ∷ reverse (take i works)) (sym is))
-
--- a queue has performed no more operations than were logged
-pub performed_most : (work : List WorkEntry) (at : QueueAt) → length (plain_ops (performed at work)) ≤ length work
-performed_most [] at = omega arith
-performed_most (entry.Item host what ∷ work) at = let e = performed_most work at in omega (arith, e)
-performed_most (entry.Op q op ∷ work) at =
-    let e = performed_most work at in
-    let one = plain_most (same_queue q at) (performed at work) op in
-    omega (arith, e, one)
-
-pub entry_counted : (devices : ℕ) (works : List WorkEntry) (i : ℕ) (e : WorkEntry) (counts : List ℕ) → i < length works → e ≡ get_or works i e
-    → AreCounted devices (λ at. performed at (reverse (take i works))) counts → AreCounted devices (λ at. performed at (reverse (take (i + 1) works))) (counted_with e counts)
-entry_counted devices works i e counts low is h = rw (one_logged works i e low is) (by_entry e h)
-  where
-    before : List WorkEntry
-    before = reverse (take i works)
-
-    by_entry : (e : WorkEntry) → AreCounted devices (λ at. performed at before) counts → AreCounted devices (λ at. performed at (e ∷ before)) (counted_with e counts)
-    by_entry (entry.Op at op) h = counted_more devices (λ q. performed q before) (λ q. performed q (entry.Op at op ∷ before)) at op counts (λ q. refl) h
-    by_entry (entry.Item host what) h = record { all = h.all; each = h.each }
-
-pub entry_room : (devices : ℕ) (works : List WorkEntry) (i : ℕ) (e : WorkEntry) (counts : List ℕ) → i < length works → length works < 2 ^ 64 → AreCounted devices (λ at. performed at (reverse (take i works))) counts → HasEntryRoom e counts
-entry_room devices works i (entry.Item host what) counts low fits h = tt
-entry_room devices works i (entry.Op at op) counts low fits h =
-    let before = reverse (take i works) in
-    count_room devices (length before) (λ q. performed q before) at counts (performed_most before) h (omega (arith, low, fits, length-reverse (take i works), length-take i works))
+pub entry_counted : (devices : ℕ) (before : List WorkEntry) (e : WorkEntry) (counts : List ℕ)
+    → AreCounted devices (λ at. performed at before) counts → AreCounted devices (λ at. performed at (e ∷ before)) (counted_with e counts)
+entry_counted devices before (entry.Op at op) counts h = counted_more devices (λ q. performed q before) (λ q. performed q (entry.Op at op ∷ before)) at op counts (λ q. refl) h
+entry_counted devices before (entry.Item host what) counts h = record { all = h.all; each = h.each }
 
 -- ## The list of what was discarded
 
@@ -159,22 +110,7 @@ one_discarded list i d low is q =
     ∙ (ap (λ (ops : List OpLabel). before ++ ops) (append-nil (mine (same_queue d.at q)))
     ∙ elim (same_queue d.at q) as (λ b. before ++ mine b ≡ one_more b before d.what) [ true ↦ refl | false ↦ append-nil before ]))
 
--- no queue has more than were listed
-pub discarded_most : (list : List Discarded) (at : QueueAt) → length (plain_ops (discarded_on at list)) ≤ length list
-discarded_most [] at = omega arith
-discarded_most (d ∷ list) at =
-    let rest = discarded_on at list in
-    let e = discarded_most list at in
-    elim (same_queue d.at at) as (λ b. length (plain_ops (cond b (d.what ∷ []) [] ++ rest)) ≤ length (d ∷ list)) [
-      | true ↦ elim (cases_Bool (is_close d.what)) [ inl close ↦ rw close (omega (arith, e)) | inr plain ↦ rw plain (omega (arith, e)) ]
-      | false ↦ omega (arith, e)
-    ]
-
 pub discard_counted : (devices : ℕ) (list : List Discarded) (i : ℕ) (d : Discarded) (counts : List ℕ) → i < length list → d ≡ get_or list i d
     → AreCounted devices (λ at. discarded_on at (take i list)) counts → AreCounted devices (λ at. discarded_on at (take (i + 1) list)) (counted_behind d.at d.what counts)
 discard_counted devices list i d counts low is h =
     counted_more devices (λ q. discarded_on q (take i list)) (λ q. discarded_on q (take (i + 1) list)) d.at d.what counts (one_discarded list i d low is) h
-
-pub discard_room : (devices : ℕ) (list : List Discarded) (i : ℕ) (at : QueueAt) (counts : List ℕ) → i < length list → length list < 2 ^ 64 → AreCounted devices (λ at. discarded_on at (take i list)) counts → HasCountRoom at counts
-discard_room devices list i at counts low fits h =
-    count_room devices (length (take i list)) (λ q. discarded_on q (take i list)) at counts (discarded_most (take i list)) h (omega (arith, low, fits, length-take i list))

@@ -5,7 +5,7 @@ use Rattle.acc_place.specs.Directives.{Directive}
 use Rattle.acc_place.specs.declared.directive.Kind.{Kind}
 use Rattle.acc_place.specs.declared.directive.Kind.TheVariants as kind
 use Rattle.acc_place.specs.declared.directive.Placed.{Placed}
-use Rattle.acc_work.specs.declared.log.Told.TheVariants as told
+use Rattle.acc_batch.specs.declared.entry.Told.TheVariants as told
 use Rattle.acc_host.specs.declared.program.Act.{Act}
 use Rattle.acc_host.specs.declared.program.Act.TheVariants as act
 use Rattle.acc_host.specs.declared.program.Statement.{Statement}
@@ -39,7 +39,7 @@ entries_taken act.ShowDevices es = 0
 abbrev pub tested : List HostEntry → ℤ
 tested [] = pos 1
 tested (Gave d placed ∷ more) = pos 1
-tested (Had (told.Test device counts answer) ∷ more) = truth answer
+tested (Had (told.Test device answer counts) ∷ more) = truth answer
 tested (Had (told.Seen device counts) ∷ more) = pos 1
 tested (Had (told.Write array cell value) ∷ more) = pos 1
 tested (Had (told.Print range values) ∷ more) = pos 1
@@ -71,7 +71,7 @@ abbrev pub shown_line : List HostEntry → List (List ℤ)
 shown_line [] = []
 shown_line (Gave d placed ∷ more) = []
 shown_line (Had (told.Print range values) ∷ more) = values ∷ []
-shown_line (Had (told.Test device counts answer) ∷ more) = []
+shown_line (Had (told.Test device answer counts) ∷ more) = []
 shown_line (Had (told.Seen device counts) ∷ more) = []
 shown_line (Had (told.Write array cell value) ∷ more) = []
 

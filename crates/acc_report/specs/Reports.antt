@@ -11,7 +11,7 @@ use Rattle.acc_place.specs.declared.directive.PlaceEntry.{PlaceEntry}
 use Rattle.acc_place.specs.Histories.{AllAccepted, standing}
 use Rattle.acc_report.specs.Totals.{plain_batches, plain_ops}
 use Rattle.acc_place.specs.Standings.{Standing}
-use Rattle.acc_work.specs.declared.log.WorkEntry.{WorkEntry}
+use Rattle.acc_batch.specs.declared.entry.WorkEntry.{WorkEntry}
 use Rattle.acc_work.specs.Logs.{performed}
 use Rattle.acc_host.specs.declared.outcome.Discarded.{Discarded}
 use Rattle.acc_host.specs.declared.outcome.Outcome.{Outcome}
@@ -55,7 +55,7 @@ left_after r =
       config = r.place.now.config;
       history = r.place.now.history;
       counts = r.place.now.counts;
-      work = reverse r.works.now;
+      work = reverse r.works.now.items;
       hosts = r.hosts.now;
       discarded = r.discarded.now;
     }

@@ -57,8 +57,8 @@ pub(crate) fn put_number<W: Write, I: Integer>(out: &mut W, failed: &mut bool, n
 }
 
 /// Puts a number, with `-` where it is negative.
-pub(crate) fn put_signed<W: Write>(out: &mut W, failed: &mut bool, number: &i64)
-    ensures { Puts (sink (W.contents out.old) failed.old) (sink (W.contents out.new) failed.new) (signed_decimal number.now) }
+pub(crate) fn put_signed<W: Write>(out: &mut W, failed: &mut bool, number: i64)
+    ensures { Puts (sink (W.contents out.old) failed.old) (sink (W.contents out.new) failed.new) (signed_decimal number) }
 {
-    put(out, failed, Buffer::new().format(*number).as_bytes());
+    put(out, failed, Buffer::new().format(number).as_bytes());
 }

@@ -1,17 +1,17 @@
 //! How many operations each queue has performed, and how many of it were discarded, its close apart.
 
-ghost use Rattle.std.specs.Prelude.{◌≡◌, [], reverse, IfOk, IfErr};
+ghost use Rattle.std.specs.Prelude.{◌≡◌, [], reverse, IfOk, IfErr, OnOk};
 ghost use Rattle.acc_base.specs.declared.fault.Fault.TheVariants.{Memory};
 ghost use Rattle.acc_host.specs.Discards.{discarded_on};
 ghost use Rattle.acc_report.specs.Reports.{left_after};
-ghost use Rattle.acc_report.specs.inner.Counting.{AreCounted, HasCountRoom, HasEntryRoom, IsCounted, counted_behind, counted_with, one_counted};
+ghost use Rattle.acc_report.specs.inner.Counting.{AreCounted, IsCounted, counted_behind, counted_with, one_counted};
 ghost use Rattle.acc_work.specs.Logs.{performed};
 
 use crate::run::Run;
 use acc_base::{Fault, QUEUES, QueueAt};
 use acc_batch::OpLabel;
 use acc_host::Discarded;
-use acc_work::WorkEntry;
+use acc_work::{WorkEntry, WorkLog};
 use std::alloc::Global;
 
 /// For each queue, by device, then in queue order, how many operations it has performed, and how many of it were discarded.
@@ -41,17 +41,14 @@ pub(crate) fn count_run(alloc: Global, run: &Run) -> Result<Counted, Fault>
 
 // How many operations each queue of so many devices has performed.
 #[tactic(auto, using(crate::proofs::CountedQueues::entry_counted))]
-fn count_performed(alloc: Global, devices: u8, works: &[WorkEntry]) -> Result<Vec<u64>, Fault>
-    ensures counted { IfOk result (λ counts. AreCounted devices (λ at. performed at (reverse works.now)) counts.items) }
+fn count_performed(alloc: Global, devices: u8, works: &WorkLog) -> Result<Vec<u64>, Fault>
+    ensures counted { IfOk result (λ counts. AreCounted devices (λ at. performed at (reverse works.now.items)) counts.items) }
     ensures fault { IfErr result (λ f. f ≡ Memory) }
 {
     let mut counts = no_counts(alloc, devices)?;
-    // no count passes the length of the log
-    let many = works.len();
-    for entry in works {
-        count_entry(counts.as_mut_slice(), entry);
+    for entry in works.iter() {
+        count_entry(counts.as_mut_slice(), entry)?;
     }
-    let _ = many;
     Ok(counts)
 }
 
@@ -62,12 +59,9 @@ fn count_discarded(alloc: Global, devices: u8, list: &[Discarded]) -> Result<Vec
     ensures fault { IfErr result (λ f. f ≡ Memory) }
 {
     let mut counts = no_counts(alloc, devices)?;
-    // no count passes the length of the list
-    let many = list.len();
     for entry in list {
-        count(counts.as_mut_slice(), &entry.at, &entry.what);
+        count(counts.as_mut_slice(), &entry.at, &entry.what)?;
     }
-    let _ = many;
     Ok(counts)
 }
 
@@ -82,33 +76,38 @@ fn no_counts(alloc: Global, devices: u8) -> Result<Vec<u64>, Fault>
 }
 
 // Counts an entry of the work log.
-fn count_entry(counts: &mut [u64], entry: &WorkEntry)
-    requires room { HasEntryRoom entry.now counts.old }
-    ensures { counts.new ≡ counted_with entry.now counts.old }
+fn count_entry(counts: &mut [u64], entry: &WorkEntry) -> Result<(), Fault>
+    ensures counted { OnOk result (counts.new ≡ counted_with entry.now counts.old) }
+    ensures fault { IfErr result (λ f. f ≡ Memory) }
 {
     match entry {
         WorkEntry::Op { at, what } => count(counts, at, what),
-        WorkEntry::Item { .. } => {}
+        WorkEntry::Item { .. } => Ok(()),
     }
 }
 
 // Counts an operation of a queue, unless it is its close.
-fn count(counts: &mut [u64], at: &QueueAt, what: &OpLabel)
-    requires room { HasCountRoom at.now counts.old }
-    ensures { counts.new ≡ counted_behind at.now what.now counts.old }
+fn count(counts: &mut [u64], at: &QueueAt, what: &OpLabel) -> Result<(), Fault>
+    ensures counted { OnOk result (counts.new ≡ counted_behind at.now what.now counts.old) }
+    ensures fault { IfErr result (λ f. f ≡ Memory) }
 {
-    if !matches!(what, OpLabel::Close) {
-        count_one(counts, at);
+    if matches!(what, OpLabel::Close) {
+        return Ok(());
     }
+    count_one(counts, at)
 }
 
-// Counts one more for a queue, if it has a count.
-fn count_one(counts: &mut [u64], at: &QueueAt)
-    requires room { HasCountRoom at.now counts.old }
-    ensures { counts.new ≡ one_counted at.now counts.old }
+// Counts one more for a queue, if it has a count. A count beyond a number of 64 bits would want more memory than there is.
+fn count_one(counts: &mut [u64], at: &QueueAt) -> Result<(), Fault>
+    ensures counted { OnOk result (counts.new ≡ one_counted at.now counts.old) }
+    ensures fault { IfErr result (λ f. f ≡ Memory) }
 {
     let index = at.seat();
     if at.queue.number() < QUEUES && index < counts.len() {
-        counts[index] += 1;
+        match counts[index].checked_add(1) {
+            None => return Err(Fault::Memory),
+            Some(count) => counts[index] = count,
+        }
     }
+    Ok(())
 }

@@ -11,23 +11,25 @@ ghost use Rattle.acc_report.specs.Puts.{Puts, sink};
 use crate::bytes::{put, put_number, put_signed};
 use crate::page::{PAGE, add_spaced, hand_on};
 use acc_base::{DeviceId, Fault, QueueAt, QueueId};
+use acc_batch::ValuesIter;
 use acc_host::HostState;
 use acc_present::Entry;
 use std::io::Write;
 
 /// Values, separated by one space.
-pub(crate) fn put_values<W: Write>(out: &mut W, failed: &mut bool, values: &[i64])
-    ensures { Puts (sink (W.contents out.old) failed.old) (sink (W.contents out.new) failed.new) (values_text values.now) }
+pub(crate) fn put_values<W: Write>(out: &mut W, failed: &mut bool, values: ValuesIter<'_>)
+    ensures { Puts (sink (W.contents out.old) failed.old) (sink (W.contents out.new) failed.new) (values_text values.entry) }
 {
-    if let Some((first, rest)) = values.split_first() {
+    let mut values = values;
+    if let Some(first) = values.next() {
         put_signed(out, failed, first);
-        put_spaced(out, failed, rest);
+        put_spaced(out, failed, values);
     }
 }
 
 // Values, each with a space before it. They wait on a page, which is handed on where it is full.
-fn put_spaced<W: Write>(out: &mut W, failed: &mut bool, values: &[i64])
-    ensures { Puts (sink (W.contents out.old) failed.old) (sink (W.contents out.new) failed.new) (flat_map (λ v. codes " " ++ signed_decimal v) values.now) }
+fn put_spaced<W: Write>(out: &mut W, failed: &mut bool, values: ValuesIter<'_>)
+    ensures { Puts (sink (W.contents out.old) failed.old) (sink (W.contents out.new) failed.new) (flat_map (λ v. codes " " ++ signed_decimal v) values.entry) }
 {
     let mut page = [0u8; PAGE];
     let mut waiting = 0;

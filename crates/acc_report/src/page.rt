@@ -29,14 +29,14 @@ fn add(page: &mut [u8], waiting: usize, bytes: &[u8]) -> usize
 }
 
 /// Writes a space and a number behind the bytes that wait, and gives how many wait then.
-pub(crate) fn add_spaced(page: &mut [u8], waiting: usize, number: &i64) -> usize
+pub(crate) fn add_spaced(page: &mut [u8], waiting: usize, number: i64) -> usize
     requires { waiting + SPACED ≤ length page.old }
-    ensures text { take result page.new ≡ take waiting page.old ++ (codes " " ++ signed_decimal number.now) }
+    ensures text { take result page.new ≡ take waiting page.old ++ (codes " " ++ signed_decimal number) }
     ensures within { result ≤ length page.new }
     ensures long { length page.new ≡ length page.old }
 {
     let behind = add(page, waiting, b" ");
-    add(page, behind, Buffer::new().format(*number).as_bytes())
+    add(page, behind, Buffer::new().format(number).as_bytes())
 }
 
 /// Puts what waits where there is no room for one number more, and gives how many bytes wait then.

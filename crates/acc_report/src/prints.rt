@@ -95,7 +95,7 @@ fn put_told<W: Write>(out: &mut W, failed: &mut bool, what: &Told)
     ensures { Puts (sink (W.contents out.old) failed.old) (sink (W.contents out.new) failed.new) (flat_map line_text (shown_line (Had what.now ∷ []))) }
 {
     if let Told::Print { range: _, values } = what {
-        put_values(out, failed, values.as_slice());
+        put_values(out, failed, values.get().iter());
         put(out, failed, b"\n");
     }
 }

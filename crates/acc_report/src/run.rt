@@ -24,7 +24,7 @@ use acc_batch::OpLabel;
 use acc_host::{Discarded, HostProgram, HostState, Outcome, OwnEntries, Statement};
 use acc_place::Place;
 use acc_script::Script;
-use acc_work::WorkEntry;
+use acc_work::WorkLog;
 use std::alloc::Global;
 use std::io::Write;
 
@@ -33,7 +33,7 @@ use std::io::Write;
 #[derive(Clone, Copy)]
 pub struct Run<'a> {
     pub place: &'a Place,
-    pub works: &'a [WorkEntry],
+    pub works: &'a WorkLog,
     pub hosts: &'a [HostState],
     pub discarded: &'a [Discarded],
 }
@@ -64,7 +64,7 @@ pub fn report<W: Write>(
     };
     let run = Run {
         place: &place,
-        works: outcome.works.as_slice(),
+        works: &outcome.works,
         hosts: outcome.hosts.as_slice(),
         discarded: outcome.discarded.as_slice(),
     };

@@ -7,7 +7,7 @@ use Rattle.acc_work.specs.Works.{Tells, WorkView}
 use Rattle.acc_work.specs.declared.item.ItemLabel.{ItemLabel}
 use Rattle.acc_work.specs.declared.item.ItemLabel.TheVariants as to_record
 use Rattle.acc_work.specs.declared.item.Shown.{Shown}
-use Rattle.acc_work.specs.declared.log.Told.{Told}
+use Rattle.acc_batch.specs.declared.entry.Told.{Told}
 use Rattle.acc_run.specs.Calling.{IsAnswerTo}
 
 pub is_answer : (w : WorkView) (item : ItemLabel) (what : Told) (got : Shown) → Tells w item what → got ≡ shown_by what → IsAnswerTo item got

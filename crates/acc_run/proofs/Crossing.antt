@@ -7,12 +7,17 @@ use denote.Ref.{ShrRef}
 use denote.Enum.Enum.{Enum}
 use denote.Enum.Declared.{shape}
 use Rattle.acc_raw.proofs.cells.Cells.TheSendSync as cells
+use Rattle.acc_raw.proofs.chain.Chain.TheSendSync as chain
+use Rattle.acc_raw.proofs.indexed.Indexed.TheSendSync as indexed
+use Rattle.acc_raw.proofs.link.Node.TheSendSync as node
 use Rattle.acc_kernel.specs.contracts.expr.Expr as expr
 use Rattle.acc_kernel.specs.contracts.assign.Assign as assign
 use Rattle.acc_kernel.specs.contracts.kernel.Kernel as kernel
 use Rattle.acc_batch.specs.contracts.label.OpLabel as op_label
 use Rattle.acc_batch.specs.contracts.label.Label as label
+use Rattle.acc_batch.specs.contracts.op.Block as block
 use Rattle.acc_batch.specs.contracts.op.Op as op
+use Rattle.acc_batch.specs.contracts.page.Page as page
 use Rattle.acc_batch.specs.contracts.batch.Batch as batch
 use Rattle.acc_place.specs.contracts.directive.Clause as clause
 use Rattle.acc_place.specs.contracts.directive.DataItem as data_item
@@ -35,12 +40,13 @@ use Rattle.acc_place.specs.contracts.device.Device as device
 use Rattle.acc_place.specs.contracts.labels.Labels as labels
 use Rattle.acc_place.specs.contracts.trial.Trial as trial
 use Rattle.acc_place.specs.contracts.place.Place as place
-use Rattle.acc_work.specs.contracts.log.Told as told
-use Rattle.acc_work.specs.contracts.log.WorkEntry as work_entry
-use Rattle.acc_work.specs.contracts.makes.Makes as makes
+use Rattle.acc_batch.specs.contracts.entry.Told as told
+use Rattle.acc_batch.specs.contracts.entry.WorkEntry as work_entry
+use Rattle.acc_work.specs.contracts.work_log.WorkLog as work_log
 use Rattle.acc_work.specs.contracts.log.Log as log
 use Rattle.acc_work.specs.contracts.lane.Lane as lane
 use Rattle.acc_memory.specs.contracts.blocks.Blocks as blocks
+use Rattle.acc_memory.specs.contracts.makes.Makes as makes
 use Rattle.acc_memory.specs.contracts.memory.Memory as memory
 use Rattle.acc_work.specs.contracts.work.Work as work
 use Rattle.acc_queue.specs.contracts.activity.Sender as sender
@@ -92,14 +98,29 @@ op_label_syncs = search (sendable, crosses, op_label_form_syncs) depth 60 fits 9
 label_sends : IsSend label.the_row
 label_sends = search (sendable, crosses, op_label_sends, op_label_syncs) depth 60 fits 9000
 
+block_sends : IsSend block.the_row
+block_sends = search (sendable, crosses, cells.the_send) depth 60 fits 9000
+
 op_form_sends : IsSend (Enum (shape op.the_type))
-op_form_sends = search (sendable, crosses, kernel_sends, kernel_syncs, cells.the_send) depth 60 fits 9000
+op_form_sends = search (sendable, crosses, kernel_sends, kernel_syncs, node.the_send, block_sends) depth 60 fits 9000
 
 op_sends : IsSend op.the_row
 op_sends = search (sendable, crosses, op_form_sends) depth 60 fits 9000
 
+told_form_sends : IsSend (Enum (shape told.the_type))
+told_form_sends = search (sendable, crosses) depth 60 fits 9000
+
+work_entry_form_sends : IsSend (Enum (shape work_entry.the_type))
+work_entry_form_sends = search (sendable, crosses, told_form_sends, op_label_form_sends) depth 60 fits 9000
+
+work_entry_sends : IsSend work_entry.the_row
+work_entry_sends = search (sendable, crosses, work_entry_form_sends) depth 60 fits 9000
+
+page_sends : IsSend page.the_row
+page_sends = search (sendable, crosses, work_entry_sends) depth 60 fits 9000
+
 batch_sends : IsSend batch.the_row
-batch_sends = search (sendable, crosses, op_label_sends, op_label_syncs, op_sends) depth 60 fits 9000
+batch_sends = search (sendable, crosses, label_sends, op_sends, page_sends, node.the_send) depth 60 fits 9000
 
 clause_form_sends : IsSend (Enum (shape clause.the_type))
 clause_form_sends = search (sendable, crosses) depth 60 fits 9000
@@ -165,7 +186,7 @@ entry_sends : IsSend entry.the_row
 entry_sends = search (sendable, crosses) depth 60 fits 9000
 
 entries_sends : IsSend entries.the_row
-entries_sends = search (sendable, crosses, entry_sends) depth 60 fits 9000
+entries_sends = search (sendable, crosses, entry_sends, indexed.the_send, chain.the_send) depth 60 fits 9000
 
 table_sends : IsSend table.the_row
 table_sends = search (sendable, crosses, entries_sends) depth 60 fits 9000
@@ -185,29 +206,23 @@ trial_sends = search (sendable, crosses, draft_sends, data_item_sends) depth 60 
 place_sends : IsSend place.the_row
 place_sends = search (sendable, crosses, config_sends, device_sends, place_entry_sends, answer_sends, close_sends, region_sends, labels_sends, trial_sends) depth 60 fits 9000
 
-told_form_sends : IsSend (Enum (shape told.the_type))
-told_form_sends = search (sendable, crosses) depth 60 fits 9000
-
-work_entry_form_sends : IsSend (Enum (shape work_entry.the_type))
-work_entry_form_sends = search (sendable, crosses, told_form_sends, op_label_form_sends) depth 60 fits 9000
-
-work_entry_sends : IsSend work_entry.the_row
-work_entry_sends = search (sendable, crosses, work_entry_form_sends) depth 60 fits 9000
-
-makes_sends : IsSend makes.the_row
-makes_sends = search (sendable, crosses) depth 60 fits 9000
+work_log_sends : IsSend work_log.the_row
+work_log_sends = search (sendable, crosses, page_sends, chain.the_send, node.the_send) depth 60 fits 9000
 
 log_sends : IsSend log.the_row
-log_sends = search (sendable, crosses, work_entry_sends, makes_sends) depth 60 fits 9000
+log_sends = search (sendable, crosses, work_log_sends, page_sends, chain.the_send) depth 60 fits 9000
 
 lane_sends : IsSend lane.the_row
-lane_sends = search (sendable, crosses, label_sends, op_sends) depth 60 fits 9000
+lane_sends = search (sendable, crosses, label_sends, op_sends, chain.the_send) depth 60 fits 9000
 
 blocks_sends : IsSend blocks.the_row
-blocks_sends = search (sendable, crosses, cells.the_send) depth 60 fits 9000
+blocks_sends = search (sendable, crosses, block_sends, chain.the_send) depth 60 fits 9000
+
+makes_sends : IsSend makes.the_row
+makes_sends = search (sendable, crosses, chain.the_send) depth 60 fits 9000
 
 memory_sends : IsSend memory.the_row
-memory_sends = search (sendable, crosses, blocks_sends, cells.the_send) depth 60 fits 9000
+memory_sends = search (sendable, crosses, blocks_sends, makes_sends) depth 60 fits 9000
 
 work_sends : IsSend work.the_row
 work_sends = search (sendable, crosses, memory_sends, log_sends, lane_sends) depth 60 fits 9000

@@ -1,9 +1,8 @@
 -- What was compared queue by queue holds of every queue; and one that isn't there has no batch.
-use Rattle.std.proofs.Common.{inl, inr, ◌≡◌, ◌⊎◌, ℕ, ◌<◌, ◌≤◌, List, [], ◌∷◌, ◌++◌, length, take, drop, refl, sym, ap, subst, ◌∙◌, arith}
+use Rattle.std.proofs.Common.{inl, inr, ◌≡◌, ◌⊎◌, ℕ, ◌<◌, ◌≤◌, List, [], ◌∷◌, length, refl, ap, subst, ◌∙◌, arith}
 use Rattle.std.specs.Prelude.{All}
 use Rattle.std.proofs.lemmas.Bool.{cases_Bool, cases_lt}
-use Rattle.std.proofs.lemmas.List.{get_or_past, take-append-drop}
-use Rattle.std.proofs.Math.Seq.{take-append_seam}
+use Rattle.std.proofs.lemmas.List.{get_or_past}
 use Rattle.std.proofs.lemmas.List.Elements.{All-drop, All-filter, All-head, All-tail, All-weaker}
 use Rattle.acc_base.specs.declared.ids.QueueAt.{QueueAt}
 use Rattle.acc_base.specs.declared.ids.TheConstants.{QUEUES}
@@ -75,13 +74,6 @@ took_first p w accepted keeps devices took at = elim (there_or_not p.place.confi
       let taken : on_queue at (taken_labels w.work) ≡ [] = keeps.taken at ∙ ap (λ (l : LaneView). l.taken) (no_lane_at p.place.config w.work at keeps devices absent) in
       rw (placed, taken) refl
 ]
-
--- the first are those of a comparison with as many of what was placed
-pub are_first : (taken placed : List Label) → taken ≡ take (length taken) placed → placed ≡ taken ++ drop (length taken) placed
-are_first taken placed same = sym (take-append-drop (length taken) placed) ∙ ap (λ (ls : List Label). ls ++ drop (length taken) placed) (sym same)
-
-pub first_are : (taken placed : List Label) → placed ≡ taken ++ drop (length taken) placed → taken ≡ take (length taken) placed
-first_are taken placed split = sym (ap (take (length taken)) split ∙ take-append_seam taken (drop (length taken) placed))
 
 -- what was placed behind these batches has operations
 pub held_filled : (p : PlaceSideView) (w : WorkSideView) (at : QueueAt) → AllAccepted p.place.config p.place.history p.place.counts → All (λ (l : Label). 0 < length l.ops) (held_on p w at)

@@ -7,8 +7,8 @@ use Rattle.acc_base.specs.declared.range.Range.{Range}
 use Rattle.acc_place.specs.Directives.{Directive}
 use Rattle.acc_place.specs.declared.directive.Placed.{Placed}
 use Rattle.acc_work.specs.Items.{without_values}
-use Rattle.acc_work.specs.declared.log.Told.{Told}
-use Rattle.acc_work.specs.declared.log.Told.TheVariants as told
+use Rattle.acc_batch.specs.declared.entry.Told.{Told}
+use Rattle.acc_batch.specs.declared.entry.Told.TheVariants as told
 use Rattle.acc_host.specs.Engines.{HostEntry, Gave, Had}
 use Rattle.acc_host.specs.Entries.{Own, entries_merged, items_shown, own_of}
 use Rattle.acc_host.specs.Following.{Begins, Begun, Comes, Ended, Ends, Follows, Settles, ids_behind}
@@ -120,31 +120,31 @@ a_write : (found : Told) (array cell : ℕ) (value : ℤ) → without_values fou
 a_write (told.Write a c v) array cell value e = e
 a_write (told.Print r vs) array cell value e = cc
 a_write (told.Seen d c) array cell value e = cc
-a_write (told.Test d c a) array cell value e = cc
+a_write (told.Test d a c) array cell value e = cc
 
 a_print : (found : Told) (range : Range) (values : List ℤ) → without_values found ≡ told.Print range values → (vs : List ℤ) × (found ≡ told.Print range vs)
 a_print (told.Write a c v) range values e = cc
 a_print (told.Print r vs) range values e = (vs, (let same : r ≡ range = cc in ap (λ (x : Range). told.Print x vs) same))
 a_print (told.Seen d c) range values e = cc
-a_print (told.Test d c a) range values e = cc
+a_print (told.Test d a c) range values e = cc
 
 a_seen : (found : Told) (device : ℕ) (counts : List ℕ) → without_values found ≡ told.Seen device counts → found ≡ told.Seen device counts
 a_seen (told.Write a c v) device counts e = cc
 a_seen (told.Print r vs) device counts e = cc
 a_seen (told.Seen d c) device counts e = e
-a_seen (told.Test d c a) device counts e = cc
+a_seen (told.Test d a c) device counts e = cc
 
-a_test : (found : Told) (device : ℕ) (counts : List ℕ) (answer : Bool) → without_values found ≡ told.Test device counts answer → found ≡ told.Test device counts answer
+a_test : (found : Told) (device : ℕ) (counts : List ℕ) (answer : Bool) → without_values found ≡ told.Test device answer counts → found ≡ told.Test device answer counts
 a_test (told.Write a c v) device counts answer e = cc
 a_test (told.Print r vs) device counts answer e = cc
 a_test (told.Seen d c) device counts answer e = cc
-a_test (told.Test d c a) device counts answer e = e
+a_test (told.Test d a c) device counts answer e = e
 
 settles : (owed : Owed) (list items : List HostEntry) → map as_known list ≡ items → Settles owed items → Settles owed list
 settles nothing_owed list items e h = none_known list (e ∙ h)
 settles (owes_seen device counts) list items e h = (let s = single list (told.Seen device counts) (e ∙ h) in s.is ∙ ap (λ (w : Told). Had w ∷ []) (a_seen s.found device counts s.known))
 settles (owes_test device counts) list items e h =
-    let s = single list (told.Test device counts h.0) (e ∙ h.1) in (h.0, s.is ∙ ap (λ (w : Told). Had w ∷ []) (a_test s.found device counts h.0 s.known))
+    let s = single list (told.Test device h.0 counts) (e ∙ h.1) in (h.0, s.is ∙ ap (λ (w : Told). Had w ∷ []) (a_test s.found device counts h.0 s.known))
 
 ends : (devices : ℕ) (ids : Ids) (a : Act) (list known : List HostEntry) → map as_known list ≡ known → Ends devices ids a known → Ends devices ids a list
 ends devices ids (act.Place d) list known e h =

@@ -19,8 +19,8 @@ use Rattle.acc_place.specs.Histories.{AllAccepted, IsQueue}
 use Rattle.acc_place.specs.Plans.{standing_in}
 use Rattle.acc_place.specs.Sound.{is_close, CloseLast}
 use Rattle.acc_place.proofs.LastClose.{closes_last}
-use Rattle.acc_work.specs.declared.log.WorkEntry.{WorkEntry}
-use Rattle.acc_work.specs.declared.log.WorkEntry.TheVariants as entry
+use Rattle.acc_batch.specs.declared.entry.WorkEntry.{WorkEntry}
+use Rattle.acc_batch.specs.declared.entry.WorkEntry.TheVariants as entry
 use Rattle.acc_work.specs.Kept.{Extends, IsKept}
 use Rattle.acc_work.specs.Lanes.{LaneView, last_of}
 use Rattle.acc_work.specs.Logs.{one_more, performed}
@@ -76,9 +76,9 @@ nil_of (x ∷ xs) e = absurd (omega (arith, eqb-true (length (x ∷ xs)) 0 e))
 
 is_the_close : (op : OpLabel) → is_close op ≡ true → op ≡ Close
 is_the_close Close e = refl
-is_the_close (Make b r) e = cc
-is_the_close (CopyIn b r) e = cc
-is_the_close (CopyOut b r) e = cc
+is_the_close (Make r b) e = cc
+is_the_close (CopyIn r b) e = cc
+is_the_close (CopyOut r b) e = cc
 is_the_close (Release b) e = cc
 is_the_close (Run k uses) e = cc
 is_the_close (Await q n) e = cc

@@ -13,8 +13,8 @@ use Rattle.acc_place.specs.declared.directive.PlaceEntry.{PlaceEntry}
 use Rattle.acc_place.specs.declared.directive.PlaceEntry.TheVariants as noted
 use Rattle.acc_place.proofs.AnswersKept.{All-reversed}
 use Rattle.acc_work.specs.Logs.{one_more}
-use Rattle.acc_work.specs.declared.log.WorkEntry.{WorkEntry}
-use Rattle.acc_work.specs.declared.log.WorkEntry.TheVariants as entry
+use Rattle.acc_batch.specs.declared.entry.WorkEntry.{WorkEntry}
+use Rattle.acc_batch.specs.declared.entry.WorkEntry.TheVariants as entry
 use Rattle.acc_run.specs.Agreement.{HasNoOthers, histories_by}
 use Rattle.acc_run.specs.inner.Reading.{IsPlacedBelow, IsShownBelow}
 

@@ -14,7 +14,7 @@ use Rattle.acc_place.specs.Standings.{Asked, Standing, Visit, visits, walk_of}
 use Rattle.acc_place.specs.Targets.{has_bad_queue}
 use Rattle.acc_run.specs.PlaceSides.{HasRefused, PlaceSideView, is_of_ending}
 use Rattle.acc_work.specs.declared.log.TheConstants.{MAX_HOST_ITEMS}
-use Rattle.acc_work.specs.declared.log.WorkEntry.{WorkEntry}
+use Rattle.acc_batch.specs.declared.entry.WorkEntry.{WorkEntry}
 use Rattle.acc_work.specs.Logs.{all_items}
 use Rattle.acc_work.specs.Works.{item_fault}
 

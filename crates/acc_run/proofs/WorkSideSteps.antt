@@ -1,8 +1,8 @@
 -- What the work lock holds, after each change.
-use Rattle.std.proofs.Common.{◌≡◌, ℕ, zero, suc, ◌+◌, ◌*◌, ◌<◌, ◌≤◌, true, false, List, [], ◌∷◌, ◌++◌, length, refl, sym, ap, ◌∙◌, arith, inl, inr}
+use Rattle.std.proofs.Common.{◌≡◌, ℕ, zero, suc, ◌*◌, ◌<◌, ◌≤◌, true, false, List, [], ◌∷◌, ◌++◌, length, refl, sym, ap, ◌∙◌, arith, inl, inr}
 use Rattle.std.specs.Prelude.{All, IfErr, OnOk, Result, Ok, Err, ℤ, slice_index_or, slice_set}
 use Rattle.std.proofs.lemmas.Bool.{cases_lt}
-use Rattle.std.proofs.lemmas.List.{get_or_past, length-set, length-map}
+use Rattle.std.proofs.lemmas.List.{length-set}
 use Rattle.acc_base.specs.declared.ids.QueueAt.{QueueAt}
 use Rattle.acc_base.specs.declared.ids.TheConstants.{QUEUES}
 use Rattle.acc_base.specs.declared.config.TheConstants.{MAX_CELLS}
@@ -11,17 +11,14 @@ use Rattle.acc_base.specs.Queues.{same_queue, seat}
 use Rattle.acc_batch.specs.declared.label.Label.{Label}
 use Rattle.acc_batch.specs.declared.label.OpLabel.{OpLabel}
 use Rattle.acc_batch.specs.declared.label.OpLabel.TheVariants as op_label
-use Rattle.acc_batch.specs.Labels.{on_queue}
 use Rattle.acc_batch.proofs.Seats.{each_seat, seat_absent, seat_kept, seat_set, seat_there}
-use Rattle.acc_memory.specs.Memories.{MemoryView, rows_on, room_on}
 use Rattle.acc_queue.specs.Tied.{Line}
 use Rattle.acc_run.specs.WorkSides.{AreEnds, Goes, IsWorkSide, IsLine, WorkSideView, no_line, line_in}
-use Rattle.acc_work.specs.declared.log.Told.{Told}
 use Rattle.acc_work.specs.declared.work.Done.{Done}
 use Rattle.acc_work.specs.declared.work.Done.TheVariants as done
-use Rattle.acc_work.specs.Jobs.{JobView, Commits, HasStarted, IsOut, given_back, performed_now}
+use Rattle.acc_work.specs.Jobs.{JobView, Commits, HasStarted, given_back, performed_now}
 use Rattle.acc_work.specs.Lanes.{LaneView, IsFresh, lane_in, lanes_with, lane_with_batch, lane_with_left, lane_with_out, no_lane}
-use Rattle.acc_work.specs.Works.{WorkView, HasMadeRoom, HasPerformed, HasRoomToMake, HasQueue, HasTold, KeepsOrder, NextMayFollow, Performs, lane_at}
+use Rattle.acc_work.specs.Works.{WorkView, HasPerformed, HasQueue, KeepsOrder, Performs, lane_at}
 use Rattle.acc_work.proofs.KeptSteps.{has_advanced, has_waited}
 use Rattle.acc_work.proofs.Lanes.{each_lane, fresh_lane}
 
@@ -37,38 +34,6 @@ past_end : (ends : List Line) (n : ℕ) → length ends ≤ n → slice_index_or
 past_end [] n h = refl
 past_end (l ∷ ends) zero h = absurd (omega (arith, h))
 past_end (l ∷ ends) (suc n) h = past_end ends n (omega (arith, h))
-
--- ## Room is made
-
-pub roomier : (config : Configuration) (w w' : WorkView) (ends : List Line) → IsWorkSide config w ends → HasMadeRoom w w' → IsWorkSide config w' ends
-roomier config w w' ends s m = record {
-  each = λ at. (let l = s.each at in record {
-    here = λ device queue. l.here (omega (arith, device, m.devices)) queue;
-    took = l.took ∙ sym (ap (λ (x : LaneView). x.taken) (m.lanes at).kept);
-  });
-  count = s.count ∙ (sym (length-map w.lanes (λ (x : LaneView). length x.taken)) ∙ (ap length (sym m.counts) ∙ length-map w'.lanes (λ (x : LaneView). length x.taken)));
-  limits = rw m.opening s.limits;
-  arrays = m.opening ∙ s.arrays;
-  devices = m.devices ∙ s.devices;
-}
-
--- the queue is still there
-pub queue_kept : (w w' : WorkView) (at : QueueAt) → HasQueue w at → HasMadeRoom w w' → HasQueue w' at
-queue_kept w w' at h m = (omega (arith, h.0, m.devices), h.1)
-
--- and there is room for its next operation
-room_to_make : (m : MemoryView) (d : ℕ) (op : OpLabel) → length (rows_on m d) + 1 ≤ room_on m d → HasRoomToMake m d op
-room_to_make m d (op_label.Make b r) h = omega (arith, h)
-room_to_make m d (op_label.CopyIn b r) h = tt
-room_to_make m d (op_label.CopyOut b r) h = tt
-room_to_make m d (op_label.Release b) h = tt
-room_to_make m d (op_label.Run k uses) h = tt
-room_to_make m d (op_label.Await q n) h = tt
-room_to_make m d op_label.Close h = tt
-
-pub may_follow : (w : WorkView) (at : QueueAt) (left : List OpLabel) → length w.work + 1 ≤ w.room → length (rows_on w.memory at.device) + 1 ≤ room_on w.memory at.device → NextMayFollow w at left
-may_follow w at [] log blocks = tt
-may_follow w at (op ∷ ops) log blocks = record { block = room_to_make w.memory at.device op blocks; room = omega (arith, log) }
 
 -- ## A queue takes a batch
 
@@ -125,26 +90,14 @@ pub after_perform : (config : Configuration) (w w' : WorkView) (ends : List Line
 after_perform config w w' ends at done.Op s k h p = (let a = has_advanced w w' at p in has_gone config w w' ends at a.op a.ops s k h a.performed)
 after_perform config w w' ends at done.Idle s k h p = rw (has_waited w w' at p).same s
 
--- what it did, from room that was made
-pub goes_after : (old : WorkSideView) (w w' : WorkView) (at : QueueAt) (answer : Done) → HasMadeRoom old.work w → Performs w at answer w' → Goes old at answer (record { config = old.config; work = w'; lines = old.lines })
-goes_after old w w' at done.Op m p =
-    let a = has_advanced w w' at p in
-    record { config = refl; op = a.op; ops = a.ops; left = sym (ap (λ (x : LaneView). x.left) (m.lanes at).kept) ∙ a.left; mid = w; room = m; can = a.can; performed = a.performed; lines = refl }
-goes_after old w w' at done.Idle m p =
-    let x = has_waited w w' at p in
-    record { room = record { config = refl; lines = refl; work = rw x.same m }; why = inl (rw x.same x.cannot) }
-
--- the order is kept where room is made
-pub order_kept : (w w' : WorkView) → KeepsOrder w → HasMadeRoom w w' → KeepsOrder w'
-order_kept w w' k m = record {
-  order = λ at. (let o = k.order at in let l = (m.lanes at).kept in let taken = ap (λ (x : LaneView). x.taken) l in let left = ap (λ (x : LaneView). x.left) l in record {
-    in_order = rw (m.work, taken, left) o.in_order;
-    on_queue = rw taken o.on_queue;
-    batches = record { filled = rw taken o.batches.filled; hosts = rw taken o.batches.hosts; begun = rw (taken, left) o.batches.begun };
-  });
-  taken = λ at. ap (on_queue at) m.taken ∙ (k.taken at ∙ sym (ap (λ (x : LaneView). x.taken) (m.lanes at).kept));
-  count = sym (length-map w'.lanes (λ (x : LaneView). length x.taken)) ∙ (ap length m.counts ∙ (length-map w.lanes (λ (x : LaneView). length x.taken) ∙ (k.count ∙ ap (λ n. n * QUEUES) (sym m.devices))));
-}
+-- what it did
+pub goes_after : (old : WorkSideView) (w' : WorkView) (at : QueueAt) (answer : Done) → Performs old.work at answer w' → Goes old at answer (record old { work = w' })
+goes_after old w' at done.Op p =
+    let a = has_advanced old.work w' at p in
+    record { config = refl; op = a.op; ops = a.ops; left = a.left; can = a.can; performed = a.performed; lines = refl }
+goes_after old w' at done.Idle p =
+    let x = has_waited old.work w' at p in
+    record { same = ap (λ (w : WorkView). record old { work = w }) x.same; why = x.cannot }
 
 -- ## A loop goes out, and comes back
 
@@ -167,22 +120,6 @@ after_job (Err b) Out Same Stray config w w' ends at s k h committed back = rw b
 pub on_ok : {A B : Type 0} (r : Result A B) (P Q : Type 0) → (P → Q) → OnOk r P → OnOk r Q
 on_ok (Ok a) P Q f h = f h
 on_ok (Err b) P Q f h = tt
-
--- ## A host records an item
-
-pub has_recorded : (config : Configuration) (w w' w'' : WorkView) (ends : List Line) (host : ℕ) (what : Told) → IsWorkSide config w ends → HasMadeRoom w w' → HasTold w' w'' host what → IsWorkSide config w'' ends
-has_recorded config w w' w'' ends host what s0 m t =
-    let s = roomier config w w' ends s0 m in
-    record {
-      each = λ q. (let x = s.each q in record {
-        here = λ device queue. x.here (omega (arith, device, ap length t.devices)) queue;
-        took = x.took ∙ ap (λ lanes. (lane_in lanes q).taken) (sym t.lanes);
-      });
-      count = s.count ∙ ap length (sym t.lanes);
-      limits = rw t.opening s.limits;
-      arrays = t.opening ∙ s.arrays;
-      devices = ap length t.devices ∙ s.devices;
-    }
 
 -- ## The first of all
 

@@ -8,7 +8,7 @@ use Rattle.acc_host.specs.declared.program.Statement.{Statement}
 use Rattle.acc_host.specs.declared.state.HostState.{HostState}
 use Rattle.acc_place.specs.Plans.{PlaceView}
 use Rattle.acc_work.specs.Items.{without_values}
-use Rattle.acc_work.specs.declared.log.WorkEntry.{WorkEntry}
+use Rattle.acc_batch.specs.declared.entry.WorkEntry.{WorkEntry}
 use Rattle.acc_run.specs.Tokens.{TokenView, listed_entry}
 
 -- the histories of a place and of a work log, the first entry first

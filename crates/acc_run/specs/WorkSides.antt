@@ -1,5 +1,5 @@
 -- What the work lock holds: a work side, and the end of each queue that takes.
-use Rattle.std.specs.Prelude.{◌≡◌, ◌⊎◌, ℕ, ℤ, ◌<◌, ◌≤◌, All, Bool, true, false, ◌&&◌, ◌==◌, Option, Some, None, List, [], ◌∷◌, ◌++◌, length, slice_index_or, slice_set, nat_lt, if◌then◌else◌}
+use Rattle.std.specs.Prelude.{◌≡◌, ℕ, ℤ, ◌<◌, ◌≤◌, All, Bool, true, false, ◌&&◌, ◌==◌, Option, Some, None, List, [], ◌∷◌, ◌++◌, length, slice_index_or, slice_set, nat_lt, if◌then◌else◌}
 use Rattle.std.specs.Option.{option_map}
 use Rattle.atomic_table.specs.Seated.{TableId}
 use Rattle.acc_base.specs.declared.ids.QueueAt.{QueueAt}
@@ -11,7 +11,7 @@ use Rattle.acc_place.specs.Histories.{IsQueue}
 use Rattle.acc_place.specs.Sound.{is_close}
 use Rattle.acc_work.specs.declared.item.ItemLabel.{ItemLabel}
 use Rattle.acc_work.specs.declared.item.Shown.{Shown}
-use Rattle.acc_work.specs.declared.log.Told.{Told}
+use Rattle.acc_batch.specs.declared.entry.Told.{Told}
 use Rattle.acc_work.specs.Items.{shown_by}
 use Rattle.acc_batch.specs.declared.label.Label.{Label}
 use Rattle.acc_batch.specs.declared.label.OpLabel.{OpLabel}
@@ -20,7 +20,7 @@ use Rattle.acc_work.specs.Jobs.{JobView, Commits, HasStarted, IsOut}
 use Rattle.acc_work.specs.Lanes.{LaneView, last_of, lane_with_batch, lanes_with}
 use Rattle.acc_work.specs.declared.work.Done.{Done}
 use Rattle.acc_work.specs.declared.work.Done.TheVariants as done
-use Rattle.acc_work.specs.Works.{WorkView, HasMadeRoom, HasPerformed, HasTold, LacksRoom, Tells, can_go, lane_at}
+use Rattle.acc_work.specs.Works.{WorkView, HasPerformed, HasTold, Tells, can_go, lane_at}
 
 -- The configuration, the work side, and of each queue what its end has taken, by device, then in queue order.
 pub record WorkSideView : Type 0 where
@@ -57,45 +57,35 @@ pub record AreEnds (config : Configuration) (ends : List Line) : Type 0 where
   pub count : length ends ≡ queue_count config
   pub each : (at : QueueAt) → IsQueue config at → ((line_in ends at).at ≡ at) × ((line_in ends at).room ≡ config.room) × ((line_in ends at).labels ≡ [])
 
--- Room was made on the work side, and nothing else changed.
-pub record HasRoomMade (old new : WorkSideView) : Type 0 where
-  pub config : new.config ≡ old.config
-  pub lines : new.lines ≡ old.lines
-  pub work : HasMadeRoom old.work new.work
-
 -- the ends, where that of a queue has taken a batch
 abbrev pub lines_taken : List Line → QueueAt → Label → List Line
 lines_taken ends at label = slice_set ends (seat at) (record (line_in ends at) { labels = (line_in ends at).labels ++ label ∷ [] })
 
--- A queue took a batch with this number, whose label its end took behind the others: room was made, nothing was left in the queue's
--- lane, and now the whole batch is.
+-- A queue took a batch with this number, whose label its end took behind the others: nothing was left in the queue's lane, and now the
+-- whole batch is.
 pub record HasTaken (old new : WorkSideView) (at : QueueAt) (number : ℕ) : Type 0 where
   pub config : new.config ≡ old.config
   pub label : Label
   pub numbered : label.number ≡ number
   pub for_it : IsFor at label
   pub empty : (lane_at old.work at).left ≡ []
-  pub mid : WorkView
-  pub room : HasMadeRoom old.work mid
-  pub work : new.work ≡ record mid { lanes = lanes_with mid.lanes at (lane_with_batch (lane_at mid at) label) }
+  pub work : new.work ≡ record old.work { lanes = lanes_with old.work.lanes at (lane_with_batch (lane_at old.work at) label) }
   pub lines : new.lines ≡ lines_taken old.lines at label
 
--- A queue performed an operation: room was made, and the lane's next operation, which could be performed, joined the log.
+-- A queue performed an operation: the lane's next operation, which could be performed, joined the log.
 pub record HasGone (old new : WorkSideView) (at : QueueAt) : Type 0 where
   pub config : new.config ≡ old.config
   pub op : OpLabel
   pub ops : List OpLabel
   pub left : (lane_at old.work at).left ≡ op ∷ ops
-  pub mid : WorkView
-  pub room : HasMadeRoom old.work mid
-  pub can : can_go mid at (op ∷ ops) ≡ true
-  pub performed : HasPerformed mid new.work at op ops
+  pub can : can_go old.work at (op ∷ ops) ≡ true
+  pub performed : HasPerformed old.work new.work at op ops
   pub lines : new.lines ≡ old.lines
 
--- A queue performed none: its next operation can't be performed, or room was missing and memory was refused.
+-- A queue performed none: its next operation can't be performed, and nothing changed.
 pub record HasStayed (old new : WorkSideView) (at : QueueAt) : Type 0 where
-  pub room : HasRoomMade old new
-  pub why : (can_go new.work at (lane_at new.work at).left ≡ false) ⊎ LacksRoom old.work at 1
+  pub same : new ≡ old
+  pub why : can_go old.work at (lane_at old.work at).left ≡ false
 
 abbrev pub Goes : WorkSideView → QueueAt → Done → WorkSideView → Type 0
 Goes old at done.Op new = HasGone old new at
@@ -119,15 +109,13 @@ pub record IsStray (old new : WorkSideView) (job : JobView) : Type 0 where
   pub same : new ≡ old
   pub stray : IsOut old.work job → ⊥
 
--- A host's item was recorded: room was made, and it joined the log with what it tells, which is its answer.
+-- A host's item was recorded: it joined the log with what it tells, which is its answer.
 pub record HasRecorded (old new : WorkSideView) (host : ℕ) (item : ItemLabel) (answer : Shown) : Type 0 where
   pub config : new.config ≡ old.config
   pub what : Told
-  pub mid : WorkView
-  pub room : HasMadeRoom old.work mid
-  pub tells : Tells mid item what
+  pub tells : Tells old.work item what
   pub answered : answer ≡ shown_by what
-  pub told : HasTold mid new.work host what
+  pub told : HasTold old.work new.work host what
   pub lines : new.lines ≡ old.lines
 
 -- the number of the batch of which something is left in a lane

@@ -129,11 +129,8 @@ fn held_on<'a>(place: &'a PlaceSide, work: &WorkSide, at: QueueAt) -> &'a [Label
 {
     let QueueAt { device, queue } = at;
     let placed = place.as_place().labels_on(QueueAt { device, queue });
-    let count = work.as_work().taken_count(QueueAt { device, queue }) as usize;
-    if placed.len() < count {
-        return &[];
-    }
-    &placed[count..]
+    work.as_work()
+        .behind_taken(QueueAt { device, queue }, placed)
 }
 
 // Lists the operations of these batches.

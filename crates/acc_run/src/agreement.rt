@@ -9,7 +9,7 @@ ghost use Rattle.acc_run.specs.inner.Reading.{IsPlacedBelow, IsShownBelow, Reads
 use crate::token::{HostToken, TokenEntry};
 use acc_host::{OwnDirective, OwnDirectives, OwnItems};
 use acc_place::{Directive, Place, PlaceEntry, Placed};
-use acc_work::WorkEntry;
+use acc_work::{WorkEntry, WorkLog};
 
 // What is unread of a host's own entries, and how many of its items are read.
 #[derive(Drop)]
@@ -35,7 +35,7 @@ impl<'a> Unread<'a> {
                 None => false,
                 Some(what) => {
                     self.gone += 1;
-                    what.is_known(*label, *shown)
+                    label.is_told_by(what, *shown)
                 }
             },
         }
@@ -50,8 +50,8 @@ fn is_same(own: &OwnDirective, gone: u64, directive: &Directive, placed: &Placed
 }
 
 // Whether a token's list is that of its host in both histories.
-fn agrees(place: &Place, works: &[WorkEntry], token: &HostToken) -> bool
-    ensures { IsTrue result ↔ Agrees (histories_by place.now works.now) token.now.host (map listed_entry token.now.entries) }
+fn agrees(place: &Place, works: &WorkLog, token: &HostToken) -> bool
+    ensures { IsTrue result ↔ Agrees (histories_by place.now works.now.items) token.now.host (map listed_entry token.now.entries) }
 {
     let mut unread = Unread {
         directives: OwnDirectives::new(place, token.host()),
@@ -67,8 +67,8 @@ fn agrees(place: &Place, works: &[WorkEntry], token: &HostToken) -> bool
 }
 
 // Whether the tokens are those of the first hosts, in their order, and each agrees.
-fn each_agrees(place: &Place, works: &[WorkEntry], tokens: &[HostToken]) -> bool
-    ensures { IsTrue result ↔ EachAgrees (histories_by place.now works.now) 0 tokens.now }
+fn each_agrees(place: &Place, works: &WorkLog, tokens: &[HostToken]) -> bool
+    ensures { IsTrue result ↔ EachAgrees (histories_by place.now works.now.items) 0 tokens.now }
 {
     for index in 0..tokens.len() {
         let token = &tokens[index];
@@ -107,22 +107,22 @@ fn are_placed_below(places: &[PlaceEntry], hosts: u8) -> bool
 }
 
 // Whether all items are those of the first hosts.
-fn are_shown_below(works: &[WorkEntry], hosts: u8) -> bool
-    ensures { IsTrue result ↔ All (IsShownBelow hosts) works.now }
+fn are_shown_below(works: &WorkLog, hosts: u8) -> bool
+    ensures { IsTrue result ↔ All (IsShownBelow hosts) works.now.items }
 {
     works.iter().all(|entry| is_shown_below(entry, hosts))
 }
 
 // Whether both histories have no entry of another host than the first ones.
-fn has_no_others(place: &Place, works: &[WorkEntry], hosts: u8) -> bool
-    ensures { IsTrue result ↔ HasNoOthers (histories_by place.now works.now) hosts }
+fn has_no_others(place: &Place, works: &WorkLog, hosts: u8) -> bool
+    ensures { IsTrue result ↔ HasNoOthers (histories_by place.now works.now.items) hosts }
 {
     are_placed_below(place.history(), hosts) && are_shown_below(works, hosts)
 }
 
 /// Whether there is one token for each host, in their order, and they list just what both histories have.
-pub(crate) fn all_agree(place: &Place, works: &[WorkEntry], tokens: &[HostToken]) -> bool
-    ensures { IsTrue result ↔ Agree tokens.now (histories_by place.now works.now) }
+pub(crate) fn all_agree(place: &Place, works: &WorkLog, tokens: &[HostToken]) -> bool
+    ensures { IsTrue result ↔ Agree tokens.now (histories_by place.now works.now.items) }
 {
     let hosts = place.config().hosts();
     tokens.len() == usize::from(hosts)

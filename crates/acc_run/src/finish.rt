@@ -146,9 +146,5 @@ fn took_first(place: &PlaceSide, work: &WorkSide, at: QueueAt) -> bool
 {
     let QueueAt { device, queue } = at;
     let placed = place.as_place().labels_on(QueueAt { device, queue });
-    let count = work.as_work().taken_count(QueueAt { device, queue }) as usize;
-    count <= placed.len()
-        && work
-            .as_work()
-            .has_taken(QueueAt { device, queue }, &placed[..count])
+    work.as_work().took_first(QueueAt { device, queue }, placed)
 }

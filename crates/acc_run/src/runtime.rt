@@ -344,19 +344,11 @@ impl Runtime {
         let mut job = job;
         gate.work(job.queue(), job.number());
         job.compute();
-        let mut pause = Pause::new();
-        for _ in rt.forever() {
-            let mut work = self.work.lock(rt);
-            if !work.has_queue(job.queue()) {
-                return None;
-            }
-            if work.has_room(job.queue()) {
-                return work.commit_job(job).ok();
-            }
-            drop(work);
-            pause.wait(rt);
+        let mut work = self.work.lock(rt);
+        if !work.has_queue(job.queue()) {
+            return None;
         }
-        unreachable!()
+        work.commit_job(job).ok()
     }
 
     /// What a run leaves, whose queues have performed all that was placed on them: legal histories of the runtime's configuration, with

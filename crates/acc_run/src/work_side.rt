@@ -1,24 +1,24 @@
 //! What the work lock holds: a work side, and the end of each queue that takes.
 
-ghost use Rattle.std.specs.Prelude.{Bool, ◌≡◌, ◌<◌, IfOk, IfErr, IfSome, IfNone, OnOk, OnErr, Some, Ok, None, true, false, [], length, OnSome, IsTrue, ◌↔◌, ◌⊎◌, ◌==◌};
+ghost use Rattle.std.specs.Prelude.{Bool, ◌≡◌, ◌<◌, ◌^◌, IfOk, IfErr, IfSome, IfNone, OnOk, OnErr, Some, Ok, None, true, false, [], length, OnSome, IsTrue, ◌↔◌, ◌⊎◌, ◌==◌};
 ghost use Rattle.acc_base.specs.declared.fault.Fault.TheVariants.{Memory};
 ghost use Rattle.acc_base.specs.declared.config.TheConstants.{MAX_HOSTS};
 ghost use Rattle.acc_base.specs.declared.ids.QueueAt.{QueueAt};
 ghost use Rattle.acc_batch.specs.Ops.{first_loop};
 ghost use Rattle.acc_host.specs.Engines.{MayRecord};
-ghost use Rattle.acc_run.specs.WorkSides.{AreEnds, HasComeBack, HasGoneOut, HasRoomMade, HasTaken, HasRecorded, Goes, IsLine, IsStray, closes, is_ended, line_in, number_left};
+ghost use Rattle.acc_run.specs.WorkSides.{AreEnds, HasComeBack, HasGoneOut, HasTaken, HasRecorded, Goes, IsLine, IsStray, closes, is_ended, line_in, number_left};
 ghost use Rattle.acc_work.specs.declared.item.ItemLabel.TheVariants as to_record;
 ghost use Rattle.acc_work.specs.declared.item.Shown.TheVariants as shown;
 ghost use Rattle.acc_work.specs.Items.{has_cells};
 ghost use Rattle.acc_work.specs.Jobs.{StartsLoop};
-ghost use Rattle.acc_work.specs.Logs.{all_done};
+ghost use Rattle.acc_work.specs.Logs.{all_done, all_items};
 ghost use Rattle.acc_work.specs.Kept.{IsKept};
 ghost use Rattle.acc_work.specs.Remembering.{Remembers};
-ghost use Rattle.acc_work.specs.Works.{HasQueue, KeepsOrder, lane_at, taken_labels, item_fault};
+ghost use Rattle.acc_work.specs.Works.{CanTell, HasQueue, KeepsOrder, lane_at, taken_labels, item_fault};
 ghost use Rattle.acc_work.specs.Lanes.{last_of};
 
 use acc_base::{Config, DeviceId, Fault, HostId, QUEUES, QueueAt, QueueCounts, Range};
-use acc_batch::OpLabel;
+use acc_batch::{OpLabel, Page};
 use acc_kernel::Job;
 use acc_queue::Taker;
 use acc_work::{Ahead, Done, Item, ItemLabel, JobOut, Shown, Work};
@@ -149,21 +149,18 @@ impl WorkSide {
         }
     }
 
-    /// A queue takes the first batch that it holds, if nothing is left of the one before it, and answers its number. Where memory
-    /// is refused it takes none.
+    /// A queue takes the first batch that it holds, if nothing is left of the one before it, and answers its number. It takes no
+    /// memory.
     pub fn take<R: Wait>(&mut self, rt: &R, at: QueueAt) -> Option<u64>
         requires queue { HasQueue self.old.work at }
         ensures taken { IfSome result (λ number. HasTaken self.old self.new at number) }
-        ensures none { IfNone result (HasRoomMade self.old self.new) }
+        ensures none { IfNone result (self.new ≡ self.old) }
     {
         let QueueAt { device, queue } = at;
         self.work.keeps();
         if !self.work.lane_empty(QueueAt { device, queue }) {
             return None;
         }
-        let Ok(()) = self.work.spare(QueueAt { device, queue }, 1) else {
-            return None;
-        };
         let seat = QueueAt { device, queue }.seat();
         match self.takers[seat].pop(rt) {
             None => None,
@@ -178,17 +175,13 @@ impl WorkSide {
     }
 
     /// A queue performs the next operation of its lane, if what it awaits is performed, its host's items allow it, and it uses live
-    /// blocks. Where memory is refused it performs none.
+    /// blocks. It takes no memory.
     pub fn perform(&mut self, at: QueueAt) -> Done
         requires queue { HasQueue self.old.work at }
         ensures { Goes self.old at result self.new }
     {
-        let QueueAt { device, queue } = at;
         self.work.keeps();
-        let Ok(()) = self.work.spare(QueueAt { device, queue }, 1) else {
-            return Done::Idle;
-        };
-        self.work.perform(QueueAt { device, queue })
+        self.work.perform(at)
     }
 
     /// The first loop among what is left in a queue's lane, if there is one and it can be shared.
@@ -209,26 +202,14 @@ impl WorkSide {
         self.work.start_job(at, room)
     }
 
-    /// Makes room for one more operation of a queue. Whether there is some.
-    pub fn has_room(&mut self, at: QueueAt) -> bool
-        requires queue { HasQueue self.old.work at }
-        ensures made { HasRoomMade self.old self.new }
-        ensures queue { HasQueue self.new.work at }
-        ensures room { IsTrue result → length self.new.work.work < self.new.work.room }
-    {
-        self.work.keeps();
-        self.work.spare(at, 1).is_ok()
-    }
-
     /// Performs the loop of a job that is out, as `perform` would now, and gives its room back. Where a block that it uses isn't live
-    /// any more, its lane has it back. It takes no memory, by `has_room`.
+    /// any more, its lane has it back. It takes no memory.
     ///
     /// # Errors
     ///
     /// The job, where it isn't out; then nothing changes.
     pub fn commit_job(&mut self, job: JobOut) -> Result<Option<Box<Job>>, JobOut>
         requires queue { HasQueue self.old.work job.at }
-        requires room { length self.old.work.work < self.old.work.room }
         ensures back { OnOk result (HasComeBack self.old self.new job) }
         ensures stray { IfErr result (λ stray. (stray ≡ job) × IsStray self.old self.new job) }
     {
@@ -246,17 +227,17 @@ impl WorkSide {
         requires item { MayRecord item }
         ensures told { IfOk result (λ shown. HasRecorded self.old self.new host item shown) }
         ensures back { IfErr result (λ r. r.0 ≡ item) }
-        ensures kept { OnErr result (HasRoomMade self.old self.new) }
+        ensures kept { OnErr result (self.new ≡ self.old) }
         ensures fault { IfErr result (λ r. (lacks : Bool) × (item_fault lacks self.old.work.work (has_cells self.old.work.arrays item) ≡ Some r.1)) }
     {
-        if let Err(fault) = self.work.spare_item(0) {
-            return Err((item, fault));
+        if self.work.is_full_of_items() {
+            return Err((item, Fault::TooMany));
         }
         self.work.keeps();
         if !self.work.has_cells(item.label()) {
             return Err((item, Fault::BadRange));
         }
-        Ok(self.work.host_item(host, item))
+        self.tell(host, item)
     }
 
     /// Records that each queue of a device has performed so many batches, if it has.
@@ -273,16 +254,37 @@ impl WorkSide {
         requires host { host < MAX_HOSTS }
         ensures seen { result ≡ Ok true → HasRecorded self.old self.new host (to_record.Seen device counts) shown.Nothing }
         ensures not_yet { result ≡ Ok false → (self.new ≡ self.old) × (all_done (taken_labels self.old.work) self.old.work.work device 0 counts ≡ false) }
-        ensures kept { OnErr result (HasRoomMade self.old self.new) }
+        ensures kept { OnErr result (self.new ≡ self.old) }
         ensures fault { IfErr result (λ f. (lacks : Bool) × (item_fault lacks self.old.work.work true ≡ Some f)) }
     {
         if !self.work.all_reached(device, &counts) {
             return Ok(false);
         }
+        if self.work.is_full_of_items() {
+            return Err(Fault::TooMany);
+        }
         let item = Item::seen(self.alloc, device, counts)?;
-        self.work.spare_item(0)?;
-        let _ = self.work.host_item(host, item);
-        Ok(true)
+        match self.tell(host, item) {
+            Ok(_) => Ok(true),
+            Err((_, fault)) => Err(fault),
+        }
+    }
+
+    // Records an item that can be recorded, with a page for the log where it needs one.
+    fn tell(&mut self, host: HostId, item: Item) -> Result<Shown, (Item, Fault)>
+        requires host { host < MAX_HOSTS }
+        requires item { CanTell self.old.work item }
+        requires few { all_items self.old.work.work < 2 ^ 63 }
+        ensures told { IfOk result (λ shown. HasRecorded self.old self.new host item shown) }
+        ensures back { IfErr result (λ r. (r.0 ≡ item) × (r.1 ≡ Memory) × (self.new ≡ self.old)) }
+    {
+        match self.work.try_item(host, item) {
+            Ok(shown) => Ok(shown),
+            Err(item) => match Page::new(self.alloc, 1) {
+                Ok(page) => Ok(self.work.host_item(host, item, page)),
+                Err(fault) => Err((item, fault)),
+            },
+        }
     }
 }
 

@@ -1,9 +1,9 @@
 -- The counters of the hosts' items.
-use Rattle.std.proofs.Common.{◌≤◌, ℕ, List, [], ◌∷◌, length, arith, inl, inr}
+use Rattle.std.proofs.Common.{◌≤◌, ℕ, List, [], ◌∷◌, arith, inl, inr}
 use Rattle.std.specs.Prelude.{◌==◌}
 use Rattle.std.proofs.lemmas.Bool.{cases_Bool}
-use Rattle.acc_work.specs.declared.log.WorkEntry.{WorkEntry}
-use Rattle.acc_work.specs.declared.log.WorkEntry.TheVariants as entry
+use Rattle.acc_batch.specs.declared.entry.WorkEntry.{WorkEntry}
+use Rattle.acc_batch.specs.declared.entry.WorkEntry.TheVariants as entry
 use Rattle.acc_work.specs.Logs.{items_of, all_items}
 
 -- a host has no more items than all hosts have together
@@ -13,9 +13,3 @@ items_of-le-all_items h (entry.Op at op ∷ before) = items_of-le-all_items h be
 items_of-le-all_items h (entry.Item k shown ∷ before) =
     let ih = items_of-le-all_items h before in
     elim (cases_Bool (k == h)) [ inl mine ↦ rw mine (omega (arith, ih)) | inr other ↦ rw other (omega (arith, ih)) ]
-
--- no more items than entries
-pub all_items-le-length : (work : List WorkEntry) → all_items work ≤ length work
-all_items-le-length [] = omega arith
-all_items-le-length (entry.Op at op ∷ before) = omega (arith, all_items-le-length before)
-all_items-le-length (entry.Item h shown ∷ before) = omega (arith, all_items-le-length before)

@@ -13,8 +13,8 @@ use Rattle.acc_batch.specs.declared.label.OpLabel.TheVariants.{Make, CopyIn, Cop
 use Rattle.acc_batch.specs.Labels.{on_queue, ops_of, whole_batches}
 use Rattle.acc_batch.proofs.Labels.{on_queue-append}
 use Rattle.acc_batch.proofs.WholeBatches.{whole_covers, whole_reaches}
-use Rattle.acc_work.specs.declared.log.WorkEntry.{WorkEntry}
-use Rattle.acc_work.specs.declared.log.WorkEntry.TheVariants as entry
+use Rattle.acc_batch.specs.declared.entry.WorkEntry.{WorkEntry}
+use Rattle.acc_batch.specs.declared.entry.WorkEntry.TheVariants as entry
 use Rattle.acc_work.specs.Logs.{one_more, performed, batches_done}
 use Rattle.acc_batch.specs.Awaits.{is_await, AwaitsFirst, IsOrdered}
 use Rattle.acc_work.specs.Orders.{IsReached, AllAwaited}
@@ -35,9 +35,9 @@ done_rises labels work q o at = whole_rises (on_queue at labels) (length (perfor
 
 reached_more : (labels : List Label) (work more : List WorkEntry) (device : ℕ) → ((at : QueueAt) → batches_done labels work at ≤ batches_done labels more at) → (op : OpLabel) → IsReached labels work device op → IsReached labels more device op
 reached_more labels work more device grows (Await q n) h = omega (arith, h, grows (record { device = device; queue = q }))
-reached_more labels work more device grows (Make b r) h = tt
-reached_more labels work more device grows (CopyIn b r) h = tt
-reached_more labels work more device grows (CopyOut b r) h = tt
+reached_more labels work more device grows (Make r b) h = tt
+reached_more labels work more device grows (CopyIn r b) h = tt
+reached_more labels work more device grows (CopyOut r b) h = tt
 reached_more labels work more device grows (Release b) h = tt
 reached_more labels work more device grows (Run k uses) h = tt
 reached_more labels work more device grows Close h = tt

@@ -8,8 +8,8 @@ use Rattle.acc_base.specs.Queues.{same_queue}
 use Rattle.acc_base.proofs.Members.{no_member}
 use Rattle.acc_base.proofs.SameQueue.{same_queue_is, same_queue_itself}
 use Rattle.acc_batch.specs.declared.label.OpLabel.{OpLabel}
-use Rattle.acc_work.specs.declared.log.WorkEntry.{WorkEntry}
-use Rattle.acc_work.specs.declared.log.WorkEntry.TheVariants as entry
+use Rattle.acc_batch.specs.declared.entry.WorkEntry.{WorkEntry}
+use Rattle.acc_batch.specs.declared.entry.WorkEntry.TheVariants as entry
 use Rattle.acc_work.specs.Logs.{one_more, performed, device_ops}
 
 more_member : (b : Bool) (ops : List OpLabel) (o op : OpLabel) → Contains ops op → Contains (one_more b ops o) op

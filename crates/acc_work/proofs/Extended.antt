@@ -11,10 +11,10 @@ use Rattle.acc_batch.specs.declared.label.OpLabel.TheVariants.{Make, CopyIn, Cop
 use Rattle.acc_batch.specs.Labels.{on_queue, ops_of, batch_at}
 use Rattle.acc_batch.proofs.Labels.{ops_of-append, on_queue-append}
 use Rattle.acc_batch.proofs.WholeBatches.{whole_taken, whole-more}
-use Rattle.acc_work.specs.declared.log.Told.{Told}
-use Rattle.acc_work.specs.declared.log.Told.TheVariants as shown
-use Rattle.acc_work.specs.declared.log.WorkEntry.{WorkEntry}
-use Rattle.acc_work.specs.declared.log.WorkEntry.TheVariants as entry
+use Rattle.acc_batch.specs.declared.entry.Told.{Told}
+use Rattle.acc_batch.specs.declared.entry.Told.TheVariants as shown
+use Rattle.acc_batch.specs.declared.entry.WorkEntry.{WorkEntry}
+use Rattle.acc_batch.specs.declared.entry.WorkEntry.TheVariants as entry
 use Rattle.acc_work.specs.Kept.{IsKept, Extended, Extends}
 use Rattle.acc_work.specs.Logs.{one_more, performed, batches_done, all_done, host_allows}
 use Rattle.acc_work.specs.Orders.{IsPrefix, InOrder, ShowsTruth, InHostOrder, IsReached, AllAwaited}
@@ -61,7 +61,7 @@ shows-more : (arrays : List (List ℤ)) (old new : List Label) (s : Told) (befor
 shows-more arrays old new (shown.Write a c v) before e order h = tt
 shows-more arrays old new (shown.Print r vs) before e order h = h
 shows-more arrays old new (shown.Seen device counts) before e order h = rw (all_done_same old new before device 0 counts e order) h
-shows-more arrays old new (shown.Test device counts answer) before e order h = h ∙ sym (all_done_same old new before device 0 counts e order)
+shows-more arrays old new (shown.Test device answer counts) before e order h = h ∙ sym (all_done_same old new before device 0 counts e order)
 
 -- what was performed earlier is a prefix, too
 in_order-before : (labels : List Label) (at : QueueAt) (op : OpLabel) (before : List WorkEntry) → InOrder labels (entry.Op at op ∷ before) → InOrder labels before
@@ -96,9 +96,9 @@ reached_with old new work device (Await q n) e h =
     let x = e at in
     let grows = whole-more (on_queue at old) x.more (length (performed at work)) in
     rw x.is (omega (arith, h, grows))
-reached_with old new work device (Make b r) e h = tt
-reached_with old new work device (CopyIn b r) e h = tt
-reached_with old new work device (CopyOut b r) e h = tt
+reached_with old new work device (Make r b) e h = tt
+reached_with old new work device (CopyIn r b) e h = tt
+reached_with old new work device (CopyOut r b) e h = tt
 reached_with old new work device (Release b) e h = tt
 reached_with old new work device (Run k uses) e h = tt
 reached_with old new work device Close e h = tt

@@ -9,7 +9,7 @@ use Rattle.acc_batch.specs.declared.label.Label.{Label}
 use Rattle.acc_batch.specs.Awaits.{IsOrdered, AllOrdered}
 use Rattle.acc_batch.specs.Labels.{on_queue, ops_of}
 use Rattle.acc_batch.proofs.Labels.{on_queue-append}
-use Rattle.acc_work.specs.declared.log.WorkEntry.{WorkEntry}
+use Rattle.acc_batch.specs.declared.entry.WorkEntry.{WorkEntry}
 use Rattle.acc_work.specs.Logs.{performed}
 
 -- a queue has performed what these labels placed on it

@@ -8,11 +8,11 @@ use Rattle.acc_base.proofs.Members.{no_member, member_image}
 use Rattle.acc_batch.specs.declared.label.OpLabel.{OpLabel}
 use Rattle.acc_batch.specs.declared.label.OpLabel.TheVariants.{Make, CopyIn, CopyOut, Release, Run, Await, Close}
 use Rattle.acc_batch.specs.Lives.{blocks_made, blocks_released, UsesLive, Made}
-use Rattle.acc_memory.specs.Memories.{blocks_after, block_inserted, find_block}
+use Rattle.acc_memory.specs.Memories.{blocks_after, find_block}
 use Rattle.acc_memory.proofs.FindBlock.{find_inserted, find_beside, find_kept}
 use Rattle.acc_memory.proofs.HeldBlocks.{Held, held_first, held_make, held_release}
-use Rattle.acc_work.specs.declared.log.WorkEntry.{WorkEntry}
-use Rattle.acc_work.specs.declared.log.WorkEntry.TheVariants as entry
+use Rattle.acc_batch.specs.declared.entry.WorkEntry.{WorkEntry}
+use Rattle.acc_batch.specs.declared.entry.WorkEntry.TheVariants as entry
 use Rattle.acc_work.specs.Lives.{AllLive}
 use Rattle.acc_work.specs.Logs.{device_ops}
 use Rattle.acc_work.specs.Remembering.{blocks_by, blocks_in}
@@ -36,7 +36,7 @@ only_first = record {
 
 -- after a block is made that never was
 only_make : (makings : List Made) (gone : List ℕ) (bs : List Made) (b : Made) → OnlyHeld makings gone bs
-    → (Contains (map (λ (m : Made). m.block) makings) b.block → ⊥) → OnlyHeld (makings ++ b ∷ []) gone (block_inserted b bs)
+    → (Contains (map (λ (m : Made). m.block) makings) b.block → ⊥) → OnlyHeld (makings ++ b ∷ []) gone (b ∷ bs)
 only_make makings gone bs b h fresh = record {
   named = λ c m e. elim (cases_eq b.block c) [
     | inl same ↦ (let is : b ≡ m = here c m same e in subst (λ (x : Made). x.block ≡ c) is same)
@@ -53,9 +53,9 @@ only_make makings gone bs b h fresh = record {
   gone_made = λ c g. rw (map-append (λ (m : Made). m.block) makings (b ∷ [])) (Contains-append_left (map (λ (m : Made). m.block) makings) (b.block ∷ []) c (h.gone_made c g));
 }
   where
-    here : (c : ℕ) (m : Made) → b.block ≡ c → find_block (block_inserted b bs) c ≡ Some m → b ≡ m
+    here : (c : ℕ) (m : Made) → b.block ≡ c → find_block (b ∷ bs) c ≡ Some m → b ≡ m
     here c m same e =
-        let found : Some b ≡ Some m = sym (find_inserted b bs) ∙ rw (← same) at e in
+        let found : Some b ≡ Some m = sym (find_inserted b bs) ∙ subst (λ k. find_block (b ∷ bs) k ≡ Some m) (sym same) e in
         cc
 
 -- a block that is released isn't found
@@ -106,16 +106,16 @@ quiet ops op bs made released h =
     record { held = rw (m, r) h.held; only = rw (m, r) h.only }
 
 both_after : (arrays : List (List ℤ)) (ops : List OpLabel) (bs : List Made) (op : OpLabel) → HeldBoth ops bs → UsesLive arrays op ops → HeldBoth (ops ++ op ∷ []) (blocks_after op bs)
-both_after arrays ops bs (Make b r) h u =
+both_after arrays ops bs (Make r b) h u =
     let new : Made = record { block = b; range = r } in
-    let m : blocks_made (ops ++ Make b r ∷ []) ≡ blocks_made ops ++ new ∷ [] = made-append ops (Make b r ∷ []) in
-    let g : blocks_released (ops ++ Make b r ∷ []) ≡ blocks_released ops = released-append ops (Make b r ∷ []) ∙ append-nil (blocks_released ops) in
+    let m : blocks_made (ops ++ Make r b ∷ []) ≡ blocks_made ops ++ new ∷ [] = made-append ops (Make r b ∷ []) in
+    let g : blocks_released (ops ++ Make r b ∷ []) ≡ blocks_released ops = released-append ops (Make r b ∷ []) ∙ append-nil (blocks_released ops) in
     record {
       held = rw (m, g) (held_make (blocks_made ops) (blocks_released ops) bs new h.held u.0);
       only = rw (m, g) (only_make (blocks_made ops) (blocks_released ops) bs new h.only u.0);
     }
-both_after arrays ops bs (CopyIn b r) h u = quiet ops (CopyIn b r) bs refl refl h
-both_after arrays ops bs (CopyOut b r) h u = quiet ops (CopyOut b r) bs refl refl h
+both_after arrays ops bs (CopyIn r b) h u = quiet ops (CopyIn r b) bs refl refl h
+both_after arrays ops bs (CopyOut r b) h u = quiet ops (CopyOut r b) bs refl refl h
 both_after arrays ops bs (Release b) h u =
     let m : blocks_made (ops ++ Release b ∷ []) ≡ blocks_made ops = made-append ops (Release b ∷ []) ∙ append-nil (blocks_made ops) in
     let g : blocks_released (ops ++ Release b ∷ []) ≡ blocks_released ops ++ b ∷ [] = released-append ops (Release b ∷ []) in

@@ -23,19 +23,19 @@ no_loop : {X : Type 0} → false ≡ true → X
 no_loop e = absurd (let no : false ≡ true = e in cc)
 
 -- a loop that can be performed has its ranges
-pub may_start : (w : WorkView) (devices : ℕ) (at : QueueAt) → IsWork w devices → can_go w at (lane_at w at).left ≡ true → is_some (next_loop (lane_at w at).left) ≡ true → MayStart w.memory at.device (lane_at w at).left
-may_start w devices at i can some = by_left (lane_at w at).left can some
+pub may_start : {free unclaimed : ℕ} (w : WorkView) (at : QueueAt) → IsWork w free unclaimed → can_go w at (lane_at w at).left ≡ true → is_some (next_loop (lane_at w at).left) ≡ true → MayStart w.memory at.device (lane_at w at).left
+may_start w at i can some = by_left (lane_at w at).left can some
   where
     by_op : (op : OpLabel) (ops : List OpLabel) → can_go w at (op ∷ ops) ≡ true → is_some (loop_of op) ≡ true → MayStart w.memory at.device (op ∷ ops)
-    by_op (Make b r) ops can some = no_loop some
-    by_op (CopyIn b r) ops can some = no_loop some
-    by_op (CopyOut b r) ops can some = no_loop some
+    by_op (Make r b) ops can some = no_loop some
+    by_op (CopyIn r b) ops can some = no_loop some
+    by_op (CopyOut r b) ops can some = no_loop some
     by_op (Release b) ops can some = no_loop some
     by_op (Run k uses) ops can some = record {
       kernel = k;
       uses = uses;
       next = refl;
-      held = (next_live w.arrays w at (Run k uses) ops i.memory i.kept.live_blocks (is_ready w at (Run k uses) ops can).live).may tt;
+      held = (next_live w.arrays w at (Run k uses) ops i.memory i.kept.live_blocks (is_ready w at (Run k uses) ops can).live).may;
     }
     by_op (Await q n) ops can some = no_loop some
     by_op Close ops can some = no_loop some
@@ -73,9 +73,9 @@ run_is : (op : OpLabel) (k : Loop) (uses : List Use) → loop_of op ≡ Some (k,
 run_is (Run k' uses') k uses e =
     let pair : (k', uses') ≡ (k, uses) = cc in
     ap (λ (p : Loop × List Use). Run p.0 p.1) pair
-run_is (Make b r) k uses e = absurd (let no : None ≡ Some (k, uses) = e in cc)
-run_is (CopyIn b r) k uses e = absurd (let no : None ≡ Some (k, uses) = e in cc)
-run_is (CopyOut b r) k uses e = absurd (let no : None ≡ Some (k, uses) = e in cc)
+run_is (Make r b) k uses e = absurd (let no : None ≡ Some (k, uses) = e in cc)
+run_is (CopyIn r b) k uses e = absurd (let no : None ≡ Some (k, uses) = e in cc)
+run_is (CopyOut r b) k uses e = absurd (let no : None ≡ Some (k, uses) = e in cc)
 run_is (Release b) k uses e = absurd (let no : None ≡ Some (k, uses) = e in cc)
 run_is (Await q n) k uses e = absurd (let no : None ≡ Some (k, uses) = e in cc)
 run_is Close k uses e = absurd (let no : None ≡ Some (k, uses) = e in cc)
@@ -90,12 +90,12 @@ is_looping None op h = record { kernel = h.0; uses = h.1; is = run_is op h.0 h.1
 is_looping (Some c) op h = record { kernel = c.kernel; uses = c.uses; is = run_is op c.kernel c.uses h }
 
 -- a loop awaits nothing, and its host has the items
-pub loop_due : (w : WorkView) (devices : ℕ) (at : QueueAt) (op : OpLabel) → IsWork w devices → (lane_at w at).out ≡ true → Looping op → is_due w at op ≡ true
-loop_due w devices at op i out l = rw l.is (i.out_due at out)
+pub loop_due : {free unclaimed : ℕ} (w : WorkView) (at : QueueAt) (op : OpLabel) → IsWork w free unclaimed → (lane_at w at).out ≡ true → Looping op → is_due w at op ≡ true
+loop_due w at op i out l = rw l.is (i.out_due at out)
 
 -- it may be performed, where what it uses is live
-pub loop_allowed : (w : WorkView) (devices : ℕ) (at : QueueAt) (op : OpLabel) (ops : List OpLabel) → IsWork w devices → is_live w at (op ∷ ops) ≡ true → Looping op → MayPerform w.memory at.device op
-loop_allowed w devices at op ops i live l = (next_live w.arrays w at op ops i.memory i.kept.live_blocks live).may (rw l.is tt)
+pub loop_allowed : {free unclaimed : ℕ} (w : WorkView) (at : QueueAt) (op : OpLabel) (ops : List OpLabel) → IsWork w free unclaimed → is_live w at (op ∷ ops) ≡ true → MayPerform w.memory at.device op
+loop_allowed w at op ops i live = (next_live w.arrays w at op ops i.memory i.kept.live_blocks live).may
 
 pub commits_now : (old new : WorkView) (at : QueueAt) (op : OpLabel) (ops : List OpLabel) → (lane_at old at).left ≡ op ∷ ops → is_live old at (lane_at old at).left ≡ true → Looping op → HasPerformed old new at op ops → Commits old new at
 commits_now old new at op ops left live l p =

@@ -14,9 +14,9 @@ use Rattle.acc_batch.specs.declared.label.OpLabel.{OpLabel}
 use Rattle.acc_batch.specs.Labels.{on_queue, ops_of, batch_at}
 use Rattle.acc_batch.proofs.Labels.{ops_of-append, batch_at-append}
 use Rattle.acc_batch.proofs.NextOperation.{NextOp}
-use Rattle.acc_work.specs.declared.log.Told.{Told}
-use Rattle.acc_work.specs.declared.log.WorkEntry.{WorkEntry}
-use Rattle.acc_work.specs.declared.log.WorkEntry.TheVariants as entry
+use Rattle.acc_batch.specs.declared.entry.Told.{Told}
+use Rattle.acc_batch.specs.declared.entry.WorkEntry.{WorkEntry}
+use Rattle.acc_batch.specs.declared.entry.WorkEntry.TheVariants as entry
 use Rattle.acc_work.specs.declared.item.ItemLabel.{ItemLabel}
 use Rattle.acc_work.specs.declared.item.ItemLabel.TheVariants as to_record
 use Rattle.acc_work.specs.declared.work.Done.TheVariants as done

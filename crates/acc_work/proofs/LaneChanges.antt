@@ -1,7 +1,8 @@
 -- What a work side keeps where one of its lanes changes.
-use Rattle.std.proofs.Common.{◌≡◌, ℕ, ◌<◌, ◌≤◌, Bool, false, List, [], ◌∷◌, ◌++◌, length, map, refl, sym, ap, ◌∙◌, arith}
+use Rattle.std.proofs.Common.{◌≡◌, ◌+◌, ◌<◌, ◌≤◌, Bool, false, List, [], ◌∷◌, ◌++◌, length, map, refl, sym, ap, ◌∙◌, arith}
 use Rattle.std.proofs.Math.Seq.{map-set_same}
 use Rattle.std.proofs.lemmas.List.{append_assoc}
+use Rattle.std.proofs.lemmas.List.Sums.{sum_by-set}
 use Rattle.acc_base.specs.declared.config.TheConstants.{MAX_HOSTS}
 use Rattle.acc_base.specs.declared.ids.QueueAt.{QueueAt}
 use Rattle.acc_base.specs.declared.ids.TheConstants.{QUEUES}
@@ -9,13 +10,12 @@ use Rattle.acc_base.specs.Queues.{same_queue, seat}
 use Rattle.acc_base.proofs.SameQueue.{same_queue_itself}
 use Rattle.acc_batch.specs.declared.label.Label.{Label}
 use Rattle.acc_batch.specs.declared.label.OpLabel.{OpLabel}
-use Rattle.acc_memory.specs.Memories.{MemoryView, rows_on, room_on}
-use Rattle.acc_work.specs.declared.log.WorkEntry.{WorkEntry}
-use Rattle.acc_work.specs.declared.log.WorkEntry.TheVariants as entry
-use Rattle.acc_work.specs.Lanes.{LaneView, no_lane, lane_in, lanes_with, lane_with_batch, lane_with_left, lane_with_out}
+use Rattle.acc_batch.specs.declared.entry.WorkEntry.{WorkEntry}
+use Rattle.acc_batch.specs.declared.entry.WorkEntry.TheVariants as entry
+use Rattle.acc_work.specs.Lanes.{LaneView, all_left, no_lane, lane_in, lanes_with, lane_with_batch, lane_with_left, lane_with_out}
 use Rattle.acc_work.specs.Logs.{performed}
-use Rattle.acc_work.specs.Works.{WorkView, HasMadeRoom, IsRoomier, IsInOrder, lane_at}
-use Rattle.acc_work.proofs.Lanes.{lane_there, each_lane, taken_with}
+use Rattle.acc_work.specs.Works.{IsInOrder}
+use Rattle.acc_work.proofs.Lanes.{lane_there, each_lane}
 use Rattle.acc_work.proofs.TakenLabels.{all_at_more, lane_filled, order_filled}
 
 -- as many batches were taken where a lane has as many
@@ -24,23 +24,11 @@ pub count_kept : (lanes : List LaneView) (at : QueueAt) (new : LaneView) → at.
 count_kept lanes at new low there same =
     map-set_same (λ (l : LaneView). length l.taken) lanes (seat at) new no_lane (same ∙ ap (λ (l : LaneView). length l.taken) (lane_there lanes at low))
 
--- Room was made for a queue, in the memory and in the log.
-pub room_made : (w : WorkView) (memory : MemoryView) (room : ℕ) (at : QueueAt) (lane : LaneView) → at.queue < QUEUES → seat at < length w.lanes → IsRoomier (lane_at w at) lane → w.room ≤ room
-    → memory.arrays ≡ w.memory.arrays → length memory.devices ≡ length w.memory.devices → ((d : ℕ) → rows_on memory d ≡ rows_on w.memory d) → ((d : ℕ) → room_on w.memory d ≤ room_on memory d)
-    → HasMadeRoom w (record w { memory = memory; room = room; lanes = lanes_with w.lanes at lane })
-room_made w memory room at lane low there more wider arrays devices rows block_room = record {
-  work = refl;
-  opening = refl;
-  arrays = arrays;
-  devices = devices;
-  rows = rows;
-  taken = taken_with w.lanes at lane low (ap (λ (l : LaneView). l.taken) more.kept);
-  counts = count_kept w.lanes at lane low there (ap (λ (l : LaneView). length l.taken) more.kept);
-  lanes = each_lane (λ other l. l ≡ lane_in w.lanes other) (λ other l. IsRoomier (lane_in w.lanes other) l) w.lanes at lane low there (λ other. refl) more
-      (λ other differ l e. rw (← e) (record { kept = refl; room = omega arith }));
-  room = wider;
-  block_room = block_room;
-}
+-- in all lanes there is more or less left by as much as in the one that changes
+pub left_with : (lanes : List LaneView) (at : QueueAt) (new : LaneView) → at.queue < QUEUES → seat at < length lanes → all_left (lanes_with lanes at new) + length (lane_in lanes at).left ≡ all_left lanes + length new.left
+left_with lanes at new low there =
+    ap (λ (l : LaneView). all_left (lanes_with lanes at new) + length l.left) (lane_there lanes at low)
+    ∙ sum_by-set (λ (l : LaneView). length l.left) lanes (seat at) new no_lane there
 
 -- Each queue's order, where one takes a batch.
 pub order_offered : (work : List WorkEntry) (lanes : List LaneView) (at : QueueAt) (l : Label) → at.queue < QUEUES → seat at < length lanes → ((other : QueueAt) → IsInOrder work other (lane_in lanes other))

@@ -3,6 +3,7 @@ pub mod AwaitedKept
 pub mod AwaitsReached
 pub mod DeviceOps
 pub mod Extended
+pub mod FirstTaken
 pub mod Frontiers
 pub mod GreatestWhole
 pub mod HeldInLog
@@ -12,13 +13,12 @@ pub mod LaneChanges
 pub mod Lanes
 pub mod MadeAndReleased
 pub mod MadeBlocks
-pub mod MadeRecord
 pub mod NeverStuck
 pub mod NextUsesLive
-pub mod NotedBlocks
 pub mod OperationPlaces
 pub mod OutDue
 pub mod RemembersWork
 pub mod Splits
 pub mod TakenLabels
+pub mod ToldItems
 pub mod WorkSteps

@@ -14,41 +14,41 @@ abbrev pub a_made : ℕ → Range → Made
 a_made b r = record { block = b; range = r }
 
 -- what was made was made by an operation
-pub made_op : (ops : List OpLabel) (b : ℕ) (r : Range) → Contains (blocks_made ops) (a_made b r) → Contains ops (Make b r)
+pub made_op : (ops : List OpLabel) (b : ℕ) (r : Range) → Contains (blocks_made ops) (a_made b r) → Contains ops (Make r b)
 made_op [] b r h = absurd (no_member (a_made b r) h)
-made_op (Make c s ∷ ops) b r h = elim (member_cases (a_made b r) (a_made c s) (blocks_made ops) h) [
-  | inl same ↦ rw (← ap (λ (m : Made). m.block) same, ← ap (λ (m : Made). m.range) same) (member_first (Make c s) ops)
-  | inr rest ↦ member_rest (Make b r) (Make c s) ops (made_op ops b r rest)
+made_op (Make s c ∷ ops) b r h = elim (member_cases (a_made b r) (a_made c s) (blocks_made ops) h) [
+  | inl same ↦ rw (← ap (λ (m : Made). m.block) same, ← ap (λ (m : Made). m.range) same) (member_first (Make s c) ops)
+  | inr rest ↦ member_rest (Make r b) (Make s c) ops (made_op ops b r rest)
 ]
-made_op (CopyIn c s ∷ ops) b r h = member_rest (Make b r) (CopyIn c s) ops (made_op ops b r h)
-made_op (CopyOut c s ∷ ops) b r h = member_rest (Make b r) (CopyOut c s) ops (made_op ops b r h)
-made_op (Release c ∷ ops) b r h = member_rest (Make b r) (Release c) ops (made_op ops b r h)
-made_op (Run k uses ∷ ops) b r h = member_rest (Make b r) (Run k uses) ops (made_op ops b r h)
-made_op (Await q n ∷ ops) b r h = member_rest (Make b r) (Await q n) ops (made_op ops b r h)
-made_op (Close ∷ ops) b r h = member_rest (Make b r) Close ops (made_op ops b r h)
+made_op (CopyIn s c ∷ ops) b r h = member_rest (Make r b) (CopyIn s c) ops (made_op ops b r h)
+made_op (CopyOut s c ∷ ops) b r h = member_rest (Make r b) (CopyOut s c) ops (made_op ops b r h)
+made_op (Release c ∷ ops) b r h = member_rest (Make r b) (Release c) ops (made_op ops b r h)
+made_op (Run k uses ∷ ops) b r h = member_rest (Make r b) (Run k uses) ops (made_op ops b r h)
+made_op (Await q n ∷ ops) b r h = member_rest (Make r b) (Await q n) ops (made_op ops b r h)
+made_op (Close ∷ ops) b r h = member_rest (Make r b) Close ops (made_op ops b r h)
 
 -- what one more operation made, and what the others did
 made_more : (op : OpLabel) (ops : List OpLabel) (x : Made) → Contains (blocks_made ops) x → Contains (blocks_made (op ∷ ops)) x
-made_more (Make c s) ops x h = member_rest x (a_made c s) (blocks_made ops) h
-made_more (CopyIn c s) ops x h = h
-made_more (CopyOut c s) ops x h = h
+made_more (Make s c) ops x h = member_rest x (a_made c s) (blocks_made ops) h
+made_more (CopyIn s c) ops x h = h
+made_more (CopyOut s c) ops x h = h
 made_more (Release c) ops x h = h
 made_more (Run k uses) ops x h = h
 made_more (Await q n) ops x h = h
 made_more Close ops x h = h
 
 released_more : (op : OpLabel) (ops : List OpLabel) (b : ℕ) → Contains (blocks_released ops) b → Contains (blocks_released (op ∷ ops)) b
-released_more (Make c s) ops b h = h
-released_more (CopyIn c s) ops b h = h
-released_more (CopyOut c s) ops b h = h
+released_more (Make s c) ops b h = h
+released_more (CopyIn s c) ops b h = h
+released_more (CopyOut s c) ops b h = h
 released_more (Release c) ops b h = member_rest b c (blocks_released ops) h
 released_more (Run k uses) ops b h = h
 released_more (Await q n) ops b h = h
 released_more Close ops b h = h
 
-pub op_made : (ops : List OpLabel) (b : ℕ) (r : Range) → Contains ops (Make b r) → Contains (blocks_made ops) (a_made b r)
-op_made [] b r h = absurd (no_member (Make b r) h)
-op_made (op ∷ ops) b r h = elim (member_cases (Make b r) op ops h) [
+pub op_made : (ops : List OpLabel) (b : ℕ) (r : Range) → Contains ops (Make r b) → Contains (blocks_made ops) (a_made b r)
+op_made [] b r h = absurd (no_member (Make r b) h)
+op_made (op ∷ ops) b r h = elim (member_cases (Make r b) op ops h) [
   | inl same ↦ rw same (member_first (a_made b r) (blocks_made ops))
   | inr rest ↦ made_more op ops (a_made b r) (op_made ops b r rest)
 ]
@@ -62,9 +62,9 @@ op_released (op ∷ ops) b h = elim (member_cases (Release b) op ops h) [
 
 pub released_op : (ops : List OpLabel) (b : ℕ) → Contains (blocks_released ops) b → Contains ops (Release b)
 released_op [] b h = absurd (no_member b h)
-released_op (Make c s ∷ ops) b h = member_rest (Release b) (Make c s) ops (released_op ops b h)
-released_op (CopyIn c s ∷ ops) b h = member_rest (Release b) (CopyIn c s) ops (released_op ops b h)
-released_op (CopyOut c s ∷ ops) b h = member_rest (Release b) (CopyOut c s) ops (released_op ops b h)
+released_op (Make s c ∷ ops) b h = member_rest (Release b) (Make s c) ops (released_op ops b h)
+released_op (CopyIn s c ∷ ops) b h = member_rest (Release b) (CopyIn s c) ops (released_op ops b h)
+released_op (CopyOut s c ∷ ops) b h = member_rest (Release b) (CopyOut s c) ops (released_op ops b h)
 released_op (Release c ∷ ops) b h = elim (member_cases b c (blocks_released ops) h) [
   | inl same ↦ rw (← same) (member_first (Release c) ops)
   | inr rest ↦ member_rest (Release b) (Release c) ops (released_op ops b rest)

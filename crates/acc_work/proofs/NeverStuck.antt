@@ -16,7 +16,7 @@ use Rattle.acc_batch.specs.Awaits.{IsOrdered}
 use Rattle.acc_batch.specs.Labels.{on_queue, ops_of, batch_at, whole_batches}
 use Rattle.acc_batch.proofs.Labels.{on_queue-append, ops_of-append, ops_of-take-le, batch_at-append}
 use Rattle.acc_batch.proofs.WholeBatches.{whole_behind}
-use Rattle.acc_work.specs.declared.log.WorkEntry.{WorkEntry}
+use Rattle.acc_batch.specs.declared.entry.WorkEntry.{WorkEntry}
 use Rattle.acc_work.specs.Enabled.{held_of, rest_of, next_label, enabled, has_left, HaveItems, NeverStuck}
 use Rattle.acc_work.specs.Logs.{performed, items_of, await_allows, host_allows}
 use Rattle.acc_work.proofs.Frontiers.{IsDone, Frontier, frontier}
@@ -79,9 +79,9 @@ allowed before more l work (Await q n) o done c =
     let w = whole_behind (on_queue at before) (on_queue at more) (length (performed at work)) (done at) in
     let low = o.awaits_placed q n c in
     rw (on_queue-append at before more) (le-leb n (whole_batches (on_queue at before ++ on_queue at more) (length (performed at work))) (omega (arith, w, low)))
-allowed before more l work (Make b r) o done c = refl
-allowed before more l work (CopyIn b r) o done c = refl
-allowed before more l work (CopyOut b r) o done c = refl
+allowed before more l work (Make r b) o done c = refl
+allowed before more l work (CopyIn r b) o done c = refl
+allowed before more l work (CopyOut r b) o done c = refl
 allowed before more l work (Release b) o done c = refl
 allowed before more l work (Run k uses) o done c = refl
 allowed before more l work Close o done c = refl

@@ -13,7 +13,7 @@ use Rattle.acc_batch.specs.declared.label.OpLabel.{OpLabel}
 use Rattle.acc_batch.specs.declared.label.OpLabel.TheVariants.{Make, CopyIn, CopyOut, Release, Run, Await, Close}
 use Rattle.acc_batch.specs.Labels.{on_queue, ops_of, made_blocks, used_blocks, released_blocks}
 use Rattle.acc_batch.specs.Lives.{Made}
-use Rattle.acc_work.specs.declared.log.WorkEntry.{WorkEntry}
+use Rattle.acc_batch.specs.declared.entry.WorkEntry.{WorkEntry}
 use Rattle.acc_work.specs.Logs.{performed, device_ops, batches_done}
 use Rattle.acc_batch.specs.Awaits.{is_await, Needs, uses_made, releases_made, releases_used, StandsBehind, one_queue, awaited}
 use Rattle.acc_work.specs.Orders.{InOrder, AllAwaited, IsReached}
@@ -181,16 +181,16 @@ made_there : {arrays : List (List ℤ)} {labels : List Label} {work : List WorkE
     → (b : ℕ) (r : Range) → ((m : Label) → Contains (flat_map made_blocks m.ops) b → Needs a.label m b) → Contains (blocks_made (earlier a)) (a_made b r) → Contains (blocks_made (device_ops at.device work)) (a_made b r)
 made_there {labels = labels} {work = work} {at = at} {x = x} {op = op} h a next other b r needs c =
     op_made (device_ops at.device work) b r
-    (elim (Contains-append_cases (ops_of (on_device at.device a.before)) a.here (Make b r) (made_op (earlier a) b r c)) [
+    (elim (Contains-append_cases (ops_of (on_device at.device a.before)) a.here (Make r b) (made_op (earlier a) b r c)) [
       | inl old ↦
-          let f = on_device_from at.device a.before (Make b r) old in
-          let need = needs f.label (flat_member made_blocks f.label.ops (Make b r) b f.member (member_first b [])) in
+          let f = on_device_from at.device a.before (Make r b) old in
+          let need = needs f.label (flat_member made_blocks f.label.ops (Make r b) b f.member (member_first b [])) in
           let whole = needed_whole h a (omega (arith, ap length next)) other f.before f.label f.more b f.split f.here need in
           let all : labels ≡ f.before ++ f.label ∷ (f.more ++ a.label ∷ a.more) = a.split ∙ (ap (λ r. r ++ a.label ∷ a.more) f.split ∙ append_assoc f.before (f.label ∷ f.more) (a.label ∷ a.more)) in
-          let did = by_device f.label.at work (Make b r) (whole_has h f.before f.label (f.more ++ a.label ∷ a.more) all whole (Make b r) f.member) in
+          let did = by_device f.label.at work (Make r b) (whole_has h f.before f.label (f.more ++ a.label ∷ a.more) all whole (Make r b) f.member) in
           rw f.here at did
       | inr here ↦
-          by_device at work (Make b r) (rw (← next, a.place) (Contains-append_right (ops_of (on_queue at a.before)) a.here (Make b r) here))
+          by_device at work (Make r b) (rw (← next, a.place) (Contains-append_right (ops_of (on_queue at a.before)) a.here (Make r b) here))
     ])
 
 -- a block that the next operation uses isn't released
@@ -219,18 +219,18 @@ once_released {work = work} {at = at} {b = b} h a next alive c =
     ]
 
 -- one that it makes isn't made before
-once_made : {arrays : List (List ℤ)} {labels : List Label} {work : List WorkEntry} {at : QueueAt} {x : List OpLabel} {b : ℕ} {r : Range} → Holds arrays labels work → (a : At labels at x (Make b r)) → IsNext work a
+once_made : {arrays : List (List ℤ)} {labels : List Label} {work : List WorkEntry} {at : QueueAt} {x : List OpLabel} {b : ℕ} {r : Range} → Holds arrays labels work → (a : At labels at x (Make r b)) → IsNext work a
     → (Contains (map (λ (m : Made). m.block) (blocks_made (earlier a))) b → ⊥) → Contains (map (λ (m : Made). m.block) (blocks_made (device_ops at.device work))) b → ⊥
 once_made {work = work} {at = at} {b = b} {r = r} h a next fresh c =
     let f = member_map (λ (m : Made). m.block) (blocks_made (device_ops at.device work)) b c in
     let other = f.source.range in
     let e : Contains (blocks_made (device_ops at.device work)) (a_made b other) = subst (λ n. Contains (blocks_made (device_ops at.device work)) (a_made n other)) f.same f.member in
-    let w = was_performed h at.device (Make b other) (made_op (device_ops at.device work) b other e) in
-    elim (placed_so a next (Make b other) w) [
+    let w = was_performed h at.device (Make other b) (made_op (device_ops at.device work) b other e) in
+    elim (placed_so a next (Make other b) w) [
       | inl old ↦ fresh (member_image (λ (m : Made). m.block) (blocks_made (earlier a)) (a_made b other) (op_made (earlier a) b other old))
       | inr s ↦
           (uses_in_order h.sound w.place).0
-          (member_image (λ (m : Made). m.block) (blocks_made (earlier w.place)) (a_made b r) (op_made (earlier w.place) b r (behind_has a (Make b other) w s)))
+          (member_image (λ (m : Made). m.block) (blocks_made (earlier w.place)) (a_made b r) (op_made (earlier w.place) b r (behind_has a (Make other b) w s)))
     ]
 
 -- what the next operation uses it holds
@@ -244,9 +244,9 @@ holds_next {op = op} h a next other b r used k = record {
 }
 
 pub next_lives : {arrays : List (List ℤ)} {labels : List Label} {work : List WorkEntry} {at : QueueAt} {x : List OpLabel} → (op : OpLabel) → Holds arrays labels work → (a : At labels at x op) → IsNext work a → UsesLive arrays op (device_ops at.device work)
-next_lives (Make b r) h a next = (let u = uses_in_order h.sound a in (once_made h a next u.0, u.1))
-next_lives (CopyIn b r) h a next = holds_next h a next refl b r (member_first b []) (uses_in_order h.sound a)
-next_lives (CopyOut b r) h a next = holds_next h a next refl b r (member_first b []) (uses_in_order h.sound a)
+next_lives (Make r b) h a next = (let u = uses_in_order h.sound a in (once_made h a next u.0, u.1))
+next_lives (CopyIn r b) h a next = holds_next h a next refl b r (member_first b []) (uses_in_order h.sound a)
+next_lives (CopyOut r b) h a next = holds_next h a next refl b r (member_first b []) (uses_in_order h.sound a)
 next_lives (Release b) h a next =
     let u = uses_in_order h.sound a in (
       u.0,

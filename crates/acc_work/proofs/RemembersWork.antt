@@ -16,28 +16,43 @@ use Rattle.acc_batch.specs.declared.label.OpLabel.TheVariants.{Make, CopyIn, Cop
 use Rattle.acc_batch.specs.Labels.{has_number}
 use Rattle.acc_batch.specs.Lives.{blocks_made, blocks_released, UsesLive, HoldsBlock, Made}
 use Rattle.acc_kernel.specs.Jobs.{Use}
-use Rattle.acc_memory.proofs.ShownValues.{shows_same}
+use Rattle.acc_memory.proofs.HeldBlocks.{same_after}
 use Rattle.acc_memory.specs.Values.{Host_cell, Block_cell, or_empty, or_zero}
-use Rattle.acc_memory.specs.Memories.{MemoryView, Shows, made_of, rows_on, held_blocks, blocks_after, HasRange, reaches, ends_in, has_array, find_block, is_within, finds_blocks, MayPerform, PerformsOn}
-use Rattle.acc_work.specs.declared.log.Told.{Told}
-use Rattle.acc_work.specs.declared.log.WorkEntry.{WorkEntry}
-use Rattle.acc_work.specs.declared.log.WorkEntry.TheVariants as entry
+use Rattle.acc_memory.specs.Memories.{MemoryView, SameBlocks, Shows, made_by, made_of, rows_on, held_blocks, was_made_on, blocks_after, HasRange, reaches, ends_in, has_array, find_block, is_within, finds_blocks, MayPerform, PerformsOn}
+use Rattle.acc_batch.specs.declared.entry.Told.{Told}
+use Rattle.acc_batch.specs.declared.entry.WorkEntry.{WorkEntry}
+use Rattle.acc_batch.specs.declared.entry.WorkEntry.TheVariants as entry
 use Rattle.acc_work.specs.Lives.{AllLive, was_made}
 use Rattle.acc_work.specs.Logs.{device_ops, value}
 use Rattle.acc_work.specs.Remembering.{Remembers, blocks_in}
-use Rattle.acc_work.specs.Works.{WorkView, HasMadeRoom, HasPerformed, HasRoomToMake, HasTold, can_go, goes_on, is_live, is_new}
+use Rattle.acc_work.specs.Works.{WorkView, HasPerformed, HasTold, can_go, goes_on, is_live, is_new}
 use Rattle.acc_work.proofs.HeldInLog.{held_in, blocks_by_more}
+use Rattle.acc_work.proofs.MadeBlocks.{made_more}
 
 -- the blocks of each device after one more operation of a device
-blocks_after_op : (work : List WorkEntry) (at : QueueAt) (op : OpLabel) (old new : MemoryView) (d : ℕ) → PerformsOn at.device op old new → held_blocks old d ≡ blocks_in d work → held_blocks new d ≡ blocks_in d (entry.Op at op ∷ work)
-blocks_after_op work at op old new d h was = elim (eqb_tells d at.device) [
+blocks_after_op : (work : List WorkEntry) (at : QueueAt) (op : OpLabel) (old new : MemoryView) (d : ℕ) → PerformsOn at.device op old new → SameBlocks (held_blocks old d) (blocks_in d work)
+    → SameBlocks (held_blocks new d) (blocks_in d (entry.Op at op ∷ work))
+blocks_after_op work at op old new d h was n = elim (eqb_tells d at.device) [
   | inl here ↦
       let same : (at.device == d) ≡ true = eq-eqb at.device d (sym here.1) in
-      let more : held_blocks new d ≡ blocks_after op (held_blocks old d) = subst (λ n. held_blocks new n ≡ blocks_after op (held_blocks old n)) (sym here.1) h.blocks in
-      rw same (more ∙ (ap (blocks_after op) was ∙ sym (blocks_by_more [] (device_ops d work) op)))
+      let more : SameBlocks (held_blocks new d) (blocks_after op (held_blocks old d)) = subst (λ m. SameBlocks (held_blocks new m) (blocks_after op (held_blocks old m))) (sym here.1) h.blocks in
+      rw same (more n ∙ (same_after op (held_blocks old d) (blocks_in d work) was n ∙ ap (λ bs. find_block bs n) (sym (blocks_by_more [] (device_ops d work) op))))
   | inr away ↦
       let other : (at.device == d) ≡ false = ne_eqb at.device d (λ e. away.1 (sym e)) in
-      rw other (h.others d away.1 ∙ was)
+      rw other (ap (λ bs. find_block bs n) (h.others d away.1) ∙ was n)
+]
+
+-- and which blocks were made there
+made_after_op : (work : List WorkEntry) (at : QueueAt) (op : OpLabel) (old new : MemoryView) (d b : ℕ) → PerformsOn at.device op old new → was_made_on old d b ≡ was_made (device_ops d work) b
+    → was_made_on new d b ≡ was_made (device_ops d (entry.Op at op ∷ work)) b
+made_after_op work at op old new d b h was = elim (eqb_tells d at.device) [
+  | inl here ↦
+      let same : (at.device == d) ≡ true = eq-eqb at.device d (sym here.1) in
+      let more : was_made_on new d b ≡ (made_by b op || was_made_on old d b) = subst (λ m. was_made_on new m b ≡ (made_by b op || was_made_on old m b)) (sym here.1) (h.made b) in
+      rw same (more ∙ (ap (λ t. made_by b op || t) was ∙ sym (made_more (device_ops d work) op b)))
+  | inr away ↦
+      let other : (at.device == d) ≡ false = ne_eqb at.device d (λ e. away.1 (sym e)) in
+      rw other (h.others_made d away.1 b ∙ was)
 ]
 
 -- The memory shows the values of the log after an operation is performed.
@@ -45,6 +60,7 @@ pub remembers_performed : (arrays : List (List ℤ)) (v v' : WorkView) (at : Que
 remembers_performed arrays v v' at op ops r h = record {
   shows = h.memory.shows (value arrays v.work) r.shows;
   blocks = λ d. blocks_after_op v.work at op v.memory v'.memory d h.memory (r.blocks d);
+  made = λ d b low. made_after_op v.work at op v.memory v'.memory d b h.memory (r.made d b (omega (arith, low, h.memory.devices)));
   lengths = h.memory.lengths ∙ r.lengths;
 }
 
@@ -52,23 +68,17 @@ remembers_performed arrays v v' at op ops r h = record {
 pub remembers_told : (arrays : List (List ℤ)) (v v' : WorkView) (host : ℕ) (what : Told) → Remembers arrays v.work v.memory → HasTold v v' host what → Remembers arrays (entry.Item host what ∷ v.work) v'.memory
 remembers_told arrays v v' host what r s = record {
   shows = s.shows (value arrays v.work) r.shows;
-  blocks = λ d. ap (λ devices. held_blocks (record v'.memory { devices = devices }) d) s.devices ∙ r.blocks d;
+  blocks = λ d n. ap (λ devices. find_block (held_blocks (record v'.memory { devices = devices }) d) n) s.devices ∙ r.blocks d n;
+  made = λ d b low. ap (λ devices. was_made_on (record v'.memory { devices = devices }) d b) s.devices ∙ r.made d b (omega (arith, low, ap length s.devices));
   lengths = s.lengths ∙ r.lengths;
 }
 
--- The memory shows the values of the log where room is made.
-pub remembers_roomier : (arrays : List (List ℤ)) (v v' : WorkView) → Remembers arrays v.work v.memory → HasMadeRoom v v' → Remembers arrays v'.work v'.memory
-remembers_roomier arrays v v' r m = record {
-  shows = rw m.work (shows_same v.memory v'.memory (value arrays v.work) m.arrays m.rows r.shows);
-  blocks = λ d. rw m.work (ap (λ rows. map made_of rows) (m.rows d) ∙ r.blocks d);
-  lengths = rw m.arrays r.lengths;
-}
-
--- A memory without a block that has these arrays shows the values before the first entry.
-pub remembers_first : (arrays : List (List ℤ)) (m : MemoryView) → m.arrays ≡ arrays → ((d : ℕ) → rows_on m d ≡ []) → Remembers arrays [] m
-remembers_first arrays m same rows = record {
+-- A memory with these arrays, in which no block was made, shows the values before the first entry.
+pub remembers_first : (arrays : List (List ℤ)) (m : MemoryView) → m.arrays ≡ arrays → ((d : ℕ) → rows_on m d ≡ []) → ((d b : ℕ) → was_made_on m d b ≡ false) → Remembers arrays [] m
+remembers_first arrays m same rows none = record {
   shows = shown;
-  blocks = λ d. ap (λ rows. map made_of rows) (rows d);
+  blocks = λ d n. ap (λ rows. find_block (map made_of rows) n) (rows d);
+  made = λ d b low. none d b;
   lengths = ap lengths_of same;
 }
   where
@@ -126,7 +136,7 @@ held_live : (arrays : List (List ℤ)) (v : WorkView) (d b : ℕ) (m : Made) →
     → (m ≡ record { block = b; range = m.range }) × Contains (blocks_made (ops_on d v)) m × (Contains (blocks_released (ops_on d v)) b → ⊥)
 held_live arrays v d b m r live e =
     let o = (held_in arrays d v.work live).only in
-    let found : find_block (blocks_in d v.work) b ≡ Some m = rw (r.blocks d) at e in
+    let found : find_block (blocks_in d v.work) b ≡ Some m = sym (r.blocks d b) ∙ e in
     (ap (λ n. record { block = n; range = m.range }) (o.named b m found), o.made b m found, o.kept b m found)
 
 holds_from : (arrays : List (List ℤ)) (v : WorkView) (d b : ℕ) (range : Range) → Remembers arrays v.work v.memory → AllLive arrays v.work → is_within (find_block (held_blocks v.memory d) b) range ≡ true → HoldsBlock (ops_on d v) b range
@@ -154,10 +164,10 @@ not_made ops b h c =
     let no : false ≡ true = ap not (sym there) ∙ h in
     cc
 
--- What the test finds is live, and may be performed where there is room for what it makes.
+-- What the test finds is live, and may be performed.
 pub record Live (arrays : List (List ℤ)) (v : WorkView) (d : ℕ) (op : OpLabel) : Type 0 where
   pub uses : UsesLive arrays op (ops_on d v)
-  pub may : HasRoomToMake v.memory d op → MayPerform v.memory d op
+  pub may : MayPerform v.memory d op
 
 block_named : (arrays : List (List ℤ)) (v : WorkView) (d b : ℕ) (m : Made) → Remembers arrays v.work v.memory → AllLive arrays v.work → find_block (held_blocks v.memory d) b ≡ Some m → m.block ≡ b
 block_named arrays v d b m r live e = ap (λ (x : Made). x.block) (held_live arrays v d b m r live e).0
@@ -178,25 +188,25 @@ uses_live arrays v d (u ∷ uses) r live h =
 
 pub live_from : (arrays : List (List ℤ)) (v : WorkView) (d : ℕ) (op : OpLabel) → Remembers arrays v.work v.memory → AllLive arrays v.work
     → finds_blocks (held_blocks v.memory d) op ≡ true → is_new v d op ≡ true → Live arrays v d op
-live_from arrays v d (Make b r) m live found new =
+live_from arrays v d (Make r b) m live found new =
     let both = and_parts (not (was_made (ops_on d v) b)) (has_range v.memory.arrays r) new in
     let inside : has_range arrays r ≡ true = range_same arrays v.memory.arrays r (sym m.lengths) ∙ both.1 in
     record {
       uses = (not_made (ops_on d v) b both.0, inside);
-      may = λ room. (none_from (find_block (held_blocks v.memory d) b) found, has_same v.memory arrays r m.lengths inside, room);
+      may = (none_from (find_block (held_blocks v.memory d) b) found, has_same v.memory arrays r m.lengths inside);
     }
-live_from arrays v d (CopyIn b r) m live found new = (let both = copy_live arrays v d b r m live found in record { uses = both.0; may = λ room. both.1 })
-live_from arrays v d (CopyOut b r) m live found new = (let both = copy_live arrays v d b r m live found in record { uses = both.0; may = λ room. both.1 })
+live_from arrays v d (CopyIn r b) m live found new = (let both = copy_live arrays v d b r m live found in record { uses = both.0; may = both.1 })
+live_from arrays v d (CopyOut r b) m live found new = (let both = copy_live arrays v d b r m live found in record { uses = both.0; may = both.1 })
 live_from arrays v d (Release b) m live found new =
     let p = some_parts (find_block (held_blocks v.memory d) b) found in
     let l = held_live arrays v d b p.0 m live p.1 in
     record {
       uses = (p.0.range, record { whole_range = p.0.range; is_made = subst (Contains (blocks_made (ops_on d v))) l.0 l.1; not_released = l.2; inside = λ array cell here. here });
-      may = λ room. found;
+      may = found;
     }
-live_from arrays v d (Run k uses) m live found new = (let both = uses_live arrays v d uses m live found in record { uses = both.0; may = λ room. both.1 })
-live_from arrays v d (Await q n) m live found new = record { uses = tt; may = λ room. tt }
-live_from arrays v d Close m live found new = record { uses = tt; may = λ room. tt }
+live_from arrays v d (Run k uses) m live found new = (let both = uses_live arrays v d uses m live found in record { uses = both.0; may = both.1 })
+live_from arrays v d (Await q n) m live found new = record { uses = tt; may = tt }
+live_from arrays v d Close m live found new = record { uses = tt; may = tt }
 
 -- So it is of a queue's next operation.
 pub next_live : (arrays : List (List ℤ)) (v : WorkView) (at : QueueAt) (op : OpLabel) (ops : List OpLabel) → Remembers arrays v.work v.memory → AllLive arrays v.work → is_live v at (op ∷ ops) ≡ true → Live arrays v at.device op
@@ -216,7 +226,7 @@ has_none (k ∷ ks) n h = elim (cases_eq k n) [
 within_to : (arrays : List (List ℤ)) (v : WorkView) (d b : ℕ) (range : Range) → Remembers arrays v.work v.memory → AllLive arrays v.work → HoldsBlock (ops_on d v) b range → is_within (find_block (held_blocks v.memory d) b) range ≡ true
 within_to arrays v d b range m live u =
     let found = (held_in arrays d v.work live).held.there (record { block = b; range = u.whole_range }) u.is_made u.not_released in
-    rw (m.blocks d, found) ((contains_is_includes u.whole_range range).1 u.inside)
+    rw (m.blocks d b ∙ found) ((contains_is_includes u.whole_range range).1 u.inside)
 
 uses_to : (arrays : List (List ℤ)) (v : WorkView) (d : ℕ) (uses : List Use) → Remembers arrays v.work v.memory → AllLive arrays v.work → All (λ (u : Use). HoldsBlock (ops_on d v) u.0 u.1) uses
     → list_all (λ (u : Use). is_within (find_block (held_blocks v.memory d) u.0) u.1) uses ≡ true
@@ -228,16 +238,16 @@ uses_to arrays v d (u ∷ uses) m live h =
 
 pub live_to : (arrays : List (List ℤ)) (v : WorkView) (d : ℕ) (op : OpLabel) → Remembers arrays v.work v.memory → AllLive arrays v.work → UsesLive arrays op (ops_on d v)
     → (finds_blocks (held_blocks v.memory d) op ≡ true) × (is_new v d op ≡ true)
-live_to arrays v d (Make b r) m live u =
+live_to arrays v d (Make r b) m live u =
     let absent = (held_in arrays d v.work live).held.absent b u.0 in
     let fresh : was_made (ops_on d v) b ≡ false = has_none (map (λ (k : Made). k.block) (blocks_made (ops_on d v))) b u.0 in
     let inside : has_range v.memory.arrays r ≡ true = range_same v.memory.arrays arrays r m.lengths ∙ u.1 in
-    (rw (m.blocks d, absent) refl, and_from (not (was_made (ops_on d v) b)) (has_range v.memory.arrays r) (ap not fresh) inside)
-live_to arrays v d (CopyIn b r) m live u = (within_to arrays v d b r m live u, refl)
-live_to arrays v d (CopyOut b r) m live u = (within_to arrays v d b r m live u, refl)
+    (rw (m.blocks d b ∙ absent) refl, and_from (not (was_made (ops_on d v) b)) (has_range v.memory.arrays r) (ap not fresh) inside)
+live_to arrays v d (CopyIn r b) m live u = (within_to arrays v d b r m live u, refl)
+live_to arrays v d (CopyOut r b) m live u = (within_to arrays v d b r m live u, refl)
 live_to arrays v d (Release b) m live u =
     let found = (held_in arrays d v.work live).held.there (record { block = b; range = u.1.whole_range }) u.1.is_made u.1.not_released in
-    (rw (m.blocks d, found) refl, refl)
+    (rw (m.blocks d b ∙ found) refl, refl)
 live_to arrays v d (Run k uses) m live u = (uses_to arrays v d uses m live u, refl)
 live_to arrays v d (Await q n) m live u = (refl, refl)
 live_to arrays v d Close m live u = (refl, refl)

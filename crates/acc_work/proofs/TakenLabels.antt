@@ -1,6 +1,6 @@
 -- The batches that a queue took.
-use Rattle.std.proofs.Common.{◌≡◌, ℕ, zero, suc, ◌+◌, ◌-◌, ◌<◌, ◌≤◌, List, [], ◌∷◌, ◌++◌, length, refl, sym, ap, subst, ◌∙◌, arith, Some}
-use Rattle.std.specs.Prelude.{ℤ, slice_get, if◌then◌else◌}
+use Rattle.std.proofs.Common.{◌≡◌, ℕ, suc, ◌+◌, ◌-◌, ◌<◌, ◌≤◌, List, [], ◌∷◌, ◌++◌, length, refl, sym, ap, ◌∙◌, arith, Some}
+use Rattle.std.specs.Prelude.{slice_get, if◌then◌else◌}
 use Rattle.std.proofs.lemmas.Bool.{lt-ltb}
 use Rattle.std.proofs.lemmas.List.Elements.{All-push}
 use Rattle.std.proofs.lemmas.List.{append-nil, length-append}
@@ -11,17 +11,9 @@ use Rattle.acc_batch.specs.Labels.{ops_of, whole_batches, AllAt}
 use Rattle.acc_batch.proofs.Labels.{ops_of-append}
 use Rattle.acc_batch.proofs.WholeBatches.{whole_behind, none_whole}
 use Rattle.acc_base.specs.declared.config.TheConstants.{MAX_HOSTS}
-use Rattle.acc_work.specs.Lanes.{LaneView, IsLane, lane_with_batch, nth_taken, last_of, ops_of_last, lane_done}
-use Rattle.acc_work.specs.Logs.{performed, batches_done, after_item}
-use Rattle.acc_work.specs.Works.{WorkView, HasTold, KeepsOrder, lane_at, taken_labels}
-use Rattle.acc_work.specs.declared.log.Told.{Told}
-use Rattle.acc_work.specs.declared.log.WorkEntry.TheVariants as entry
-use Rattle.acc_memory.specs.Memories.{Shows}
-use Rattle.acc_memory.specs.Values.{Cell, values_from}
-
-pub nth_is : (labels : List Label) (n : ℕ) → 0 < n → nth_taken labels n ≡ slice_get labels (n - 1)
-nth_is labels zero some = absurd (omega arith)
-nth_is labels (suc n) some = let e : suc n - 1 ≡ n = omega arith in ap (slice_get labels) (sym e)
+use Rattle.acc_work.specs.Lanes.{LaneView, IsLane, lane_with_batch, last_of, ops_of_last, lane_done}
+use Rattle.acc_work.specs.Logs.{performed, batches_done}
+use Rattle.acc_work.specs.Works.{WorkView, KeepsOrder, lane_at, taken_labels}
 
 -- a list that isn't empty is its last item behind the others
 pub record Last (labels : List Label) : Type 0 where
@@ -98,23 +90,6 @@ order_filled lane l ops e none =
     no_op : (xs : List OpLabel) → length xs ≤ 0 → xs ≡ []
     no_op [] h = refl
     no_op (x ∷ xs) h = absurd (omega (arith, h))
-
--- a print has as many values as its range has cells
-pub length_from : (at : ℕ → ℤ) (lo len : ℕ) → length (values_from at lo len) ≡ len
-length_from at lo zero = refl
-length_from at lo (suc len) = ap suc (length_from at (lo + 1) len)
-
--- an item that writes nothing leaves the memory as it is
-pub told_quiet : (w : WorkView) (host : ℕ) (what : Told) → ((was : Cell → ℤ) → after_item what was ≡ was) → HasTold w (record w { work = entry.Item host what ∷ w.work }) host what
-told_quiet w host what quiet = record {
-  opening = refl;
-  shows = λ was h. subst (Shows w.memory) (sym (quiet was)) h;
-  devices = refl;
-  lengths = refl;
-  work = refl;
-  room = refl;
-  lanes = refl;
-}
 
 -- How many batches a queue has performed, by its lane.
 pub done_is : (w : WorkView) (at : QueueAt) → KeepsOrder w → batches_done (taken_labels w) w.work at ≡ lane_done (lane_at w at)

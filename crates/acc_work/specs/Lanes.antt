@@ -1,27 +1,25 @@
 -- The batches that queues took, and what is left of the last one of each (OpenACC API 3.0, 2.16, Asynchronous Behavior).
 use Rattle.std.specs.Prelude.{◌≡◌, ℕ, zero, suc, ◌-◌, ◌<◌, ◌≤◌, nat_lt, Bool, false, List, [], ◌∷◌, ◌++◌, length, All, slice_get, slice_index_or, slice_set, Option, Some, None, if◌then◌else◌}
-use Rattle.std.specs.List.{flat_map}
+use Rattle.std.specs.List.{flat_map, sum_by}
 use Rattle.acc_base.specs.declared.config.TheConstants.{MAX_HOSTS}
 use Rattle.acc_base.specs.declared.ids.QueueAt.{QueueAt}
 use Rattle.acc_base.specs.declared.ids.TheConstants.{QUEUES}
 use Rattle.acc_base.specs.Queues.{seat}
 use Rattle.acc_batch.specs.declared.label.OpLabel.{OpLabel}
 use Rattle.acc_batch.specs.Ops.{loop_of}
-use Rattle.acc_batch.specs.declared.label.OpLabel.TheVariants.{Make, CopyIn, CopyOut, Release, Run, Await, Close}
 use Rattle.acc_batch.specs.declared.label.Label.{Label}
 use Rattle.acc_kernel.specs.Jobs.{Use}
 use Rattle.acc_kernel.specs.Kernels.{Loop}
 
--- Of a queue: the labels of the batches that it took, in order, and for how many there is room; and the operations of the last
--- batch that aren't performed; and whether the next of these, a loop, is out, to be computed while the lane is left alone.
+-- Of a queue: the labels of the batches that it took, in order; the operations of the last batch that aren't performed; and
+-- whether the next of these, a loop, is out, to be computed while the lane is left alone.
 pub record LaneView : Type 0 where
   pub taken : List Label
-  pub room : ℕ
   pub left : List OpLabel
   pub out : Bool
 
 abbrev pub no_lane : LaneView
-no_lane = record { taken = []; room = 0; left = []; out = false }
+no_lane = record { taken = []; left = []; out = false }
 
 -- The lane of a queue among those of all, which stand by device, then in queue order. A queue that isn't there takes no batch.
 abbrev pub lane_in : List LaneView → QueueAt → LaneView
@@ -75,6 +73,10 @@ pub record IsLane (lane : LaneView) : Type 0 where
   pub filled : All (λ (l : Label). 0 < length l.ops) lane.taken
   pub hosts : All (λ (l : Label). l.host < MAX_HOSTS) lane.taken
   pub begun : length lane.left ≤ ops_of_last (last_of lane.taken)
+
+-- how many operations are left in all lanes
+abbrev pub all_left : List LaneView → ℕ
+all_left lanes = sum_by (λ lane. length lane.left) lanes
 
 -- A lane that took no batch yet.
 pub record IsFresh (lane : LaneView) : Type 0 where

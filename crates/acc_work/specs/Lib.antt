@@ -1,4 +1,3 @@
-pub mod Counted
 pub mod Enabled
 pub mod Items
 pub mod Jobs

@@ -5,8 +5,8 @@ use Rattle.acc_batch.specs.declared.label.Label.{Label}
 use Rattle.acc_batch.specs.declared.label.OpLabel.{OpLabel}
 use Rattle.acc_batch.specs.Labels.{has_number, on_queue, ops_of}
 use Rattle.acc_batch.specs.Lives.{Made, blocks_made, UsesLive, IsSound}
-use Rattle.acc_work.specs.declared.log.WorkEntry.{WorkEntry}
-use Rattle.acc_work.specs.declared.log.WorkEntry.TheVariants as entry
+use Rattle.acc_batch.specs.declared.entry.WorkEntry.{WorkEntry}
+use Rattle.acc_batch.specs.declared.entry.WorkEntry.TheVariants as entry
 use Rattle.acc_work.specs.Logs.{performed, device_ops}
 use Rattle.acc_work.specs.Orders.{InOrder, AllAwaited}
 

@@ -2,15 +2,20 @@
 use Rattle.std.specs.Prelude.{ℕ, ◌+◌, Bool, true, false, ◌&&◌, ◌==◌, nat_le, List, [], ◌∷◌, ◌++◌, length, slice_get, Option, Some, None, ℤ, pos}
 use Rattle.acc_base.specs.declared.ids.QueueAt.{QueueAt}
 use Rattle.acc_base.specs.Queues.{same_queue}
-use Rattle.acc_work.specs.declared.log.Told.{Told}
-use Rattle.acc_work.specs.declared.log.Told.TheVariants.{Write, Print, Seen, Test}
-use Rattle.acc_work.specs.declared.log.WorkEntry.{WorkEntry}
-use Rattle.acc_work.specs.declared.log.WorkEntry.TheVariants as entry
+use Rattle.acc_batch.specs.declared.entry.Told.{Told}
+use Rattle.acc_batch.specs.declared.entry.Told.TheVariants.{Write, Print, Seen, Test}
+use Rattle.acc_batch.specs.declared.entry.WorkEntry.{WorkEntry}
+use Rattle.acc_batch.specs.declared.entry.WorkEntry.TheVariants as entry
 use Rattle.acc_batch.specs.declared.label.OpLabel.{OpLabel}
 use Rattle.acc_batch.specs.declared.label.OpLabel.TheVariants.{Await}
 use Rattle.acc_batch.specs.declared.label.Label.{Label}
 use Rattle.acc_batch.specs.Labels.{on_queue, whole_batches}
 use Rattle.acc_memory.specs.Values.{Cell, Host_cell, Block_cell, or_empty, or_zero, after_op, after_write}
+
+-- A work log as it is kept: its entries, the first one first, and for how many more its last page has room.
+pub record WorkLogView : Type 0 where
+  pub items : List WorkEntry
+  pub free : ℕ
 
 -- one more behind these, or not
 abbrev pub one_more : {X : Type 0} → Bool → List X → X → List X
@@ -48,7 +53,7 @@ abbrev pub after_item : Told → (Cell → ℤ) → Cell → ℤ
 after_item (Write a i value) was = after_write a i value was
 after_item (Print range values) was = was
 after_item (Seen device counts) was = was
-after_item (Test device counts answer) was = was
+after_item (Test device answer counts) was = was
 
 -- The value of a cell: what the latest entry that writes it wrote, else its initial value.
 abbrev pub value : List (List ℤ) → List WorkEntry → Cell → ℤ

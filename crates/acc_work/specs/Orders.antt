@@ -6,10 +6,10 @@ use Rattle.acc_batch.specs.declared.label.OpLabel.{OpLabel}
 use Rattle.acc_batch.specs.declared.label.OpLabel.TheVariants.{Await}
 use Rattle.acc_batch.specs.Labels.{on_queue, ops_of, batch_at, whole_batches}
 use Rattle.acc_memory.specs.Values.{values_of}
-use Rattle.acc_work.specs.declared.log.Told.{Told}
-use Rattle.acc_work.specs.declared.log.Told.TheVariants.{Write, Print, Seen, Test}
-use Rattle.acc_work.specs.declared.log.WorkEntry.{WorkEntry}
-use Rattle.acc_work.specs.declared.log.WorkEntry.TheVariants as entry
+use Rattle.acc_batch.specs.declared.entry.Told.{Told}
+use Rattle.acc_batch.specs.declared.entry.Told.TheVariants.{Write, Print, Seen, Test}
+use Rattle.acc_batch.specs.declared.entry.WorkEntry.{WorkEntry}
+use Rattle.acc_batch.specs.declared.entry.WorkEntry.TheVariants as entry
 use Rattle.acc_work.specs.Logs.{performed, value, batches_done, all_done, host_allows}
 
 abbrev pub IsPrefix : List OpLabel → List OpLabel → Type 0
@@ -24,7 +24,7 @@ abbrev pub ShowsTruth : List (List ℤ) → List Label → Told → List WorkEnt
 ShowsTruth initial labels (Write array cell new_value) before = Unit {0}
 ShowsTruth initial labels (Print range values) before = values ≡ values_of (value initial before) range
 ShowsTruth initial labels (Seen device counts) before = IsTrue (all_done labels before device 0 counts)
-ShowsTruth initial labels (Test device counts answer) before = answer ≡ all_done labels before device 0 counts
+ShowsTruth initial labels (Test device answer counts) before = answer ≡ all_done labels before device 0 counts
 
 -- Each operation stands behind its host's items, and each item shows the truth.
 abbrev pub InHostOrder : List (List ℤ) → List Label → List WorkEntry → Type 0

@@ -1,40 +1,40 @@
 -- What a work side shows: the memory, the log, and the lanes of the queues.
-use Rattle.std.specs.Prelude.{◌≡◌, ◌⊎◌, ℕ, ◌+◌, ◌*◌, ◌<◌, ◌≤◌, nat_le, Bool, true, false, ◌&&◌, not, IsTrue, MatchBool, List, [], ◌∷◌, ◌++◌, length, map, Option, Some, None, ℤ, if◌then◌else◌}
+use Rattle.std.specs.Prelude.{◌≡◌, ℕ, ◌+◌, ◌*◌, ◌<◌, ◌≤◌, nat_le, Bool, true, false, ◌&&◌, not, IsTrue, MatchBool, List, [], ◌∷◌, ◌++◌, length, map, Option, Some, None, ℤ, if◌then◌else◌}
 use Rattle.acc_base.specs.declared.config.TheConstants.{MAX_CELLS}
 use Rattle.acc_base.specs.declared.fault.Fault.{Fault}
 use Rattle.acc_base.specs.declared.fault.Fault.TheVariants.{BadRange, TooMany, Memory}
 use Rattle.acc_base.specs.declared.ids.QueueAt.{QueueAt}
 use Rattle.acc_base.specs.declared.ids.TheConstants.{QUEUES}
-use Rattle.acc_base.specs.declared.range.Range.{Range}
 use Rattle.acc_batch.specs.declared.label.Label.{Label}
 use Rattle.acc_batch.specs.declared.label.OpLabel.{OpLabel}
 use Rattle.acc_batch.specs.Labels.{on_queue, ops_of, AllAt}
+use Rattle.acc_work.specs.Items.{shown_by}
 use Rattle.acc_work.specs.declared.item.ItemLabel.{ItemLabel}
+use Rattle.acc_work.specs.declared.item.Shown.{Shown}
 use Rattle.acc_work.specs.declared.item.ItemLabel.TheVariants as to_record
 use Rattle.acc_work.specs.declared.log.TheConstants.{MAX_HOST_ITEMS}
-use Rattle.acc_work.specs.declared.log.Told.{Told}
-use Rattle.acc_work.specs.declared.log.Told.TheVariants as told
-use Rattle.acc_work.specs.declared.log.WorkEntry.{WorkEntry}
-use Rattle.acc_work.specs.declared.log.WorkEntry.TheVariants as entry
+use Rattle.acc_batch.specs.declared.entry.Told.{Told}
+use Rattle.acc_batch.specs.declared.entry.Told.TheVariants as told
+use Rattle.acc_batch.specs.declared.entry.WorkEntry.{WorkEntry}
+use Rattle.acc_batch.specs.declared.entry.WorkEntry.TheVariants as entry
 use Rattle.acc_work.specs.declared.work.Done.{Done}
 use Rattle.acc_work.specs.declared.work.Done.TheVariants as done
 use Rattle.acc_work.specs.Kept.{IsKept}
-use Rattle.acc_work.specs.Lanes.{LaneView, IsLane, lane_in, lanes_with, all_taken, lane_with_left, last_of}
+use Rattle.acc_work.specs.Lanes.{LaneView, IsLane, all_left, lane_in, lanes_with, all_taken, lane_with_left, last_of}
 use Rattle.acc_work.specs.Lives.{was_made}
 use Rattle.acc_work.specs.Remembering.{Remembers}
 use Rattle.acc_work.specs.Logs.{performed, device_ops, all_items, all_done, await_allows, host_allows, after_item}
-use Rattle.acc_memory.specs.Memories.{MemoryView, PerformsOn, Shows, rows_on, room_on, has_array, held_blocks, finds_blocks}
+use Rattle.acc_memory.specs.Memories.{MemoryView, PerformsOn, Shows, has_array, held_blocks, finds_blocks}
 use Rattle.acc_base.specs.Configurations.{has_range, lengths_of}
 use Rattle.acc_batch.specs.declared.label.OpLabel.TheVariants.{Make}
 use Rattle.acc_memory.specs.Values.{Cell, values_of}
 
--- The host arrays with their opening values; the memory; the log, the latest entry first, and for how many entries room was made;
--- and the lanes, by device, then in queue order.
+-- The host arrays with their opening values; the memory; the log, the latest entry first; and the lanes, by device, then in queue
+-- order.
 pub record WorkView : Type 0 where
   pub arrays : List (List ℤ)
   pub memory : MemoryView
   pub work : List WorkEntry
-  pub room : ℕ
   pub lanes : List LaneView
 
 abbrev pub lane_at : WorkView → QueueAt → LaneView
@@ -62,23 +62,9 @@ abbrev pub goes_on : WorkView → QueueAt → List OpLabel → Bool
 goes_on w at [] = false
 goes_on w at (op ∷ ops) = not (lane_at w at).out && is_due w at op
 
--- there is room on a device for the block that an operation makes
-abbrev pub HasRoomToMake : MemoryView → ℕ → OpLabel → Type 0
-HasRoomToMake m device (Make b r) = length (rows_on m device) < room_on m device
-HasRoomToMake m device op = Unit {0}
-
--- There is room for a queue's next operation: in the log, and on its device.
-pub record MayFollow (w : WorkView) (at : QueueAt) (op : OpLabel) : Type 0 where
-  pub block : HasRoomToMake w.memory at.device op
-  pub room : length w.work < w.room
-
-abbrev pub NextMayFollow : WorkView → QueueAt → List OpLabel → Type 0
-NextMayFollow w at [] = Unit {0}
-NextMayFollow w at (op ∷ ops) = MayFollow w at op
-
 -- a block that is made was never made before, and its range lies in its array
 abbrev pub is_new : WorkView → ℕ → OpLabel → Bool
-is_new w device (Make b r) = not (was_made (device_ops device w.work) b) && has_range w.memory.arrays r
+is_new w device (Make r b) = not (was_made (device_ops device w.work) b) && has_range w.memory.arrays r
 is_new w device op = true
 
 -- A queue's next operation uses live blocks.
@@ -96,7 +82,6 @@ pub record HasPerformed (old new : WorkView) (at : QueueAt) (op : OpLabel) (ops 
   pub opening : new.arrays ≡ old.arrays
   pub memory : PerformsOn at.device op old.memory new.memory
   pub work : new.work ≡ entry.Op at op ∷ old.work
-  pub room : new.room ≡ old.room
   pub lanes : new.lanes ≡ lanes_with old.lanes at (lane_with_left (lane_at old at) ops)
 
 -- what performing does where these are left in the queue's lane
@@ -116,7 +101,6 @@ pub record HasTold (old new : WorkView) (host : ℕ) (what : Told) : Type 0 wher
   pub devices : new.memory.devices ≡ old.memory.devices
   pub lengths : lengths_of new.memory.arrays ≡ lengths_of old.memory.arrays
   pub work : new.work ≡ entry.Item host what ∷ old.work
-  pub room : new.room ≡ old.room
   pub lanes : new.lanes ≡ old.lanes
 
 -- An item can be recorded: its cells are there, and where it is noted that batches are performed, they are.
@@ -132,37 +116,11 @@ Tells w (to_record.Write array cell value) what = what ≡ told.Write array cell
 Tells w (to_record.Print range) what =
     (values : List ℤ) × (what ≡ told.Print range values) × ((was : Cell → ℤ) → Shows w.memory was → values ≡ values_of was range)
 Tells w (to_record.Seen device counts) what = what ≡ told.Seen device counts
-Tells w (to_record.Test device counts) what = what ≡ told.Test device counts (all_done (taken_labels w) w.work device 0 counts)
+Tells w (to_record.Test device counts) what = what ≡ told.Test device (all_done (taken_labels w) w.work device 0 counts) counts
 
--- A range was printed: the item has the values that the memory shows.
-pub record HasPrinted (old new : WorkView) (host : ℕ) (range : Range) : Type 0 where
-  pub values : List ℤ
-  pub told : HasTold old new host (told.Print range values)
-  pub true_values : (was : Cell → ℤ) → Shows old.memory was → values ≡ values_of was range
-
--- Room for so many more operations is missing: in the log, of the queue's lane, or of a device.
-abbrev pub LacksRoom : WorkView → QueueAt → ℕ → Type 0
-LacksRoom w at count =
-    (w.room < length w.work + count) ⊎ (((lane_at w at).room < length (lane_at w at).taken + count)
-    ⊎ ((d : ℕ) × (d < length w.memory.devices) × (room_on w.memory d < length (rows_on w.memory d) + count)))
-
--- A lane has no less room than before, and nothing else changed.
-pub record IsRoomier (old new : LaneView) : Type 0 where
-  pub kept : new ≡ record old { room = new.room }
-  pub room : old.room ≤ new.room
-
--- Room was made, and nothing else changed.
-pub record HasMadeRoom (old new : WorkView) : Type 0 where
-  pub work : new.work ≡ old.work
-  pub opening : new.arrays ≡ old.arrays
-  pub arrays : new.memory.arrays ≡ old.memory.arrays
-  pub devices : length new.memory.devices ≡ length old.memory.devices
-  pub rows : (d : ℕ) → rows_on new.memory d ≡ rows_on old.memory d
-  pub taken : taken_labels new ≡ taken_labels old
-  pub counts : taken_counts new ≡ taken_counts old
-  pub lanes : (at : QueueAt) → IsRoomier (lane_at old at) (lane_at new at)
-  pub room : old.room ≤ new.room
-  pub block_room : (d : ℕ) → room_on old.memory d ≤ room_on new.memory d
+-- An item of a host was recorded, and this is what the host got back.
+abbrev pub HasRecorded : WorkView → WorkView → ℕ → ItemLabel → Shown → Type 0
+HasRecorded old new host item got = (what : Told) × Tells old item what × (got ≡ shown_by what) × HasTold old new host what
 
 -- What a queue has performed, and what is left in its lane, are the operations of the batches that it took, in order and once.
 pub record IsInOrder (work : List WorkEntry) (at : QueueAt) (lane : LaneView) : Type 0 where
@@ -181,14 +139,15 @@ abbrev pub OutIsDue : List WorkEntry → LaneView → Type 0
 OutIsDue work lane = IsTrue lane.out → IsTrue (host_allows (last_of lane.taken) work)
 
 -- What every work side keeps: a lane for each queue of each device, and the order; a loop that is out is due; its log keeps what
--- every log does against the batches that were taken, and tells of the devices that are there; and the memory shows it.
-pub record IsWork (w : WorkView) (log_devices : ℕ) : Type 0 where
+-- every log does against the batches that were taken; the memory shows it; and there is room on the log's pages for all
+-- operations that are left, beside what is unclaimed.
+pub record IsWork (w : WorkView) (free unclaimed : ℕ) : Type 0 where
   pub order : (at : QueueAt) → IsInOrder w.work at (lane_at w at)
   pub out_due : (at : QueueAt) → OutIsDue w.work (lane_at w at)
   pub count : length w.lanes ≡ length w.memory.devices * QUEUES
   pub kept : IsKept w.arrays (taken_labels w) w.work
   pub memory : Remembers w.arrays w.work w.memory
-  pub devices : log_devices ≡ length w.memory.devices
+  pub room : all_left w.lanes + unclaimed ≤ free
 
 -- the fault of an item
 abbrev pub item_fault : Bool → List WorkEntry → Bool → Option Fault

@@ -1,2 +1,5 @@
+pub mod Entries
 pub mod Jobs
+pub mod Lanes
 pub mod Records
+pub mod Telling

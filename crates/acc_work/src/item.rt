@@ -4,10 +4,11 @@ ghost use Rattle.std.specs.Prelude.{◌≡◌, IfOk, IfErr};
 ghost use Rattle.acc_base.specs.declared.fault.Fault.TheVariants as fault;
 ghost use Rattle.acc_work.specs.declared.item.ItemLabel.TheVariants as to_record;
 
-use crate::counts::Counts;
-use acc_base::{DeviceId, Fault, MAX_CELLS, QueueCounts, Range};
+use acc_base::{Boxed, DeviceId, Fault, MAX_CELLS, QueueCounts, Range};
+use acc_batch::{Counts, Values};
 use std::alloc::Global;
 use std::marker::Model;
+use std::mem::size_of;
 
 /// What an item is to do.
 #[derive(Clone, Copy, Debug, PartialEq, Eq)]
@@ -46,11 +47,25 @@ pub struct Item {
 
 #[derive(Drop)]
 pub(crate) enum Form {
-    Write { array: u8, cell: u32, value: i64 },
+    Write {
+        array: u8,
+        cell: u32,
+        value: i64,
+    },
     // no values yet, and room for them
-    Print { range: Range, values: Vec<i64> },
-    Seen { device: DeviceId, counts: Counts },
-    Test { device: DeviceId, counts: Counts },
+    Print {
+        range: Range,
+        room: Vec<u8>,
+        values: Boxed<Values>,
+    },
+    Seen {
+        device: DeviceId,
+        counts: Counts,
+    },
+    Test {
+        device: DeviceId,
+        counts: Counts,
+    },
 }
 
 impl Model for Item {
@@ -83,10 +98,15 @@ impl Item {
         ensures item { IfOk result (λ i. i ≡ to_record.Print range) }
         ensures fault { IfErr result (λ f. f ≡ fault.Memory) }
     {
-        let room = (range.len as usize).min(MAX_CELLS);
-        let values = Vec::with_capacity(alloc, room)?;
+        let cells = (range.len as usize).min(MAX_CELLS);
+        let room = Vec::with_capacity(alloc, cells * size_of::<i64>())?;
+        let values = Boxed::new(alloc, Values::none(alloc))?;
         Ok(Item {
-            form: Form::Print { range, values },
+            form: Form::Print {
+                range,
+                room,
+                values,
+            },
         })
     }
 

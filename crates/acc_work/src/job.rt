@@ -98,16 +98,15 @@ fn compute(job: &mut Option<Box<Job>>)
 
 /// Takes the next operation of a lane, a loop, out, with its inputs, if the room is for it.
 pub(crate) fn start_on(
-    memory: &mut Memory,
+    memory: &Memory,
     device: DeviceId,
     queue: QueueId,
     lane: &mut Lane,
     room: &mut Option<Box<Job>>,
 ) -> Option<JobOut>
-    requires device { device < length memory.old.devices }
-    requires may { MayStart memory.old device lane.old.left }
-    ensures memory { memory.new ≡ memory.old }
-    ensures started { IfSome result (λ job. IsStarted memory.old lane.old lane.new (record { device = device; queue = queue }) job) }
+    requires device { device < length memory.now.devices }
+    requires may { MayStart memory.now device lane.old.left }
+    ensures started { IfSome result (λ job. IsStarted memory.now lane.old lane.new (record { device = device; queue = queue }) job) }
     ensures none { IfNone result ((lane.new ≡ lane.old) × (last_of lane.old.taken ≡ None)) }
 {
     let number = lane.last()?.number;
@@ -124,17 +123,16 @@ pub(crate) fn start_on(
 
 // Takes the next operation of a lane out, and gives the room with its inputs, if it is for it.
 fn take_loaded(
-    memory: &mut Memory,
+    memory: &Memory,
     device: DeviceId,
     lane: &mut Lane,
     room: &mut Option<Box<Job>>,
 ) -> Option<Box<Job>>
-    requires device { device < length memory.old.devices }
-    requires may { MayStart memory.old device lane.old.left }
-    ensures memory { memory.new ≡ memory.old }
+    requires device { device < length memory.now.devices }
+    requires may { MayStart memory.now device lane.old.left }
     ensures lane { lane.new ≡ lane_with_out lane.old true }
     ensures next { IsJobNext (option_map (λ b. b.value) result) lane.old.left }
-    ensures loaded { IfSome result (λ b. IsLoaded memory.old device b.value) }
+    ensures loaded { IfSome result (λ b. IsLoaded memory.now device b.value) }
 {
     lane.take_out();
     let mut job = room.take()?;

@@ -4,15 +4,14 @@ ghost use Rattle.std.specs.Prelude.{◌≡◌, ◌↔◌, IsTrue};
 ghost use Rattle.acc_work.specs.Items.{without_values, known_by, test_answer};
 
 use crate::item::{ItemLabel, Shown};
-use crate::log::Told;
+use acc_batch::Told;
 
-impl Told {
-    /// Whether it tells, but for the values of a print, of an item that was to do this, and whose host got this back. It takes
-    /// no memory.
-    pub fn is_known(&self, item: ItemLabel, shown: Shown) -> bool
-        ensures { IsTrue result ↔ without_values self.now ≡ known_by item shown }
+impl ItemLabel {
+    /// Whether this, but for the values of a print, tells of such an item, whose host got this back. It takes no memory.
+    pub fn is_told_by(self, told: &Told, shown: Shown) -> bool
+        ensures { IsTrue result ↔ without_values told.now ≡ known_by self shown }
     {
-        match (self, item) {
+        match (told, self) {
             (
                 Told::Write { array, cell, value },
                 ItemLabel::Write {

@@ -1,23 +1,25 @@
 //! The batches that a queue took, and what is left of the last one.
 
-ghost use Rattle.std.specs.Prelude.{◌≡◌, ◌↔◌, IsTrue, true, false, ◌+◌, ◌<◌, ◌≤◌, [], ◌∷◌, List, length, slice_get, is_some, Some, OnOk, OnErr, IfErr, IfSome, IfNone};
+ghost use Rattle.std.specs.Prelude.{◌≡◌, ◌↔◌, nat_le, IsTrue, true, false, ◌<◌, ◌≤◌, [], ◌∷◌, ◌++◌, List, length, drop, slice_get, is_some, Some, IfSome, IfNone};
 ghost use Rattle.std.specs.Option.{option_map};
-ghost use Rattle.acc_base.specs.declared.fault.Fault.TheVariants as fault;
 ghost use Rattle.acc_batch.specs.declared.label.OpLabel.{OpLabel};
-ghost use Rattle.acc_batch.specs.Ops.{first_loop, loop_of, op_label, IsReady};
-ghost use Rattle.acc_work.specs.Lanes.{IsFresh, IsLoopNext, next_loop, lane_with_batch, lane_with_left, lane_with_out, last_of, lane_done};
+ghost use Rattle.acc_batch.specs.Ops.{first_loop, loop_of, op_label, op_labels, AllReady, IsReady};
+ghost use Rattle.acc_work.specs.Lanes.{IsFresh, IsLoopNext, next_loop, lane_with_batch, lane_with_left, lane_with_out, last_of, lane_done, nth_taken};
 
 use crate::ahead::Ahead;
-use acc_base::{BlockId, Fault, Range};
-use acc_batch::{Batch, Label, Op, Ops};
+use acc_base::{BlockId, Range};
+use acc_batch::{Label, Op, Ops};
 use acc_kernel::{Job, Kernel};
+use acc_raw::{Chain, Node};
 use std::alloc::Global;
 use std::marker::Model;
 
 /// The batches that a queue took, by their labels, and what is left of the last one.
 #[derive(Drop)]
 pub struct Lane {
-    taken: Vec<Label>,
+    taken: Chain<Label>,
+    // how many of them are performed, or the greatest number where they are more
+    done: u64,
     left: Ops,
     // whether the next of them, a loop, is out
     out: bool,
@@ -25,18 +27,18 @@ pub struct Lane {
 
 impl Model for Lane {
     ghost use Rattle.std.specs.Coded.{codes};
-    ghost use Rattle.std.specs.Prelude.{vec_capacity};
     ghost use Rattle.acc_kernel.specs.contracts.expr.Expr as expr;
     ghost use Rattle.acc_batch.specs.Ops.{op_labels, AllReady};
     ghost use Rattle.acc_work.specs.Lanes.{LaneView};
+    ghost use Rattle.acc_work.specs.inner.Lanes.{IsCounted};
 
     ghost Value = { LaneView };
 
     ghost coded = { Prim.hlevel (codes, expr.the_row.coded) };
 
-    ghost view = { λ l. record { taken = l.taken.items; room = vec_capacity l.taken; left = op_labels l.left; out = l.out } };
+    ghost view = { λ l. record { taken = l.taken; left = op_labels l.left; out = l.out } };
 
-    ghost invariant = { λ l. AllReady l.left };
+    ghost invariant = { λ l. AllReady l.left × IsCounted (record { taken = l.taken; left = op_labels l.left; out = l.out }) l.done };
 }
 
 impl Lane {
@@ -44,22 +46,11 @@ impl Lane {
         ensures { IsFresh result }
     {
         Lane {
-            taken: Vec::new(alloc),
+            taken: Chain::new(alloc),
+            done: 0,
             left: Ops::none(alloc),
             out: false,
         }
-    }
-
-    /// Makes room for so many more batches.
-    pub(crate) fn spare(&mut self, count: usize) -> Result<(), Fault>
-        ensures kept { self.new ≡ record self.old { room = self.new.room } }
-        ensures room { self.old.room ≤ self.new.room }
-        ensures ok { OnOk result (length self.new.taken + count ≤ self.new.room) }
-        ensures fault { IfErr result (λ f. f ≡ fault.Memory) }
-        ensures missing { OnErr result (self.old.room < length self.old.taken + count) }
-    {
-        self.taken.reserve(count)?;
-        Ok(())
     }
 
     /// How many operations are left of the last batch.
@@ -76,39 +67,74 @@ impl Lane {
         self.left.first()
     }
 
-    /// The batches that were taken, by their labels, in order.
-    pub(crate) fn taken(&self) -> &[Label]
-        ensures { result.now ≡ self.now.taken }
+    /// The batch with this number, from 1, among those that were taken, by its label.
+    pub(crate) fn nth(&self, number: u64) -> Option<&Label>
+        ensures { option_map (λ l. l.now) result ≡ nth_taken self.now.taken number }
     {
-        self.taken.as_slice()
+        let index = number.checked_sub(1)?;
+        let mut labels = self.taken.iter();
+        for _ in 0..index {
+            let _ = labels.next()?;
+        }
+        labels.next()
     }
 
-    /// How many of them are performed.
-    pub(crate) fn batches_done(&self) -> u64
-        ensures { result ≡ lane_done self.now }
+    /// Whether the labels of those that were taken stand first among these, in this order.
+    pub(crate) fn took_first(&self, labels: &[Label]) -> bool
+        ensures { IsTrue result ↔ labels.now ≡ self.now.taken ++ drop (length self.now.taken) labels.now }
     {
-        let count = self.taken.len() as u64;
-        if self.left.len() > 0 {
-            count.saturating_sub(1)
-        } else {
-            count
+        let mut behind = labels;
+        for taken in self.taken.iter() {
+            match behind.split_first() {
+                None => return false,
+                Some((label, rest)) => {
+                    if !label.is_same(taken) {
+                        return false;
+                    }
+                    behind = rest;
+                }
+            }
         }
+        true
+    }
+
+    /// Those of some labels that stand behind as many as were taken.
+    pub(crate) fn behind_taken<'a>(&self, labels: &'a [Label]) -> &'a [Label]
+        ensures { result.now ≡ drop (length self.now.taken) labels.now }
+    {
+        let mut behind = labels;
+        for _taken in self.taken.iter() {
+            match behind.split_first() {
+                None => return behind,
+                Some((_, rest)) => behind = rest,
+            }
+        }
+        behind
+    }
+
+    /// Whether so many of them are performed.
+    pub(crate) fn reached(&self, count: u64) -> bool
+        ensures { result ≡ nat_le count (lane_done self.now) }
+    {
+        count <= self.done
     }
 
     /// The last batch.
     pub(crate) fn last(&self) -> Option<&Label>
         ensures { option_map (λ l. l.now) result ≡ last_of self.now.taken }
     {
-        self.taken.get(self.taken.len().saturating_sub(1))
+        self.taken.last()
     }
 
-    /// Takes a batch, of which all is left.
-    pub(crate) fn offer(&mut self, batch: Batch)
-        requires { length self.old.taken < self.old.room }
-        ensures { self.new ≡ lane_with_batch self.old batch }
+    /// Takes a batch, of which all is left, where nothing is left of the one before. It takes no memory.
+    pub(crate) fn offer(&mut self, label: Node<Label>, ops: Ops)
+        requires ops { op_labels ops ≡ label.ops }
+        requires ready { AllReady ops }
+        requires filled { 0 < length label.ops }
+        requires empty { length self.old.left ≤ 0 }
+        ensures { self.new ≡ lane_with_batch self.old label }
     {
-        let (label, ops) = batch.into_parts();
-        self.taken.push_reserved(label);
+        self.taken.push_back(label);
         self.left = ops;
         self.out = false;
     }
@@ -121,6 +147,9 @@ impl Lane {
     {
         let next = self.left.take_next()?;
         self.out = false;
+        if self.left.len() == 0 {
+            self.done = self.done.saturating_add(1);
+        }
         Some(next)
     }
 

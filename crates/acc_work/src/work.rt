@@ -1,6 +1,6 @@
 //! The memory, the log, and a lane for each queue of each device.
 
-ghost use Rattle.std.specs.Prelude.{ℕ, ℤ, ◌≡◌, ◌+◌, ◌*◌, ◌<◌, ◌≤◌, ◌==◌, nat_le, All, [], ◌∷◌, length, vec_capacity, is_some, IfOk, IfErr, IfSome, OnSome, IfNone, OnOk, OnErr, IsTrue, ◌↔◌, true, false, Bool, Some, reverse, ◌^◌};
+ghost use Rattle.std.specs.Prelude.{ℕ, ℤ, ◌≡◌, ◌+◌, ◌*◌, ◌<◌, ◌≤◌, ◌==◌, nat_le, All, [], ◌∷◌, length, drop, vec_capacity, ◌++◌, is_some, IfOk, IfErr, IfSome, OnSome, IfNone, OnOk, OnErr, IsTrue, ◌↔◌, true, false, Bool, Some, reverse, ◌^◌};
 ghost use Rattle.std.specs.Option.{option_map};
 ghost use Rattle.acc_base.specs.Queues.{seat};
 ghost use Rattle.acc_base.specs.Configurations.{has_range};
@@ -8,8 +8,8 @@ ghost use Rattle.acc_base.specs.declared.config.TheConstants.{MAX_HOSTS};
 ghost use Rattle.acc_base.specs.declared.ids.QueueAt.{QueueAt};
 ghost use Rattle.acc_base.specs.declared.ids.TheConstants.{QUEUES};
 ghost use Rattle.acc_work.specs.declared.log.TheConstants.{MAX_HOST_ITEMS};
-ghost use Rattle.acc_work.specs.declared.log.Told.{Told};
-ghost use Rattle.acc_work.specs.Items.{has_cells, shown_by};
+ghost use Rattle.acc_batch.specs.declared.entry.Told.{Told};
+ghost use Rattle.acc_work.specs.Items.{HasRoom, has_cells, label_of, shown_by};
 ghost use Rattle.acc_work.specs.Jobs.{StartsLoop, HasStarted, IsOut, Commits};
 ghost use Rattle.acc_work.specs.Kept.{IsKept};
 ghost use Rattle.acc_work.specs.Lanes.{IsFresh, lane_with_batch, last_of, nth_taken, lanes_with, no_lane};
@@ -17,22 +17,26 @@ ghost use Rattle.acc_work.specs.Logs.{items_of, all_items, batches_done, all_don
 ghost use Rattle.acc_work.specs.Orders.{ShowsTruth};
 ghost use Rattle.acc_work.specs.Remembering.{Remembers, blocks_in};
 ghost use Rattle.acc_batch.specs.Labels.{on_queue};
+ghost use Rattle.acc_batch.specs.Pages.{HasRoomFor};
 ghost use Rattle.acc_batch.specs.Ops.{first_loop, op_label};
-ghost use Rattle.acc_memory.specs.Memories.{Shows, IsAllowed, PerformsOn, find_block, has_array, has_cell, rows_on, room_on};
+ghost use Rattle.acc_memory.specs.Memories.{Shows, IsAllowed, PerformsOn, find_block, has_array, has_cell, rows_on};
 ghost use Rattle.acc_memory.specs.Values.{Block_cell, Cell, Host_cell, values_of};
-ghost use Rattle.acc_work.specs.Works.{lane_at, taken_labels, HasQueue, goes_on, is_live, is_new, can_go, Performs, NextMayFollow, CanTell, Tells, HasTold, HasPrinted, HasMadeRoom, LacksRoom, KeepsOrder, item_fault};
+ghost use Rattle.acc_work.specs.inner.Telling.{HasChanged, HasItsCells, IsTold, answer_to};
+ghost use Rattle.acc_work.specs.Works.{lane_at, taken_labels, HasQueue, goes_on, is_live, is_new, can_go, Performs, CanTell, Tells, HasRecorded, KeepsOrder};
 
 use crate::ahead::Ahead;
 use crate::item::{Form, Item, ItemLabel, Shown};
 use crate::job::{JobOut, commit_on, has_job, start_on};
 use crate::lane::Lane;
-use crate::log::{Log, MAX_HOST_ITEMS, Told, WorkEntry};
+use crate::log::{Log, MAX_HOST_ITEMS};
+use crate::work_log::WorkLog;
 use acc_base::{
-    BlockId, Config, DeviceId, Fault, HostId, Listed, QUEUES, QueueAt, QueueCounts, QueueId, Range,
+    BlockId, Boxed, Config, DeviceId, Fault, HostId, QUEUES, QueueAt, QueueCounts, QueueId, Range,
 };
-use acc_batch::{Batch, Label, Op, OpLabel, are_same_labels};
+use acc_batch::{Batch, Label, Op, OpLabel, Page, Told, Values};
 use acc_kernel::Job;
 use acc_memory::Memory;
+use acc_raw::Node;
 use std::alloc::Global;
 use std::marker::Model;
 use std::snapshot::Snapshot;
@@ -64,15 +68,15 @@ impl Model for Work {
 
     ghost coded = { Prim.hlevel (codes, expr.the_row.coded) };
 
-    ghost view = { λ w. record { arrays = w.opening.value.arrays; memory = w.memory; work = w.log.work; room = w.log.room; lanes = w.lanes.items } };
+    ghost view = { λ w. record { arrays = w.opening.value.arrays; memory = w.memory; work = w.log.work; lanes = w.lanes.items } };
 
-    ghost invariant = { λ w. IsWork (record { arrays = w.opening.value.arrays; memory = w.memory; work = w.log.work; room = w.log.room; lanes = w.lanes.items }) w.log.devices };
+    ghost invariant = { λ w. IsWork (record { arrays = w.opening.value.arrays; memory = w.memory; work = w.log.work; lanes = w.lanes.items }) w.log.free w.log.unclaimed };
 }
 
 impl Work {
     ghost use Rattle.acc_base.specs.declared.fault.Fault.TheVariants.{Memory as no_memory};
-    ghost use Rattle.acc_work.specs.declared.log.Told.TheVariants as told;
-    ghost use Rattle.acc_work.specs.declared.log.WorkEntry.TheVariants as entry;
+    ghost use Rattle.acc_batch.specs.declared.entry.Told.TheVariants as told;
+    ghost use Rattle.acc_batch.specs.declared.entry.WorkEntry.TheVariants as entry;
 
     /// Nothing is taken, performed or shown yet.
     ///
@@ -90,7 +94,7 @@ impl Work {
     {
         config.keeps();
         let memory = Memory::new(alloc, config)?;
-        let log = Log::new(alloc, config.devices())?;
+        let log = Log::new(alloc)?;
         let lanes = lanes_of(alloc, config.devices())?;
         let opening = Snapshot::of(config);
         Ok(Work {
@@ -101,58 +105,23 @@ impl Work {
         })
     }
 
-    /// Makes room for so many more operations, and as many batches of this queue.
-    ///
-    /// # Errors
-    ///
-    /// `Memory` where room was missing and memory is refused.
-    pub fn spare(&mut self, at: QueueAt, count: usize) -> Result<(), Fault>
-        requires queue { HasQueue self.old at }
-        ensures kept { HasMadeRoom self.old self.new }
-        ensures log { OnOk result (length self.new.work + count ≤ self.new.room) }
-        ensures lane { OnOk result (length (lane_at self.new at).taken + count ≤ (lane_at self.new at).room) }
-        ensures blocks { OnOk result ((d : ℕ) → d < length self.new.memory.devices → length (rows_on self.new.memory d) + count ≤ room_on self.new.memory d) }
-        ensures fault { IfErr result (λ f. f ≡ no_memory) }
-        ensures missing { OnErr result (LacksRoom self.old at count) }
+    /// Whether the run has as many items as it may have.
+    pub fn is_full_of_items(&self) -> bool
+        ensures { result ≡ nat_le MAX_HOST_ITEMS (all_items self.now.work) }
     {
-        self.memory.spare(count)?;
-        self.lanes[at.seat()].spare(count)?;
-        self.log.spare(count)
+        self.log.all_items() >= MAX_HOST_ITEMS
     }
 
-    /// Makes room in the log for one more item of a host beside so many operations, if the run may have one more.
-    ///
-    /// # Errors
-    ///
-    /// `TooMany` behind the last item of a run, `Memory` for want of memory.
-    pub fn spare_item(&mut self, waiting: usize) -> Result<(), Fault>
-        ensures kept { HasMadeRoom self.old self.new }
-        ensures room { OnOk result (length self.new.work + waiting < self.new.room) }
-        ensures few { OnOk result (all_items self.old.work < MAX_HOST_ITEMS) }
-        ensures missing { IfErr result (λ f. f ≡ no_memory → self.old.room < length self.old.work + waiting + 1) }
-        ensures fault { IfErr result (λ f. (lacks : Bool) × (item_fault lacks self.old.work true ≡ Some f)) }
-    {
-        self.keeps();
-        if self.log.all_items() >= MAX_HOST_ITEMS {
-            return Err(Fault::TooMany);
-        }
-        match waiting.checked_add(1) {
-            Some(count) => self.log.spare(count),
-            None => Err(Fault::Memory),
-        }
-    }
-
-    /// Every work side keeps the order of its queues, and counts the entries that there is room for. Its log keeps, against the
+    /// Every work side keeps the order of its queues. Its log keeps, against the
     /// batches that were taken, what every log does: each operation stands behind all that it awaits and behind its host's items,
     /// and uses live blocks, and each item shows what is so. The memory has the values that the log gives over the opening ones,
     /// and the blocks that it left.
     pub fn keeps(&self)
         ensures order { KeepsOrder self.now }
-        ensures room { self.now.room < 2 ^ 64 }
         ensures kept { IsKept self.now.arrays (taken_labels self.now) self.now.work }
         ensures memory { Remembers self.now.arrays self.now.work self.now.memory }
     {
-        let _ = self.log.room();
+        let _ = &self.log;
     }
 
     // The lane of a queue, if the queue is there.
@@ -188,14 +157,14 @@ impl Work {
     }
 
     /// The batch with this number, from 1, among those that a queue took, by its label.
-    #[tactic(auto, using(crate::proofs::TakenLabels::nth_is))]
     pub fn taken(&self, at: QueueAt, number: u64) -> Option<&Label>
         ensures { option_map (λ l. l.now) result ≡ nth_taken (on_queue at (taken_labels self.now)) number }
     {
-        if number == 0 {
-            return None;
+        self.keeps();
+        match self.lane(at) {
+            None => None,
+            Some(lane) => lane.nth(number),
         }
-        self.taken_on(at).get(number as usize - 1)
     }
 
     /// The last batch that a queue took, by its label.
@@ -208,39 +177,25 @@ impl Work {
         }
     }
 
-    /// How many batches a queue took.
-    pub fn taken_count(&self, at: QueueAt) -> u64
-        ensures { result ≡ length (on_queue at (taken_labels self.now)) }
-    {
-        self.taken_on(at).len() as u64
-    }
-
-    /// Whether the batches that a queue took have these labels, in this order, and no other was taken. It takes no memory.
-    pub fn has_taken(&self, at: QueueAt, labels: &[Label]) -> bool
-        ensures { IsTrue result ↔ on_queue at (taken_labels self.now) ≡ labels.now }
-    {
-        are_same_labels(self.taken_on(at), labels)
-    }
-
-    // The labels of the batches that a queue took, in their order.
-    fn taken_on(&self, at: QueueAt) -> &[Label]
-        ensures { result.now ≡ on_queue at (taken_labels self.now) }
+    /// Whether the labels of the batches that a queue took stand first among these, in this order. It takes no memory.
+    pub fn took_first(&self, at: QueueAt, labels: &[Label]) -> bool
+        ensures { IsTrue result ↔ labels.now ≡ on_queue at (taken_labels self.now) ++ drop (length (on_queue at (taken_labels self.now))) labels.now }
     {
         self.keeps();
         match self.lane(at) {
-            None => &[],
-            Some(lane) => lane.taken(),
+            None => true,
+            Some(lane) => lane.took_first(labels),
         }
     }
 
-    // How many batches a queue has performed.
-    fn batches_done(&self, at: QueueAt) -> u64
-        ensures { result ≡ batches_done (taken_labels self.now) self.now.work at }
+    /// Those of some labels that stand behind as many as a queue took.
+    pub fn behind_taken<'a>(&self, at: QueueAt, labels: &'a [Label]) -> &'a [Label]
+        ensures { result.now ≡ drop (length (on_queue at (taken_labels self.now))) labels.now }
     {
         self.keeps();
         match self.lane(at) {
-            None => 0,
-            Some(lane) => lane.batches_done(),
+            None => labels,
+            Some(lane) => lane.behind_taken(labels),
         }
     }
 
@@ -248,7 +203,11 @@ impl Work {
     pub fn reached(&self, at: QueueAt, count: u64) -> bool
         ensures { result ≡ nat_le count (batches_done (taken_labels self.now) self.now.work at) }
     {
-        count <= self.batches_done(at)
+        self.keeps();
+        match self.lane(at) {
+            None => count == 0,
+            Some(lane) => lane.reached(count),
+        }
     }
 
     /// Whether each queue of a device has performed its count of batches.
@@ -284,8 +243,8 @@ impl Work {
     }
 
     /// The log, the first entry first.
-    pub fn log(&self) -> &[WorkEntry]
-        ensures { result.now ≡ reverse self.now.work }
+    pub fn log(&self) -> &WorkLog
+        ensures { result.now.items ≡ reverse self.now.work }
     {
         self.log.entries()
     }
@@ -318,23 +277,23 @@ impl Work {
         self.memory.block_cell(device, block, cell)
     }
 
-    /// A queue takes a batch, whose lane is empty, by `lane_empty`. It takes no memory, by `spare`.
+    /// A queue takes a batch, whose lane is empty, by `lane_empty`. It takes no memory; a page that the log doesn't need is freed.
     pub fn offer(&mut self, at: QueueAt, batch: Batch)
         requires queue { HasQueue self.old at }
         requires place { batch.at ≡ at }
         requires host { batch.host < MAX_HOSTS }
         requires filled { 0 < length batch.ops }
         requires empty { length (lane_at self.old at).left ≤ 0 }
-        requires room { length (lane_at self.old at).taken < (lane_at self.old at).room }
         ensures { self.new ≡ record self.old { lanes = lanes_with self.old.lanes at (lane_with_batch (lane_at self.old at) batch) } }
     {
-        self.lanes[at.seat()].offer(batch);
+        let (label, ops, page) = batch.into_parts();
+        self.log.claim(ops.len(), page);
+        self.lanes[at.seat()].offer(label, ops);
     }
 
     /// Performs the next operation of a queue's lane, if it isn't out, what it awaits is performed, its host's items allow it, and
-    /// it uses live blocks. It takes no memory, by `spare`.
+    /// it uses live blocks. It takes no memory.
     pub fn perform(&mut self, at: QueueAt) -> Done
-        requires { NextMayFollow self.old at (lane_at self.old at).left }
         ensures { Performs self.old at result self.new }
     {
         let QueueAt { device, queue } = at;
@@ -376,18 +335,17 @@ impl Work {
         if !lane.has_loop_next() {
             return None;
         }
-        start_on(&mut self.memory, device, queue, lane, room)
+        start_on(&self.memory, device, queue, lane, room)
     }
 
     /// Performs the loop of a job that is out, as `perform` would now: by its outputs, where its inputs are still what the memory
     /// shows, and else anew. Where it uses a block that isn't live any more, its lane has it back. Gives its room back. It takes no
-    /// memory, by `spare`.
+    /// memory.
     ///
     /// # Errors
     ///
     /// The job, where it isn't the one that is out of its lane; then nothing changes.
     pub fn commit_job(&mut self, job: JobOut) -> Result<Option<Box<Job>>, JobOut>
-        requires room { length self.old.work < self.old.room }
         ensures committed { OnOk result (IsOut self.old job × Commits self.old self.new job.at) }
         ensures back { IfErr result (λ back. (back ≡ job) × (self.new ≡ self.old) × ¬ IsOut self.old job) }
     {
@@ -472,8 +430,9 @@ impl Work {
         ensures { result ≡ is_new self.now device (op_label op.now) }
     {
         match op {
-            Op::Make { block } => {
-                !self.log.was_made(device, block.block) && self.memory.has_range(block.range)
+            Op::Make { block, .. } => {
+                let block = block.value();
+                !self.memory.was_made(device, block.block) && self.memory.has_range(block.range)
             }
             _ => true,
         }
@@ -522,80 +481,69 @@ impl Work {
     }
 
     /// Records an item of a host, and answers a test. The cells of a write and of a print are there; a print has no more than
-    /// 65,536; what is noted as seen is performed, by `all_reached`. It takes no memory, by `spare_item`.
-    pub fn host_item(&mut self, host: HostId, item: Item) -> Shown
+    /// 65,536; what is noted as seen is performed, by `all_reached`. It takes no memory: the log has the page, and where it doesn't
+    /// need it frees it.
+    pub fn host_item(&mut self, host: HostId, item: Item, page: Node<Page>) -> Shown
         requires host { host < MAX_HOSTS }
         requires item { CanTell self.old item }
-        requires room { length self.old.work < self.old.room }
+        requires page { HasRoomFor page 1 }
         requires few { all_items self.old.work < 2 ^ 63 }
-        ensures { (what : Told) × Tells self.old item what × (result ≡ shown_by what) × HasTold self.old self.new host what }
+        ensures { HasRecorded self.old self.new host item result }
     {
-        let Item { form } = item;
-        match form {
-            Form::Write { array, cell, value } => {
-                self.write(host, array, cell, value);
-                Shown::Nothing
-            }
-            Form::Print { range, values } => {
-                self.print(host, range, values);
-                Shown::Nothing
-            }
-            Form::Seen { device, counts } => {
-                self.push_item(host, Told::Seen { device, counts });
-                Shown::Nothing
-            }
-            Form::Test { device, counts } => {
-                let answer = self.all_reached(device, &counts.numbers());
-                self.push_item(
-                    host,
-                    Told::Test {
-                        device,
-                        counts,
-                        answer,
-                    },
-                );
-                Shown::Answer(answer)
-            }
+        match self.record(host, item, Some(page)) {
+            Ok(shown) => shown,
+            Err(_) => Shown::Nothing,
         }
     }
 
-    fn write(&mut self, host: HostId, array: u8, cell: u32, value: i64)
+    /// Records an item of a host as `host_item` does, where the log has room for it, and else gives it back. It takes no memory.
+    ///
+    /// # Errors
+    ///
+    /// The item, where it needs a page; then nothing changes.
+    pub fn try_item(&mut self, host: HostId, item: Item) -> Result<Shown, Item>
         requires host { host < MAX_HOSTS }
-        requires cell { has_array self.old.memory (record { array = array; lo = cell; len = 1 }) ≡ true }
-        requires room { length self.old.work < self.old.room }
+        requires item { CanTell self.old item }
         requires few { all_items self.old.work < 2 ^ 63 }
-        ensures { HasTold self.old self.new host (told.Write array cell value) }
+        ensures recorded { IfOk result (λ shown. HasRecorded self.old self.new host item shown) }
+        ensures back { IfErr result (λ back. (back ≡ item) × (self.new ≡ self.old)) }
     {
-        self.memory.host_set(array, cell, value);
-        self.log.push_item(host, Told::Write { array, cell, value });
+        self.record(host, item, None)
     }
 
-    fn print(&mut self, host: HostId, range: Range, values: Vec<i64>)
+    // Records an item, with a page if there is one. Without a page it may come back.
+    fn record(&mut self, host: HostId, item: Item, page: Option<Node<Page>>) -> Result<Shown, Item>
         requires host { host < MAX_HOSTS }
-        requires range { has_array self.old.memory range ≡ true }
-        requires values { (values.items ≡ []) × (range.len ≤ vec_capacity values) }
-        requires room { length self.old.work < self.old.room }
+        requires item { CanTell self.old item }
+        requires page { IfSome page (λ p. HasRoomFor p 1) }
         requires few { all_items self.old.work < 2 ^ 63 }
-        ensures { HasPrinted self.old self.new host range }
+        ensures recorded { IfOk result (λ shown. HasRecorded self.old self.new host item shown) }
+        ensures back { IfErr result (λ back. (back ≡ item) × (self.new ≡ self.old)) }
+        ensures none { OnErr result (page ≡ None) }
     {
-        let values = Listed::from_vec(values_in(&self.memory, range, values));
-        self.push_item(host, Told::Print { range, values });
-    }
-
-    // Records what changes no cell, and is so.
-    fn push_item(&mut self, host: HostId, what: Told)
-        requires host { host < MAX_HOSTS }
-        requires truth { ShowsTruth self.old.arrays (taken_labels self.old) what self.old.work }
-        requires quiet { (was : Cell → ℤ) → after_item what was ≡ was }
-        requires room { length self.old.work < self.old.room }
-        requires few { all_items self.old.work < 2 ^ 63 }
-        ensures { self.new ≡ record self.old { work = entry.Item host what ∷ self.old.work } }
-    {
+        let answer = self.answer_to(&item.form);
+        if !self.log.claim_one(page) {
+            return Err(item);
+        }
+        let Item { form } = item;
+        let what = tell(&mut self.memory, form, answer);
+        let shown = shown_by(&what);
         self.log.push_item(host, what);
+        Ok(shown)
+    }
+
+    // What a test is answered; false where an item asks nothing.
+    fn answer_to(&self, form: &Form) -> bool
+        ensures { result ≡ answer_to self.now (label_of form.now) }
+    {
+        match form {
+            Form::Test { device, counts } => self.all_reached(*device, &counts.numbers()),
+            Form::Write { .. } | Form::Print { .. } | Form::Seen { .. } => false,
+        }
     }
 
     /// The log, the latest entry last.
-    pub fn into_log(self) -> Vec<WorkEntry>
+    pub fn into_log(self) -> WorkLog
         ensures { result.items ≡ reverse self.work }
     {
         let Work { log, .. } = self;
@@ -630,13 +578,41 @@ fn perform_on(memory: &mut Memory, device: DeviceId, op: Op) -> OpLabel
     }
 }
 
-// The values of a range of a host array, in a vector that has room for them.
-fn values_in(memory: &Memory, range: Range, mut values: Vec<i64>) -> Vec<i64>
-    requires range { has_array memory.now range ≡ true }
-    requires room { (values.items ≡ []) × (range.len ≤ vec_capacity values) }
-    ensures { (was : Cell → ℤ) → Shows memory.now was → result.items ≡ values_of was range }
+// Does what an item is to do, with the answer to a test, and gives what the log is to tell.
+fn tell(memory: &mut Memory, form: Form, answer: bool) -> Told
+    requires room { HasRoom form }
+    requires item { HasItsCells memory.old (label_of form) }
+    ensures told { IsTold memory.old (label_of form) answer result }
+    ensures memory { HasChanged memory.old result memory.new }
 {
-    // there is room, so this isn't refused
-    let _ = values.extend_from_slice(memory.host_cells(range));
-    values
+    match form {
+        Form::Write { array, cell, value } => {
+            memory.host_set(array, cell, value);
+            Told::Write { array, cell, value }
+        }
+        Form::Print {
+            range,
+            room,
+            mut values,
+        } => {
+            values.set(Values::of(room, memory.host_cells(range)));
+            Told::Print { range, values }
+        }
+        Form::Seen { device, counts } => Told::Seen { device, counts },
+        Form::Test { device, counts } => Told::Test {
+            device,
+            answer,
+            counts,
+        },
+    }
+}
+
+// What a host gets back of what the log tells.
+fn shown_by(what: &Told) -> Shown
+    ensures { result ≡ shown_by what.now }
+{
+    match what {
+        Told::Test { answer, .. } => Shown::Answer(*answer),
+        Told::Write { .. } | Told::Print { .. } | Told::Seen { .. } => Shown::Nothing,
+    }
 }

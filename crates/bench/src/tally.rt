@@ -3,7 +3,7 @@
 use crate::script::Script;
 use crate::workloads::{ARRAYS, Failure, OTHER_CELLS, Workload};
 use acc_base::{Config, Fault, HostId, Listed, MAX_CAPACITY};
-use acc_core::{HostProgram, Reply, Statement, Told, WorkEntry, World};
+use acc_core::{HostProgram, Reply, Statement, Told, WorkEntry, WorkLog, World};
 use std::alloc::{AllocError, Global};
 use std::fmt::{self, Display, Formatter, Write};
 
@@ -101,9 +101,9 @@ fn cells_of(alloc: Global, factor: u32, count: u32) -> Result<Vec<i64>, AllocErr
 }
 
 // How many of a log's entries are operations.
-fn operations_in(log: &[WorkEntry]) -> u64 {
+fn operations_in(log: &WorkLog) -> u64 {
     let mut operations = 0u64;
-    for entry in log {
+    for entry in log.iter() {
         if let WorkEntry::Op { .. } = entry {
             operations = operations.wrapping_add(1);
         }
@@ -122,17 +122,17 @@ fn did_in(replies: &[Reply]) -> u64 {
 }
 
 // What the log's last entry shows, if it is a print.
-fn sum_of(log: &[WorkEntry]) -> i64 {
+fn sum_of(log: &WorkLog) -> i64 {
     let mut sum = 0i64;
     if let Some(
         WorkEntry::Item {
             what: Told::Print { values, .. },
             ..
         },
-    ) = log.last()
+    ) = log.iter().last()
     {
-        for value in values.as_slice() {
-            sum = sum.wrapping_mul(31).wrapping_add(*value);
+        for value in values.get().iter() {
+            sum = sum.wrapping_mul(31).wrapping_add(value);
         }
     }
     sum

@@ -4,7 +4,7 @@ ghost use Rattle.std.specs.Prelude.{◌<◌};
 
 use crate::worlds::{host, queue, reply_to};
 use acc_base::{DeviceId, Fault, HostId, Range};
-use acc_core::{Event, HostState, Reply, Told, WorkEntry, World};
+use acc_core::{Event, HostState, Reply, Told, Values, WorkEntry, WorkLog, World};
 use std::fmt::Debug;
 use std::process::Abort;
 
@@ -56,19 +56,40 @@ pub fn check_present(rt: &impl Abort, world: &World, wanted: Option<(Range, u64,
 }
 
 // What a host's print showed.
-pub fn printed(entry: Option<&WorkEntry>) -> Option<&[i64]> {
+pub fn printed(entry: Option<&WorkEntry>) -> Option<&Values> {
     match entry {
         Some(
             WorkEntry::Item {
                 what: Told::Print { values, .. },
                 ..
             },
-        ) => Some(values.as_slice()),
+        ) => Some(values.get()),
         _ => None,
     }
 }
 
+// How many entries a log has.
+pub fn entries(log: &WorkLog) -> usize {
+    let mut count = 0usize;
+    for _ in log.iter() {
+        count = count.wrapping_add(1);
+    }
+    count
+}
+
 // The last entry of a log is a print that showed these values.
-pub fn check_last_print(rt: &impl Abort, log: &[WorkEntry], values: &[i64]) {
-    check_same(rt, printed(log.last()), Some(values));
+pub fn check_last_print(rt: &impl Abort, log: &WorkLog, wanted: &[i64]) {
+    match printed(log.iter().last()) {
+        Some(values) => check_values(rt, values, wanted),
+        None => panic!(rt; "no print comes last"),
+    }
+}
+
+// A print showed these values.
+pub fn check_values(rt: &impl Abort, values: &Values, wanted: &[i64]) {
+    let mut shown = values.iter();
+    for value in wanted {
+        check_same(rt, shown.next(), Some(*value));
+    }
+    check_same(rt, shown.next(), None);
 }

@@ -2,7 +2,8 @@
 //! at last; no clause can tell how much there is.
 
 use crate::checks::{
-    FINISHED, check_last_print, check_present, check_same, check_states, check_steps, refused,
+    FINISHED, check_last_print, check_present, check_same, check_states, check_steps, entries,
+    refused,
 };
 use crate::worlds::{ROOM, host, on, queue, reply_to, turns, world_of};
 use acc_base::{Config, Fault, Range};
@@ -154,7 +155,7 @@ fn check_scarce_statement(rt: &impl Abort, alloc: Global, text: &[u8]) -> Result
     ];
     let mut world = world_of(alloc, text, ROOM)?;
     check_replies(rt, alloc, &mut world, &events)?;
-    check_same(rt, world.log().len(), 0);
+    check_same(rt, entries(world.log()), 0);
     check_states(rt, &world, &[refused(0, 3, Fault::Memory)]);
     Ok(())
 }
@@ -186,7 +187,7 @@ fn memory_is_refused_to_a_host_that_waited(rt: HostRuntime) -> Result<(), Fail> 
         b"long a[4];\nhost {\n#pragma acc enter data create(a[0:1]) async(1)\n#pragma acc enter data create(a[1:1]) async(2)\n#pragma acc wait\n}\n";
     let mut world = world_of(alloc, text, ROOM)?;
     check_replies(&rt, alloc, &mut world, &events)?;
-    check_same(&rt, world.log().len(), 2);
+    check_same(&rt, entries(world.log()), 2);
     check_outcome(&rt, alloc, world, 3, 2, 5)?;
     Ok(())
 }

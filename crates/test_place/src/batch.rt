@@ -115,8 +115,8 @@ fn check_label(rt: &impl Abort, label: &Label, deeds: &[Deed]) {
 fn check_batch(rt: &impl Abort, batch: Batch, deeds: &[Deed]) {
     check_label(rt, batch.label(), deeds);
     assert!(rt; batch.ops().len() == deeds.len());
-    let (label, ops) = batch.into_parts();
-    check_label(rt, &label, deeds);
+    let (label, ops, _page) = batch.into_parts();
+    check_label(rt, label.value(), deeds);
     check_ops(rt, ops, deeds);
 }
 

@@ -163,7 +163,8 @@ fn check_zeros(rt: &impl Abort, values: &Values) {
 // The operation is this one; a block that it makes has the cells of its range, all zero.
 fn check_op(rt: &impl Abort, op: &Op, wanted: Operation) {
     check_operation(rt, performed_by(op), wanted);
-    if let Op::Make { block } = op {
+    if let Op::Make { block, .. } = op {
+        let block = block.value();
         assert!(rt; block.cells.len() == block.range.len as usize);
         check_zeros(rt, &block.cells);
     }
@@ -195,8 +196,8 @@ pub fn check_batch(rt: &impl Abort, batch: Option<Batch>, step: &Step, number: u
             assert!(rt; !step.ops.is_empty(), "a batch");
             check_label(rt, batch.label(), step, number, before);
             assert!(rt; batch.ops().len() == step.ops.len());
-            let (label, ops) = batch.into_parts();
-            check_label(rt, &label, step, number, before);
+            let (label, ops, _page) = batch.into_parts();
+            check_label(rt, label.value(), step, number, before);
             check_ops(rt, ops, step.ops);
         }
     }

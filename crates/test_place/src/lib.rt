@@ -17,3 +17,5 @@ mod plans;
 mod queues;
 #[cfg(test)]
 mod tables;
+#[cfg(test)]
+mod values;

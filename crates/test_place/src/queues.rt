@@ -106,8 +106,8 @@ fn check_batch(rt: &impl Abort, batch: Option<Batch>, wanted: &[Deed]) {
         None => assert!(rt; wanted.is_empty(), "no batch"),
         Some(batch) => {
             assert!(rt; !wanted.is_empty(), "a batch");
-            let (label, ops) = batch.into_parts();
-            check_labels(rt, label.ops.get().as_slice(), wanted);
+            let (label, ops, _page) = batch.into_parts();
+            check_labels(rt, label.value().ops.get().as_slice(), wanted);
             check_ops(rt, ops, wanted);
         }
     }

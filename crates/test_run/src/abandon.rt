@@ -11,7 +11,7 @@ use std::alloc::Global;
 use std::sync::Wait;
 use std::sync::atomic::{AtomicU64, Ordering};
 use std::test::Fail;
-use tool_scarce::{Hoard, at_each_amount};
+use tool_scarce::{Hoard, Purse, at_each_amount};
 
 // So many batches pass, and then none.
 #[derive(Drop)]
@@ -32,7 +32,7 @@ impl Gate for Fuse {
 
 // A runtime whose host entered so many arrays in turns on two queues, each of which is two operations; all queues are closed, and so many
 // batches have passed.
-fn served<R: Wait>(
+pub fn served<R: Wait>(
     rt: &R,
     alloc: Global,
     arrays: u8,
@@ -58,11 +58,12 @@ fn served<R: Wait>(
 
 // How many operations an outcome has that were performed, and how many that were discarded.
 fn count_in(outcome: &Outcome) -> (usize, usize) {
-    let performed = outcome
-        .works
-        .iter()
-        .filter(|entry| matches!(entry, WorkEntry::Op { .. }))
-        .count();
+    let mut performed = 0usize;
+    for entry in outcome.works.iter() {
+        if let WorkEntry::Op { .. } = entry {
+            performed = performed.wrapping_add(1);
+        }
+    }
     (performed, outcome.discarded.len())
 }
 
@@ -174,9 +175,9 @@ fn abandon_many<R: Wait>(rt: &R, alloc: Global, runs: u64) -> Result<bool, Fault
 fn what_an_abandoned_run_held_is_free_again(rt: HostRuntime) -> Result<(), Fail> {
     let alloc = rt.alloc();
     let mut hoard = Hoard::new(alloc)?;
-    let spare: Vec<u8> = Vec::with_capacity(alloc, 120_000)?;
+    let purse = Purse::new(alloc)?;
     hoard.fill(alloc);
-    drop(spare);
+    drop(purse);
     let answer = abandon_many(&rt, alloc, 200);
     hoard.free();
     assert!(rt; answer?);

@@ -1,6 +1,6 @@
 //! What a finished run leaves, and when it can't be finished.
 
-use crate::fixtures::{Open, config_of, entry_of, print, queue, whole};
+use crate::fixtures::{Open, config_of, entries, entry_of, print, queue, whole};
 use acc_base::{Fault, QUEUES};
 use acc_place::Clause;
 use acc_run::{HostToken, Runtime};
@@ -65,7 +65,7 @@ pub fn made_wrong(
 
 fn finish(runtime: Runtime, tokens: Vec<HostToken>) -> Left {
     match runtime.finish(tokens) {
-        Ok(outcome) => Ok((outcome.places.len(), outcome.works.len())),
+        Ok(outcome) => Ok((outcome.places.len(), entries(&outcome.works))),
         Err(refused) => Err(refused.fault),
     }
 }

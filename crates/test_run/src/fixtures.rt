@@ -6,7 +6,7 @@ ghost use Rattle.acc_host.specs.Engines.{MayRecord};
 use acc_base::{Config, DeviceId, Fault, QueueAt, QueueId, Range};
 use acc_place::{Clause, DataItem, Directive, Target, Waits};
 use acc_run::{Gate, HostToken, Runtime};
-use acc_work::Item;
+use acc_work::{Item, WorkLog};
 use std::alloc::Global;
 use std::sync::Wait;
 use std::thread;
@@ -30,6 +30,15 @@ impl Gate for Shut {
     fn pass(&self, _at: QueueAt, _number: u64) -> bool {
         false
     }
+}
+
+/// How many entries a log has.
+pub fn entries(log: &WorkLog) -> usize {
+    let mut count = 0usize;
+    for _ in log.iter() {
+        count = count.wrapping_add(1);
+    }
+    count
 }
 
 /// A queue of the first device; `0` to `5` have the numbers 2 to 7.

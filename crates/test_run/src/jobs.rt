@@ -5,7 +5,7 @@ use crate::fixtures::{Open, both, close_all, print, queue, record};
 use acc_base::{Config, DeviceId, Fault, QUEUES, QueueAt, Range};
 use acc_place::{Clause, DataItem, Target, Waits};
 use acc_run::{Gate, HostToken, Runtime};
-use acc_work::{Item, Told, WorkEntry};
+use acc_work::{Item, Told, Values, WorkEntry, WorkLog};
 use std::alloc::Global;
 use std::sync::Wait;
 use std::sync::atomic::{AtomicU64, Ordering};
@@ -314,16 +314,27 @@ fn run<R: Threads + Wait + Sync>(
     print(rt, alloc, runtime, token, range_of((1, 0, 4)))
 }
 
+// Whether a print's values are these.
+fn are(values: &Values, wanted: &[i64]) -> bool {
+    let mut shown = values.iter();
+    for value in wanted {
+        if shown.next() != Some(*value) {
+            return false;
+        }
+    }
+    shown.next().is_none()
+}
+
 // Whether the first print of an array in a log shows these values.
-fn shows(works: &[WorkEntry], array: u8, wanted: &[i64]) -> bool {
-    for entry in works {
+fn shows(works: &WorkLog, array: u8, wanted: &[i64]) -> bool {
+    for entry in works.iter() {
         if let WorkEntry::Item {
             what: Told::Print { range, values },
             ..
         } = entry
         {
             if range.array == array {
-                return values.as_slice() == wanted;
+                return are(values.get(), wanted);
             }
         }
     }
@@ -343,7 +354,7 @@ fn holds<R: Threads + Wait + Sync>(
     }
     match runtime.finish(tokens) {
         Ok(outcome) => {
-            let works = outcome.works.as_slice();
+            let works = &outcome.works;
             Ok(shows(works, 0, case.after[0]) && shows(works, 1, case.after[1]))
         }
         Err(refused) => Err(refused.fault),

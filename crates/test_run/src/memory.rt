@@ -1,12 +1,14 @@
-//! Each call is refused for want of memory, at each amount in turn, until there is enough; a token then lists what was done, once.
+//! Each call is refused for want of memory, at each amount in turn, until there is enough; a token then lists what was done, once. What was
+//! placed is performed without any.
 
-use crate::fixtures::{config_of, entry_of, print, queue, whole};
-use acc_base::{DeviceId, Fault};
+use crate::abandon::served;
+use crate::fixtures::{Open, config_of, entries, entry_of, print, queue, whole};
+use acc_base::{DeviceId, Fault, QUEUES};
 use acc_place::Clause;
 use acc_run::{HostToken, Runtime};
 use std::alloc::Global;
 use std::test::Fail;
-use tool_scarce::at_each_amount;
+use tool_scarce::{Hoard, at_each_amount};
 
 // A runtime whose queues have room for two batches, with the token of its one host.
 fn runtime_of(alloc: Global) -> Result<(Runtime, HostToken), Fault> {
@@ -61,5 +63,23 @@ fn an_item_is_refused_until_there_is_memory(rt: HostRuntime) -> Result<(), Fail>
     })?;
     assert!(rt; 1 < refusals);
     assert!(rt; token.items() == 1);
+    Ok(())
+}
+
+/// Eight batches of two operations, and eight closes: no request for memory is granted behind the last of them.
+#[test]
+fn what_was_placed_is_performed_without_memory(rt: HostRuntime) -> Result<(), Fail> {
+    let alloc = rt.alloc();
+    let (runtime, tokens) = served(&rt, alloc, 8, 0)?;
+    let mut hoard = Hoard::new(alloc)?;
+    hoard.fill(alloc);
+    for number in 0..QUEUES {
+        runtime.serve(&rt, queue(number), &Open);
+    }
+    hoard.free();
+    match runtime.finish(tokens) {
+        Ok(outcome) => assert!(rt; entries(&outcome.works) == 24),
+        Err(refused) => assert!(rt; false, "{}", refused.fault),
+    }
     Ok(())
 }

@@ -269,6 +269,13 @@ fn tells_of_memory(report: &[u8]) -> bool {
         .any(|bytes| bytes == b"F11 Memory".as_slice())
 }
 
+// An array whose block takes more memory than reading the texts leaves free, so that it can be wanting at the directive alone.
+const LARGE: &[u8] =
+    b"long a[5000];\nhost {\n#pragma acc enter data copyin(a)\na[0] = 9;\n#pragma acc exit data copyout(a)\nprint(a[0:4]);\n}\n%%\nround 20\n";
+
+const LARGE_REPORT: &[u8] =
+    b"host 0\n0 0 0 0\ndone\nqueue 0 sync batches 2 operations 4 of 4\nend\n";
+
 // Replays the input with each amount of memory, until it is answered otherwise than by want of that. The queues are
 // short, as a world takes their room.
 fn try_amounts(alloc: Global, written: &mut Vec<u8>) -> Result<Tried, AllocError> {
@@ -285,7 +292,7 @@ fn try_amounts(alloc: Global, written: &mut Vec<u8>) -> Result<Tried, AllocError
     };
     hoard.fill(alloc);
     for _ in 0..Purse::GIFTS {
-        let mut input = STALE;
+        let mut input = LARGE;
         tried.answer = replay_one(alloc, &mut input, options, written);
         match tried.answer {
             Err(DriverFault::Memory) if written.is_empty() => {
@@ -317,7 +324,7 @@ fn memory_is_refused_at_each_amount(rt: HostRuntime) -> Result<(), Fail> {
     let mut written = Vec::with_capacity(rt.alloc(), 4_096)?;
     let tried = try_amounts(rt.alloc(), &mut written)?;
     check_answer(&rt, tried.answer, ENDED);
-    check_bytes(&rt, written.as_slice(), STALE_REPORT);
+    check_bytes(&rt, written.as_slice(), LARGE_REPORT);
     check_tried(&rt, tried);
     Ok(())
 }

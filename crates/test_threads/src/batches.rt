@@ -106,7 +106,8 @@ pub fn batch_of(alloc: Global, number: u64) -> Result<Batch, Fault>
 
 /// Whether it is that batch, with the memory that it needs.
 pub fn is_batch(batch: Batch, number: u64) -> bool {
-    let (label, mut ops) = batch.into_parts();
+    let (label, mut ops, _page) = batch.into_parts();
+    let label = label.value();
     label.number == number && label.items_done == number && has_ops(&mut ops, number)
 }
 
@@ -121,7 +122,8 @@ fn has_ops(ops: &mut Ops, number: u64) -> bool {
 
 fn makes(op: Option<Op>, number: u64) -> bool {
     match &op {
-        Some(Op::Make { block }) => {
+        Some(Op::Make { block, .. }) => {
+            let block = block.value();
             block.block == block_of(number)
                 && block.range == cells_of(number)
                 && block.cells.len() == CELLS as usize

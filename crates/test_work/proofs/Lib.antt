@@ -1,2 +1,1 @@
 mod Finding
-mod Following

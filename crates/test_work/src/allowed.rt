@@ -1,7 +1,7 @@
 //! What the memory requires of an operation and of a range, asked while a test runs.
 
 ghost use Rattle.std.specs.Prelude.{◌≡◌, ◌<◌, IsTrue, is_some, length, true};
-ghost use Rattle.acc_memory.specs.Memories.{HasRange, HasRanges, MayPerform, ends_in, find_block, held_blocks, room_on, rows_on};
+ghost use Rattle.acc_memory.specs.Memories.{HasRange, HasRanges, MayPerform, ends_in, find_block, held_blocks};
 ghost use Rattle.acc_base.specs.Configurations.{lengths_of};
 
 use acc_base::{BlockId, Config, DeviceId, Range};
@@ -22,7 +22,6 @@ pub fn ends_in_array(config: &Config, range: Range) -> bool
 pub fn is_allowed(config: &Config, memory: &Memory, op: &OpLabel) -> bool
     requires device { 0 < length memory.now.devices }
     requires lengths { lengths_of memory.now.arrays ≡ lengths_of config.now.arrays }
-    requires room { length (rows_on memory.now 0) < room_on memory.now 0 }
     ensures { IsTrue result → MayPerform memory.now 0 op.now }
 {
     match op {

@@ -9,7 +9,7 @@ use crate::runs::range;
 use acc_base::{BlockId, Config, DeviceId, Fault, Few, HostId, Listed, QueueAt, QueueId, Shared};
 use acc_batch::{Batch, Label, OpLabel};
 use acc_kernel::Job;
-use acc_work::{Done, JobOut, Work};
+use acc_work::{Done, JobOut, Work, WorkLog};
 use std::alloc::Global;
 use std::process::Abort;
 use std::test::Fail;
@@ -112,19 +112,8 @@ fn offer(alloc: Global, work: &mut Work, at: QueueAt, ops: Few<OpLabel>) -> Resu
     if !work.lane_empty(QueueAt { device, queue }) {
         return Err(Fault::BadRange);
     }
-    work.spare(QueueAt { device, queue }, 1)?;
     work.offer(QueueAt { device, queue }, batch);
     Ok(())
-}
-
-// A queue performs its next operation, if it can.
-fn perform(work: &mut Work, at: QueueAt) -> Result<Done, Fault> {
-    let QueueAt { device, queue } = at;
-    if !work.goes_on(QueueAt { device, queue }) {
-        return Ok(Done::Idle);
-    }
-    work.spare(QueueAt { device, queue }, 1)?;
-    Ok(work.perform(QueueAt { device, queue }))
 }
 
 // A work side whose queue `1` has performed all but its loop, and whose queue `2` is to release a.
@@ -137,14 +126,23 @@ fn work_of(alloc: Global) -> Result<Work, Fault> {
     offer(alloc, &mut work, queue(3), entry_and_loop(alloc)?)?;
     offer(alloc, &mut work, queue(4), release(alloc)?)?;
     for _ in 0..3u8 {
-        let _ = perform(&mut work, queue(3))?;
+        let _ = work.perform(queue(3));
     }
     Ok(work)
 }
 
+// How many entries a log has.
+fn entries(log: &WorkLog) -> usize {
+    let mut count = 0usize;
+    for _ in log.iter() {
+        count = count.wrapping_add(1);
+    }
+    count
+}
+
 fn check(rt: &impl Abort, work: &Work, wanted: Stand) {
     let found = (
-        work.log().len(),
+        entries(work.log()),
         work.ops_left(queue(3)),
         work.goes_on(queue(3)),
         work.is_live(queue(3)),
@@ -176,19 +174,18 @@ fn commit(work: &mut Work, job: Option<JobOut>) -> Result<Option<JobOut>, Fault>
         return Err(Fault::Unfinished);
     };
     job.compute();
-    work.spare_item(0)?;
     Ok(work.commit_job(job).err())
 }
 
 // Queue `2` releases a while the loop is out.
 fn check_released(rt: &impl Abort, alloc: Global, work: &mut Work) -> Result<(), Fault> {
     let job = start(alloc, work)?;
-    assert!(rt; perform(work, queue(4))? == Done::Op);
+    assert!(rt; work.perform(queue(4)) == Done::Op);
     check(rt, work, (4, 1, false, false, Some(0)));
     assert!(rt; commit(work, job)?.is_none());
     check(rt, work, (4, 1, true, false, Some(0)));
     assert!(rt; start(alloc, work)?.is_none());
-    assert!(rt; perform(work, queue(3))? == Done::Idle);
+    assert!(rt; work.perform(queue(3)) == Done::Idle);
     check(rt, work, (4, 1, true, false, Some(0)));
     Ok(())
 }

@@ -15,8 +15,8 @@ use std::test::Fail;
 use tool_loops::Part::{Number, Read};
 use tool_loops::{TIMES, statements_of};
 
-// Performs an operation on the first device, if it may be performed.
-fn perform(
+/// Performs an operation on the first device, if it may be performed.
+pub fn perform(
     rt: &impl Abort,
     alloc: Global,
     config: &Config,
@@ -28,7 +28,6 @@ fn perform(
     ensures device { 0 < length memory.new.devices }
     ensures lengths { lengths_of memory.new.arrays ≡ lengths_of config.now.arrays }
 {
-    memory.spare(1)?;
     assert!(rt; op.has_its_cells());
     assert!(rt; is_allowed(config, memory, &op));
     let op = Op::new(alloc, &op)?;

@@ -71,9 +71,9 @@ pub fn operation_of(op: &OpLabel) -> Operation {
 /// What an operation performs.
 pub fn performed_by(op: &Op) -> Operation {
     match op {
-        Op::Make { block } => Operation::Make {
-            block: block.block,
-            range: block.range,
+        Op::Make { block, .. } => Operation::Make {
+            block: block.value().block,
+            range: block.value().range,
         },
         Op::CopyIn { block, range } => Operation::CopyIn {
             block: *block,

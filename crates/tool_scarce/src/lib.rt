@@ -55,32 +55,46 @@ impl Hoard {
 /// Memory that is given back a little at a time.
 #[derive(Drop)]
 pub struct Purse {
-    bytes: Vec<u8>,
+    pieces: Vec<Vec<u8>>,
 }
+
+/// The pieces of a purse, and the bytes of each: less than the amount for which an allocator takes a place of its own.
+const PIECES: usize = 4;
+
+const PIECE: usize = 120_000;
+
+/// The bytes of a gift.
+const GIFT: usize = 16;
 
 impl Purse {
     /// How often a purse gives.
-    pub const GIFTS: u32 = 7_000;
+    pub const GIFTS: u32 = 28_000;
 
-    /// A full purse. It has less than the amount for which an allocator takes a place of its own.
+    /// A full purse.
     ///
     /// # Errors
     ///
     /// Where memory is refused.
     pub fn new(alloc: Global) -> Result<Purse, AllocError> {
-        Ok(Purse {
-            bytes: Vec::with_capacity(alloc, 120_000)?,
-        })
+        let mut pieces = Vec::with_capacity(alloc, PIECES)?;
+        for _ in 0..PIECES {
+            pieces.push(Vec::with_capacity(alloc, PIECE)?)?;
+        }
+        Ok(Purse { pieces })
     }
 
-    /// Gives back sixteen bytes, and answers whether they were there.
+    /// Gives back sixteen bytes, or a piece that has fewer, and answers whether they were there. The latest piece goes first, as
+    /// what is given then joins what was given before.
     pub fn give(&mut self) -> bool {
-        let capacity = self.bytes.capacity();
-        if capacity < 16 {
+        let Some(mut piece) = self.pieces.pop() else {
             return false;
+        };
+        let capacity = piece.capacity();
+        if capacity < GIFT {
+            return true;
         }
-        self.bytes.shrink_to(capacity - 16);
-        self.bytes.capacity() < capacity
+        piece.shrink_to(capacity - GIFT);
+        piece.capacity() < capacity && self.pieces.push(piece).is_ok()
     }
 }
 

@@ -9,9 +9,9 @@ use Rattle.acc_host.specs.declared.program.Act.{Act}
 use Rattle.acc_host.specs.declared.program.Act.TheVariants as act
 use Rattle.acc_host.specs.declared.state.Phase.TheVariants as phase
 use Rattle.acc_host.specs.declared.state.Reply.TheVariants as reply
-use Rattle.acc_work.specs.declared.log.Told.TheVariants as shown
-use Rattle.acc_work.specs.declared.log.WorkEntry.{WorkEntry}
-use Rattle.acc_work.specs.declared.log.WorkEntry.TheVariants as entry
+use Rattle.acc_batch.specs.declared.entry.Told.TheVariants as shown
+use Rattle.acc_batch.specs.declared.entry.WorkEntry.{WorkEntry}
+use Rattle.acc_batch.specs.declared.entry.WorkEntry.TheVariants as entry
 use Rattle.acc_host.specs.declared.event.Event.TheVariants as event
 use Rattle.acc_core.specs.worked.Programs.{host, look_after, program_of, world}
 use Rattle.acc_core.specs.worked.Hosts.{repeated}
@@ -38,7 +38,7 @@ LateIsRefused =
           ++ replicate 7 reply.Idle ++ reply.Did ∷ reply.Did ∷ replicate 8 reply.Idle
           ++ replicate 51 reply.Idle;
       present = record { range = both; block = 1; s = 0; d = 1 } ∷ [];
-      work = closes_of (3 ∷ 7 ∷ 6 ∷ 5 ∷ 4 ∷ []) ++ entry.Op first (Make 1 both) ∷ closes_of (2 ∷ 1 ∷ 0 ∷ []);
+      work = closes_of (3 ∷ 7 ∷ 6 ∷ 5 ∷ 4 ∷ []) ++ entry.Op first (Make both 1) ∷ closes_of (2 ∷ 1 ∷ 0 ∷ []);
       ended = 1 ∷ [];
       phases = phase.Refused Closed ∷ [];
     }

@@ -17,8 +17,8 @@ use Rattle.acc_host.specs.declared.program.Act.TheVariants as act
 use Rattle.acc_host.specs.declared.state.Phase.TheVariants as phase
 use Rattle.acc_host.specs.declared.state.Reply.{Reply}
 use Rattle.acc_host.specs.declared.state.Reply.TheVariants as reply
-use Rattle.acc_work.specs.declared.log.Told.TheVariants as shown
-use Rattle.acc_work.specs.declared.log.WorkEntry.TheVariants as entry
+use Rattle.acc_batch.specs.declared.entry.Told.TheVariants as shown
+use Rattle.acc_batch.specs.declared.entry.WorkEntry.TheVariants as entry
 use Rattle.acc_host.specs.declared.event.Event.{Event}
 use Rattle.acc_host.specs.declared.event.Event.TheVariants as event
 use Rattle.acc_core.specs.worked.Programs.{host, look_after, place, program_of, world}
@@ -49,7 +49,7 @@ OneHostIsRefused =
           ∷ replicate 9 reply.Idle ++ reply.Did ∷ replicate 8 reply.Idle
           ++ replicate 8 reply.Idle ++ reply.Did ∷ reply.Did ∷ replicate 8 reply.Idle ++ replicate 54 reply.Idle;
       present = record { range = both; block = 1; s = 0; d = 1 } ∷ [];
-      work = entry.Op first (CopyIn 1 both) ∷ entry.Op first (Make 1 both) ∷ [];
+      work = entry.Op first (CopyIn both 1) ∷ entry.Op first (Make both 1) ∷ [];
       ended = 2 ∷ 0 ∷ [];
       phases = phase.Ready ∷ phase.Refused QueueFull ∷ [];
     }
@@ -80,8 +80,8 @@ LoopIsDoneAtTheWait =
       work =
           entry.Item 0 (shown.Print both (pos 11 ∷ pos 12 ∷ []))
           ∷ entry.Item 0 (shown.Seen 0 (0 ∷ 0 ∷ 0 ∷ 1 ∷ 0 ∷ 0 ∷ 0 ∷ 0 ∷ []))
-          ∷ entry.Op first (Release 1) ∷ entry.Op first (CopyOut 1 both) ∷ entry.Op first (Run tens ((1, both) ∷ []))
-          ∷ entry.Op first (CopyIn 1 both) ∷ entry.Op first (Make 1 both)
+          ∷ entry.Op first (Release 1) ∷ entry.Op first (CopyOut both 1) ∷ entry.Op first (Run tens ((1, both) ∷ []))
+          ∷ entry.Op first (CopyIn both 1) ∷ entry.Op first (Make both 1)
           ∷ entry.Item 0 (shown.Print both (pos 1 ∷ pos 2 ∷ [])) ∷ [];
       ended = 5 ∷ [];
       phases = phase.Ready ∷ [];
@@ -116,10 +116,10 @@ QuestionsTellTheirMoment =
           ++ reply.Did ∷ replicate 32 reply.Idle ++ reply.Refused BadDevice ∷ replicate 32 reply.Idle ++ replicate 33 reply.Idle;
       present = record { range = only_cell; block = 1; s = 0; d = 1 } ∷ [];
       work =
-          entry.Item 0 (shown.Test 0 (0 ∷ 0 ∷ 0 ∷ 1 ∷ 0 ∷ 0 ∷ 0 ∷ 0 ∷ []) true)
+          entry.Item 0 (shown.Test 0 true (0 ∷ 0 ∷ 0 ∷ 1 ∷ 0 ∷ 0 ∷ 0 ∷ 0 ∷ []))
           ∷ entry.Item 0 (shown.Seen 0 (0 ∷ 0 ∷ 0 ∷ 1 ∷ 0 ∷ 0 ∷ 0 ∷ 0 ∷ []))
-          ∷ entry.Op first (Make 1 only_cell)
-          ∷ entry.Item 0 (shown.Test 0 (0 ∷ 0 ∷ 0 ∷ 1 ∷ 0 ∷ 0 ∷ 0 ∷ 0 ∷ []) false) ∷ [];
+          ∷ entry.Op first (Make only_cell 1)
+          ∷ entry.Item 0 (shown.Test 0 false (0 ∷ 0 ∷ 0 ∷ 1 ∷ 0 ∷ 0 ∷ 0 ∷ 0 ∷ [])) ∷ [];
       ended = 9 ∷ [];
       phases = phase.Refused BadDevice ∷ [];
     }

@@ -19,9 +19,9 @@ use Rattle.acc_host.specs.declared.event.Event.{Event}
 use Rattle.acc_host.specs.declared.event.Event.TheVariants as event
 use Rattle.acc_host.specs.declared.state.Reply.{Reply}
 use Rattle.acc_host.specs.declared.state.Reply.TheVariants as reply
-use Rattle.acc_work.specs.declared.log.Told.TheVariants as shown
-use Rattle.acc_work.specs.declared.log.WorkEntry.{WorkEntry}
-use Rattle.acc_work.specs.declared.log.WorkEntry.TheVariants as entry
+use Rattle.acc_batch.specs.declared.entry.Told.TheVariants as shown
+use Rattle.acc_batch.specs.declared.entry.WorkEntry.{WorkEntry}
+use Rattle.acc_batch.specs.declared.entry.WorkEntry.TheVariants as entry
 use Rattle.acc_batch.specs.declared.label.OpLabel.TheVariants.{Make, CopyIn, CopyOut, Release, Run}
 use Rattle.acc_host.specs.declared.program.Act.{Act}
 use Rattle.acc_host.specs.declared.program.Act.TheVariants as act
@@ -115,7 +115,7 @@ EnteredTwice =
     ≡ record {
       replies = reply.Did ∷ reply.Idle ∷ reply.Did ∷ reply.Idle ∷ reply.Did ∷ reply.Did ∷ reply.Idle ∷ reply.Did ∷ reply.Did ∷ reply.Did ∷ reply.Idle ∷ [];
       present = record { range = cells 0 4; block = 1; s = 0; d = 1 } ∷ [];
-      work = batches_seen 1 ∷ entry.Op sync (CopyIn 1 (cells 0 4)) ∷ entry.Op sync (Make 1 (cells 0 4)) ∷ [];
+      work = batches_seen 1 ∷ entry.Op sync (CopyIn (cells 0 4) 1) ∷ entry.Op sync (Make (cells 0 4) 1) ∷ [];
       ended = 3 ∷ [];
       phases = phase.Ready ∷ [];
     }
@@ -130,7 +130,7 @@ OverlapRefused =
     ≡ record {
       replies = reply.Did ∷ reply.Did ∷ reply.Did ∷ reply.Did ∷ reply.Did ∷ reply.Refused PartlyPresent ∷ reply.Idle ∷ [];
       present = record { range = cells 0 4; block = 1; s = 0; d = 1 } ∷ [];
-      work = batches_seen 1 ∷ entry.Op sync (CopyIn 1 (cells 0 4)) ∷ entry.Op sync (Make 1 (cells 0 4)) ∷ [];
+      work = batches_seen 1 ∷ entry.Op sync (CopyIn (cells 0 4) 1) ∷ entry.Op sync (Make (cells 0 4) 1) ∷ [];
       ended = 1 ∷ [];
       phases = phase.Refused PartlyPresent ∷ [];
     }
@@ -147,9 +147,9 @@ StaleHostCopy =
       present = [];
       work =
           entry.Item 0 (shown.Print (cells 0 4) (pos 1 ∷ pos 2 ∷ pos 3 ∷ pos 4 ∷ []))
-          ∷ batches_seen 2 ∷ entry.Op sync (Release 1) ∷ entry.Op sync (CopyOut 1 (cells 0 4))
+          ∷ batches_seen 2 ∷ entry.Op sync (Release 1) ∷ entry.Op sync (CopyOut (cells 0 4) 1)
           ∷ entry.Item 0 (shown.Write 0 0 (pos 9))
-          ∷ batches_seen 1 ∷ entry.Op sync (CopyIn 1 (cells 0 4)) ∷ entry.Op sync (Make 1 (cells 0 4)) ∷ [];
+          ∷ batches_seen 1 ∷ entry.Op sync (CopyIn (cells 0 4) 1) ∷ entry.Op sync (Make (cells 0 4) 1) ∷ [];
       ended = 4 ∷ [];
       phases = phase.Ready ∷ [];
     }
@@ -176,10 +176,10 @@ LoopRuns =
           entry.Item 0 (shown.Print all_y (pos 2 ∷ pos 3 ∷ pos 4 ∷ pos 0 ∷ []))
           ∷ batches_seen 1
           ∷ entry.Op sync (Release 2) ∷ entry.Op sync (Release 1)
-          ∷ entry.Op sync (CopyOut 2 all_y)
+          ∷ entry.Op sync (CopyOut all_y 2)
           ∷ entry.Op sync (Run (shifts (pos 1) 3) ((2, all_y) ∷ (1, all_x) ∷ []))
-          ∷ entry.Op sync (CopyIn 1 all_x)
-          ∷ entry.Op sync (Make 2 all_y) ∷ entry.Op sync (Make 1 all_x) ∷ [];
+          ∷ entry.Op sync (CopyIn all_x 1)
+          ∷ entry.Op sync (Make all_y 2) ∷ entry.Op sync (Make all_x 1) ∷ [];
       ended = 2 ∷ [];
       phases = phase.Refused OutsideRange ∷ [];
     }
@@ -199,9 +199,9 @@ LoopOnPresent =
       present = [];
       work =
           entry.Item 0 (shown.Print all_x (pos 2 ∷ pos 4 ∷ pos 6 ∷ pos 8 ∷ []))
-          ∷ batches_seen 3 ∷ entry.Op sync (Release 1) ∷ entry.Op sync (CopyOut 1 all_x)
+          ∷ batches_seen 3 ∷ entry.Op sync (Release 1) ∷ entry.Op sync (CopyOut all_x 1)
           ∷ batches_seen 2 ∷ entry.Op sync (Run doubles ((1, all_x) ∷ []))
-          ∷ batches_seen 1 ∷ entry.Op sync (CopyIn 1 all_x) ∷ entry.Op sync (Make 1 all_x) ∷ [];
+          ∷ batches_seen 1 ∷ entry.Op sync (CopyIn all_x 1) ∷ entry.Op sync (Make all_x 1) ∷ [];
       ended = 4 ∷ [];
       phases = phase.Ready ∷ [];
     }

@@ -22,8 +22,8 @@ use Rattle.acc_host.specs.declared.program.Act.{Act}
 use Rattle.acc_host.specs.declared.program.Act.TheVariants as act
 use Rattle.acc_host.specs.declared.state.Phase.TheVariants as phase
 use Rattle.acc_host.specs.declared.state.Reply.TheVariants as reply
-use Rattle.acc_work.specs.declared.log.Told.TheVariants as shown
-use Rattle.acc_work.specs.declared.log.WorkEntry.TheVariants as entry
+use Rattle.acc_batch.specs.declared.entry.Told.TheVariants as shown
+use Rattle.acc_batch.specs.declared.entry.WorkEntry.TheVariants as entry
 use Rattle.acc_host.specs.declared.event.Event.{Event}
 use Rattle.acc_host.specs.declared.event.Event.TheVariants as event
 use Rattle.acc_core.specs.worked.Programs.{batches_seen, host, look_after, place, sync, world, world_within}
@@ -77,9 +77,9 @@ UseAwaitsItsMaker =
       work =
           entry.Item 0 (shown.Print both (pos 6 ∷ pos 7 ∷ []))
           ∷ entry.Item 0 (shown.Seen 0 (0 ∷ 0 ∷ 0 ∷ 0 ∷ 2 ∷ 0 ∷ 0 ∷ 0 ∷ []))
-          ∷ entry.Op second (CopyOut 1 both) ∷ entry.Op second (Await 3 1)
+          ∷ entry.Op second (CopyOut both 1) ∷ entry.Op second (Await 3 1)
           ∷ entry.Op second (Run adds ((1, both) ∷ [])) ∷ entry.Op second (Await 3 1)
-          ∷ entry.Op first (CopyIn 1 both) ∷ entry.Op first (Make 1 both) ∷ [];
+          ∷ entry.Op first (CopyIn both 1) ∷ entry.Op first (Make both 1) ∷ [];
       ended = 5 ∷ [];
       phases = phase.Ready ∷ [];
     }
@@ -101,9 +101,9 @@ ReleaseAwaitsEachUse =
       work =
           entry.Item 0 (shown.Print both (pos 7 ∷ pos 8 ∷ []))
           ∷ entry.Item 0 (shown.Seen 0 (0 ∷ 0 ∷ 0 ∷ 2 ∷ 0 ∷ 0 ∷ 0 ∷ 0 ∷ []))
-          ∷ entry.Op first (Release 1) ∷ entry.Op first (CopyOut 1 both) ∷ entry.Op first (Await 4 1)
+          ∷ entry.Op first (Release 1) ∷ entry.Op first (CopyOut both 1) ∷ entry.Op first (Await 4 1)
           ∷ entry.Op second (Run sevens ((1, both) ∷ [])) ∷ entry.Op second (Await 3 1)
-          ∷ entry.Op first (Make 1 both) ∷ [];
+          ∷ entry.Op first (Make both 1) ∷ [];
       ended = 5 ∷ [];
       phases = phase.Ready ∷ [];
     }
@@ -116,7 +116,7 @@ AsyncValuesNameQueues =
     ≡ record {
       replies = reply.Did ∷ reply.Did ∷ reply.Refused BadAsync ∷ reply.Idle ∷ replicate 4 reply.Did;
       present = record { range = both; block = 1; s = 0; d = 1 } ∷ [];
-      work = entry.Op first (CopyOut 1 both) ∷ entry.Op first (Make 1 both) ∷ [];
+      work = entry.Op first (CopyOut both 1) ∷ entry.Op first (Make both 1) ∷ [];
       ended = 2 ∷ [];
       phases = phase.Refused BadAsync ∷ [];
     }
@@ -148,9 +148,9 @@ DefaultQueueRunsInOrder =
       work =
           entry.Item 0 (shown.Print first_cell (pos 42 ∷ []))
           ∷ entry.Item 0 (shown.Seen 0 (0 ∷ 3 ∷ 0 ∷ 0 ∷ 0 ∷ 0 ∷ 0 ∷ 0 ∷ []))
-          ∷ entry.Op noval (Release 1) ∷ entry.Op noval (CopyOut 1 first_cell)
+          ∷ entry.Op noval (Release 1) ∷ entry.Op noval (CopyOut first_cell 1)
           ∷ entry.Op noval (Run times_six ((1, first_cell) ∷ []))
-          ∷ entry.Op noval (CopyIn 1 first_cell) ∷ entry.Op noval (Make 1 first_cell)
+          ∷ entry.Op noval (CopyIn first_cell 1) ∷ entry.Op noval (Make first_cell 1)
           ∷ entry.Item 0 (shown.Write 0 0 (pos 7)) ∷ [];
       ended = 6 ∷ [];
       phases = phase.Ready ∷ [];
@@ -171,7 +171,7 @@ WaitsAreBatches =
     ≡ record {
       replies = replicate 6 reply.Did ++ reply.Idle ∷ replicate 5 reply.Did ++ reply.Idle ∷ reply.Idle ∷ [];
       present = record { range = both; block = 1; s = 0; d = 1 } ∷ [];
-      work = entry.Op second (Await 3 1) ∷ entry.Op second (Await 3 1) ∷ entry.Op first (Make 1 both) ∷ [];
+      work = entry.Op second (Await 3 1) ∷ entry.Op second (Await 3 1) ∷ entry.Op first (Make both 1) ∷ [];
       ended = 5 ∷ [];
       phases = phase.Ready ∷ [];
     }
@@ -207,7 +207,7 @@ CapacityIsOfWhatIsPresent =
           replicate 3 reply.Did ++ replicate 14 reply.Idle
           ++ reply.Did ∷ replicate 16 reply.Idle ++ reply.Did ∷ reply.Did ∷ reply.Refused DeviceFull ∷ [];
       present = record { range = other_cell; block = 2; s = 0; d = 1 } ∷ [];
-      work = batches_seen 1 ∷ entry.Op sync (Make 1 eight_cells) ∷ [];
+      work = batches_seen 1 ∷ entry.Op sync (Make eight_cells 1) ∷ [];
       ended = 3 ∷ [];
       phases = phase.Refused DeviceFull ∷ [];
     }

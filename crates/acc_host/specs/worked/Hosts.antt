@@ -11,7 +11,7 @@ use Rattle.acc_place.specs.declared.directive.Target.TheVariants as target
 use Rattle.acc_place.specs.declared.directive.Waits.{Waits}
 use Rattle.acc_place.specs.declared.directive.Waits.TheVariants as waits
 use Rattle.acc_place.specs.Directives.{Directive}
-use Rattle.acc_work.specs.declared.log.Told.TheVariants as told
+use Rattle.acc_batch.specs.declared.entry.Told.TheVariants as told
 use Rattle.acc_host.specs.declared.program.Act.{Act}
 use Rattle.acc_host.specs.declared.program.Act.TheVariants as act
 use Rattle.acc_host.specs.declared.program.Statement.{Statement}
@@ -62,10 +62,10 @@ questions =
 abbrev pub asked : List HostEntry
 asked =
     Gave (create 0) (answered (Some (3, 1)) (counts_of 0) false)
-    ∷ Gave (test 0 (waits.Listed (pos 1 ∷ []))) (answered None (counts_of 1) false) ∷ Had (told.Test 0 (counts_of 1) false)
+    ∷ Gave (test 0 (waits.Listed (pos 1 ∷ []))) (answered None (counts_of 1) false) ∷ Had (told.Test 0 false (counts_of 1))
     ∷ Gave (test 0 (waits.Listed (pos 2 ∷ []))) (answered None (counts_of 0) false)
     ∷ Gave (wait 0 (waits.Listed (pos 1 ∷ []))) (answered None (counts_of 1) false) ∷ Had (told.Seen 0 (counts_of 1))
-    ∷ Gave (test 0 waits.All) (answered None (counts_of 1) false) ∷ Had (told.Test 0 (counts_of 1) true)
+    ∷ Gave (test 0 waits.All) (answered None (counts_of 1) false) ∷ Had (told.Test 0 true (counts_of 1))
     ∷ Gave (is_present 1) (answered None (counts_of 0) false) ∷ []
 
 -- Refused at the last statement, with all others ended.

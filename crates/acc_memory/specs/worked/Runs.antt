@@ -50,7 +50,7 @@ after_ops (op ∷ ops) was = after_ops ops (after_op 0 op was)
 -- blocks for x[2] to x[5], copied in, and for y[0] to y[5], zero; after the loop y[0] to y[3] are copied out
 abbrev pub there_and_back : List OpLabel
 there_and_back =
-    Make 3 (range 0 2 4) ∷ CopyIn 3 (range 0 2 4) ∷ Make 5 (range 1 0 6) ∷ Run doubles its_uses ∷ CopyOut 5 (range 1 0 4) ∷ []
+    Make (range 0 2 4) 3 ∷ CopyIn (range 0 2 4) 3 ∷ Make (range 1 0 6) 5 ∷ Run doubles its_uses ∷ CopyOut (range 1 0 4) 5 ∷ []
 
 abbrev pub ThereAndBack : Type 0
 ThereAndBack =

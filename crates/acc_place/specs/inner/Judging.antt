@@ -214,15 +214,15 @@ block_of CopyOuts t = t.ended
 block_of Releases t = t.ended
 
 abbrev pub update_for : Clause → ℕ → Range → Option OpLabel
-update_for UpdateSelf b r = Some (op.CopyOut b r)
-update_for UpdateDevice b r = Some (op.CopyIn b r)
+update_for UpdateSelf b r = Some (op.CopyOut r b)
+update_for UpdateDevice b r = Some (op.CopyIn r b)
 update_for c b r = None
 
 abbrev pub op_for : Group → Clause → ℕ → Range → Option OpLabel
-op_for Makes c b r = Some (op.Make b r)
-op_for CopyIns c b r = if copies_in c then Some (op.CopyIn b r) else None
+op_for Makes c b r = Some (op.Make r b)
+op_for CopyIns c b r = if copies_in c then Some (op.CopyIn r b) else None
 op_for Updates c b r = update_for c b r
-op_for CopyOuts c b r = if copies_out c then Some (op.CopyOut b r) else None
+op_for CopyOuts c b r = if copies_out c then Some (op.CopyOut r b) else None
 op_for Releases c b r = Some (op.Release b)
 
 -- what became of an item, as its operation of a group, if it has one

@@ -90,13 +90,13 @@ NotesTell =
 
 -- the blocks that an operation copies or computes with, each with the range that it uses
 abbrev pub used_ranges : OpLabel → List Use
-used_ranges (CopyIn b r) = (b, r) ∷ []
-used_ranges (CopyOut b r) = (b, r) ∷ []
+used_ranges (CopyIn r b) = (b, r) ∷ []
+used_ranges (CopyOut r b) = (b, r) ∷ []
 used_ranges (Run k uses) = uses
 used_ranges op = []
 
 abbrev pub made_ranges : OpLabel → List Use
-made_ranges (Make b r) = (b, r) ∷ []
+made_ranges (Make r b) = (b, r) ∷ []
 made_ranges op = []
 
 -- all that it makes or uses

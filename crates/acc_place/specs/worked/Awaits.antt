@@ -65,18 +65,18 @@ runs = directive (kind.Loop counts_up) (item clause.Present a ∷ [])
 abbrev pub ReleaseAwaitsTheLoop : Type 0
 ReleaseAwaitsTheLoop =
     placed_by (async 1 (directive (kind.ExitData false) (item clause.Copyout a ∷ [])) ∷ async 2 runs ∷ async 1 (enters a) ∷ [])
-    ≡ (queue 1, (1, Make 1 a ∷ []))
+    ≡ (queue 1, (1, Make a 1 ∷ []))
     ∷ (queue 2, (1, Await 3 1 ∷ Run counts_up ((1, a) ∷ []) ∷ []))
-    ∷ (queue 1, (2, Await 4 1 ∷ CopyOut 1 a ∷ Release 1 ∷ []))
+    ∷ (queue 1, (2, Await 4 1 ∷ CopyOut a 1 ∷ Release 1 ∷ []))
     ∷ []
 
 -- each use on another queue awaits the maker anew, and not the uses
 abbrev pub UsesAwaitTheMaker : Type 0
 UsesAwaitTheMaker =
     placed_by (async 2 (directive (kind.Update false) (item clause.UpdateSelf a ∷ [])) ∷ async 2 runs ∷ async 1 (directive kind.EnterData (item clause.Copyin a ∷ [])) ∷ [])
-    ≡ (queue 1, (1, Make 1 a ∷ CopyIn 1 a ∷ []))
+    ≡ (queue 1, (1, Make a 1 ∷ CopyIn a 1 ∷ []))
     ∷ (queue 2, (1, Await 3 1 ∷ Run counts_up ((1, a) ∷ []) ∷ []))
-    ∷ (queue 2, (2, Await 3 1 ∷ CopyOut 1 a ∷ []))
+    ∷ (queue 2, (2, Await 3 1 ∷ CopyOut a 1 ∷ []))
     ∷ []
 
 -- a range that has left isn't counted, though its release is queued
@@ -95,7 +95,7 @@ WaitsAlone =
     ∷ waiting (pos 3 ∷ []) (directive kind.Wait [])
     ∷ []
     )
-    ≡ (queue 1, (1, Make 1 b ∷ [])) ∷ (queue 2, (1, Await 3 1 ∷ [])) ∷ (queue 2, (2, Await 3 1 ∷ [])) ∷ []
+    ≡ (queue 1, (1, Make b 1 ∷ [])) ∷ (queue 2, (1, Await 3 1 ∷ [])) ∷ (queue 2, (2, Await 3 1 ∷ [])) ∷ []
 
 -- a value below -2 is none, in a target or in a wait
 abbrev pub NoSuchQueue : Type 0
@@ -107,7 +107,7 @@ NoSuchQueue =
 abbrev pub DevicesApart : Type 0
 DevicesApart =
     placed_by (record (async 1 (enters a)) { device = 1 } ∷ async 2 (enters a) ∷ [])
-    ≡ (queue 2, (1, Make 1 a ∷ [])) ∷ (record { device = 1; queue = 3 }, (1, Make 1 a ∷ [])) ∷ []
+    ≡ (queue 2, (1, Make a 1 ∷ [])) ∷ (record { device = 1; queue = 3 }, (1, Make a 1 ∷ [])) ∷ []
 
 -- the counts of the answer, behind a batch on queue 1 and two on queue 2
 abbrev pub counts_behind : Directive → List ℕ

@@ -48,9 +48,9 @@ fault_after history d = refusal few_cells (left_by history) 0 d
 -- The close of a queue is its last batch, numbered behind those that were placed there, of no host's directive.
 abbrev pub LastBatches : Type 0
 LastBatches =
-    (placed_by closing ≡ (queue 1, (1, (0, (3, Make 1 a ∷ [])))) ∷ [])
+    (placed_by closing ≡ (queue 1, (1, (0, (3, Make a 1 ∷ [])))) ∷ [])
     × (placed_by two_closed
-    ≡ (queue 1, (1, (0, (3, Make 1 a ∷ []))))
+    ≡ (queue 1, (1, (0, (3, Make a 1 ∷ []))))
     ∷ (sync_beside, (1, (0, (0, Close ∷ []))))
     ∷ (queue 1, (2, (0, (0, Close ∷ []))))
     ∷ [])

@@ -82,21 +82,21 @@ RunsOnPresent =
 -- Implicit items are as in `copy`, by the first reference: the assigned array is first. After the loop nothing is present.
 abbrev pub CopiesImplicitly : Type 0
 CopiesImplicitly =
-    (placed [] (run (counts_up 1) []) ≡ Make 1 all_x ∷ CopyIn 1 all_x ∷ Run (counts_up 1) ((1, all_x) ∷ []) ∷ CopyOut 1 all_x ∷ Release 1 ∷ [])
+    (placed [] (run (counts_up 1) []) ≡ Make all_x 1 ∷ CopyIn all_x 1 ∷ Run (counts_up 1) ((1, all_x) ∷ []) ∷ CopyOut all_x 1 ∷ Release 1 ∷ [])
     × (placed [] (run (shifts (pos 0) 4) [])
-    ≡ Make 1 all_y ∷ Make 2 all_x ∷ CopyIn 1 all_y ∷ CopyIn 2 all_x ∷ Run (shifts (pos 0) 4) ((1, all_y) ∷ (2, all_x) ∷ [])
-    ∷ CopyOut 1 all_y ∷ CopyOut 2 all_x ∷ Release 1 ∷ Release 2 ∷ [])
+    ≡ Make all_y 1 ∷ Make all_x 2 ∷ CopyIn all_y 1 ∷ CopyIn all_x 2 ∷ Run (shifts (pos 0) 4) ((1, all_y) ∷ (2, all_x) ∷ [])
+    ∷ CopyOut all_y 1 ∷ CopyOut all_x 2 ∷ Release 1 ∷ Release 2 ∷ [])
     × (present (of_host 0 (run (shifts (pos 0) 4) [] ∷ [])) ≡ [])
 
 -- With clauses: copied in and out as they say; and before the implicit ones.
 abbrev pub TakesClauses : Type 0
 TakesClauses =
     (placed [] (run (shifts (pos 1) 3) (item clause.Copyin all_x ∷ item clause.Copyout all_y ∷ []))
-    ≡ Make 1 all_x ∷ Make 2 all_y ∷ CopyIn 1 all_x ∷ Run (shifts (pos 1) 3) ((2, all_y) ∷ (1, all_x) ∷ [])
-    ∷ CopyOut 2 all_y ∷ Release 1 ∷ Release 2 ∷ [])
+    ≡ Make all_x 1 ∷ Make all_y 2 ∷ CopyIn all_x 1 ∷ Run (shifts (pos 1) 3) ((2, all_y) ∷ (1, all_x) ∷ [])
+    ∷ CopyOut all_y 2 ∷ Release 1 ∷ Release 2 ∷ [])
     × (placed [] (run (shifts (pos 0) 4) (item clause.Copyin all_x ∷ []))
-    ≡ Make 1 all_x ∷ Make 2 all_y ∷ CopyIn 1 all_x ∷ CopyIn 2 all_y ∷ Run (shifts (pos 0) 4) ((2, all_y) ∷ (1, all_x) ∷ [])
-    ∷ CopyOut 2 all_y ∷ Release 1 ∷ Release 2 ∷ [])
+    ≡ Make all_x 1 ∷ Make all_y 2 ∷ CopyIn all_x 1 ∷ CopyIn all_y 2 ∷ Run (shifts (pos 0) 4) ((2, all_y) ∷ (1, all_x) ∷ [])
+    ∷ CopyOut all_y 2 ∷ Release 1 ∷ Release 2 ∷ [])
 
 -- An array that a data construct names is used in that range; the innermost one counts, and in it the first item.
 abbrev pub UsesConstructs : Type 0
@@ -113,9 +113,9 @@ UsesOwnConstructs =
     (placed (of_host 1 (inside (item clause.Create all_x ∷ []) ∷ [])) (run (counts_up 1) []) ≡ Run (counts_up 1) ((1, all_x) ∷ []) ∷ [])
     × (refused (of_host 1 (inside (item clause.Create (x_cells 0 2) ∷ []) ∷ [])) (run (counts_up 1) []) ≡ Some PartlyPresent)
     × (placed (of_host 0 (inside (item clause.Create (x_cells 0 2) ∷ []) ∷ [])) (on_second (run (counts_up 1) []))
-    ≡ Make 1 all_x ∷ CopyIn 1 all_x ∷ Run (counts_up 1) ((1, all_x) ∷ []) ∷ CopyOut 1 all_x ∷ Release 1 ∷ [])
+    ≡ Make all_x 1 ∷ CopyIn all_x 1 ∷ Run (counts_up 1) ((1, all_x) ∷ []) ∷ CopyOut all_x 1 ∷ Release 1 ∷ [])
     × (placed (of_host 0 (region_end ∷ inside (item clause.Create (x_cells 0 2) ∷ []) ∷ [])) (run (counts_up 1) [])
-    ≡ Make 2 all_x ∷ CopyIn 2 all_x ∷ Run (counts_up 1) ((2, all_x) ∷ []) ∷ CopyOut 2 all_x ∷ Release 2 ∷ [])
+    ≡ Make all_x 2 ∷ CopyIn all_x 2 ∷ Run (counts_up 1) ((2, all_x) ∷ []) ∷ CopyOut all_x 2 ∷ Release 2 ∷ [])
 
 -- A cell past the range that a loop uses is refused, at either end, and whatever else is present; the first item's range
 -- counts.
@@ -131,7 +131,7 @@ StaysInRange =
 abbrev pub TakesNoTurn : Type 0
 TakesNoTurn =
     placed [] (run (loop (pos 9) (pos 9) (counts_up 1).statements) [])
-    ≡ Make 1 all_x ∷ CopyIn 1 all_x ∷ Run (loop (pos 9) (pos 9) (counts_up 1).statements) ((1, all_x) ∷ []) ∷ CopyOut 1 all_x ∷ Release 1 ∷ []
+    ≡ Make all_x 1 ∷ CopyIn all_x 1 ∷ Run (loop (pos 9) (pos 9) (counts_up 1).statements) ((1, all_x) ∷ []) ∷ CopyOut all_x 1 ∷ Release 1 ∷ []
 
 -- A loop that reads so many arrays from the third on, and assigns the first.
 abbrev pub sum_of : ℕ → ℕ → Tree

@@ -12,10 +12,10 @@ use Rattle.acc_place.specs.worked.Directives.{cells, four, directive, item, regi
 -- a range that is absent is made; `copy` and `copyin` copy it in, and `present` is refused
 abbrev pub AbsentAtEntry : Type 0
 AbsentAtEntry =
-    (batch_after [] (region clause.Copy four) ≡ Make 1 four ∷ CopyIn 1 four ∷ [])
-    × (batch_after [] (region clause.Copyin four) ≡ Make 1 four ∷ CopyIn 1 four ∷ [])
-    × (batch_after [] (region clause.Copyout four) ≡ Make 1 four ∷ [])
-    × (batch_after [] (region clause.Create four) ≡ Make 1 four ∷ [])
+    (batch_after [] (region clause.Copy four) ≡ Make four 1 ∷ CopyIn four 1 ∷ [])
+    × (batch_after [] (region clause.Copyin four) ≡ Make four 1 ∷ CopyIn four 1 ∷ [])
+    × (batch_after [] (region clause.Copyout four) ≡ Make four 1 ∷ [])
+    × (batch_after [] (region clause.Create four) ≡ Make four 1 ∷ [])
     × (fault_after [] (region clause.Present four) ≡ Some NotPresent)
     × (present_after (region clause.Create four ∷ []) ≡ presence four 1 1 0 ∷ [])
 
@@ -28,9 +28,9 @@ PresentAtEntry =
 -- at the last exit `copy` and `copyout` copy out before the block is released, and the others release it, `present` too
 abbrev pub LastExit : Type 0
 LastExit =
-    (batch_after (region clause.Copy four ∷ []) region_end ≡ CopyOut 1 four ∷ Release 1 ∷ [])
+    (batch_after (region clause.Copy four ∷ []) region_end ≡ CopyOut four 1 ∷ Release 1 ∷ [])
     × (batch_after (region clause.Copyin four ∷ []) region_end ≡ Release 1 ∷ [])
-    × (batch_after (region clause.Copyout four ∷ []) region_end ≡ CopyOut 1 four ∷ Release 1 ∷ [])
+    × (batch_after (region clause.Copyout four ∷ []) region_end ≡ CopyOut four 1 ∷ Release 1 ∷ [])
     × (batch_after (region clause.Create four ∷ []) region_end ≡ Release 1 ∷ [])
     × (batch_after (exit clause.Delete four ∷ region clause.Present four ∷ enter clause.Create four ∷ []) region_end ≡ Release 1 ∷ [])
     × (present_after (region_end ∷ region clause.Copy four ∷ []) ≡ [])
@@ -46,12 +46,12 @@ abbrev pub Nested : Type 0
 Nested =
     (batch_after (region clause.Copyout (cells 0 1) ∷ region clause.Copy four ∷ []) region_end ≡ [])
     × (present_after (region clause.Copyout (cells 0 1) ∷ region clause.Copy four ∷ []) ≡ presence four 1 2 0 ∷ [])
-    × (batch_after (region_end ∷ region clause.Copyout (cells 0 1) ∷ region clause.Copy four ∷ []) region_end ≡ CopyOut 1 four ∷ Release 1 ∷ [])
+    × (batch_after (region_end ∷ region clause.Copyout (cells 0 1) ∷ region clause.Copy four ∷ []) region_end ≡ CopyOut four 1 ∷ Release 1 ∷ [])
 
 -- each host leaves its own region, in the items of its entry
 abbrev pub OwnRegion : Type 0
 OwnRegion =
-    (batch_in (left_by (Accepted 1 (region clause.Create (cells 4 2)) ∷ Accepted 0 (region clause.Copy four) ∷ [])) 0 region_end ≡ CopyOut 1 four ∷ Release 1 ∷ [])
+    (batch_in (left_by (Accepted 1 (region clause.Create (cells 4 2)) ∷ Accepted 0 (region clause.Copy four) ∷ [])) 0 region_end ≡ CopyOut four 1 ∷ Release 1 ∷ [])
     × (batch_in (left_by (Accepted 1 (region clause.Create (cells 4 2)) ∷ Accepted 0 (region clause.Copy four) ∷ [])) 1 region_end ≡ Release 2 ∷ [])
     × (fault_in (left_by (Accepted 0 (region clause.Copy four) ∷ [])) 1 region_end ≡ Some NoRegion)
 
@@ -70,10 +70,10 @@ Depth =
 -- an entry is made or counted on the dynamic counter; an exit below zero takes no action, and `finalize` ends all entries
 abbrev pub Entries : Type 0
 Entries =
-    (batch_after [] (enter clause.Create four) ≡ Make 1 four ∷ [])
+    (batch_after [] (enter clause.Create four) ≡ Make four 1 ∷ [])
     × (batch_after (enter clause.Create four ∷ []) (enter clause.Copyin four) ≡ [])
     × (batch_after (enter clause.Create four ∷ enter clause.Create four ∷ []) (exit clause.Copyout four) ≡ [])
-    × (batch_after (enter clause.Create four ∷ enter clause.Create four ∷ []) (finalize clause.Copyout four) ≡ CopyOut 1 four ∷ Release 1 ∷ [])
+    × (batch_after (enter clause.Create four ∷ enter clause.Create four ∷ []) (finalize clause.Copyout four) ≡ CopyOut four 1 ∷ Release 1 ∷ [])
     × (batch_after [] (exit clause.Copyout four) ≡ [])
     × (fault_after [] (exit clause.Copyout four) ≡ None)
 
@@ -92,7 +92,7 @@ ExitsInside =
 abbrev pub Updates : Type 0
 Updates =
     (batch_after (enter clause.Create four ∷ []) (directive (kind.Update false) (item clause.UpdateDevice (cells 0 2) ∷ item clause.UpdateSelf (cells 1 2) ∷ []))
-    ≡ CopyIn 1 (cells 0 2) ∷ CopyOut 1 (cells 1 2) ∷ [])
+    ≡ CopyIn (cells 0 2) 1 ∷ CopyOut (cells 1 2) 1 ∷ [])
     × (fault_after [] (update clause.UpdateSelf four) ≡ Some NotPresent)
     × (fault_after [] (update_if_present clause.UpdateSelf four) ≡ None)
     × (batch_after [] (update_if_present clause.UpdateSelf four) ≡ [])

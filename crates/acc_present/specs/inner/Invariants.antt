@@ -1,5 +1,6 @@
 -- What every table keeps.
-use Rattle.std.specs.Prelude.{◌≡◌, ℕ, ◌≤◌, true, List}
+use Rattle.std.specs.Prelude.{◌≡◌, ℕ, ◌+◌, ◌≤◌, true, List, length}
+use Rattle.acc_raw.specs.Indices.{IndexedView}
 use Rattle.acc_present.specs.declared.table.Entry.{Entry}
 use Rattle.acc_present.specs.Presences.{Presence, used_cells}
 use Rattle.acc_present.specs.Tables.{is_table}
@@ -14,7 +15,7 @@ pub record EntriesView : Type 0 where
   pub items : List Entry
   pub room : ℕ
 
--- Two vectors each have memory for all slots.
-pub record HasSlots (room taken free : ℕ) : Type 0 where
-  pub slots : room ≤ taken
-  pub spare : room ≤ free
+-- The nodes are those of the entries and the spare ones, and there is room to name each.
+pub record HasNodes (listed : IndexedView Entry) (spare : List Entry) (room : ℕ) : Type 0 where
+  pub all : room ≡ length listed.items + length spare
+  pub named : room ≤ listed.room

@@ -65,6 +65,10 @@ module _ {X : Type 0} where
   abbrev pub values : List (Placed X) → List X
   values ps = map (λ p. p.1.value) ps
 
+  -- where the nodes lie, in order
+  abbrev pub places : List (Placed X) → List Place
+  places ps = map (λ p. place p.0) ps
+
   -- head and tail are the ends of these nodes, and each of them names its neighbours
   pub record IsWiredChain (head tail : Option Place) (ps : List (Placed X)) : Type 0 where
     pub wired : IsWired None ps

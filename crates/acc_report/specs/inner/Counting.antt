@@ -11,8 +11,8 @@ use Rattle.acc_report.specs.Reports.{Left}
 use Rattle.acc_report.specs.Totals.{plain_ops}
 use Rattle.acc_report.specs.declared.counted.Counted.{Counted}
 use Rattle.acc_work.specs.Logs.{performed}
-use Rattle.acc_work.specs.declared.log.WorkEntry.{WorkEntry}
-use Rattle.acc_work.specs.declared.log.WorkEntry.TheVariants as entry
+use Rattle.acc_batch.specs.declared.entry.WorkEntry.{WorkEntry}
+use Rattle.acc_batch.specs.declared.entry.WorkEntry.TheVariants as entry
 
 -- how many operations a batch has, but for closes
 abbrev pub plain_count : Option Label → ℕ
@@ -35,14 +35,6 @@ counted_behind at op counts = if is_close op then counts else one_counted at cou
 abbrev pub counted_with : WorkEntry → List ℕ → List ℕ
 counted_with (entry.Op at op) counts = counted_behind at op counts
 counted_with (entry.Item host what) counts = counts
-
--- There is room for one more.
-abbrev pub HasCountRoom : QueueAt → List ℕ → Type 0
-HasCountRoom at counts = IsTrue (has_seat at counts) → slice_index_or counts (seat at) 0 + 1 < 2 ^ 64
-
-abbrev pub HasEntryRoom : WorkEntry → List ℕ → Type 0
-HasEntryRoom (entry.Op at op) counts = HasCountRoom at counts
-HasEntryRoom (entry.Item host what) counts = Unit {0}
 
 -- Each queue of so many devices has the count of these operations of its.
 pub record AreCounted (devices : ℕ) (ops : QueueAt → List OpLabel) (counts : List ℕ) : Type 0 where

@@ -3,9 +3,9 @@ use Rattle.std.specs.Prelude.{◌≡◌, ℕ, List, [], ◌∷◌, map, ℤ, pos
 use Rattle.acc_base.specs.declared.ids.QueueAt.{QueueAt}
 use Rattle.acc_batch.specs.declared.label.OpLabel.TheVariants.{Make, CopyIn, CopyOut, Run, Await}
 use Rattle.acc_batch.specs.Labels.{whole_batches}
-use Rattle.acc_work.specs.declared.log.Told.TheVariants.{Write}
-use Rattle.acc_work.specs.declared.log.WorkEntry.{WorkEntry}
-use Rattle.acc_work.specs.declared.log.WorkEntry.TheVariants as entry
+use Rattle.acc_batch.specs.declared.entry.Told.TheVariants.{Write}
+use Rattle.acc_batch.specs.declared.entry.WorkEntry.{WorkEntry}
+use Rattle.acc_batch.specs.declared.entry.WorkEntry.TheVariants as entry
 use Rattle.acc_work.specs.Enabled.{any_left, any_enabled, enabled}
 use Rattle.acc_work.specs.Logs.{value, batches_done}
 use Rattle.acc_memory.specs.Values.{values_of}
@@ -30,12 +30,12 @@ batch number ops = record { at = sync; number = number; host = 0; items_done = 0
 -- two batches of two operations each
 abbrev pub two_batches : List Label
 two_batches =
-    batch 1 (Make 1 (cells 0 4) ∷ CopyIn 1 (cells 0 4) ∷ []) ∷ batch 2 (Make 2 (cells 4 2) ∷ CopyIn 2 (cells 4 2) ∷ []) ∷ []
+    batch 1 (Make (cells 0 4) 1 ∷ CopyIn (cells 0 4) 1 ∷ []) ∷ batch 2 (Make (cells 4 2) 2 ∷ CopyIn (cells 4 2) 2 ∷ []) ∷ []
 
 -- the first three of them performed
 abbrev pub three_performed : List WorkEntry
 three_performed =
-    entry.Op sync (Make 2 (cells 4 2)) ∷ entry.Op sync (CopyIn 1 (cells 0 4)) ∷ entry.Op sync (Make 1 (cells 0 4)) ∷ []
+    entry.Op sync (Make (cells 4 2) 2) ∷ entry.Op sync (CopyIn (cells 0 4) 1) ∷ entry.Op sync (Make (cells 0 4) 1) ∷ []
 
 abbrev pub noval : QueueAt
 noval = record { device = 0; queue = 1 }
@@ -54,13 +54,13 @@ four_values = (pos 1 ∷ pos 2 ∷ pos 3 ∷ pos 4 ∷ []) ∷ []
 abbrev pub written : List WorkEntry
 written =
     entry.Item 0 (Write 0 1 (pos 9)) ∷ entry.Item 0 (Write 0 0 (pos 8))
-    ∷ entry.Op sync (CopyIn 1 (cells 0 4)) ∷ entry.Op sync (Make 1 (cells 0 4)) ∷ []
+    ∷ entry.Op sync (CopyIn (cells 0 4) 1) ∷ entry.Op sync (Make (cells 0 4) 1) ∷ []
 
 -- a print before a copy out shows the host's values, and one behind it the device's, in the cells that were copied
 abbrev pub CopyOutIsSeen : Type 0
 CopyOutIsSeen =
     (values_of (value four_values written) (cells 0 4) ≡ pos 8 ∷ pos 9 ∷ pos 3 ∷ pos 4 ∷ [])
-    × (values_of (value four_values (entry.Op sync (CopyOut 1 (cells 1 2)) ∷ written)) (cells 0 4)
+    × (values_of (value four_values (entry.Op sync (CopyOut (cells 1 2) 1) ∷ written)) (cells 0 4)
     ≡ pos 8 ∷ pos 2 ∷ pos 3 ∷ pos 4 ∷ [])
 
 -- `a[i] = a[i] + 1` from 0 on
@@ -77,7 +77,7 @@ counted_up =
 abbrev pub LoopIsSeen : Type 0
 LoopIsSeen =
     (values_of (value four_values counted_up) (cells 0 4) ≡ pos 8 ∷ pos 9 ∷ pos 3 ∷ pos 4 ∷ [])
-    × (values_of (value four_values (entry.Op sync (CopyOut 1 (cells 0 4)) ∷ counted_up)) (cells 0 4)
+    × (values_of (value four_values (entry.Op sync (CopyOut (cells 0 4) 1) ∷ counted_up)) (cells 0 4)
     ≡ pos 3 ∷ pos 4 ∷ pos 4 ∷ pos 4 ∷ [])
 
 -- a batch of the first host on queue noval, behind so many of its items
@@ -92,7 +92,7 @@ one_of_each at = 1
 -- the items before it: what `never_stuck` asks of labels is needed.
 abbrev pub StuckWithoutOrder : Type 0
 StuckWithoutOrder =
-    let make = Make 1 (cells 0 4) in
+    let make = Make (cells 0 4) 1 in
     let in_order = batch 1 (make ∷ []) ∷ on_noval 0 (Await 0 1 ∷ []) ∷ [] in
     let in_a_ring = batch 1 (Await 1 1 ∷ []) ∷ on_noval 0 (Await 0 1 ∷ []) ∷ [] in
     let without_its_item = on_noval 1 (make ∷ []) ∷ [] in

@@ -14,16 +14,16 @@ pub returns-clause-awaits : goal.returns-clause-awaits
 returns-clause-awaits c = (refl, refl, refl, refl, refl, refl, refl)
 
 pub returns-clause-ordered : goal.returns-clause-ordered
-returns-clause-ordered c = (maker_ordered, (label_ordered false [] (queue 4) (maker ∷ []) 0 0 (CopyIn 1 cells ∷ []) numbered (maker_ordered, tt) own_use, tt))
+returns-clause-ordered c = (maker_ordered, (label_ordered false [] (queue 4) (maker ∷ []) 0 0 (CopyIn cells 1 ∷ []) numbered (maker_ordered, tt) own_use, tt))
   where
-    own_use : All (λ op. is_await op ≡ false) (CopyIn 1 cells ∷ [])
-    own_use = All-cons (λ op. is_await op ≡ false) (CopyIn 1 cells) [] refl (All-nil (λ op. is_await op ≡ false))
+    own_use : All (λ op. is_await op ≡ false) (CopyIn cells 1 ∷ [])
+    own_use = All-cons (λ op. is_await op ≡ false) (CopyIn cells 1) [] refl (All-nil (λ op. is_await op ≡ false))
 
-    own_make : All (λ op. is_await op ≡ false) (Make 1 cells ∷ CopyIn 1 cells ∷ [])
-    own_make = All-cons (λ op. is_await op ≡ false) (Make 1 cells) (CopyIn 1 cells ∷ []) refl own_use
+    own_make : All (λ op. is_await op ≡ false) (Make cells 1 ∷ CopyIn cells 1 ∷ [])
+    own_make = All-cons (λ op. is_await op ≡ false) (Make cells 1) (CopyIn cells 1 ∷ []) refl own_use
 
     maker_ordered : IsOrdered [] maker
-    maker_ordered = label_ordered false [] (queue 2) [] 0 0 (Make 1 cells ∷ CopyIn 1 cells ∷ []) (λ m h. absurd (no_member m h)) tt own_make
+    maker_ordered = label_ordered false [] (queue 2) [] 0 0 (Make cells 1 ∷ CopyIn cells 1 ∷ []) (λ m h. absurd (no_member m h)) tt own_make
 
     numbered : IsNumbered (maker ∷ [])
     numbered m h = subst (λ (l : Label). (0 < l.number) × (l.at.queue < QUEUES)) (member_one m maker h) (omega arith, omega arith)
@@ -36,15 +36,15 @@ alone_behind l m (awaited n low there) none = absurd (none m.at.queue n there re
 pub returns-clause-refused : goal.returns-clause-refused
 returns-clause-refused c = (no_maker, λ arrays s. no_maker s.ordered.1.0, no_use, not_placed)
   where
-    no_maker : IsOrdered (maker ∷ []) (first_batch 4 (CopyIn 1 cells ∷ [])) → ⊥
+    no_maker : IsOrdered (maker ∷ []) (first_batch 4 (CopyIn cells 1 ∷ [])) → ⊥
     no_maker o =
         let behind = o.behind maker 1 (member_first maker []) refl (uses_made (member_first 1 []) (member_first 1 [])) in
-        let none : (q n : ℕ) → Contains (CopyIn 1 cells ∷ []) (Await q n) → q ≡ 2 → ⊥ = λ q n k e. not_await q n k in
-        let same = alone_behind (first_batch 4 (CopyIn 1 cells ∷ [])) maker behind none in
+        let none : (q n : ℕ) → Contains (CopyIn cells 1 ∷ []) (Await q n) → q ≡ 2 → ⊥ = λ q n k e. not_await q n k in
+        let same = alone_behind (first_batch 4 (CopyIn cells 1 ∷ [])) maker behind none in
         cc
       where
-        not_await : (q n : ℕ) → Contains (CopyIn 1 cells ∷ []) (Await q n) → ⊥
-        not_await q n k = elim (member_cases (Await q n) (CopyIn 1 cells) [] k) [ inl e ↦ cc | inr rest ↦ no_member (Await q n) rest ]
+        not_await : (q n : ℕ) → Contains (CopyIn cells 1 ∷ []) (Await q n) → ⊥
+        not_await q n k = elim (member_cases (Await q n) (CopyIn cells 1) [] k) [ inl e ↦ cc | inr rest ↦ no_member (Await q n) rest ]
 
     no_use : IsOrdered (maker ∷ user ∷ []) (first_batch 3 (Await 2 1 ∷ Release 1 ∷ [])) → ⊥
     no_use o =
@@ -60,5 +60,5 @@ returns-clause-refused c = (no_maker, λ arrays s. no_maker s.ordered.1.0, no_us
 
     not_placed : IsOrdered [] user → ⊥
     not_placed o =
-        let low : 1 ≤ 0 = o.awaits_placed 2 1 (member_first (Await 2 1) (CopyIn 1 cells ∷ [])) in
+        let low : 1 ≤ 0 = o.awaits_placed 2 1 (member_first (Await 2 1) (CopyIn cells 1 ∷ [])) in
         omega (arith, low)

@@ -17,7 +17,7 @@ returns-in-Ok-report_run-clause-answers g c =
       ends = record { replies = c.run_schedule.ensures.0; runs = rw c.in-Ok-open.ensures.opened at c.run_schedule.ensures.1 };
       legal = e.legal;
       follow = e.follow;
-      written = rw (c.as_slice-2.ensures.value, c.as_slice-3.ensures.value, e.config, e.history, e.counts, e.works, e.hosts, reverse-reverse w.work, c.in-Ok.ensures.equal, c.as_slice.ensures.value) at c.in-Ok-report_run.ensures;
+      written = rw (c.as_slice-2.ensures.value, e.config, e.history, e.counts, e.works, e.hosts, reverse-reverse w.work, c.in-Ok.ensures.equal, c.as_slice.ensures.value) at c.in-Ok-report_run.ensures;
       status = rw (c.as_slice-in-Ok-report_run.ensures.value, e.hosts) at c.has_refused-refused.ensures;
     }
 
@@ -30,5 +30,5 @@ returns-in-Err-Write-clause-answers g c =
       ends = record { replies = c.run_schedule.ensures.0; runs = rw c.in-Ok-open.ensures.opened at c.run_schedule.ensures.1 };
       legal = e.legal;
       follow = e.follow;
-      written = rw (c.in-Err-Write.field-0-is, c.as_slice-2.ensures.value, c.as_slice-3.ensures.value, e.config, e.history, e.counts, e.works, e.hosts, reverse-reverse w.work, c.in-Ok.ensures.equal, c.as_slice.ensures.value) at c.in-Err-Write.ensures;
+      written = rw (c.in-Err-Write.field-0-is, c.as_slice-2.ensures.value, e.config, e.history, e.counts, e.works, e.hosts, reverse-reverse w.work, c.in-Ok.ensures.equal, c.as_slice.ensures.value) at c.in-Err-Write.ensures;
     }

@@ -1,16 +1,22 @@
-use Rattle.std.proofs.Common.{rules}
-use Rattle.std.specs.Prelude.{not}
-use Rattle.std.proofs.lemmas.List.Sorted.{IsPartitionPoint-from_clause}
-use Rattle.acc_present.specs.declared.table.Entry.{Entry}
-use Rattle.acc_present.specs.Lifetimes.{is_before}
-use Rattle.acc_present.proofs.Holder.{IsPartitionedBy-table, partition_is_behind}
+use Rattle.std.proofs.Common.{◌+◌, ◌-◌, ◌/◌, sym, ◌∙◌, arith}
+use Rattle.acc_present.proofs.Holder.{behind_within, behind_until, behind_from}
 use Rattle.acc_present.proofs.table.index_behind.Goals as goal
 
-pub returns-clause-index : goal.returns-clause-index
-returns-clause-index c =
-    let es = c.args.entries.now in
-    let r = c.args.range in
-    let i = c.partition_point.result in
-    let point = IsPartitionPoint-from_clause (λ (e : Entry). not (is_before r e.range)) es i c.partition_point.ensures.partitioned
-    (IsPartitionedBy-table r es c.requires) (λ a b f called. search rules) in
-    partition_is_behind r es i c.partition_point.ensures.bound point.0 point.1
+pub loop-low-init : goal.loop-low-init
+loop-low-init c =
+    let within = behind_within c.args.range c.args.entries.now.items in let len = c.len-high.ensures in
+    record { from = omega arith; until = omega (arith, within, len); within = omega (arith, len) }
+
+pub loop-low-preserved-then-stands_before : goal.loop-low-preserved-then-stands_before
+loop-low-preserved-then-stands_before c =
+    let middle = c.loop-low.low + (c.loop-low.high - c.loop-low.low) / 2 in record {
+      from = c.loop-low.invariant.from;
+      until = behind_until c.args.range c.args.entries.now.items middle c.get.result.now c.get.ensures (sym c.stands_before.ensures ∙ c.if-stands_before.true);
+      within = omega (arith, c.loop-low.invariant.within, c.loop-low-test.true);
+    }
+
+pub loop-low-preserved : goal.loop-low-preserved
+loop-low-preserved c =
+    let middle = c.loop-low.low + (c.loop-low.high - c.loop-low.low) / 2 in
+    let past = behind_from c.args.range c.args.entries.now.items middle c.get.result.now c.requires c.get.ensures (sym c.stands_before.ensures ∙ c.if-stands_before.false) in
+    record { from = omega (arith, past); until = c.loop-low.invariant.until; within = c.loop-low.invariant.within }

@@ -8,8 +8,9 @@ use Rattle.acc_report.proofs.line.put_spaced.Given as goal
 
 abbrev pub invariant-loop-value : goal.invariant-loop-value
 invariant-loop-value g l = record {
+  all : l.fn.values ≡ l.yielded ++ l.value-iterator;
   on : IsHandedOn (sink (g.W.Write.contents l.fn.out) l.fn.failed) (sink (g.W.Write.contents l.out) l.failed)
-      (flat_map (λ (v : ℤ). codes " " ++ signed_decimal v) (take l.value-index l.values)) (take l.waiting l.page);
+      (flat_map (λ (v : ℤ). codes " " ++ signed_decimal v) l.yielded) (take l.waiting l.page);
   long : length l.page ≡ PAGE;
   within : l.waiting ≤ PAGE;
 }

@@ -14,5 +14,5 @@ loop-entry-preserved c =
     let token = c.args.token.now in
     record {
       gone = omega (arith, c.loop-entry.invariant.gone, c.read.ensures.gone);
-      same = one_read (Agrees (histories_by c.args.place.now c.args.works.now) token.host (map listed_entry token.entries)) c.loop-entry.unread c.read.new.self (drop i xs) (drop (i + 1) xs) x here (rw c.if-not-read.false at c.read.ensures.read) c.loop-entry.invariant.same;
+      same = one_read (Agrees (histories_by c.args.place.now c.args.works.now.items) token.host (map listed_entry token.entries)) c.loop-entry.unread c.read.new.self (drop i xs) (drop (i + 1) xs) x here (rw c.if-not-read.false at c.read.ensures.read) c.loop-entry.invariant.same;
     }

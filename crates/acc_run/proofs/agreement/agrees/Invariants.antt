@@ -8,5 +8,5 @@ use Rattle.acc_run.proofs.agreement.agrees.Given as goal
 abbrev pub invariant-loop-entry : goal.invariant-loop-entry
 invariant-loop-entry l = record {
   gone : l.unread.gone ≤ l.entry-index;
-  same : IsListed l.unread (map listed_entry (drop l.entry-index l.entry-items)) ↔ Agrees (histories_by l.place l.works) l.token.host (map listed_entry l.token.entries);
+  same : IsListed l.unread (map listed_entry (drop l.entry-index l.entry-items)) ↔ Agrees (histories_by l.place l.works.items) l.token.host (map listed_entry l.token.entries);
 }

@@ -1,19 +1,17 @@
-use Rattle.std.proofs.Common.{◌≡◌, length, take, refl, sym, ap, ◌∙◌}
+use Rattle.std.proofs.Common.{◌≡◌, ◌++◌, List, length, drop, ap, subst, ◌∙◌}
+use Rattle.std.specs.Prelude.{◌↔◌, IsTrue}
+use Rattle.acc_batch.specs.declared.label.Label.{Label}
 use Rattle.acc_batch.specs.Labels.{on_queue}
 use Rattle.acc_place.specs.Plans.{PlaceView, standing_in}
 use Rattle.acc_work.specs.Works.{WorkView, taken_labels}
-use Rattle.acc_run.proofs.EachQueue.{are_first, first_are}
 use Rattle.acc_run.proofs.finish.took_first.Goals as goal
 
-pub returns-then-count-placed : goal.returns-then-count-placed
-returns-then-count-placed c =
+pub returns : goal.returns
+returns c =
     let at = c.args.at in
-    let taken = on_queue at (taken_labels c.args.work.now.work) in
+    let seen = c.as_work.result.now in
+    let labels = c.labels_on-placed.result.now in
     let placed = on_queue at (standing_in c.args.place.now.place).labels in
-    let count : c.taken_count-count.result ≡ length taken = c.taken_count-count.ensures ∙ ap (λ (w : WorkView). length (on_queue at (taken_labels w))) c.as_work.ensures in
-    let mine = ap (λ (w : WorkView). on_queue at (taken_labels w)) c.as_work-then-count-placed.ensures in
-    let shown : c.labels_on-placed.result.now ≡ placed = c.labels_on-placed.ensures ∙ ap (λ (p : PlaceView). on_queue at (standing_in p).labels) c.as_place.ensures in
-    let part : take c.taken_count-count.result c.labels_on-placed.result.now ≡ take (length taken) placed = rw (count, shown) refl in (
-      λ yes. are_first taken placed (sym mine ∙ (c.has_taken.ensures.0 yes ∙ part)),
-      λ same. c.has_taken.ensures.1 (mine ∙ (first_are taken placed same ∙ sym part)),
-    )
+    let shown : labels ≡ placed = c.labels_on-placed.ensures ∙ ap (λ (p : PlaceView). on_queue at (standing_in p).labels) c.as_place.ensures in
+    subst (λ (w : WorkView). IsTrue c.took_first.result ↔ (placed ≡ on_queue at (taken_labels w) ++ drop (length (on_queue at (taken_labels w))) placed)) c.as_work.ensures
+    (subst (λ (ls : List Label). IsTrue c.took_first.result ↔ (ls ≡ on_queue at (taken_labels seen) ++ drop (length (on_queue at (taken_labels seen))) ls)) shown c.took_first.ensures)

@@ -1,5 +1,4 @@
-use Rattle.acc_memory.specs.Blocks.{row_with}
-use Rattle.acc_memory.specs.Memories.{rows_on}
+use Rattle.acc_memory.specs.Memories.{row_with, rows_on}
 use Rattle.test_work.proofs.Finding.{made_is}
 use Rattle.test_work.proofs.allowed.holds_range.Goals as goal
 

@@ -1,5 +1,4 @@
 use Rattle.std.proofs.Common.{◌≡◌, List, [], reverse, sym, ap, ◌∙◌, rules}
-use Rattle.std.specs.List.{push}
 use Rattle.std.specs.Option.{option_or}
 use Rattle.std.proofs.lemmas.List.{nil_from_length}
 use Rattle.acc_batch.specs.declared.op.Op.{Op}

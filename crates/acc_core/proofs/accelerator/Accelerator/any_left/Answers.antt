@@ -1,17 +1,23 @@
-use Rattle.std.proofs.Common.{refl, sym, ◌∙◌}
+use Rattle.std.proofs.Common.{◌≡◌, ◌*◌, sym, ap, ◌∙◌, arith}
+use Rattle.acc_base.specs.Configurations.{Configuration}
+use Rattle.acc_base.specs.Queues.{queue_count}
 use Rattle.acc_core.specs.inner.Ties.{state_of_parts}
-use Rattle.acc_core.proofs.Enabled.{left_is, some_enabled}
+use Rattle.acc_core.proofs.Enabled.{left_on, none_left, some_enabled}
 use Rattle.acc_core.proofs.accelerator.Accelerator.any_left.Goals as goal
+
+pub returns-then-is_left-clause-left : goal.returns-then-is_left-clause-left
+returns-then-is_left-clause-left c = sym (left_on c.args.self.now c.at_seat.result (sym c.is_left.ensures ∙ c.if-is_left.true))
+
+pub returns-then-is_left-clause-enabled : goal.returns-then-is_left-clause-enabled
+returns-then-is_left-clause-enabled c = λ some.
+    let i = c.self.inside in
+    let w = state_of_parts i.place i.work in
+    rw (← c.self.view_is) (some_enabled w c.self.invariant.0.legal (left_on w c.at_seat.result (rw (← c.self.view_is) at (sym c.is_left.ensures ∙ c.if-is_left.true))))
 
 pub returns-clause-left : goal.returns-clause-left
 returns-clause-left c =
     let i = c.self.inside in
     let w = state_of_parts i.place i.work in
-    rw (← c.self.view_is) (sym (left_is w i.work i.queues.items i.waiting i.unclosed c.self.invariant.0.parts c.keeps.ensures.order refl c.self.invariant.1.count))
-
-pub returns-clause-enabled : goal.returns-clause-enabled
-returns-clause-enabled c = λ some.
-    let i = c.self.inside in
-    let w = state_of_parts i.place i.work in
-    let left = left_is w i.work i.queues.items i.waiting i.unclosed c.self.invariant.0.parts c.keeps.ensures.order refl c.self.invariant.1.count ∙ some in
-    rw (← c.self.view_is) (some_enabled w c.self.invariant.0.legal left)
+    let devices : c.devices.result ≡ w.config.devices = c.devices.ensures ∙ ap (λ (x : Configuration). x.devices) (rw (← c.self.view_is) at c.config.ensures) in
+    let count : c.from.result * c.from-2.result ≡ queue_count w.config = ap (λ k. k * c.from-2.result) (c.from.ensures ∙ devices) ∙ ap (λ k. w.config.devices * k) c.from-2.ensures in
+    rw (← c.self.view_is) (sym (none_left w c.self.invariant.0.legal (λ n low. (rw (← c.self.view_is) at c.loop-index.invariant) n (omega (arith, low, count, c.loop-index.auto.index-end, c.loop-index-test.false)))))

@@ -1,4 +1,4 @@
-use Rattle.std.proofs.Common.{◌≡◌, ◌-◌, ◌<◌, length, sym, ap, ◌∙◌, arith}
+use Rattle.std.proofs.Common.{◌≡◌, ◌<◌, length, sym, ap, ◌∙◌, arith}
 use Rattle.acc_batch.proofs.Seats.{seat_found}
 use Rattle.acc_place.specs.Closing.{handed_out, IsOut}
 use Rattle.acc_place.specs.Histories.{CanClose, IsQueue}
@@ -7,33 +7,9 @@ use Rattle.acc_core.specs.inner.Queues.{QueueView, no_queue, queue_pushed, queue
 use Rattle.acc_core.specs.inner.Ties.{state_of_parts}
 use Rattle.acc_core.proofs.ClosesOne.{closes_did, is_closed_then}
 use Rattle.acc_core.proofs.CloseQueue.{can_now, has_closed, keeps_closed}
-use Rattle.acc_place.proofs.LeftOpen.{left_some}
 use Rattle.acc_place.proofs.CloseOut.{close_some}
-use Rattle.acc_core.proofs.Seats.{seated, waiting_low}
+use Rattle.acc_core.proofs.Seats.{seated}
 use Rattle.acc_core.proofs.accelerator.Accelerator.close_queue.Goals as goal
-
-pub push-requires-clause-few : goal.push-requires-clause-few
-push-requires-clause-few c =
-    let i = c.self.inside in
-    let w = state_of_parts i.place i.work in
-    let at = c.args.at in
-    let there : IsQueue w.config at = rw (← c.self.view_is) at c.requires.there in
-    let k = c.keeps.ensures.order in
-    let q = c.self.invariant.0.parts in
-    let s = seated w i.work i.queues.items i.waiting at q k there.0 there.1 in
-    let out : IsOut (handed_out i.place at) at = rw c.close_batch.ensures.place at c.in-Some.ensures.out in
-    let b = c.in-Some.batch in
-    let given = close_some i.place at b (sym c.in-Some.is ∙ c.close_batch.ensures.batch) in
-    let entry = seat_found no_queue i.queues.items at c.index_mut.result.now s.queue s.held (rw c.seat-seat.ensures at c.index_mut.ensures.value) in
-    omega (arith, waiting_low i.queues.items at s.queue s.held, q.all_waiting, ap (λ (x : QueueView). x.waiting) entry, left_some w.config (standing_of w) at there out.unplaced)
-
-pub overflow_sub-self : goal.overflow_sub-self
-overflow_sub-self c =
-    let i = c.self.inside in
-    let w = state_of_parts i.place i.work in
-    let there : IsQueue w.config c.args.at = rw (← c.self.view_is) at c.requires.there in
-    let out : IsOut (handed_out i.place c.args.at) c.args.at = rw c.close_batch.ensures.place at c.in-Some.ensures.out in
-    omega (arith, left_some w.config (standing_of w) c.args.at there out.unplaced, c.self.invariant.1.count)
 
 pub invariant_of-self-in-Some : goal.invariant_of-self-in-Some
 invariant_of-self-in-Some c =
@@ -43,7 +19,7 @@ invariant_of-self-in-Some c =
     let there : IsQueue w.config at = rw (← c.self.view_is) at c.requires.there in
     let k = c.keeps.ensures.order in
     let q = c.self.invariant.0.parts in
-    let s = seated w i.work i.queues.items i.waiting at q k there.0 there.1 in
+    let s = seated w i.work i.queues.items at q k there.0 there.1 in
     let out : IsOut (handed_out i.place at) at = rw c.close_batch.ensures.place at c.in-Some.ensures.out in
     let b = c.in-Some.batch in
     let given = close_some i.place at b (sym c.in-Some.is ∙ c.close_batch.ensures.batch) in
@@ -53,9 +29,9 @@ invariant_of-self-in-Some c =
     let fits : length (queue_in i.queues.items at).held < w.config.room = omega (arith, held, room, c.if-room-len.false) in
     let entry = seat_found no_queue i.queues.items at c.index_mut.result.now s.queue s.held (rw c.seat-seat.ensures at c.index_mut.ensures.value) in
     let can : CanClose w.config (standing_of w) at = record { there = there; begun = rw (← c.self.view_is) at c.requires.begun; unplaced = out.unplaced } in
-    let new = c.push.ensures ∙ ap (λ (x : QueueView). queue_pushed x b 1) entry in
+    let new = c.push.ensures ∙ ap (λ (x : QueueView). queue_pushed x b) entry in
     rw (c.close_done.ensures, c.close_batch.ensures.place, c.seat-seat.ensures, new)
-    (keeps_closed w i.work i.queues.items i.waiting at b c.self.invariant.0 s can given.1 fits, has_closed i.place i.unclosed (i.unclosed - 1) at there given.0 out (omega (arith, left_some w.config (standing_of w) at there out.unplaced, c.self.invariant.1.count)) c.self.invariant.1)
+    (keeps_closed w i.work i.queues.items at b c.self.invariant.0 s can given.1 fits, has_closed i.place at there given.0 out c.self.invariant.1)
 
 pub returns-else-room-len-clause-state : goal.returns-else-room-len-clause-state
 returns-else-room-len-clause-state c =
@@ -65,7 +41,7 @@ returns-else-room-len-clause-state c =
     let there : IsQueue w.config at = rw (← c.self.view_is) at c.requires.there in
     let k = c.keeps.ensures.order in
     let q = c.self.invariant.0.parts in
-    let s = seated w i.work i.queues.items i.waiting at q k there.0 there.1 in
+    let s = seated w i.work i.queues.items at q k there.0 there.1 in
     let out : IsOut (handed_out i.place at) at = rw c.close_batch.ensures.place at c.in-Some.ensures.out in
     let b = c.in-Some.batch in
     let given = close_some i.place at b (sym c.in-Some.is ∙ c.close_batch.ensures.batch) in
@@ -73,7 +49,7 @@ returns-else-room-len-clause-state c =
     let held : c.len.result ≡ length (queue_in i.queues.items at).held = c.len.ensures ∙ ap (λ (x : QueueView). length x.held) queue in
     let room : c.room.result ≡ w.config.room = c.room.ensures ∙ (ap (λ x. x.room) c.config.ensures ∙ ap (λ x. x.config.room) c.close_batch.ensures.place) in
     let fits : length (queue_in i.queues.items at).held < w.config.room = omega (arith, held, room, c.if-room-len.false) in
-    rw (← c.self.view_is, c.close_done.ensures, c.close_batch.ensures.place) (sym (closes_did w at (can_now w i.work i.queues.items i.waiting at s q out.unplaced fits)))
+    rw (← c.self.view_is, c.close_done.ensures, c.close_batch.ensures.place) (sym (closes_did w at (can_now w i.work i.queues.items at s q out.unplaced fits)))
 
 pub returns-else-room-len-clause-closed : goal.returns-else-room-len-clause-closed
 returns-else-room-len-clause-closed c =

@@ -13,6 +13,6 @@ returns c =
     let q = c.self.invariant.0.parts in
     let k = c.keeps.ensures.order in
     let there : is_there w at ≡ true = rw c.config.ensures at (sym c.has_queue.ensures ∙ c.if-not-has_queue.false) in
-    let s = seated_there w i.work i.queues.items i.waiting at q k there in
+    let s = seated_there w i.work i.queues.items at q k there in
     rw (← c.self.view_is)
-    (c.goes_on.ensures.goes ∙ sym (enabled_filled w i.work i.queues.items i.waiting at s q q k refl there (sym c.lane_empty.ensures ∙ c.if-lane_empty.false)))
+    (c.goes_on.ensures.goes ∙ sym (enabled_filled w i.work i.queues.items at s q q k refl there (sym c.lane_empty.ensures ∙ c.if-lane_empty.false)))

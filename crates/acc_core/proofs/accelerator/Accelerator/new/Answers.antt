@@ -1,4 +1,4 @@
-use Rattle.std.proofs.Common.{◌≡◌, ◌*◌, length, refl, sym, ap, ◌∙◌, arith}
+use Rattle.std.proofs.Common.{◌≡◌, ◌*◌, length, refl, ap, ◌∙◌}
 use Rattle.std.specs.Prelude.{replicate}
 use Rattle.acc_base.specs.declared.ids.TheConstants.{QUEUES}
 use Rattle.acc_base.specs.Queues.{queue_count}
@@ -8,26 +8,23 @@ use Rattle.acc_core.proofs.AcceleratorNew.{is_opening, none_taken}
 use Rattle.acc_core.proofs.accelerator.Accelerator.new.Goals as goal
 
 -- no queue took a batch
-took_none : (c : goal.In_ok-new) → taken_counts c.spare_closes.new.work ≡ replicate (queue_count c.args.config) 0
+took_none : (c : goal.In_ok-new) → taken_counts c.in_ok-work.work ≡ replicate (queue_count c.args.config) 0
 took_none c =
     let w = c.in_ok-work.ensures in
     let count : length c.in_ok-work.work.lanes ≡ queue_count c.args.config = c.keeps.ensures.order.count ∙ ap (λ n. n * QUEUES) w.devices in
-    c.in_ok-spare_closes.ensures.kept.counts ∙ (none_taken c.in_ok-work.work.lanes w.lanes ∙ ap (λ n. replicate n 0) count)
+    none_taken c.in_ok-work.work.lanes w.lanes ∙ ap (λ n. replicate n 0) count
 
 pub invariant_of-result : goal.invariant_of-result
 invariant_of-result c =
     let w = c.in_ok-work.ensures in
     let q = c.in_ok-queues.ensures in
-    let p = c.in_ok-new.ensures in
-    let made = c.in_ok-spare_closes.ensures in
-    let waiting : c.len-waiting.result ≡ queue_count c.args.config = omega (arith, c.len-waiting.ensures, q.count, c.in_ok-queues.queues.ok.0) in (
-      rw waiting
-          (is_opening c.args.config _ c.in_ok-work.work c.spare_closes.new.work c.in_ok-queues.queues.items (rw (p.config, p.history, p.counts, made.kept.work, w.work, took_none c) refl) w.opening w.rows w.lanes w.devices q.count q.empty w.work made.kept made.room),
-      has_all c.in_ok-new.field-0 c.len-waiting.result p.history (λ at there. p.closes at (rw p.config at there)) (waiting ∙ ap queue_count (sym p.config)),
+    let p = c.in_ok-new.ensures in (
+      is_opening c.args.config _ c.in_ok-work.work c.in_ok-queues.queues.items (rw (p.config, p.history, p.counts, w.work, took_none c) refl) w.opening w.lanes w.devices q.count q.empty,
+      has_all c.in_ok-new.field-0 p.history (λ at there. p.closes at (rw p.config at there)),
     )
 
 pub returns-clause-opened : goal.returns-clause-opened
 returns-clause-opened c =
     let w = c.in_ok-work.ensures in
     let p = c.in_ok-new.ensures in
-    rw (p.config, p.history, p.counts, c.in_ok-spare_closes.ensures.kept.work, w.work, took_none c) refl
+    rw (p.config, p.history, p.counts, w.work, took_none c) refl

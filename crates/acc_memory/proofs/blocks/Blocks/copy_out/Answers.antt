@@ -1,40 +1,35 @@
-use Rattle.std.proofs.Common.{arith}
+use Rattle.std.proofs.Common.{◌≡◌, Some, None, sym, ◌∙◌, arith}
 use Rattle.std.proofs.lemmas.Bool.{eqb-true}
-use Rattle.acc_memory.specs.Blocks.{row_of}
-use Rattle.acc_memory.proofs.BlockCalls.{rows_of, block_low, range_at}
+use Rattle.acc_memory.specs.Memories.{find_row}
 use Rattle.acc_memory.proofs.AfterOp.{shows_copy_out}
+use Rattle.acc_memory.proofs.BlockCalls.{range_at, holds_found}
 use Rattle.acc_memory.proofs.blocks.Blocks.copy_out.Goals as goal
-
-pub index-held-requires : goal.index-held-requires
-index-held-requires c =
-    let held = rw (← c.self.view_is) at c.requires.held in
-    let index = rw c.as_slice.ensures.value at c.index_of-index.ensures.index in
-    let low = block_low c.self.inside.blocks.items c.args.block _ c.index_of-index.result c.self.invariant held.held index in
-    omega arith
 
 pub overflow_sub-range : goal.overflow_sub-range
 overflow_sub-range c =
-    let index = rw c.as_slice.ensures.value at c.index_of-index.ensures.index in
-    let at = range_at c.self.inside.blocks.items c.args.block c.args.range c.index_of-index.result c.index-held.result.now c.self.invariant
-    (rw (← c.self.view_is) at c.requires.held) c.requires.some index c.index-held.ensures in
-    at.row.low
+    (holds_found c.args.self.now c.args.block c.args.range c.in-Some.held.now (range_at c.args.self.now c.args.block c.args.range c.requires.held c.requires.some)
+    (sym (rw c.in-Some.is at c.get.ensures))).low
 
 pub copy_cells-requires-clause-source : goal.copy_cells-requires-clause-source
 copy_cells-requires-clause-source c =
-    let index = rw c.as_slice.ensures.value at c.index_of-index.ensures.index in
-    let at = range_at c.self.inside.blocks.items c.args.block c.args.range c.index_of-index.result c.index-held.result.now c.self.invariant
-    (rw (← c.self.view_is) at c.requires.held) c.requires.some index c.index-held.ensures in
-    let size = eqb-true _ c.index-held.result.now.range.len at.whole in
-    omega (arith, at.row.low, at.row.high, size)
+    let x = c.in-Some.held.now in
+    let found : find_row c.args.self.now c.args.block ≡ Some x = sym (rw c.in-Some.is at c.get.ensures) in
+    let h = holds_found c.args.self.now c.args.block c.args.range x (range_at c.args.self.now c.args.block c.args.range c.requires.held c.requires.some) found in
+    let size = eqb-true _ x.range.len (c.keeps.ensures c.args.block x found) in
+    omega (arith, h.low, h.high, size)
 
-pub returns-clause-shows : goal.returns-clause-shows
-returns-clause-shows c device was array shows =
-    let x = c.index-held.result.now in
-    let index = rw c.as_slice.ensures.value at c.index_of-index.ensures.index in
-    let at = range_at c.self.inside.blocks.items c.args.block c.args.range c.index_of-index.result c.index-held.result.now c.self.invariant
-    (rw (← c.self.view_is) at c.requires.held) c.requires.some index c.index-held.ensures in
-    shows_copy_out device (rows_of c.self.inside.blocks.items) c.args.block c.args.range (row_of x) c.args.cells.now c.copy_cells.new.target was at.row
-    c.copy_cells.ensures array (rw (← c.self.view_is) at shows)
+pub returns-in-Some-clause-shows : goal.returns-in-Some-clause-shows
+returns-in-Some-clause-shows c device was array shows =
+    let x = c.in-Some.held.now in
+    let found : find_row c.args.self.now c.args.block ≡ Some x = sym (rw c.in-Some.is at c.get.ensures) in
+    let h = holds_found c.args.self.now c.args.block c.args.range x (range_at c.args.self.now c.args.block c.args.range c.requires.held c.requires.some) found in
+    shows_copy_out device c.args.self.now c.args.block c.args.range x c.args.cells.now c.copy_cells.new.target was h c.copy_cells.ensures array shows
 
-pub returns-clause-len : goal.returns-clause-len
-returns-clause-len c = c.copy_cells.ensures.len
+pub returns-in-Some-clause-len : goal.returns-in-Some-clause-len
+returns-in-Some-clause-len c = c.copy_cells.ensures.len
+
+pub returns-in-None-clause-shows : goal.returns-in-None-clause-shows
+returns-in-None-clause-shows c =
+    let h = range_at c.args.self.now c.args.block c.args.range c.requires.held c.requires.some in
+    let e : None ≡ Some h.row = rw c.in-None.is at c.get.ensures ∙ h.holds.found in
+    let never : ⊥ = cc in absurd never

@@ -1,40 +1,25 @@
-use Rattle.std.proofs.Common.{ap, ◌∙◌}
-use Rattle.acc_kernel.specs.Jobs.{read_uses}
-use Rattle.acc_kernel.proofs.ReadAndWritten.{distinct_read, has_if_read}
-use Rattle.acc_kernel.proofs.ShownRows.{shown_alike}
-use Rattle.acc_memory.specs.inner.Windows.{window_cells}
-use Rattle.acc_memory.specs.Values.{cells_by}
-use Rattle.acc_memory.proofs.BlocksRun.{IsReadied, has_seen, seen_was}
+use Rattle.std.proofs.Common.{◌≡◌, ◌<◌, length, ap, ◌∙◌, arith}
+use Rattle.acc_kernel.specs.Jobs.{Computation, read_uses}
+use Rattle.acc_memory.proofs.LoadedJobs.{all_loaded, one_loaded, read_own}
 use Rattle.acc_memory.proofs.blocks.Blocks.load.Goals as goal
 
-pub load_over-requires : goal.load_over-requires
-load_over-requires c array cell has =
-    let bs = c.self.inside.blocks.items in
+pub values-requires : goal.values-requires
+values-requires c =
     let job = c.args.job.now in
-    let ready : IsReadied bs c.indices_of-indices.result job.kernel job.uses = record {
-      memory = c.self.invariant;
-      held = rw (← c.self.view_is) at c.requires;
-      distinct = c.keeps.ensures.distinct;
-      reached = c.keeps.ensures.reached;
-      table = rw (c.as_slice.ensures.value, c.uses.ensures) at c.indices_of-indices.ensures;
-    } in
-    rw c.as_mut_slice.ensures.value (has_seen bs c.indices_of-indices.result job.kernel job.uses ready array cell has)
+    let reads : c.read_uses.result.now ≡ read_uses c.args.job.now.kernel c.args.job.now.uses = c.read_uses.ensures ∙ ap (λ (j : Computation). read_uses j.kernel j.uses) c.loop-place.invariant.kept in
+    let low : c.loop-place.place < length (read_uses c.args.job.now.kernel c.args.job.now.uses) = omega (arith, c.loop-place-test.true, ap length c.read_uses-place-end.ensures) in
+    (read_own c.args.self.now job.kernel job.uses c.loop-place.place c.index-read_uses-place.result c.requires c.keeps.ensures.distinct low (rw reads at c.index-read_uses-place.is)).held
 
-pub returns-clause-job : goal.returns-clause-job
-returns-clause-job c device was shows =
-    let bs = c.self.inside.blocks.items in
+pub loop-place-preserved : goal.loop-place-preserved
+loop-place-preserved c =
     let job = c.args.job.now in
-    let indices = c.indices_of-indices.result in
-    let ready : IsReadied bs indices job.kernel job.uses = record {
-      memory = c.self.invariant;
-      held = rw (← c.self.view_is) at c.requires;
-      distinct = c.keeps.ensures.distinct;
-      reached = c.keeps.ensures.reached;
-      table = rw (c.as_slice.ensures.value, c.uses.ensures) at c.indices_of-indices.ensures;
-    } in
-    let loaded = rw c.as_mut_slice.ensures.value at c.load_over.ensures.job in
-    loaded
-    ∙ ap (λ rows. record job { inputs = rows })
-    (shown_alike (read_uses job.kernel job.uses) (window_cells bs indices) (cells_by job.uses device was) (distinct_read job.kernel job.uses c.keeps.ensures.distinct)
-    (λ array cell has.
-    seen_was bs indices job.kernel job.uses ready device was (rw (← c.self.view_is) at shows) array cell (has_if_read job.kernel job.uses array cell c.keeps.ensures.distinct has)))
+    let u = c.index-read_uses-place.result in
+    let reads : c.read_uses.result.now ≡ read_uses c.args.job.now.kernel c.args.job.now.uses = c.read_uses.ensures ∙ ap (λ (j : Computation). read_uses j.kernel j.uses) c.loop-place.invariant.kept in
+    let low : c.loop-place.place < length (read_uses c.args.job.now.kernel c.args.job.now.uses) = omega (arith, c.loop-place-test.true, ap length c.read_uses-place-end.ensures) in
+    let at = rw reads at c.index-read_uses-place.is in
+    let own = read_own c.args.self.now job.kernel job.uses c.loop-place.place u c.requires c.keeps.ensures.distinct low at in
+    rw c.set_input.ensures (one_loaded c.args.self.now job c.loop-place.job c.loop-place.place u c.values.result.now c.loop-place.invariant low at own c.values.ensures.cells)
+
+pub returns : goal.returns
+returns c device was shows =
+    all_loaded c.args.self.now c.args.job.now c.loop-place.job c.loop-place.place c.loop-place.invariant (omega (arith, c.loop-place-test.false, ap length c.read_uses-place-end.ensures)) device was shows

@@ -1,29 +1,22 @@
-use Rattle.std.proofs.Common.{◌≡◌, ◌<◌, ap, ◌∙◌, arith}
-use Rattle.std.specs.Prelude.{insert}
-use Rattle.std.specs.Vec.{vec_len, vec_capacity}
-use Rattle.std.proofs.lemmas.List.{length-map}
-use Rattle.acc_batch.specs.declared.label.OpLabel.TheVariants.{Make}
-use Rattle.acc_memory.specs.Blocks.{row_of}
-use Rattle.acc_memory.specs.Memories.{index_of}
-use Rattle.acc_memory.proofs.BlockCalls.{MakesOf, rows_of, makes}
+use Rattle.std.proofs.Common.{◌≡◌, Some, sym, ap, ◌∙◌}
+use Rattle.acc_memory.specs.Memories.{is_whole}
+use Rattle.acc_memory.proofs.AfterOp.{shows_make}
+use Rattle.acc_memory.proofs.BlockCalls.{zeros_whole}
+use Rattle.acc_memory.proofs.Rows.{no_row, same_made}
+use Rattle.acc_memory.proofs.StoredRow.{whole_set}
 use Rattle.acc_memory.proofs.blocks.Blocks.make.Goals as goal
 
-made : (c : goal.Joined-insert) → MakesOf (Make c.args.block.block c.args.block.range) (rows_of c.self.inside.blocks.items) (rows_of c.insert.new.self.items)
-made c =
-    let blocks = c.self.inside.blocks in
-    let new = c.args.block in
-    let room = rw (← c.self.view_is) at c.requires.room in
-    let low : vec_len blocks < vec_capacity blocks = omega (arith, room, length-map blocks.items row_of) in
-    let index : c.index_of-index.result ≡ index_of (rows_of blocks.items) new.block = rw c.as_slice.ensures.value at c.index_of-index.ensures.index in
-    let items : c.insert.new.self.items ≡ insert blocks.items c.index_of-index.result new = rw (c.insert.ensures.succeeds low) at c.insert.ensures.items in
-    makes blocks.items c.insert.new.self.items new c.self.invariant
-    (rw (← c.self.view_is) at c.requires.fresh) c.requires.zeros (items ∙ ap (λ i. insert blocks.items i new) index)
+pub put-requires : goal.put-requires
+put-requires c = no_row c.self.inside.buckets c.args.block.block (rw (← c.self.view_is) at c.requires.fresh)
 
 pub invariant_of-self : goal.invariant_of-self
-invariant_of-self c = (made c).rows
+invariant_of-self c =
+    whole_set c.args.block.block (Some c.args.block) c.self.inside.buckets c.put.new.self c.self.invariant
+    (λ x e. (let is : c.args.block ≡ x = cc in ap is_whole (sym is) ∙ zeros_whole c.args.block c.requires.zeros)) c.put.ensures
 
 pub returns-clause-shows : goal.returns-clause-shows
-returns-clause-shows c = rw (← c.self.view_is) (made c).shows
+returns-clause-shows c device was =
+    rw (← c.self.view_is) (shows_make device c.self.inside.buckets c.put.new.self c.args.block was c.requires.zeros c.put.ensures)
 
 pub returns-clause-blocks : goal.returns-clause-blocks
-returns-clause-blocks c = rw (← c.self.view_is) (made c).blocks
+returns-clause-blocks c = rw (← c.self.view_is) (same_made c.args.block c.self.inside.buckets c.put.new.self c.put.ensures)

@@ -1,57 +1,15 @@
-use Rattle.std.proofs.Common.{◌≡◌, length, ap, arith}
-use Rattle.std.specs.Vec.{with_items}
-use Rattle.std.proofs.lemmas.List.{length-map, with_items_is}
-use Rattle.acc_kernel.specs.Kernels.{value_after}
-use Rattle.acc_memory.specs.inner.Windows.{KeepsBlocks, window_cells}
-use Rattle.acc_memory.proofs.BlocksRun.{IsReadied, memory_alike, shows_run, has_seen, made_again}
+use Rattle.acc_memory.proofs.BlocksRun.{has_seen, shows_run}
 use Rattle.acc_memory.proofs.blocks.Blocks.run.Goals as goal
 
-readied : (c : goal.After-as_mut_slice) → IsReadied c.self.inside.blocks.items c.indices_of-indices.result c.args.kernel.now c.args.uses.now
-readied c = record {
-  memory = c.self.invariant;
-  held = rw (← c.self.view_is) at c.requires.held;
-  distinct = c.requires.distinct;
-  reached = c.requires.reached;
-  table = rw c.as_slice.ensures.value at c.indices_of-indices.ensures;
-}
-
 pub run_over-requires : goal.run_over-requires
-run_over-requires c array cell reach =
-    rw c.as_mut_slice.ensures.value
-    (has_seen c.self.inside.blocks.items c.indices_of-indices.result c.args.kernel.now c.args.uses.now (readied c) array cell (c.requires.reached array cell reach))
-
-kept : (c : goal.After-self-1) → KeepsBlocks c.indices_of-indices.result c.self.inside.blocks.items c.run_over.new.blocks
-kept c = rw c.as_mut_slice.ensures.value at c.run_over.ensures.kept
-
-ran : (c : goal.After-self-1) → window_cells c.run_over.new.blocks c.indices_of-indices.result ≡ value_after c.args.kernel.now (window_cells c.self.inside.blocks.items c.indices_of-indices.result)
-ran c = rw c.as_mut_slice.ensures.value at c.run_over.ensures.cells
-
-whole : (c : goal.After-self-1) → (with_items c.self.inside.blocks c.run_over.new.blocks).items ≡ c.run_over.new.blocks
-whole c =
-    let old = c.self.inside.blocks in
-    let counts = ap length (kept c).lengths in
-    with_items_is old c.run_over.new.blocks
-    (omega (arith, counts, length-map c.run_over.new.blocks (λ b. length b.cells), length-map old.items (λ b. length b.cells), old.ok.0))
-
-pub invariant_of-self : goal.invariant_of-self
-invariant_of-self c =
-    rw (whole c) (memory_alike c.self.inside.blocks.items c.run_over.new.blocks (kept c).made (kept c).lengths c.self.invariant)
-
-ready : (c : goal.After-self-1) → IsReadied c.self.inside.blocks.items c.indices_of-indices.result c.args.kernel.now c.args.uses.now
-ready c = record {
-  memory = c.self.invariant;
-  held = rw (← c.self.view_is) at c.requires.held;
-  distinct = c.requires.distinct;
-  reached = c.requires.reached;
-  table = rw c.as_slice.ensures.value at c.indices_of-indices.ensures;
-}
+run_over-requires c array cell reach = has_seen c.args.self.now c.args.kernel.now c.args.uses.now
+    (record { whole = c.keeps.ensures; held = c.requires.held; distinct = c.requires.distinct; reached = c.requires.reached }) array cell (c.requires.reached array cell reach)
 
 pub returns-clause-shows : goal.returns-clause-shows
 returns-clause-shows c device was shows =
-    rw (whole c)
-    (shows_run c.self.inside.blocks.items c.indices_of-indices.result c.args.kernel.now c.args.uses.now (ready c) c.run_over.new.blocks (kept c) (ran c) device was
-    (rw (← c.self.view_is) at shows))
+    shows_run c.args.self.now c.args.kernel.now c.args.uses.now
+    (record { whole = c.keeps.ensures; held = c.requires.held; distinct = c.requires.distinct; reached = c.requires.reached })
+    c.run_over.new.blocks c.run_over.ensures.kept c.run_over.ensures.cells device was shows
 
 pub returns-clause-blocks : goal.returns-clause-blocks
-returns-clause-blocks c =
-    rw (whole c, ← c.self.view_is) (made_again c.self.inside.blocks.items c.run_over.new.blocks (kept c).made)
+returns-clause-blocks c = c.run_over.ensures.kept.blocks

@@ -2,6 +2,7 @@ use Rattle.std.proofs.Common.{◌+◌, ◌<◌, length, map, set, refl, arith, w
 use Rattle.std.specs.Vec.{with_item}
 use Rattle.std.proofs.lemmas.Int.{to_z-of_z}
 use Rattle.std.proofs.lemmas.List.{length-set}
+use Rattle.acc_memory.specs.inner.Devices.{view_of}
 use Rattle.acc_memory.proofs.HostArrays.{ArrayAfter, array_at, array_after}
 use Rattle.acc_memory.proofs.MemoryCalls.{shows_write}
 use Rattle.acc_memory.proofs.BlocksFit.{fits_kept}
@@ -19,7 +20,7 @@ returns-clause-shows c was shows =
     let at = array_at (λ v. v.items) arrays c.args.array (c.args.cell + 1) cells (rw (← c.self.view_is) at c.requires.there) (rw c.from.ensures at c.index_mut-cells.ensures.value) in
     let low : c.args.cell < length cells.items = omega (arith, at.1) in
     rw (to_z-of_z w64 c.args.value c.ranges.value, c.from.ensures)
-    (shows_write (map (λ v. v.items) arrays) (map (λ v. v.items) (set arrays c.args.array (with_item cells c.args.cell c.args.value))) c.self.inside.devices.items
+    (shows_write (map (λ v. v.items) arrays) (map (λ v. v.items) (set arrays c.args.array (with_item cells c.args.cell c.args.value))) (map view_of c.self.inside.devices.items)
     c.args.array c.args.cell c.args.value cells.items was low (after c).replaced (rw (← c.self.view_is) at shows))
 
 pub returns-clause-lengths : goal.returns-clause-lengths

@@ -7,13 +7,13 @@ use Rattle.acc_place.proofs.DeviceNotes.{cells_noted}
 use Rattle.acc_place.proofs.device.Device.note.Goals as goal
 
 pub note_make-requires-clause-cells : goal.note_make-requires-clause-cells
-note_make-requires-clause-cells c = cells_noted c.args.op.now (Make c.in-Make.block c.in-Make.range) c.in-Make.block c.in-Make.range c.in-Make.is refl c.requires.cells
+note_make-requires-clause-cells c = cells_noted c.args.op.now (Make c.in-Make.range c.in-Make.block) c.in-Make.block c.in-Make.range c.in-Make.is refl c.requires.cells
 
 pub note_use-requires-clause-cells : goal.note_use-requires-clause-cells
-note_use-requires-clause-cells c = cells_noted c.args.op.now (CopyIn c.in-CopyIn.block c.in-CopyIn.range) c.in-CopyIn.block c.in-CopyIn.range c.in-CopyIn.is refl c.requires.cells
+note_use-requires-clause-cells c = cells_noted c.args.op.now (CopyIn c.in-CopyIn.range c.in-CopyIn.block) c.in-CopyIn.block c.in-CopyIn.range c.in-CopyIn.is refl c.requires.cells
 
 pub note_use-requires-in-CopyOut-clause-cells : goal.note_use-requires-in-CopyOut-clause-cells
-note_use-requires-in-CopyOut-clause-cells c = cells_noted c.args.op.now (CopyOut c.in-CopyOut.block c.in-CopyOut.range) c.in-CopyOut.block c.in-CopyOut.range c.in-CopyOut.is refl c.requires.cells
+note_use-requires-in-CopyOut-clause-cells c = cells_noted c.args.op.now (CopyOut c.in-CopyOut.range c.in-CopyOut.block) c.in-CopyOut.block c.in-CopyOut.range c.in-CopyOut.is refl c.requires.cells
 
 pub returns-in-Run-clause-notes : goal.returns-in-Run-clause-notes
 returns-in-Run-clause-notes c = λ notes h.

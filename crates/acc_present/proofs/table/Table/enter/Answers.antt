@@ -10,8 +10,8 @@ use Rattle.acc_present.proofs.table.Table.enter.Goals as goal
 pub invariant_of-self : goal.invariant_of-self
 invariant_of-self c =
     let es = c.self.inside.entries.items in
-    let held = rw c.as_slice-entries.ensures at c.in-Some.ensures.held in
-    let low = rw c.as_slice-entries.ensures at c.in-Some.ensures.within in
+    let held = rw c.listed-entries.ensures at c.in-Some.ensures.held in
+    let low = rw c.listed-entries.ensures at c.in-Some.ensures.within in
     let f = found_at es c.args.range c.in-Some.i c.at.result.now held low c.at.ensures in
     rw c.set.ensures.items
     (entered_again es c.args.range c.args.counter c.args.block c.in-Some.i c.at.result.now c.counted_up-entry.result c.self.inside.used c.self.inside.capacity
@@ -20,8 +20,8 @@ invariant_of-self c =
 pub returns-in-Some-clause-presences : goal.returns-in-Some-clause-presences
 returns-in-Some-clause-presences c =
     let es = c.self.inside.entries.items in
-    let held = rw c.as_slice-entries.ensures at c.in-Some.ensures.held in
-    let low = rw c.as_slice-entries.ensures at c.in-Some.ensures.within in
+    let held = rw c.listed-entries.ensures at c.in-Some.ensures.held in
+    let low = rw c.listed-entries.ensures at c.in-Some.ensures.within in
     let f = found_at es c.args.range c.in-Some.i c.at.result.now held low c.at.ensures in
     rw (← c.self.view_is, c.set.ensures.items)
     (entered_again es c.args.range c.args.counter c.args.block c.in-Some.i c.at.result.now c.counted_up-entry.result c.self.inside.used c.self.inside.capacity
@@ -30,19 +30,19 @@ returns-in-Some-clause-presences c =
 pub returns-in-Some-clause-result : goal.returns-in-Some-clause-result
 returns-in-Some-clause-result c =
     let es = c.self.inside.entries.items in
-    let held = rw c.as_slice-entries.ensures at c.in-Some.ensures.held in
-    let low = rw c.as_slice-entries.ensures at c.in-Some.ensures.within in
+    let held = rw c.listed-entries.ensures at c.in-Some.ensures.held in
+    let low = rw c.listed-entries.ensures at c.in-Some.ensures.within in
     let f = found_at es c.args.range c.in-Some.i c.at.result.now held low c.at.ensures in
     rw (← c.self.view_is) (rw f.held refl)
 
 pub invariant_of-self-in-None : goal.invariant_of-self-in-None
 invariant_of-self-in-None c =
     let es = c.self.inside.entries.items in
-    let none : holder (shown es) c.args.range ≡ None = rw c.as_slice-entries.ensures at c.in-None.ensures.held in
+    let none : holder (shown es) c.args.range ≡ None = rw c.listed-entries.ensures at c.in-None.ensures.held in
     let whole = rw (← c.self.view_is) at c.requires.whole in
     let capacity = rw (← c.self.view_is) at c.requires.capacity in
     let room = rw (← c.self.view_is) at c.requires.room in
-    let at = rw c.as_slice-entries.ensures at c.index_behind-behind.ensures.index in
+    let at = rw c.listed-entries.ensures at c.index_behind-behind.ensures.index in
     let b = entered_new es c.args.range c.args.counter c.args.block c.new_entry.result c.self.inside.used c.self.inside.capacity
     c.self.invariant c.requires.cells none whole (capacity none) c.new_entry.ensures.presence in
     rw (c.insert.ensures.items, at, c.from.ensures) b.table
@@ -50,11 +50,11 @@ invariant_of-self-in-None c =
 pub returns-in-None-clause-presences : goal.returns-in-None-clause-presences
 returns-in-None-clause-presences c =
     let es = c.self.inside.entries.items in
-    let none : holder (shown es) c.args.range ≡ None = rw c.as_slice-entries.ensures at c.in-None.ensures.held in
+    let none : holder (shown es) c.args.range ≡ None = rw c.listed-entries.ensures at c.in-None.ensures.held in
     let whole = rw (← c.self.view_is) at c.requires.whole in
     let capacity = rw (← c.self.view_is) at c.requires.capacity in
     let room = rw (← c.self.view_is) at c.requires.room in
-    let at = rw c.as_slice-entries.ensures at c.index_behind-behind.ensures.index in
+    let at = rw c.listed-entries.ensures at c.index_behind-behind.ensures.index in
     let b = entered_new es c.args.range c.args.counter c.args.block c.new_entry.result c.self.inside.used c.self.inside.capacity
     c.self.invariant c.requires.cells none whole (capacity none) c.new_entry.ensures.presence in
     rw (← c.self.view_is, c.insert.ensures.items, at) b.same
@@ -62,13 +62,13 @@ returns-in-None-clause-presences c =
 pub returns-in-None-clause-result : goal.returns-in-None-clause-result
 returns-in-None-clause-result c =
     let es = c.self.inside.entries.items in
-    let none : holder (shown es) c.args.range ≡ None = rw c.as_slice-entries.ensures at c.in-None.ensures.held in
+    let none : holder (shown es) c.args.range ≡ None = rw c.listed-entries.ensures at c.in-None.ensures.held in
     rw (← c.self.view_is) (rw (is_present-none (shown es) c.args.range none) refl)
 
 pub returns-in-Some-clause-notes : goal.returns-in-Some-clause-notes
 returns-in-Some-clause-notes c =
     let es = c.self.inside.entries.items in
-    let low = rw c.as_slice-entries.ensures at c.in-Some.ensures.within in
+    let low = rw c.listed-entries.ensures at c.in-Some.ensures.within in
     let x = c.at.result.now in
     let y = c.counted_up-entry.result in
     let range : y.range ≡ x.range = ap (λ (p : Presence). p.range) c.counted_up-entry.ensures.presence in
@@ -80,7 +80,7 @@ pub returns-in-None-clause-notes : goal.returns-in-None-clause-notes
 returns-in-None-clause-notes c =
     let es = c.self.inside.entries.items in
     let room = rw (← c.self.view_is) at c.requires.room in
-    let none : holder (shown es) c.args.range ≡ None = rw c.as_slice-entries.ensures at c.in-None.ensures.held in
+    let none : holder (shown es) c.args.range ≡ None = rw c.listed-entries.ensures at c.in-None.ensures.held in
     let e = c.new_entry.result in
     let range : e.range ≡ c.args.range = ap (λ (p : Presence). p.range) c.new_entry.ensures.presence in
     let block : e.block ≡ c.args.block = ap (λ (p : Presence). p.block) c.new_entry.ensures.presence in

@@ -1,4 +1,4 @@
-use Rattle.std.proofs.Common.{◌≡◌, List, [], ◌∷◌, map, refl, ap, subst}
+use Rattle.std.proofs.Common.{List, [], ◌∷◌, map, refl, ap, subst}
 use Rattle.std.specs.Prelude.{ℕ}
 use Rattle.acc_base.specs.declared.range.Range.{Range}
 use Rattle.acc_present.specs.declared.table.Entry.{Entry}

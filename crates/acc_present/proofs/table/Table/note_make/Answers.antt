@@ -9,20 +9,20 @@ use Rattle.acc_present.proofs.table.Table.note_make.Goals as goal
 pub invariant_of-self : goal.invariant_of-self
 invariant_of-self c =
     let es = c.self.inside.entries.items in
-    let low = rw c.as_slice.ensures at c.in-Some.ensures.within in
+    let low = rw c.listed.ensures at c.in-Some.ensures.within in
     rw (c.set.ensures.items, shown_kept es c.in-Some.i c.at.result.now c.made_by-entry.result low c.at.ensures c.made_by-entry.ensures.presence) c.self.invariant
 
 pub returns-in-Some-clause-presences : goal.returns-in-Some-clause-presences
 returns-in-Some-clause-presences c =
     let es = c.self.inside.entries.items in
-    let low = rw c.as_slice.ensures at c.in-Some.ensures.within in
+    let low = rw c.listed.ensures at c.in-Some.ensures.within in
     rw (← c.self.view_is, c.set.ensures.items) (shown_kept es c.in-Some.i c.at.result.now c.made_by-entry.result low c.at.ensures c.made_by-entry.ensures.presence)
 
 pub returns-in-Some-clause-notes : goal.returns-in-Some-clause-notes
 returns-in-Some-clause-notes c =
     let es = c.self.inside.entries.items in
-    let held = rw c.as_slice.ensures at c.in-Some.ensures.held in
-    let low = rw c.as_slice.ensures at c.in-Some.ensures.within in
+    let held = rw c.listed.ensures at c.in-Some.ensures.held in
+    let low = rw c.listed.ensures at c.in-Some.ensures.within in
     let x = c.at.result.now in
     let y = c.made_by-entry.result in
     let found = found_at es c.args.range c.in-Some.i x held low c.at.ensures in
@@ -32,5 +32,5 @@ returns-in-Some-clause-notes c =
 pub returns-in-None-clause-notes : goal.returns-in-None-clause-notes
 returns-in-None-clause-notes c =
     let es = c.self.inside.entries.items in
-    let none : holder (shown es) c.args.range ≡ None = rw c.as_slice.ensures at c.in-None.ensures.held in
+    let none : holder (shown es) c.args.range ≡ None = rw c.listed.ensures at c.in-None.ensures.held in
     rw (← c.self.view_is) (λ notes h. noted_none notes c.args.range (made_by c.args.queue c.args.batch) es (none_contains (shown es) c.args.range (is_present-none (shown es) c.args.range none)) h)

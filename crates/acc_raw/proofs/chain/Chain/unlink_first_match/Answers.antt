@@ -4,7 +4,7 @@ use Rattle.std.proofs.lemmas.List.Folds.{find_at}
 use Rattle.acc_raw.specs.inner.Wired.{values}
 use Rattle.acc_raw.proofs.Places.{at_is, end_at}
 use Rattle.acc_raw.proofs.Showing.{length-values, none_at, remove_none, value_at}
-use Rattle.acc_raw.proofs.Unlinking.{values-unspliced}
+use Rattle.acc_raw.proofs.Unlinking.{shown-unspliced}
 use Rattle.acc_raw.proofs.chain.Chain.unlink_first_match.Goals as goal
 
 pub returns-in-None-clause-node : goal.returns-in-None-clause-node
@@ -29,4 +29,4 @@ returns-clause-node g c =
 pub returns-clause-rest : goal.returns-clause-rest
 returns-clause-rest g c =
     let ps = c.self.inside.nodes.store.links in let n = c.seek-sought.result.index.n in let l = c.unlink_at-link.result.value in let f = λ (x : g.row.T.Denot). g.T.Keyed.key_of x == c.args.key in
-    ap values c.unlink_at-link.ensures.links ∙ values-unspliced ps n l ∙ ap (λ k. remove (values ps) k) c.seek-sought.ensures.first ∙ ap (λ vs. remove vs (position_or_len f vs)) c.self.view_is
+    ap values c.unlink_at-link.ensures.links ∙ shown-unspliced (λ p v. v) ps n l ∙ ap (λ k. remove (values ps) k) c.seek-sought.ensures.first ∙ ap (λ vs. remove vs (position_or_len f vs)) c.self.view_is

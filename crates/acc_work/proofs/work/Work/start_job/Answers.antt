@@ -16,7 +16,7 @@ start_on-requires-clause-may c =
     let there = rw (← c.self.view_is) at (c.can_go-can.ensures.there c.if-not-can.false) in
     let lane = found w.lanes at c.index_mut-lane.result.now there.1.1 there.0 (rw c.seat.ensures at c.index_mut-lane.ensures.value) in
     let some = sym (ap (λ (l : LaneView). is_some (next_loop l.left)) lane) ∙ (sym c.has_loop_next.ensures ∙ c.if-not-has_loop_next.false) in
-    subst (λ (l : LaneView). MayStart w.memory at.device l.left) (sym lane) (may_start w c.self.inside.log.devices at c.self.invariant can some)
+    subst (λ (l : LaneView). MayStart w.memory at.device l.left) (sym lane) (may_start w at c.self.invariant can some)
 
 pub invariant_of-self-2 : goal.invariant_of-self-2
 invariant_of-self-2 c =
@@ -29,4 +29,4 @@ invariant_of-self-2 c =
     let out = lane_out c.self.inside.memory old c.start_on.new.lane at c.start_on.result c.start_on.ensures.started c.start_on.ensures.none
     (λ none. some_batch w at can (ap (λ (l : LaneView). last_of l.taken) (sym lane) ∙ none)) in
     let new = out ∙ ap (λ l. lane_with_out l true) lane in
-    rw (c.start_on.ensures.memory, c.seat.ensures, new) (work_out w c.self.inside.log.devices at true c.self.invariant there.1 (λ yes. host_allowed w at can))
+    rw (c.seat.ensures, new) (work_out w at true c.self.invariant there.1 (λ yes. host_allowed w at can))

@@ -1,0 +1,33 @@
+-- Values by number, spread over chains. Only private contracts and proofs cite it.
+use Rattle.std.specs.Prelude.{◌≡◌, ℕ, ◌%◌, ◌==◌, if◌then◌else◌, List, [], length, find, slice_index_or, Option, None}
+use Rattle.std.specs.List.{AllPairs, flat_map}
+use Rattle.acc_memory.specs.declared.buckets.TheConstants.{BUCKETS}
+
+-- the first value of a number
+abbrev pub find_by : {X : Type 0} → (X → ℕ) → List X → ℕ → Option X
+find_by key xs n = find (λ x. key x == n) xs
+
+-- no two are of the same number
+abbrev pub AreOnce : {X : Type 0} → (X → ℕ) → List X → Type 0
+AreOnce key xs = AllPairs (λ x y. key x ≡ key y → ⊥) xs
+
+-- of one number there is this value, or none; of each other number the one that there was
+abbrev pub IsSetBy : {X : Type 0} → (X → ℕ) → ℕ → Option X → List X → List X → Type 0
+IsSetBy key n x old new = (k : ℕ) → find_by key new k ≡ (if k == n then x else find_by key old k)
+
+-- the chain of a number
+abbrev pub bucket_of : ℕ → ℕ
+bucket_of n = n % BUCKETS
+
+abbrev pub bucket_in : {X : Type 0} → List (List X) → ℕ → List X
+bucket_in buckets k = slice_index_or buckets k []
+
+-- the values of all chains
+abbrev pub in_all : {X : Type 0} → List (List X) → List X
+in_all buckets = flat_map (λ xs. xs) buckets
+
+-- There are so many chains, and each value that is there is in that of its number, which no other there is of.
+pub record AreSpread {X : Type 0} (key : X → ℕ) (buckets : List (List X)) : Type 0 where
+  pub count : length buckets ≡ BUCKETS
+  pub once : (k : ℕ) → AreOnce key (bucket_in buckets k)
+  pub own : (k n : ℕ) → (bucket_of n ≡ k → ⊥) → find_by key (bucket_in buckets k) n ≡ None

@@ -1,0 +1,101 @@
+//! Values by number, each in its node, spread over chains.
+
+ghost use Rattle.std.specs.Prelude.{◌≡◌, ◌-◌, [], length, is_some, Some, None, IfOk, IfErr};
+ghost use Rattle.std.specs.Option.{option_copied, option_map};
+ghost use Rattle.acc_base.specs.declared.fault.Fault.TheVariants as fault;
+ghost use Rattle.acc_memory.specs.inner.Buckets.{IsSetBy, bucket_of, find_by};
+ghost use Rattle.acc_memory.specs.Memories.{Row, find_row};
+ghost use Rattle.acc_memory.specs.inner.Rows.{HasRoom, IsSetAt, stored};
+
+use acc_base::Fault;
+use acc_batch::Block;
+use acc_raw::{Chain, Keyed, Node};
+use std::alloc::Global;
+use std::marker::Model;
+
+// How many chains the values are spread over.
+const BUCKETS: u64 = 1_024;
+
+/// Values by number, no two of the same one. Each stays in the node that it came with, linked into the chain of its number modulo
+/// the count of chains. Contracts see the list of the values, of which the order says nothing.
+#[derive(Drop)]
+pub(crate) struct Buckets<T: Keyed + Drop> {
+    chains: Vec<Chain<T>>,
+}
+
+impl<T: Keyed + Drop> Model for Buckets<T> {
+    ghost use Rattle.std.specs.Prelude.{List};
+    ghost use Rattle.acc_memory.specs.inner.Buckets.{in_all, AreSpread};
+
+    ghost Value = { List T };
+
+    ghost view = { λ b. in_all b.chains.items };
+
+    ghost invariant = { λ b. AreSpread T.key_of b.chains.items };
+}
+
+impl<T: Keyed + Drop> Buckets<T> {
+    /// None.
+    ///
+    /// # Errors
+    ///
+    /// `Memory` where memory is refused.
+    pub(crate) fn new(alloc: Global) -> Result<Self, Fault>
+        ensures none { IfOk result (λ b. b ≡ []) }
+        ensures fault { IfErr result (λ f. f ≡ fault.Memory) }
+    {
+        let mut chains = Vec::with_capacity(alloc, BUCKETS as usize)?;
+        for _ in 0..BUCKETS {
+            chains.push(Chain::new(alloc))?;
+        }
+        Ok(Buckets { chains })
+    }
+
+    /// The value of this number, if it is there.
+    pub(crate) fn get(&self, number: u64) -> Option<&T>
+        ensures { option_copied result ≡ find_by T.key_of self.now number }
+    {
+        self.chains[bucket_of(number)].find(number)
+    }
+
+    /// Takes in a value of a number of which none is there. Takes no memory.
+    pub(crate) fn put(&mut self, node: Node<T>)
+        requires { find_by T.key_of self.old (T.key_of node) ≡ None }
+        ensures { IsSetBy T.key_of (T.key_of node) (Some node) self.old self.new }
+    {
+        let chain = &mut self.chains[bucket_of(node.value().key())];
+        chain.push_back(node);
+    }
+
+    /// Lets the value of this number go, and tells whether it was there.
+    pub(crate) fn remove(&mut self, number: u64) -> bool
+        ensures there { result ≡ is_some (find_by T.key_of self.old number) }
+        ensures gone { IsSetBy T.key_of number None self.old self.new }
+    {
+        let chain = &mut self.chains[bucket_of(number)];
+        chain.unlink_first_match(number).is_some()
+    }
+}
+
+impl Buckets<Block> {
+    /// Writes some cells of the block of this number, if it is there, side by side from one on, which is named by its number in the
+    /// host array. Takes no memory.
+    pub(crate) fn store(&mut self, number: u64, first: usize, values: &[i64])
+        requires { (row : Row) → find_row self.old number ≡ Some row → HasRoom row first (length values.now) }
+        ensures { IsSetAt number (option_map (λ row. stored row (first - row.range.lo) values.now) (find_row self.old number)) self.old self.new }
+    {
+        let chain = &mut self.chains[bucket_of(number)];
+        let held = match chain.find_mut(number) {
+            None => return,
+            Some(held) => held,
+        };
+        held.cells.copy_from(first - held.range.lo as usize, values);
+    }
+}
+
+// The chain of a number.
+fn bucket_of(number: u64) -> usize
+    ensures { result ≡ bucket_of number }
+{
+    (number % BUCKETS) as usize
+}
