@@ -1,7 +1,5 @@
 -- Places beside the nodes, in their order.
-use Rattle.std.proofs.Common.{◌≡◌, ℕ, ◌<◌, ◌≤◌, zero, suc, refl, sym, ap, ◌∙◌, List, [], ◌∷◌, length, slice_get, slice_set, slice_index_or, Some, arith}
-use Rattle.std.proofs.lemmas.List.{length-map}
-use Rattle.std.proofs.lemmas.Option.{slice_get_read}
+use Rattle.std.proofs.Common.{◌≡◌, ℕ, ◌≤◌, zero, suc, refl, sym, ap, ◌∙◌, List, [], ◌∷◌, length, slice_get, slice_set, Some, arith}
 use denote.RawPtr.{Ptr}
 use Rattle.acc_raw.specs.declared.link.Link.{Link}
 use Rattle.acc_raw.specs.declared.link.Place.{Place}
@@ -23,11 +21,8 @@ module _ {X : Type 0} where
   place_at_is (q ∷ ps) (suc i) = place_at_is ps i
 
   -- the place that is read beside the nodes is the node's
-  pub is_named : (ps : List (Placed X)) (qs : List Place) (vs : List X) (i : ℕ) (r : Place)
-      → qs ≡ places ps → values ps ≡ vs → i < length vs → r ≡ slice_index_or qs i r → IsAt ps i r.ptr
-  is_named ps qs vs i r e f lt told =
-      let many : length vs ≡ length qs = ap length (sym f) ∙ length-values ps ∙ sym (length-map ps (λ p. place p.0)) ∙ ap length (sym e) in
-      at_is ps i r (sym (place_at_is ps i ∙ ap (λ q. slice_get q i) (sym e) ∙ slice_get_read qs (length vs) i r many lt told))
+  pub is_named : (ps : List (Placed X)) (qs : List Place) (i : ℕ) (r : Place) → qs ≡ places ps → slice_get qs i ≡ Some r → IsAt ps i r.ptr
+  is_named ps qs i r e told = at_is ps i r (sym (place_at_is ps i ∙ ap (λ q. slice_get q i) (sym e) ∙ told))
 
   pub is_sought : (ps : List (Placed X)) (qs : List Place) (vs : List X) (i : ℕ) (s : Sought)
       → qs ≡ places ps → values ps ≡ vs → i ≤ length vs → s.at ≡ slice_get qs i → s.index.n ≡ i → IsSought ps s

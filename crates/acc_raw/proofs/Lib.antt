@@ -11,6 +11,7 @@ pub mod Linking
 pub mod Making
 pub mod Naming
 pub mod Owned
+pub mod Packing
 pub mod Places
 pub mod Reaching
 pub mod Seeking

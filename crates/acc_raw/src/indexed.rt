@@ -1,5 +1,5 @@
 //! Linked nodes with an index of their places.
-ghost use Rattle.std.specs.Prelude.{◌≡◌, ◌+◌, ◌<◌, ◌≤◌, [], length, insert, remove, slice_get, Some, IfErr, OnOk, OnErr, vec_len, vec_capacity};
+ghost use Rattle.std.specs.Prelude.{◌≡◌, ◌+◌, ◌<◌, ◌≤◌, [], length, insert, remove, slice_get, Some, IfErr, OnOk, OnErr};
 ghost use Rattle.std.specs.Borrow.{sem, Lends};
 ghost use Rattle.acc_base.specs.declared.fault.Fault.TheVariants as fault;
 
@@ -9,6 +9,7 @@ use crate::keyed::{Sought, before};
 use crate::link::{Node, Place};
 use crate::nth::Nth;
 use crate::store::Store;
+use crate::tiered::Tiered;
 use acc_base::Fault;
 use std::alloc::Global;
 use std::marker::Model;
@@ -17,19 +18,19 @@ use std::marker::Model;
 /// Contracts see the list of the values, and how many nodes there is room to name.
 pub struct Indexed<T> {
     nodes: Chained<T>,
-    places: Vec<Place>,
+    places: Tiered,
     alloc: Global,
 }
 
 impl<T> Model for Indexed<T> {
-    ghost use Rattle.std.specs.Prelude.{◌≡◌, vec_capacity};
+    ghost use Rattle.std.specs.Prelude.{◌≡◌};
     ghost use Rattle.acc_raw.specs.Indices.{IndexedView};
     ghost use Rattle.acc_raw.specs.inner.Wired.{values, places as places_of};
     ghost use Rattle.acc_raw.specs.inner.Chained.{IsChained};
 
     ghost Value = { IndexedView T };
 
-    ghost view = { λ c. record { items = values c.nodes.store.links; room = vec_capacity c.places } };
+    ghost view = { λ c. record { items = values c.nodes.store.links; room = c.places.room } };
 
     ghost invariant = { λ c. IsChained c.nodes × (c.places.items ≡ places_of c.nodes.store.links) };
 }
@@ -48,7 +49,7 @@ impl<T> Indexed<T> {
                 head: None,
                 tail: None,
             },
-            places: Vec::new(alloc),
+            places: Tiered::new(alloc),
             alloc,
         }
     }
@@ -66,8 +67,7 @@ impl<T> Indexed<T> {
         ensures kept { OnErr result (self.new ≡ self.old) }
         ensures missing { OnErr result (self.old.room < length self.old.items + count) }
     {
-        self.places.reserve(count)?;
-        Ok(())
+        self.places.spare(self.alloc, count)
     }
 
     /// How many nodes there are.
@@ -81,7 +81,7 @@ impl<T> Indexed<T> {
     pub fn room(&self) -> usize
         ensures { result ≡ self.now.room }
     {
-        self.places.capacity()
+        self.places.room()
     }
 
     /// The value of the node with this number, counted from 0.
@@ -89,7 +89,7 @@ impl<T> Indexed<T> {
         requires { at < length self.now.items }
         ensures { slice_get self.now.items at ≡ Some result.now }
     {
-        let place = self.places[at];
+        let place = self.places.get(at);
         &self.nodes.store.get(place, Nth::of(at)).value
     }
 
@@ -100,7 +100,7 @@ impl<T> Indexed<T> {
         ensures value { slice_get self.old.items at ≡ Some result.now }
         ensures* writes_back { sem 𝓛 (Lends (the_row T.row) T.row self.entry result (with_item self.old at)) }
     {
-        let place = self.places[at];
+        let place = self.places.get(at);
         let link = self.nodes.store.get_mut(place, Nth::of(at));
         &mut link.value
     }
@@ -114,12 +114,12 @@ impl<T: Drop> Indexed<T> {
         ensures items { self.new.items ≡ insert self.old.items at node }
         ensures room { self.new.room ≡ self.old.room }
     {
-        let sought = numbered(self.places.as_slice(), at);
+        let sought = numbered(&self.places, at);
         let mut link = node.into_link();
         link.prev = before(&self.nodes, &sought);
         link.next = sought.at;
         let place = link_at(&mut self.nodes, link, sought.index);
-        put(&mut self.places, at, place);
+        self.places.insert(at, place);
     }
 
     /// Takes the node with this number out.
@@ -154,23 +154,16 @@ impl<T: Drop> Drop for Indexed<T> {
 }
 
 // Where the node with this number lies, or no place at the end.
-fn numbered(places: &[Place], at: usize) -> Sought
-    ensures place { result.at ≡ slice_get places.now at }
+fn numbered(places: &Tiered, at: usize) -> Sought
+    ensures place { result.at ≡ slice_get places.now.items at }
     ensures index { result.index.n ≡ at }
 {
     Sought {
-        at: places.get(at).copied(),
+        at: if at < places.len() {
+            Some(places.get(at))
+        } else {
+            None
+        },
         index: Nth::of(at),
     }
-}
-
-// Puts a place before the one with this number.
-fn put(places: &mut Vec<Place>, at: usize, place: Place)
-    requires within { at ≤ vec_len places.old }
-    requires room { vec_len places.old < vec_capacity places.old }
-    ensures items { places.new.items ≡ insert places.old.items at place }
-    ensures room { vec_capacity places.new ≡ vec_capacity places.old }
-{
-    // there is room, so this isn't refused
-    let _ = places.insert(at, place);
 }

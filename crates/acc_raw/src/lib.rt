@@ -10,7 +10,9 @@ mod iter;
 mod keyed;
 mod link;
 mod nth;
+mod ring;
 mod store;
+mod tiered;
 
 pub use cells::{Cells, Window};
 pub use chain::Chain;

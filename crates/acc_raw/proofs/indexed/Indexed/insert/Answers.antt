@@ -9,14 +9,14 @@ use Rattle.acc_raw.proofs.indexed.Indexed.insert.Goals as goal
 pub before-requires-clause-place : goal.before-requires-clause-place
 before-requires-clause-place g c =
     let s = c.numbered-sought in
-    is_sought c.self.inside.nodes.store.links c.as_slice.result.now c.args.self.now.items c.args.at s.result
-    (c.as_slice.ensures.value ∙ c.self.invariant.1) (ap (λ v. v.items) c.self.view_is) c.requires.within s.ensures.place s.ensures.index
+    is_sought c.self.inside.nodes.store.links c.self.inside.places.items c.args.self.now.items c.args.at s.result
+    c.self.invariant.1 (ap (λ v. v.items) c.self.view_is) c.requires.within s.ensures.place s.ensures.index
 
 pub link_at-place-requires-clause-between : goal.link_at-place-requires-clause-between
 link_at-place-requires-clause-between g c =
     let ps = c.self.inside.nodes.store.links in let s = c.numbered-sought in
-    let found : IsSought ps s.result = is_sought ps c.as_slice.result.now c.args.self.now.items c.args.at s.result
-    (c.as_slice.ensures.value ∙ c.self.invariant.1) (ap (λ v. v.items) c.self.view_is) c.requires.within s.ensures.place s.ensures.index in
+    let found : IsSought ps s.result = is_sought ps c.self.inside.places.items c.args.self.now.items c.args.at s.result
+    c.self.invariant.1 (ap (λ v. v.items) c.self.view_is) c.requires.within s.ensures.place s.ensures.index in
     (ap (λ l. l.prev) c.deref_mut-2.ensures.value ∙ c.before-2.ensures, found.0)
 
 pub invariant_of-self : goal.invariant_of-self
@@ -24,7 +24,7 @@ invariant_of-self g c =
     let ps = c.self.inside.nodes.store.links in let i = c.args.at in let p = c.link_at-place.result in
     let n : Placed g.row.T.Denot = (p.ptr, record c.deref_mut-2.result.now { next = c.numbered-sought.result.at }) in (
       c.link_at-place.ensures.chained,
-      c.put.ensures.items ∙ ap (λ rs. insert rs i p) c.self.invariant.1 ∙ sym (shown-spliced (λ p v. place p) ps i n)
+      c.insert.ensures.items ∙ ap (λ rs. insert rs i p) c.self.invariant.1 ∙ sym (shown-spliced (λ p v. place p) ps i n)
           ∙ ap (λ k. places (spliced ps k n)) (sym c.numbered-sought.ensures.index) ∙ ap places (sym c.link_at-place.ensures.links),
     )
 

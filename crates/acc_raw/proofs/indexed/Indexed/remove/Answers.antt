@@ -9,7 +9,7 @@ use Rattle.acc_raw.proofs.indexed.Indexed.remove.Goals as goal
 pub unlink_at-link-requires-clause-there : goal.unlink_at-link-requires-clause-there
 unlink_at-link-requires-clause-there g c =
     let ps = c.self.inside.nodes.store.links in let r = c.remove-place.result in
-    subst (λ k. IsAt ps k r.ptr) (sym c.of.ensures) (is_named ps c.self.inside.places.items c.args.self.now.items c.args.at r c.self.invariant.1 (ap (λ v. v.items) c.self.view_is) c.requires c.remove-place.ensures.value)
+    subst (λ k. IsAt ps k r.ptr) (sym c.of.ensures) (is_named ps c.self.inside.places.items c.args.at r c.self.invariant.1 c.remove-place.ensures.place)
 
 pub invariant_of-self : goal.invariant_of-self
 invariant_of-self g c =
