@@ -16,7 +16,7 @@ use Rattle.std.specs.List.{flat_map}
 use Rattle.std.specs.Simd.{first_chunks}
 use Rattle.acc_batch.specs.declared.values.Width.{Width}
 use Rattle.acc_batch.specs.declared.values.Width.TheVariants.{One, Two, Four, Eight}
-use Rattle.acc_batch.specs.Values.{integer, byte_count, FitsIn, bytes_of, value_of, values_in, IsLeastFor}
+use Rattle.acc_batch.specs.Values.{integer, byte_count, FitsIn, bytes_of, value_of, values_in, IsLeastFor, IsPacked}
 
 -- a value has some bytes
 some_bytes : (width : Width) → 0 < byte_count width
@@ -122,3 +122,13 @@ least_width width bits i values end before low needs =
           let below = All-weaker (FitsIn other) (Below other) (λ v h. h.sfits) values fit in
           no_fewer width other bits needs (are.all (hbits (integer other)) below);
     }
+
+-- bytes of values in their least width give them back, and are packed
+pub packed_back : (width : Width) (bytes : List ℕ) (values : List ℤ) → IsLeastFor width values
+    → bytes ≡ flat_map (bytes_of width) values → values_in width bytes ≡ values
+packed_back width bytes values least whole = ap (values_in width) whole ∙ values_back width values least.fit
+
+pub packed : (width : Width) (bytes : List ℕ) (values : List ℤ) → IsLeastFor width values
+    → bytes ≡ flat_map (bytes_of width) values → IsPacked width bytes (values_in width bytes)
+packed width bytes values least whole =
+    subst (IsPacked width bytes) (sym (packed_back width bytes values least whole)) (record { least = least; whole = whole })

@@ -1,8 +1,11 @@
 -- Values in as few bytes as they need.
-use Rattle.std.specs.Prelude.{◌≡◌, ◌/◌, ◌≤◌, ℕ, ℤ, List, length, map, All, FitsSigned}
+use Rattle.std.specs.Prelude.{◌≡◌, ◌/◌, ◌≤◌, ℕ, ℤ, List, length, map, take, All, FitsSigned}
 use Rattle.std.specs.Int.{Width as Integer, w8, w16, w32, w64, byte_len, cast_signed, cast_unsigned, from_le_bytes, to_le_bytes}
 use Rattle.std.specs.List.{flat_map}
 use Rattle.std.specs.Simd.{first_chunks}
+use Rattle.acc_batch.specs.declared.values.Form.{Form}
+use Rattle.acc_batch.specs.declared.values.Form.TheVariants.{Few, Many}
+use Rattle.acc_batch.specs.declared.values.TheConstants.{FEW}
 use Rattle.acc_batch.specs.declared.values.Width.{Width}
 use Rattle.acc_batch.specs.declared.values.Width.TheVariants.{One, Two, Four, Eight}
 
@@ -40,3 +43,12 @@ pub record IsLeastFor (width : Width) (values : List ℤ) : Type 0 where
 pub record IsPacked (width : Width) (bytes : List ℕ) (values : List ℤ) : Type 0 where
   pub least : IsLeastFor width values
   pub whole : bytes ≡ flat_map (bytes_of width) values
+
+abbrev pub values_of : Form → List ℤ
+values_of (Few width count bytes) = values_in width (take count bytes)
+values_of (Many width bytes) = values_in width bytes.items
+
+-- A few have all their bytes in place.
+abbrev pub IsKept : Form → Type 0
+IsKept (Few width count bytes) = IsPacked width (take count bytes) (values_in width (take count bytes)) × (count ≤ FEW)
+IsKept (Many width bytes) = IsPacked width bytes.items (values_in width bytes.items)

@@ -4,7 +4,8 @@ ghost use Rattle.std.specs.Prelude.{◌≡◌, ◌*◌, ◌≤◌, [], ◌∷◌
 ghost use Rattle.std.specs.Int.Signed.{mag};
 ghost use Rattle.std.specs.Iterator.{YieldsFirst, item_count};
 ghost use Rattle.std.specs.List.{flat_map};
-ghost use Rattle.acc_batch.specs.Values.{byte_count, bytes_of, values_in, FitsIn, IsLeastFor};
+ghost use Rattle.acc_batch.specs.Values.{byte_count, bytes_of, values_in, values_of, FitsIn, IsKept, IsLeastFor};
+ghost use Rattle.acc_batch.specs.declared.values.TheConstants.{FEW};
 
 use std::alloc::Global;
 use std::marker::Model;
@@ -13,9 +14,25 @@ use std::mem::size_of;
 /// The values of a print, each in as many bytes as the one that needs most. Contracts see the list of them.
 #[derive(Drop)]
 pub struct Values {
-    width: Width,
-    bytes: Vec<u8>,
+    form: Form,
 }
+
+// Where their bytes are: a few stand in place.
+#[derive(Drop)]
+enum Form {
+    Few {
+        width: Width,
+        count: u8,
+        bytes: [u8; FEW],
+    },
+    Many {
+        width: Width,
+        bytes: Vec<u8>,
+    },
+}
+
+// The most bytes that stand in place.
+const FEW: usize = 32;
 
 // How many bytes a value has: the lowest one is the first, the sign is in the last.
 #[derive(Clone, Copy)]
@@ -28,13 +45,13 @@ enum Width {
 
 impl Model for Values {
     ghost use Rattle.std.specs.Prelude.{List, ℤ};
-    ghost use Rattle.acc_batch.specs.Values.{values_in, IsPacked};
+    ghost use Rattle.acc_batch.specs.Values.{values_of, IsKept};
 
     ghost Value = { List ℤ };
 
-    ghost view = { λ v. values_in v.width v.bytes.items };
+    ghost view = { λ v. values_of v.form };
 
-    ghost invariant = { λ v. IsPacked v.width v.bytes.items (values_in v.width v.bytes.items) };
+    ghost invariant = { λ v. IsKept v.form };
 }
 
 impl Values {
@@ -43,8 +60,10 @@ impl Values {
         ensures { result ≡ [] }
     {
         Values {
-            width: Width::One,
-            bytes: Vec::new(alloc),
+            form: Form::Many {
+                width: Width::One,
+                bytes: Vec::new(alloc),
+            },
         }
     }
 
@@ -54,22 +73,66 @@ impl Values {
         ensures { result ≡ cells.now }
     {
         let width = width_of(cells);
-        let mut bytes = room;
-        let _ = bytes.resize(cells.len() * width.bytes(), 0);
-        write_all(&mut bytes, width, cells);
-        bytes.shrink_to_fit();
-        Values { width, bytes }
+        let count = cells.len() * width.bytes();
+        let form = if count <= FEW {
+            few(width, count, cells)
+        } else {
+            many(room, width, count, cells)
+        };
+        Values { form }
     }
 
     /// All values, in their order.
     pub fn iter(&self) -> ValuesIter<'_>
         ensures { result ≡ self.now }
     {
-        ValuesIter {
-            width: self.width,
-            rest: self.bytes.as_slice(),
+        match &self.form {
+            Form::Few {
+                width,
+                count,
+                bytes,
+            } => ValuesIter {
+                width: *width,
+                rest: &bytes[..usize::from(*count)],
+            },
+            Form::Many { width, bytes } => ValuesIter {
+                width: *width,
+                rest: bytes.as_slice(),
+            },
         }
     }
+}
+
+// Values whose bytes stand in place.
+fn few(width: Width, count: usize, cells: &[i64]) -> Form
+    requires least { IsLeastFor width cells.now }
+    requires count { count ≡ length cells.now * byte_count width }
+    requires room { count ≤ FEW }
+    ensures kept { IsKept result }
+    ensures values { values_of result ≡ cells.now }
+{
+    let mut bytes = [0; FEW];
+    write_all(&mut bytes[..count], width, cells);
+    Form::Few {
+        width,
+        count: count as u8,
+        bytes,
+    }
+}
+
+// Values whose bytes stand in that room. It takes no memory, and gives back what they don't need.
+fn many(room: Vec<u8>, width: Width, count: usize, cells: &[i64]) -> Form
+    requires least { IsLeastFor width cells.now }
+    requires count { count ≡ length cells.now * byte_count width }
+    requires room { count ≤ vec_capacity room }
+    ensures kept { IsKept result }
+    ensures values { values_of result ≡ cells.now }
+{
+    let mut bytes = room;
+    let _ = bytes.resize(count, 0);
+    write_all(&mut bytes, width, cells);
+    bytes.shrink_to_fit();
+    Form::Many { width, bytes }
 }
 
 /// The values of a print that are left, in their order.
@@ -95,6 +158,7 @@ impl<'values> Iterator for ValuesIter<'values> {
 
     ghost remaining = { item_count (λ rest. rest) };
 
+    #[inline(always)]
     fn next(&mut self) -> Option<i64> {
         let (value, rest) = first_of(self.width, self.rest)?;
         self.rest = rest;
@@ -103,6 +167,7 @@ impl<'values> Iterator for ValuesIter<'values> {
 }
 
 // The first value in bytes, and the bytes behind it.
+#[inline(always)]
 fn first_of(width: Width, bytes: &[u8]) -> Option<(i64, &[u8])>
     ensures first { IfSome result (λ p. values_in width bytes.now ≡ p.0 ∷ values_in width p.1.now) }
     ensures none { IfNone result (values_in width bytes.now ≡ []) }
@@ -167,7 +232,23 @@ fn magnitude(value: i64) -> u64
     if value < 0 { !bits } else { bits }
 }
 
+// Writes values into their bytes.
 fn write_all(bytes: &mut [u8], width: Width, cells: &[i64])
+    requires room { length bytes.old ≡ length cells.now * byte_count width }
+    requires fit { All (FitsIn width) cells.now }
+    ensures { bytes.new ≡ flat_map (bytes_of width) cells.now }
+{
+    match width {
+        Width::One => write_each(bytes, Width::One, cells),
+        Width::Two => write_each(bytes, Width::Two, cells),
+        Width::Four => write_each(bytes, Width::Four, cells),
+        Width::Eight => write_each(bytes, Width::Eight, cells),
+    }
+}
+
+// The same. Where the width is a constant, the loop doesn't ask for it.
+#[inline(always)]
+fn write_each(bytes: &mut [u8], width: Width, cells: &[i64])
     requires room { length bytes.old ≡ length cells.now * byte_count width }
     requires fit { All (FitsIn width) cells.now }
     ensures { bytes.new ≡ flat_map (bytes_of width) cells.now }
@@ -178,6 +259,7 @@ fn write_all(bytes: &mut [u8], width: Width, cells: &[i64])
     }
 }
 
+#[inline(always)]
 fn write(bytes: &mut [u8], width: Width, value: i64)
     requires room { length bytes.old ≡ byte_count width }
     requires fits { FitsIn width value }
@@ -192,4 +274,4 @@ fn write(bytes: &mut [u8], width: Width, value: i64)
 }
 
 // The log keeps each.
-const _: () = prove!(size_of::<Values>() == 32);
+const _: () = prove!(size_of::<Values>() == 40);

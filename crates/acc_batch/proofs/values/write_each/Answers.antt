@@ -5,7 +5,7 @@ use Rattle.std.proofs.lemmas.List.{take_all}
 use Rattle.std.specs.List.{flat_map}
 use Rattle.acc_batch.specs.Values.{bytes_of}
 use Rattle.acc_batch.proofs.PackedValues.{written_more}
-use Rattle.acc_batch.proofs.values.write_all.Goals as goal
+use Rattle.acc_batch.proofs.values.write_each.Goals as goal
 
 pub loop-i-preserved : goal.loop-i-preserved
 loop-i-preserved c =

@@ -1,0 +1,16 @@
+use Rattle.std.proofs.Common.{◌≡◌, ◌∙◌, length}
+use Rattle.std.proofs.lemmas.List.{take_at, length-take-le}
+use Rattle.acc_batch.proofs.PackedValues.{packed, packed_back}
+use Rattle.acc_batch.proofs.values.few.Goals as goal
+
+pub returns-clause-kept : goal.returns-clause-kept
+returns-clause-kept c =
+    let long : length c.write_all.new.bytes ≡ c.args.count = c.write_all.auto.bytes ∙ length-take-le c.args.count _ c.requires.room in
+    let whole = take_at c.write_all.new.bytes _ _ long ∙ c.write_all.ensures in
+    (packed c.args.width _ c.args.cells.now c.requires.least whole, c.requires.room)
+
+pub returns-clause-values : goal.returns-clause-values
+returns-clause-values c =
+    let long : length c.write_all.new.bytes ≡ c.args.count = c.write_all.auto.bytes ∙ length-take-le c.args.count _ c.requires.room in
+    let whole = take_at c.write_all.new.bytes _ _ long ∙ c.write_all.ensures in
+    packed_back c.args.width _ c.args.cells.now c.requires.least whole
