@@ -1,6 +1,5 @@
 //! Bytes and numbers into a writer that may fail.
 
-ghost use Rattle.std.specs.Fmt.{signed_decimal};
 ghost use Rattle.acc_report.specs.Puts.{Puts, Writes, sink};
 
 use itoa::{Buffer, Integer};
@@ -52,13 +51,6 @@ pub(crate) fn put<W: Write>(out: &mut W, failed: &mut bool, bytes: &[u8])
 /// Puts a number without a sign.
 pub(crate) fn put_number<W: Write, I: Integer>(out: &mut W, failed: &mut bool, number: I)
     ensures { Puts (sink (W.contents out.old) failed.old) (sink (W.contents out.new) failed.new) (I.text number) }
-{
-    put(out, failed, Buffer::new().format(number).as_bytes());
-}
-
-/// Puts a number, with `-` where it is negative.
-pub(crate) fn put_signed<W: Write>(out: &mut W, failed: &mut bool, number: i64)
-    ensures { Puts (sink (W.contents out.old) failed.old) (sink (W.contents out.new) failed.new) (signed_decimal number) }
 {
     put(out, failed, Buffer::new().format(number).as_bytes());
 }

@@ -1,42 +1,42 @@
 //! The lines of a report.
 
-ghost use Rattle.std.specs.Prelude.{◌≡◌, ◌++◌, [], codes, slice_index_or};
-ghost use Rattle.std.specs.Fmt.{signed_decimal};
-ghost use Rattle.std.specs.List.{flat_map};
+ghost use Rattle.std.specs.Prelude.{◌≡◌, [], ◌∷◌, slice_index_or};
 ghost use Rattle.acc_present.specs.Tables.{entry_presence};
 ghost use Rattle.acc_script.specs.Arrays.{texts};
-ghost use Rattle.acc_report.specs.Lines.{values_text, refusal_text, state_text, presence_text, queue_name, totals_text, discarded_text};
+ghost use Rattle.acc_report.specs.Lines.{line_text, refusal_text, state_text, presence_text, queue_name, totals_text, discarded_text};
 ghost use Rattle.acc_report.specs.Puts.{Puts, sink};
 
-use crate::bytes::{put, put_number, put_signed};
-use crate::page::{PAGE, add_spaced, hand_on};
+use crate::bytes::{put, put_number};
+use crate::page::{PAGE, add, add_number, add_spaced, hand_on};
 use acc_base::{DeviceId, Fault, QueueAt, QueueId};
 use acc_batch::ValuesIter;
 use acc_host::HostState;
 use acc_present::Entry;
 use std::io::Write;
 
-/// Values, separated by one space.
+/// A line of values, separated by one space.
 pub(crate) fn put_values<W: Write>(out: &mut W, failed: &mut bool, values: ValuesIter<'_>)
-    ensures { Puts (sink (W.contents out.old) failed.old) (sink (W.contents out.new) failed.new) (values_text values.entry) }
+    ensures { Puts (sink (W.contents out.old) failed.old) (sink (W.contents out.new) failed.new) (line_text values.entry) }
 {
     let mut values = values;
-    if let Some(first) = values.next() {
-        put_signed(out, failed, first);
-        put_spaced(out, failed, values);
+    match values.next() {
+        Some(first) => put_from(out, failed, first, values),
+        None => put(out, failed, b"\n"),
     }
 }
 
-// Values, each with a space before it. They wait on a page, which is handed on where it is full.
-fn put_spaced<W: Write>(out: &mut W, failed: &mut bool, values: ValuesIter<'_>)
-    ensures { Puts (sink (W.contents out.old) failed.old) (sink (W.contents out.new) failed.new) (flat_map (λ v. codes " " ++ signed_decimal v) values.entry) }
+// A line of a value and more of them. They wait on a page, which is handed on where it is full.
+fn put_from<W: Write>(out: &mut W, failed: &mut bool, first: i64, values: ValuesIter<'_>)
+    ensures { Puts (sink (W.contents out.old) failed.old) (sink (W.contents out.new) failed.new) (line_text (first ∷ values.entry)) }
 {
     let mut page = [0u8; PAGE];
-    let mut waiting = 0;
+    let mut waiting = add_number(&mut page, 0, first);
     for value in values {
         waiting = hand_on(out, failed, &page, waiting);
         waiting = add_spaced(&mut page, waiting, value);
     }
+    waiting = hand_on(out, failed, &page, waiting);
+    waiting = add(&mut page, waiting, b"\n");
     let (text, _) = page.split_at(waiting);
     put(out, failed, text);
 }

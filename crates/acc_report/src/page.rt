@@ -11,13 +11,13 @@ use itoa::Buffer;
 use std::io::Write;
 
 /// The bytes of a page.
-pub(crate) const PAGE: usize = 2048;
+pub(crate) const PAGE: usize = 512;
 
 /// The most bytes of a number with a space before it.
 pub(crate) const SPACED: usize = 41;
 
-// Writes bytes behind those that wait, and gives how many wait then.
-fn add(page: &mut [u8], waiting: usize, bytes: &[u8]) -> usize
+/// Writes bytes behind those that wait, and gives how many wait then.
+pub(crate) fn add(page: &mut [u8], waiting: usize, bytes: &[u8]) -> usize
     requires { waiting + length bytes.now ≤ length page.old }
     ensures text { take result page.new ≡ take waiting page.old ++ bytes.now }
     ensures count { result ≡ waiting + length bytes.now }
@@ -37,6 +37,16 @@ pub(crate) fn add_spaced(page: &mut [u8], waiting: usize, number: i64) -> usize
 {
     let behind = add(page, waiting, b" ");
     add(page, behind, Buffer::new().format(number).as_bytes())
+}
+
+/// Writes a number behind the bytes that wait, and gives how many wait then.
+pub(crate) fn add_number(page: &mut [u8], waiting: usize, number: i64) -> usize
+    requires { waiting + SPACED ≤ length page.old }
+    ensures text { take result page.new ≡ take waiting page.old ++ signed_decimal number }
+    ensures within { result ≤ length page.new }
+    ensures long { length page.new ≡ length page.old }
+{
+    add(page, waiting, Buffer::new().format(number).as_bytes())
 }
 
 /// Puts what waits where there is no room for one number more, and gives how many bytes wait then.

@@ -96,7 +96,6 @@ fn put_told<W: Write>(out: &mut W, failed: &mut bool, what: &Told)
 {
     if let Told::Print { range: _, values } = what {
         put_values(out, failed, values.get().iter());
-        put(out, failed, b"\n");
     }
 }
 
