@@ -44,6 +44,7 @@ pub record IsPacked (width : Width) (bytes : List ℕ) (values : List ℤ) : Typ
   pub least : IsLeastFor width values
   pub whole : bytes ≡ flat_map (bytes_of width) values
 
+-- the values that are kept so
 abbrev pub values_of : Form → List ℤ
 values_of (Few width count bytes) = values_in width (take count bytes)
 values_of (Many width bytes) = values_in width bytes.items
