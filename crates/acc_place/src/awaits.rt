@@ -1,6 +1,6 @@
 //! Which batches of other queues a batch awaits, by what the table has noted.
 
-ghost use Rattle.std.specs.Prelude.{ℕ, All, ◌≡◌, ◌+◌, ◌<◌, ◌≤◌, ◌++◌, ◌==◌, max, map, length, slice_index_or, IfErr, OnOk, if◌then◌else◌};
+ghost use Rattle.std.specs.Prelude.{ℕ, All, ◌≡◌, ◌+◌, ◌<◌, ◌≤◌, ◌++◌, ◌==◌, [], max, map, length, slice_index_or, IfErr, IsTrue, OnOk, if◌then◌else◌};
 ghost use Rattle.std.specs.List.{flat_map};
 ghost use Rattle.std.specs.Option.{option_to_list};
 ghost use Rattle.acc_base.specs.declared.fault.Fault.TheVariants.{Memory};
@@ -14,7 +14,7 @@ ghost use Rattle.acc_place.specs.Targets.{queues_named};
 ghost use Rattle.acc_place.specs.inner.Trials.{named_count, number_in};
 ghost use Rattle.acc_place.specs.inner.Judging.{group_ops, marked_ops};
 
-use crate::directive::Directive;
+use crate::directive::{Directive, Waits};
 use crate::judge::{Known, Marked};
 use crate::labels::Labels;
 use crate::plan::{Group, op_of};
@@ -27,6 +27,9 @@ use acc_present::{Look, Table};
 pub(crate) fn named_counts(labels: &Labels, device: DeviceId, directive: &Directive) -> QueueCounts
     ensures { result ≡ map (named_count labels.now.queues device (queues_named directive.now)) every_queue }
 {
+    if matches!(directive.waits(), Waits::Nothing) {
+        return [0; QUEUES as usize];
+    }
     [
         named_count(labels, device, directive, 0),
         named_count(labels, device, directive, 1),
@@ -73,17 +76,40 @@ pub(crate) fn awaited_numbers(
     numbers
 }
 
-/// Adds an await of each other queue of which a batch is awaited, by these numbers, in queue order.
+/// Adds an await of each other queue of which a batch is awaited, by these numbers, in queue order. Mostly there is none.
 ///
 /// # Errors
 ///
 /// `Memory` where memory is refused; some may have been added then.
-pub(crate) fn add_awaits(
+pub(crate) fn add_all_awaits(
     own: QueueId,
-    queue: u8,
-    numbers: &[u64],
+    numbers: &QueueCounts,
     ops: &mut Few<OpLabel>,
 ) -> Result<(), Fault>
+    ensures ops { OnOk result (ops.new ≡ ops.old ++ awaits_from own 0 numbers.now) }
+    ensures fault { IfErr result (λ fault. fault ≡ Memory) }
+{
+    if awaits_none(own, 0, numbers.as_slice()) {
+        return Ok(());
+    }
+    add_awaits(own, 0, numbers.as_slice(), ops)
+}
+
+// Whether no batch of another queue is awaited, by the numbers from this queue on.
+fn awaits_none(own: QueueId, queue: u8, numbers: &[u64]) -> bool
+    requires { queue + length numbers.now ≤ QUEUES }
+    ensures { IsTrue result → awaits_from own queue numbers.now ≡ [] }
+{
+    match numbers {
+        [] => true,
+        [number, rest @ ..] => {
+            (queue == own.number() || *number == 0) && awaits_none(own, queue + 1, rest)
+        }
+    }
+}
+
+// Adds the awaits by the numbers from this queue on.
+fn add_awaits(own: QueueId, queue: u8, numbers: &[u64], ops: &mut Few<OpLabel>) -> Result<(), Fault>
     requires { queue + length numbers.now ≤ QUEUES }
     ensures ops { OnOk result (ops.new ≡ ops.old ++ awaits_from own queue numbers.now) }
     ensures fault { IfErr result (λ fault. fault ≡ Memory) }

@@ -1,6 +1,6 @@
 //! The place: the devices, the regions, the place history and the labels. It plans a directive, accepts it, and closes.
 
-ghost use Rattle.std.specs.Prelude.{ℕ, All, reverse, false, ◌≡◌, ◌+◌, ◌<◌, ◌==◌, ◌++◌, [], ◌∷◌, length, true, None, IfOk, IfErr, OnOk, OnErr, OnSome, IfSome, slice_get, slice_index_or, ◌^◌};
+ghost use Rattle.std.specs.Prelude.{ℕ, All, reverse, false, ◌≡◌, ◌+◌, ◌<◌, ◌==◌, ◌++◌, [], ◌∷◌, length, true, None, IfOk, IfErr, OnOk, OnErr, OnSome, IfSome, slice_get, slice_index_or, ◌^◌, if◌then◌else◌};
 ghost use Rattle.std.specs.List.{flat_map};
 ghost use Rattle.std.specs.Option.{option_map, option_to_list};
 ghost use Rattle.acc_base.specs.Configurations.{IsRefusal};
@@ -18,7 +18,6 @@ ghost use Rattle.acc_place.specs.Answers.{answers_of, GoTogether};
 ghost use Rattle.acc_place.specs.Batches.{answer_of, next_number};
 ghost use Rattle.acc_place.specs.inner.Devices.{held_on};
 ghost use Rattle.acc_place.specs.inner.Noting.{noted_ranges, noted_with};
-ghost use Rattle.acc_place.specs.inner.Trials.{CanBeMade};
 ghost use Rattle.acc_place.specs.Closing.{place_after_begin, close_of, place_after_close, handed_back, handed_out, is_at_hand, ClosesQueue, IsOut};
 ghost use Rattle.acc_place.specs.declared.directive.PlaceEntry.TheVariants.{Accepted};
 ghost use Rattle.acc_place.specs.Histories.{is_closed, AllAccepted, IsQueue};
@@ -32,7 +31,7 @@ use crate::device::{Device, devices_of};
 use crate::directive::{Directive, PlaceEntry, Placed, Region};
 use crate::judge::Known;
 use crate::labels::Labels;
-use crate::plan::{Plan, batch_of};
+use crate::plan::Plan;
 use crate::regions::{device_by, enter_or_leave};
 use crate::subject::ends_of;
 use crate::targets::queue_by;
@@ -138,9 +137,7 @@ impl Place {
         ensures fits { IfOk result (λ q. Fits self.new q × IsPlanOf self.new q) }
         ensures batch { IfOk result (λ q. q.batch ≡ q.label) }
     {
-        let mut plan = self.plan_without_batch(host, items_done, directive)?;
-        plan.batch = batch_of(self.alloc, &plan.label)?;
-        Ok(plan)
+        self.make_plan(host, items_done, directive, true)
     }
 
     /// Accepts a directive of this host, which has so many items, without its batch: so a place history is told once more.
@@ -162,16 +159,17 @@ impl Place {
         ensures refused { IfErr result (λ fault. IsRefusal (refusal self.old.config (standing_in self.old) host directive.now) fault) }
         ensures unchanged { OnErr result ((self.new.history ≡ self.old.history) × (self.new.counts ≡ self.old.counts)) }
     {
-        let plan = self.plan_without_batch(host, items_done, directive)?;
+        let plan = self.make_plan(host, items_done, directive, false)?;
         Ok(self.accept(plan))
     }
 
-    // What accepting a directive would add, but for its batch.
-    fn plan_without_batch(
+    // What accepting a directive would add, with its batch where that is wanted.
+    fn make_plan(
         &mut self,
         host: HostId,
         items_done: u64,
         directive: &Directive,
+        with_batch: bool,
     ) -> Result<Plan, Fault>
         ensures config { self.new.config ≡ self.old.config }
         ensures history { self.new.history ≡ self.old.history }
@@ -182,8 +180,7 @@ impl Place {
         ensures plan { IfOk result (λ q. (q.host ≡ host) × (q.items_done ≡ items_done) × (q.directive ≡ directive.now)) }
         ensures stamp { IfOk result (λ q. q.stamp ≡ length self.new.history) }
         ensures fits { IfOk result (λ q. Fits self.new q × IsPlanOf self.new q) }
-        ensures cells { IfOk result (λ q. IfSome q.label CanBeMade) }
-        ensures batch { IfOk result (λ q. q.batch ≡ None) }
+        ensures batch { IfOk result (λ q. q.batch ≡ (if with_batch then q.label else None)) }
     {
         let QueueAt { device, queue } = self.queue_for(host, directive)?;
         let there = &self.devices[usize::from(device.number())];
@@ -199,9 +196,7 @@ impl Place {
         if let Some(fault) = self.trial.judge(&known, host, directive) {
             return Err(fault);
         }
-        let plan = self
-            .trial
-            .plan(self.alloc, &known, host, items_done, directive)?;
+        let plan = self.trial.plan(self.alloc, &known, host, items_done, directive, with_batch)?;
         self.make_room(QueueAt { device, queue })?;
         Ok(plan)
     }

@@ -15,7 +15,7 @@ ghost use Rattle.acc_place.specs.Plans.{Fits, IsPlanOf, label_for, opened_region
 ghost use Rattle.acc_place.specs.inner.Judging.{block_of, op_of, op_for, update_for, group_ops, marked_ops};
 
 use crate::answer::{Answer, answer_by};
-use crate::awaits::{add_awaits, awaited_numbers};
+use crate::awaits::{add_all_awaits, awaited_numbers};
 use crate::directive::{Clause, Directive, Region};
 use crate::judge::{Known, Marked};
 use crate::place::Place;
@@ -86,8 +86,8 @@ impl Plan {
     }
 }
 
-/// A plan for a host's directive with these steps, that runs this loop, if any, and whose question is answered so. It has no
-/// batch yet.
+/// A plan for a host's directive with these steps, that runs this loop, if any, and whose question is answered so; with its
+/// batch where that is wanted.
 pub(crate) fn plan_of(
     alloc: Global,
     known: &Known,
@@ -97,6 +97,7 @@ pub(crate) fn plan_of(
     steps: &[Marked],
     run: Option<OpLabel>,
     present: bool,
+    with_batch: bool,
 ) -> Result<Plan, Fault>
     requires run { IfSome run HasItsCells }
     requires run_cells { All (λ u. 0 < u.1.len) (flat_map used_ranges (option_to_list run)) }
@@ -105,8 +106,7 @@ pub(crate) fn plan_of(
     ensures directive { IfOk result (λ q. q.directive ≡ directive.now) }
     ensures region { IfOk result (λ q. q.region ≡ opened_region host directive.now directive.now.kind) }
     ensures label { (notes : Range → ℕ → Note) → HasNotes notes known.now.table.now.notes → IfOk result (λ q. q.label ≡ label_for known.now.at (next_in known.now) host items_done (behind_noted known.now notes directive.now (marked_ops (option_to_list run) steps.now) steps.now)) }
-    ensures cells { IfOk result (λ q. IfSome q.label CanBeMade) }
-    ensures batch { IfOk result (λ q. q.batch ≡ None) }
+    ensures batch { IfOk result (λ q. q.batch ≡ (if with_batch then q.label else None)) }
     ensures answer { IfOk result (λ q. q.answer ≡ placed_by known.now directive.now q.label present) }
     ensures fault { IfErr result (λ fault. fault ≡ Fault.Memory) }
 {
@@ -121,6 +121,7 @@ pub(crate) fn plan_of(
     )?;
     let region = opened_region(host, directive)?;
     let label = label_of(alloc, known, host, items_done, ops)?;
+    let batch = batch_of(alloc, &label, with_batch)?;
     let answer = answer_by(alloc, known, directive, &label, present)?;
     let directive = directive.try_clone()?;
     Ok(Plan {
@@ -129,7 +130,7 @@ pub(crate) fn plan_of(
         directive,
         region,
         label,
-        batch: None,
+        batch,
         answer,
         stamp: known.accepted,
     })
@@ -159,16 +160,15 @@ fn label_of(
     }))
 }
 
-/// The batch with this label, if there is one.
-///
-/// # Errors
-///
-/// `Memory` where memory is refused.
-pub(crate) fn batch_of(alloc: Global, label: &Option<Label>) -> Result<Option<Batch>, Fault>
+// The batch with this label, if there is one, and it is wanted.
+fn batch_of(alloc: Global, label: &Option<Label>, wanted: bool) -> Result<Option<Batch>, Fault>
     requires { IfSome label.now CanBeMade }
-    ensures batch { IfOk result (λ batch. batch ≡ label.now) }
+    ensures batch { IfOk result (λ batch. batch ≡ (if wanted then label.now else None)) }
     ensures fault { IfErr result (λ fault. fault ≡ Fault.Memory) }
 {
+    if !wanted {
+        return Ok(None);
+    }
     match label {
         None => Ok(None),
         Some(label) => {
@@ -193,7 +193,7 @@ fn ops_of(
     ensures fault { IfErr result (λ fault. fault ≡ Fault.Memory) }
 {
     let mut ops = Few::new(alloc);
-    add_awaits(own, 0, numbers.as_slice(), &mut ops)?;
+    add_all_awaits(own, numbers, &mut ops)?;
     let awaits = ops.as_slice().len();
     add_groups(steps, run, &mut ops)?;
     if !alone && ops.as_slice().len() == awaits {

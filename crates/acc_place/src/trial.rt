@@ -1,7 +1,7 @@
 //! Where a directive is tried: its items, their marks on a draft of the table, and what becomes of them; its first fault,
 //! or its plan.
 
-ghost use Rattle.std.specs.Prelude.{ℕ, ◌≡◌, ◌+◌, ◌≤◌, take, None, IfNone, IfSome, IfOk, IfErr};
+ghost use Rattle.std.specs.Prelude.{ℕ, ◌≡◌, ◌+◌, ◌≤◌, take, None, IfNone, IfOk, IfErr, if◌then◌else◌};
 ghost use Rattle.acc_base.specs.declared.fault.Fault.TheVariants.{Memory};
 ghost use Rattle.acc_base.specs.declared.range.Range.{Range};
 ghost use Rattle.acc_present.specs.Notes.{Note, HasNotes};
@@ -9,7 +9,7 @@ ghost use Rattle.acc_base.specs.Configurations.{lengths_of};
 ghost use Rattle.acc_place.specs.Batches.{is_answered};
 ghost use Rattle.acc_place.specs.Plans.{label_for, opened_region};
 ghost use Rattle.acc_place.specs.Standings.{subject_by};
-ghost use Rattle.acc_place.specs.inner.Trials.{behind_noted, fault_by, items_by, next_in, ops_by, placed_by, steps_by, CanBeMade, IsKnown, IsTried};
+ghost use Rattle.acc_place.specs.inner.Trials.{behind_noted, fault_by, items_by, next_in, ops_by, placed_by, steps_by, IsKnown, IsTried};
 ghost use Rattle.acc_place.specs.inner.Judging.{device_by};
 
 use crate::answer::is_answered;
@@ -125,7 +125,7 @@ impl Trial {
         past_fault(kind, items)
     }
 
-    /// The plan of a host's directive that was judged last, and has no fault. It has no batch yet.
+    /// The plan of a host's directive that was judged last, and has no fault, with its batch where that is wanted.
     ///
     /// # Errors
     ///
@@ -137,6 +137,7 @@ impl Trial {
         host: HostId,
         items_done: u64,
         directive: &Directive,
+        with_batch: bool,
     ) -> Result<Plan, Fault>
         requires known { IsKnown known.now }
         requires tried { IsTried known.now host directive.now self.old }
@@ -144,8 +145,7 @@ impl Trial {
         ensures directive { IfOk result (λ q. q.directive ≡ directive.now) }
         ensures region { IfOk result (λ q. q.region ≡ opened_region host directive.now directive.now.kind) }
         ensures label { (notes : Range → ℕ → Note) → HasNotes notes known.now.table.now.notes → IfOk result (λ q. q.label ≡ label_for known.now.at (next_in known.now) host items_done (behind_noted known.now notes directive.now (ops_by known.now host directive.now) (steps_by known.now host directive.now))) }
-        ensures cells { IfOk result (λ q. IfSome q.label CanBeMade) }
-        ensures batch { IfOk result (λ q. q.batch ≡ None) }
+        ensures batch { IfOk result (λ q. q.batch ≡ (if with_batch then q.label else None)) }
         ensures answer { IfOk result (λ q. q.answer ≡ placed_by known.now directive.now q.label (is_answered directive.now.kind known.now.table.now.presences (items_by known.now host directive.now))) }
         ensures fault { IfErr result (λ fault. fault ≡ Memory) }
     {
@@ -164,6 +164,7 @@ impl Trial {
             self.steps.as_slice(),
             run,
             present,
+            with_batch,
         )
     }
 }

@@ -9,8 +9,8 @@ use Rattle.acc_place.specs.inner.Judging.{marked_ops}
 use Rattle.acc_place.proofs.PlanOf.{behind_their_awaits, have_their_cells, labelled_cells, listed}
 use Rattle.acc_place.proofs.plan.plan_of.Goals as goal
 
-pub returns-clause-cells : goal.returns-clause-cells
-returns-clause-cells c =
+pub batch_of-requires : goal.batch_of-requires
+batch_of-requires c =
     let k = c.args.known.now in
     let run = option_to_list c.args.run in
     let ops = have_their_cells run c.args.steps.now (listed c.args.run c.requires.run) in

@@ -11,7 +11,7 @@ use Rattle.acc_place.specs.inner.Trials.{behind_noted, next_in, ops_by, steps_by
 use Rattle.acc_place.proofs.AcceptedDirective.{device_in}
 use Rattle.acc_place.proofs.StandingIn.{counted_by, fault_known, fits_known, known_in, known_of, memory_as, own_device, plan_of_now, refused_as, same_place}
 use Rattle.acc_place.proofs.PlaceParts.{seen, seen_with}
-use Rattle.acc_place.proofs.place.Place.plan_without_batch.Goals as goal
+use Rattle.acc_place.proofs.place.Place.make_plan.Goals as goal
 
 pub judge-requires-clause-known : goal.judge-requires-clause-known
 judge-requires-clause-known c =
