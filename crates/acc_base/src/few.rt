@@ -67,6 +67,19 @@ impl<T: Drop> Few<T> {
         ensures items { OnOk result (self.new ≡ self.old ++ item ∷ []) }
         ensures kept { OnErr result (self.new ≡ self.old) }
     {
+        match &mut self.form {
+            Form::Empty => {
+                self.form = Form::One { items: [item] };
+                return Ok(());
+            }
+            Form::Many { items } => {
+                return match items.push(item) {
+                    Ok(()) => Ok(()),
+                    Err(_) => Err(AllocError),
+                };
+            }
+            Form::One { .. } | Form::Two { .. } => {}
+        }
         let form = mem::replace(&mut self.form, Form::Empty);
         let (form, pushed) = pushed(self.alloc, form, item);
         self.form = form;
