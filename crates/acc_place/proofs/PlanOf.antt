@@ -1,5 +1,5 @@
 -- The operations of directives have their cells, where the one that runs a loop does.
-use Rattle.std.proofs.Common.{ℕ, ◌+◌, ◌<◌, Bool, true, false, List, [], ◌∷◌, ◌++◌, length, Option, Some, None, arith}
+use Rattle.std.proofs.Common.{◌≡◌, ℕ, ◌+◌, ◌<◌, Bool, true, false, List, [], ◌∷◌, ◌++◌, length, Option, Some, None, refl, arith}
 use Rattle.std.specs.Prelude.{IfSome, if◌then◌else◌, ◌||◌, ◌==◌}
 use Rattle.std.specs.List.{All, flat_map}
 use Rattle.std.specs.Option.{option_and_then, option_to_list}
@@ -93,3 +93,12 @@ pub behind_their_awaits : (alone : Bool) (own : ℕ) (numbers : List ℕ) (ops :
 behind_their_awaits true own numbers [] all = awaits_all own 0 numbers
 behind_their_awaits false own numbers [] all = All-nil HasItsCells
 behind_their_awaits alone own numbers (op ∷ ops) all = both (awaits_from own 0 numbers) (op ∷ ops) (awaits_all own 0 numbers) all
+
+-- where no step has an operation, there is none but the loop's
+pub idle_steps : (ts : List Marked) → ((g : Group) → flat_map (group_ops g) ts ≡ []) → marked_ops [] ts ≡ []
+unfolding marked_ops
+idle_steps ts none = rw (none Makes, none CopyIns, none Updates, none CopyOuts, none Releases) refl
+
+-- and nothing behind which awaits could stand
+pub nothing_awaited : (alone : Bool) (before ops : List OpLabel) → alone ≡ false → ops ≡ [] → with_awaits alone before ops ≡ []
+nothing_awaited alone before ops not_alone none = rw (not_alone, none) refl

@@ -1,6 +1,6 @@
 //! What accepting a directive will add, and its batch, group by group.
 
-ghost use Rattle.std.specs.Prelude.{ℕ, All, ◌≡◌, ◌<◌, ◌++◌, ◌==◌, if◌then◌else◌, length, IfOk, IfErr, IfSome, OnOk, IsTrue, Some, None};
+ghost use Rattle.std.specs.Prelude.{ℕ, All, ◌≡◌, ◌<◌, ◌++◌, ◌==◌, [], false, if◌then◌else◌, length, IfOk, IfErr, IfSome, OnOk, IsTrue, Some, None};
 ghost use Rattle.std.specs.List.{flat_map};
 ghost use Rattle.std.specs.Option.{option_to_list};
 ghost use Rattle.acc_batch.specs.declared.label.OpLabel.TheVariants as op;
@@ -12,6 +12,8 @@ ghost use Rattle.acc_present.specs.Notes.{Note, HasNotes};
 ghost use Rattle.acc_place.specs.inner.Noting.{awaits_from, used_ranges};
 ghost use Rattle.acc_place.specs.inner.Trials.{behind_noted, next_in, placed_by, CanBeMade};
 ghost use Rattle.acc_place.specs.Plans.{Fits, IsPlanOf, label_for, opened_region};
+ghost use Rattle.acc_place.specs.declared.plan.Group.{Group};
+ghost use Rattle.acc_place.specs.Targets.{is_alone};
 ghost use Rattle.acc_place.specs.inner.Judging.{block_of, op_of, op_for, update_for, group_ops, marked_ops};
 
 use crate::answer::{Answer, answer_by};
@@ -110,15 +112,7 @@ pub(crate) fn plan_of(
     ensures answer { IfOk result (λ q. q.answer ≡ placed_by known.now directive.now q.label present) }
     ensures fault { IfErr result (λ fault. fault ≡ Fault.Memory) }
 {
-    let numbers = awaited_numbers(known, directive, steps, &run);
-    let ops = ops_of(
-        alloc,
-        known.at.queue,
-        &numbers,
-        is_alone(directive),
-        steps,
-        run,
-    )?;
+    let ops = batch_ops(alloc, known, directive, steps, run)?;
     let region = opened_region(host, directive)?;
     let label = label_of(alloc, known, host, items_done, ops)?;
     let batch = batch_of(alloc, &label, with_batch)?;
@@ -177,6 +171,63 @@ fn batch_of(alloc: Global, label: &Option<Label>, wanted: bool) -> Result<Option
             Ok(Some(batch))
         }
     }
+}
+
+// The operations of the batch of a directive with these steps, that runs this loop, if any, behind what they await.
+fn batch_ops(
+    alloc: Global,
+    known: &Known,
+    directive: &Directive,
+    steps: &[Marked],
+    run: Option<OpLabel>,
+) -> Result<Few<OpLabel>, Fault>
+    requires run { IfSome run HasItsCells }
+    requires run_cells { All (λ u. 0 < u.1.len) (flat_map used_ranges (option_to_list run)) }
+    requires cells { All (λ t. 0 < t.item.range.len) steps.now }
+    ensures ops { (notes : Range → ℕ → Note) → HasNotes notes known.now.table.now.notes → IfOk result (λ ops. ops ≡ behind_noted known.now notes directive.now (marked_ops (option_to_list run) steps.now) steps.now) }
+    ensures cells { IfOk result (λ ops. All HasItsCells ops) }
+    ensures fault { IfErr result (λ fault. fault ≡ Fault.Memory) }
+{
+    if is_without_batch(directive, steps, &run) {
+        return Ok(Few::new(alloc));
+    }
+    let numbers = awaited_numbers(known, directive, steps, &run);
+    ops_of(
+        alloc,
+        known.at.queue,
+        &numbers,
+        is_alone(directive),
+        steps,
+        run,
+    )
+}
+
+// Whether a directive with these steps, that runs this loop, if any, has no batch, whatever it awaits.
+fn is_without_batch(directive: &Directive, steps: &[Marked], run: &Option<OpLabel>) -> bool
+    ensures alone { IsTrue result → is_alone directive.now ≡ false }
+    ensures ops { IsTrue result → marked_ops (option_to_list run.now) steps.now ≡ [] }
+{
+    match run {
+        Some(_) => false,
+        None => !is_alone(directive) && are_idle(steps),
+    }
+}
+
+// Whether no step has an operation.
+fn are_idle(steps: &[Marked]) -> bool
+    ensures { IsTrue result → (group : Group) → flat_map (group_ops group) steps.now ≡ [] }
+{
+    match steps {
+        [] => true,
+        [first, rest @ ..] => is_idle(*first) && are_idle(rest),
+    }
+}
+
+// Whether a step has no operation.
+fn is_idle(step: Marked) -> bool
+    ensures { IsTrue result → (group : Group) → group_ops group step ≡ [] }
+{
+    step.opened.is_none() && step.ended.is_none() && op_of(Group::Updates, step).is_none()
 }
 
 // The operations of a batch, behind the awaits by these numbers. Awaits that nothing stands behind are dropped, but those of a
