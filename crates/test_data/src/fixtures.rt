@@ -1,9 +1,10 @@
-//! Ranges of one array, entries into a present table behind all that it requires, and what was found beside what was wanted.
+//! Ranges of one array, entries into a present table behind all that it requires, numbers that look random, and what was found beside
+//! what was wanted.
 
 ghost use Rattle.std.specs.Prelude.{◌≡◌, ◌<◌};
 
 use acc_base::{BlockId, Range};
-use acc_present::{Counter, Entered, Look, Table};
+use acc_present::{Counter, Entered, Left, Look, Table};
 use std::fmt::Debug;
 use std::process::Abort;
 
@@ -55,6 +56,52 @@ pub fn entered_into(rt: &impl Abort, table: &mut Table, range: Range, block: u64
     ensures { table.new.capacity ≡ CELLS }
 {
     entered_by(rt, table, range, Counter::Dynamic, block)
+}
+
+// A region leaves a range that it entered.
+pub fn left_by_region(rt: &impl Abort, table: &mut Table, range: Range) -> Left
+    requires { 0 < range.len }
+    ensures { table.new.capacity ≡ table.old.capacity }
+{
+    match table.look(range) {
+        Look::Present(entry) => {
+            assert!(rt; 0 < entry.s);
+            table.leave(range, Counter::Structured)
+        }
+        Look::Absent | Look::Partly => {
+            assert!(rt; false, "no region entered it");
+            Left::Nothing
+        }
+    }
+}
+
+/// Numbers that look random, each made from the one before.
+#[derive(Drop)]
+pub struct Dice {
+    state: u64,
+}
+
+impl Dice {
+    pub fn new() -> Dice {
+        Dice { state: 1 }
+    }
+
+    // The next number, of 31 bits.
+    pub fn roll(&mut self) -> u64 {
+        self.state = self
+            .state
+            .wrapping_mul(6_364_136_223_846_793_005)
+            .wrapping_add(1_442_695_040_888_963_407);
+        self.state >> 33
+    }
+
+    // A number below this one, which isn't zero.
+    pub fn below(&mut self, limit: usize) -> usize
+        ensures { 0 < limit → result < limit }
+    {
+        let number = self.roll() as usize;
+        if limit == 0 { 0 } else { number % limit }
+    }
 }
 
 // Stops the test where the two differ. An assertion that is written out takes as long to prove as the rest of a test.

@@ -1,4 +1,4 @@
-//! Tests of configurations, faults, short lists, owned values, rows of cells, chains and present tables: what no contract says.
+//! Tests of configurations, faults, short lists, owned values, rows of cells, chains, their indices and present tables: what no contract says.
 #![tactic(auto)]
 
 #[cfg(test)]
@@ -16,8 +16,12 @@ mod few;
 #[cfg(test)]
 mod fixtures;
 #[cfg(test)]
+mod indexed;
+#[cfg(test)]
 mod notes;
 #[cfg(test)]
 mod owned;
+#[cfg(test)]
+mod plain;
 #[cfg(test)]
 mod table;
