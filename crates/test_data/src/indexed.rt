@@ -1,6 +1,5 @@
-//! Nodes with an index stand in the order of a plain list, through long rows of calls and at lengths around whole pieces of 64, 128 and
-//! 256 places; room to name them is made where memory is ample, which its contract lets be refused; and what a dropped one held is free
-//! again.
+//! Nodes with an index stand in the order of a plain list, through long rows of calls and at lengths around those of whole rings; room to
+//! name them is made where memory is ample, which its contract lets be refused; and what a dropped one held is free again.
 
 use crate::fixtures::{Dice, check_same};
 use acc_base::Fault;
@@ -211,12 +210,12 @@ fn check_length(
     Ok(())
 }
 
-/// Lengths of whole pieces.
+/// Lengths of whole rings, and of parts of one.
 const WHOLE: [usize; 8] = [64, 128, 192, 256, 384, 512, 768, 1_024];
 
 /// A node less than such a length, so many, and one more.
 #[test]
-fn nodes_come_and_go_around_whole_pieces(rt: HostRuntime) -> Result<(), Fail> {
+fn nodes_come_and_go_around_whole_rings(rt: HostRuntime) -> Result<(), Fail> {
     for whole in WHOLE {
         for len in [whole.saturating_sub(1), whole, whole.saturating_add(1)] {
             for first in SPOTS {
@@ -240,7 +239,7 @@ fn try_spare(rt: &impl Abort, both: &mut Both, count: usize) -> Result<(), Fault
     answer
 }
 
-/// With no nodes, and with so many that there are several pieces.
+/// With no nodes, and with so many that there are several rings.
 #[test]
 fn room_for_nodes_is_refused_until_there_is_memory(rt: HostRuntime) -> Result<(), Fail> {
     let alloc = rt.alloc();
