@@ -1,13 +1,13 @@
-//! Worlds in which memory is refused to one event and not to the next, and worlds that get enough
-//! at last; no clause can tell how much there is.
+//! Worlds in which memory is refused to one event and not to the next, worlds that get enough
+//! at last, and worlds that are dropped wherever they stand; no clause can tell how much there is.
 
 use crate::checks::{
     FINISHED, check_last_print, check_present, check_same, check_states, check_steps, entries,
     refused,
 };
 use crate::worlds::{ROOM, host, on, queue, reply_to, turns, world_of};
-use acc_base::{Config, Fault, Range};
-use acc_core::{Counts, Event, Outcome, Reply, World};
+use acc_base::{Config, Fault, HostId, Range};
+use acc_core::{Counts, Event, HostState, Outcome, Reply, World};
 use std::alloc::{AllocError, Global};
 use std::process::Abort;
 use std::test::Fail;
@@ -272,5 +272,40 @@ fn a_world_and_its_loop_are_refused_until_there_is_memory(rt: HostRuntime) -> Re
     turns(&mut world, 20);
     check_states(&rt, &world, &[FINISHED]);
     check_last_print(&rt, world.log(), &[2, 4, 6, 8]);
+    Ok(())
+}
+
+/// Data in a region and behind it, loops and updates on queues that await one another, a write, prints, and questions.
+const LONG: &[u8] =
+    b"long a[4] = {1,2,3,4};\nlong b[4];\nhost {\n#pragma acc data copy(a) create(b)\n{\n#pragma acc parallel loop async(1)\nfor (i = 0; i < 4; i++) b[i] = a[i] * 2;\n#pragma acc update self(b) async(2) wait(1)\n#pragma acc enter data copyin(a[1:2]) async(3) wait(2)\nprint(b);\na[0] = 9;\n#pragma acc update device(a[0:1]) async(1)\n#pragma acc parallel loop async(2) wait(1)\nfor (i = 0; i < 4; i++) b[i] = b[i] + a[i];\nprint(a);\n#pragma acc wait\n}\nprint(b);\n#pragma acc enter data create(b) async(4)\n#pragma acc exit data delete(b) async(5) wait(4)\n}\n";
+
+// Drops a world behind so many turns.
+fn drop_world(alloc: Global, count: u32) -> Result<(), Fault> {
+    let mut world = world_of(alloc, LONG, 4)?;
+    turns(&mut world, count);
+    match world.state(HostId::new(0)) {
+        Some(HostState::Refused { fault, .. }) => Err(fault),
+        _ => Ok(()),
+    }
+}
+
+fn drop_many(alloc: Global) -> Result<(), Fault> {
+    for _ in 0..10u8 {
+        for count in 0..40u32 {
+            drop_world(alloc, count)?;
+        }
+    }
+    Ok(())
+}
+
+/// There is memory for one at a time.
+#[test]
+fn what_a_dropped_world_held_is_free_again(rt: HostRuntime) -> Result<(), Fail> {
+    let alloc = rt.alloc();
+    let mut world = world_of(alloc, LONG, 4)?;
+    turns(&mut world, 40);
+    check_states(&rt, &world, &[FINISHED]);
+    let (refusals, ()) = at_each_amount(alloc, || drop_many(alloc))?;
+    check_same(&rt, 1 < refusals, true);
     Ok(())
 }

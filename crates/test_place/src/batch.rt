@@ -1,5 +1,5 @@
 //! A batch has the operations of its label, with memory for each of them; it is made where memory
-//! is ample, and a label is copied without any.
+//! is ample, a label is copied without any, and what a dropped batch held is free again.
 
 use crate::fixtures::{check_labels, check_ops};
 use crate::tables::Cells::{self, A, B};
@@ -175,5 +175,25 @@ fn check_each_amount(rt: &impl Abort, alloc: Global, deeds: &[Deed]) -> Result<(
 fn a_batch_is_refused_until_there_is_memory(rt: HostRuntime) -> Result<(), Fail> {
     check_each_amount(&rt, rt.alloc(), KINDS)?;
     check_each_amount(&rt, rt.alloc(), &[Make(1, A(0, 100))])?;
+    Ok(())
+}
+
+// Many are dropped, one after the other, whole and in parts.
+fn drop_many(alloc: Global) -> Result<(), Fault> {
+    for _ in 0..300u32 {
+        let whole = batch_of(alloc, label_of(alloc, KINDS)?)?;
+        drop(whole);
+        let parts = batch_of(alloc, label_of(alloc, KINDS)?)?.into_parts();
+        drop(parts);
+    }
+    Ok(())
+}
+
+/// There is memory for one at a time.
+#[test]
+fn what_a_dropped_batch_held_is_free_again(rt: HostRuntime) -> Result<(), Fail> {
+    let alloc = rt.alloc();
+    let (refusals, ()) = at_each_amount(alloc, || drop_many(alloc))?;
+    assert!(rt; 2 < refusals);
     Ok(())
 }

@@ -1,5 +1,5 @@
 //! Each call is refused for want of memory, at each amount in turn, until there is enough; a token then lists what was done, once. What was
-//! placed is performed without any.
+//! placed is performed without any; and what a dropped runtime held is free again.
 
 use crate::abandon::served;
 use crate::fixtures::{Open, config_of, entries, entry_of, print, queue, whole};
@@ -7,6 +7,7 @@ use acc_base::{DeviceId, Fault, QUEUES};
 use acc_place::Clause;
 use acc_run::{HostToken, Runtime};
 use std::alloc::Global;
+use std::sync::Wait;
 use std::test::Fail;
 use tool_scarce::{Hoard, at_each_amount};
 
@@ -81,5 +82,25 @@ fn what_was_placed_is_performed_without_memory(rt: HostRuntime) -> Result<(), Fa
         Ok(outcome) => assert!(rt; entries(&outcome.works) == 24),
         Err(refused) => assert!(rt; false, "{}", refused.fault),
     }
+    Ok(())
+}
+
+// Drops many runtimes, with their tokens and what is present, printed, performed and left in queues.
+fn drop_many<R: Wait>(rt: &R, alloc: Global) -> Result<(), Fault> {
+    for run in 0..300u64 {
+        let (runtime, mut tokens) = served(rt, alloc, 4, run % 9)?;
+        for token in tokens.as_mut_slice() {
+            print(rt, alloc, &runtime, token, whole(0))?;
+        }
+    }
+    Ok(())
+}
+
+/// There is memory for one at a time.
+#[test]
+fn what_a_dropped_runtime_held_is_free_again(rt: HostRuntime) -> Result<(), Fail> {
+    let alloc = rt.alloc();
+    let (refusals, ()) = at_each_amount(alloc, || drop_many(&rt, alloc))?;
+    assert!(rt; 1 < refusals);
     Ok(())
 }

@@ -27,7 +27,7 @@ const BEFORE: Stand = (3, 1, true, true, Some(0));
 const BEHIND: Stand = (4, 0, false, false, Some(8));
 
 // A queue of the first device; `1` and `2` have the numbers 3 and 4.
-fn queue(number: u8) -> QueueAt
+pub fn queue(number: u8) -> QueueAt
     ensures device { result.device ≡ 0 }
     ensures queue { result.queue ≡ number }
 {
@@ -37,7 +37,7 @@ fn queue(number: u8) -> QueueAt
     }
 }
 
-fn a() -> BlockId {
+pub fn a() -> BlockId {
     BlockId::new(1)
 }
 
@@ -103,7 +103,7 @@ fn batch_of(alloc: Global, at: QueueAt, ops: Few<OpLabel>) -> Result<Batch, Faul
 }
 
 // A queue takes a batch of these operations.
-fn offer(alloc: Global, work: &mut Work, at: QueueAt, ops: Few<OpLabel>) -> Result<(), Fault>
+pub fn offer(alloc: Global, work: &mut Work, at: QueueAt, ops: Few<OpLabel>) -> Result<(), Fault>
     requires { HasQueue work.old at }
     ensures { 0 < length work.new.memory.devices }
 {
@@ -116,8 +116,10 @@ fn offer(alloc: Global, work: &mut Work, at: QueueAt, ops: Few<OpLabel>) -> Resu
     Ok(())
 }
 
-// A work side whose queue `1` has performed all but its loop, and whose queue `2` is to release a.
-fn work_of(alloc: Global) -> Result<Work, Fault> {
+// A work side whose queue `1` has taken its entry and its loop, and whose queue `2` is to release a.
+pub fn taken(alloc: Global) -> Result<Work, Fault>
+    ensures { IfOk result (λ work. 0 < length work.memory.devices) }
+{
     let first = vec![in alloc; 7i64, 9]?;
     let second = vec![in alloc; 0i64; 2]?;
     let config = Config::new(alloc, 1, 1, vec![in alloc; first, second]?, 100, 4)?;
@@ -125,6 +127,12 @@ fn work_of(alloc: Global) -> Result<Work, Fault> {
     let mut work = Work::new(alloc, &config)?;
     offer(alloc, &mut work, queue(3), entry_and_loop(alloc)?)?;
     offer(alloc, &mut work, queue(4), release(alloc)?)?;
+    Ok(work)
+}
+
+// The same, where all is performed but the loop.
+fn work_of(alloc: Global) -> Result<Work, Fault> {
+    let mut work = taken(alloc)?;
     for _ in 0..3u8 {
         let _ = work.perform(queue(3));
     }
@@ -163,7 +171,7 @@ fn room(alloc: Global, work: &Work) -> Result<Option<Box<Job>>, Fault> {
 }
 
 // The loop of queue `1` goes out, to be computed in room of its own, if it can.
-fn start(alloc: Global, work: &mut Work) -> Result<Option<JobOut>, Fault> {
+pub fn start(alloc: Global, work: &mut Work) -> Result<Option<JobOut>, Fault> {
     let mut room = room(alloc, work)?;
     Ok(work.start_job(queue(3), &mut room))
 }

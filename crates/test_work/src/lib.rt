@@ -1,8 +1,10 @@
-//! Tests of the memory, of items that hosts record, and of loops that are out: what no contract says.
+//! Tests of the memory, of items that hosts record, of loops that are out, and of what is dropped: what no contract says.
 #![tactic(auto)]
 
 #[cfg(test)]
 mod allowed;
+#[cfg(test)]
+mod drops;
 #[cfg(test)]
 mod items;
 #[cfg(test)]
