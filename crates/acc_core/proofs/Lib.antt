@@ -13,6 +13,7 @@ mod HostCalls
 mod HostLaws
 mod HostSteps
 mod ItemAnswer
+mod KeptPrograms
 mod Lanes
 mod LegalSteps
 mod Merged

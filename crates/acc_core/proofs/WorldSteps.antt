@@ -29,24 +29,29 @@ use Rattle.acc_core.proofs.RunParts.{Runs-cut}
 use Rattle.acc_core.proofs.StandingHosts.{stands_start, Step-stands, runs_stand, AllStand-follow}
 
 -- a world opens
-pub opens : (laws : HostLaws) (config : Configuration) (programs : List HostProgram) (states : List HostState) (room : ℕ) → length programs ≤ MAX_HOSTS → AreNumbered 0 programs → states ≡ [] → length programs ≤ room → IsWorld (first_state config programs) states room
-opens laws config programs states room few numbered none enough =
+pub opens : (laws : HostLaws) (config : Configuration) (programs : List HostProgram) (states : List HostState) (room : ℕ) (left : List HostProgram) (left_room : ℕ) → length programs ≤ MAX_HOSTS → AreNumbered 0 programs
+    → states ≡ [] → length programs ≤ room → left ≡ [] → length programs ≤ left_room → IsWorld (first_state config programs) states room left left_room
+opens laws config programs states room left left_room few numbered none enough no_left left_enough =
     record {
       few_hosts = simp length-map few;
       legal = legal_start (first_state config programs) refl refl;
       stand = stands_start laws config programs numbered;
       no_states = none;
       has_room = simp length-map enough;
+      no_programs = no_left;
+      has_programs_room = simp length-map left_enough;
     }
 
 -- a step leaves a world
-pub still_world : (laws : HostLaws) (old new : State) (e : Event) (r : Reply) (states : List HostState) (room : ℕ) → IsWorld old states room → length new.hosts ≡ length old.hosts → Step old e r new → IsWorld new states room
-still_world laws old new e r states room w same s = record {
+pub still_world : (laws : HostLaws) (old new : State) (e : Event) (r : Reply) (states : List HostState) (room : ℕ) (programs : List HostProgram) (programs_room : ℕ) → IsWorld old states room programs programs_room → length new.hosts ≡ length old.hosts → Step old e r new → IsWorld new states room programs programs_room
+still_world laws old new e r states room programs programs_room w same s = record {
   few_hosts = rw same w.few_hosts;
   legal = Step-legal old new e r w.legal s;
   stand = Step-stands laws old new e r w.legal.counts w.stand s;
   no_states = w.no_states;
   has_room = rw same w.has_room;
+  no_programs = w.no_programs;
+  has_programs_room = rw same w.has_programs_room;
 }
 
 -- an outcome with other hosts

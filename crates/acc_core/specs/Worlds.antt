@@ -6,7 +6,8 @@ use Rattle.acc_host.specs.declared.event.Event.{Event}
 use Rattle.acc_host.specs.declared.state.Reply.{Reply}
 use Rattle.acc_host.specs.declared.program.HostProgram.{HostProgram}
 use Rattle.acc_host.specs.declared.state.HostState.{HostState}
-use Rattle.acc_host.specs.Hosts.{AreNumbered, ready}
+use Rattle.acc_host.specs.declared.program.Statement.{Statement}
+use Rattle.acc_host.specs.Hosts.{HostView, AreNumbered, ready}
 use Rattle.acc_core.specs.Following.{AllStand}
 use Rattle.acc_core.specs.Legality.{AllFollow, Legal, LegalCut}
 use Rattle.acc_core.specs.Machine.{State, state_at_first, Runs}
@@ -20,13 +21,23 @@ pub record OnePerHost (config : Configuration) (programs : List HostProgram) : T
 abbrev pub first_state : Configuration → List HostProgram → State
 first_state config programs = state_at_first config (map ready programs)
 
--- What holds of a world between two steps; `states` has room for a state of each host.
-pub record IsWorld (w : State) (states : List HostState) (room : ℕ) : Type 0 where
+-- the statements of each host's program, each directive without the two ids that the host sets
+abbrev pub statements_in : State → List (List Statement)
+statements_in w = map (λ (host : HostView). host.statements) w.hosts
+
+-- No run changes a program.
+abbrev pub ProgramsStay : Type 0
+ProgramsStay = (events : List Event) (replies : List Reply) (old new : State) → Runs old events replies new → statements_in new ≡ statements_in old
+
+-- What holds of a world between two steps; `states` has room for a state of each host, and `programs` for its program.
+pub record IsWorld (w : State) (states : List HostState) (room : ℕ) (programs : List HostProgram) (programs_room : ℕ) : Type 0 where
   pub few_hosts : length w.hosts ≤ MAX_HOSTS
   pub legal : Legal w
   pub stand : AllStand w 0 w.hosts
   pub no_states : states ≡ []
   pub has_room : length w.hosts ≤ room
+  pub no_programs : programs ≡ []
+  pub has_programs_room : length w.hosts ≤ programs_room
 
 -- The machine gave these replies, and wherever the events are cut, both histories are legal there, and each host's
 -- entries follow its program.

@@ -3,7 +3,7 @@
 ghost use Rattle.acc_core.specs.worked.Closes.{LateIsRefused, FullIsClosedLater, HostsGoOn};
 ghost use Rattle.acc_core.specs.worked.Programs.{EnteredTwice, OverlapRefused, StaleHostCopy, LoopRuns, LoopOnPresent};
 ghost use Rattle.acc_core.specs.Machine.{EachQueueIsCounted};
-ghost use Rattle.acc_core.specs.Worlds.{RunsAreLegal};
+ghost use Rattle.acc_core.specs.Worlds.{ProgramsStay, RunsAreLegal};
 ghost use Rattle.acc_core.specs.worked.Hosts.{OneHostIsRefused, LoopIsDoneAtTheWait, QuestionsTellTheirMoment};
 ghost use Rattle.acc_core.specs.worked.Queues.{UseAwaitsItsMaker, ReleaseAwaitsEachUse, AsyncValuesNameQueues, DefaultQueueRunsInOrder, WaitsAreBatches, CapacityIsOfWhatIsPresent};
 
@@ -16,6 +16,11 @@ pub fn runs_are_legal()
 {
     hosts_follow();
 }
+
+/// No run changes what a host's program is.
+pub fn programs_stay()
+    ensures { ProgramsStay }
+{}
 
 /// The machine computed on five programs: a range that enters twice and leaves once, a range that
 /// overlaps a present one, a host write under a present range, a loop with clauses that runs where another one is

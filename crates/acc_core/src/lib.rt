@@ -15,7 +15,7 @@ pub use acc_place::{
 pub use acc_present::Entry;
 pub use acc_work::{Counts, Entries, MAX_HOST_ITEMS, Told, Values, WorkEntry, WorkLog};
 pub use laws::{
-    each_queue_is_counted, runs_are_legal, worked_closes, worked_hosts, worked_programs,
-    worked_queues,
+    each_queue_is_counted, programs_stay, runs_are_legal, worked_closes, worked_hosts,
+    worked_programs, worked_queues,
 };
 pub use world::World;

@@ -9,13 +9,13 @@ ghost use Rattle.acc_core.specs.Enabled.{is_enabled, is_left, SomeEnabled};
 ghost use Rattle.acc_core.specs.Legality.{AllFollow, Legal};
 ghost use Rattle.acc_core.specs.Machine.{Step, standing_of};
 ghost use Rattle.acc_host.specs.declared.state.Reply.{Reply};
-ghost use Rattle.acc_host.specs.Hosts.{ready, state_of};
+ghost use Rattle.acc_host.specs.Hosts.{bare_statements, ready, state_of};
 ghost use Rattle.acc_base.specs.Configurations.{has_range};
 ghost use Rattle.acc_memory.specs.Memories.{find_block, has_cell};
 ghost use Rattle.acc_memory.specs.Values.{Block_cell, Host_cell};
 ghost use Rattle.acc_work.specs.Logs.{performed, value};
 ghost use Rattle.acc_work.specs.Remembering.{blocks_in};
-ghost use Rattle.acc_core.specs.Worlds.{OnePerHost, first_state, Ran};
+ghost use Rattle.acc_core.specs.Worlds.{OnePerHost, first_state, statements_in, Ran};
 
 use crate::accelerator::Accelerator;
 use acc_base::{BlockId, Config, DeviceId, Fault, HostId, QueueAt, Range};
@@ -32,8 +32,9 @@ pub struct World {
     alloc: Global,
     accelerator: Accelerator,
     hosts: Vec<Host>,
-    // Empty, with room for the state of each host, so that `outcome` takes no memory.
+    // Empty, with room for the state and the program of each host, so that `into_parts` takes no memory.
     states: Vec<HostState>,
+    programs: Vec<HostProgram>,
 }
 
 impl Model for World {
@@ -49,7 +50,7 @@ impl Model for World {
 
     ghost view = { λ w. record w.accelerator { hosts = w.hosts.items } };
 
-    ghost invariant = { λ w. IsWorld (record w.accelerator { hosts = w.hosts.items }) w.states.items (vec_capacity w.states) };
+    ghost invariant = { λ w. IsWorld (record w.accelerator { hosts = w.hosts.items }) w.states.items (vec_capacity w.states) w.programs.items (vec_capacity w.programs) };
 }
 
 impl World {
@@ -69,6 +70,7 @@ impl World {
         hosts_follow();
         config.keeps();
         let states = Vec::with_capacity(alloc, programs.len())?;
+        let left = Vec::with_capacity(alloc, programs.len())?;
         let hosts = ready_hosts(alloc, programs)?;
         let accelerator = Accelerator::new(alloc, config)?;
         Ok(World {
@@ -76,6 +78,7 @@ impl World {
             accelerator,
             hosts,
             states,
+            programs: left,
         })
     }
 
@@ -226,7 +229,7 @@ impl World {
         ensures follow { AllFollow self 0 self.hosts }
     {
         let alloc = self.alloc;
-        let (place, works, hosts) = self.into_parts();
+        let (place, works, hosts, _) = self.into_parts();
         let (config, places, counts) = place.into_histories();
         Outcome {
             config,
@@ -238,14 +241,15 @@ impl World {
         }
     }
 
-    /// What the run so far leaves, its place itself: the place, the work log with the latest entry last, and where each host
-    /// stands. Takes no memory.
-    pub fn into_parts(self) -> (Place, WorkLog, Vec<HostState>)
+    /// What the run so far leaves, its place itself: the place, the work log with the latest entry last, where each host
+    /// stands, and the programs, in which each directive that a host came to has the ids that it was given. Takes no memory.
+    pub fn into_parts(self) -> (Place, WorkLog, Vec<HostState>, Vec<HostProgram>)
         ensures config { result.0.config ≡ self.config }
         ensures history { result.0.history ≡ self.history }
         ensures counts { result.0.counts ≡ self.counts }
         ensures works { result.1.items ≡ reverse self.work }
         ensures hosts { result.2.items ≡ map state_of self.hosts }
+        ensures programs { map bare_statements result.3.items ≡ statements_in self }
         ensures few { length self.hosts ≤ MAX_HOSTS }
         ensures legal { Legal self }
         ensures follow { AllFollow self 0 self.hosts }
@@ -256,11 +260,13 @@ impl World {
             accelerator,
             hosts,
             mut states,
+            mut programs,
         } = self;
-        for host in hosts.iter() {
+        for host in hosts {
             states.push_reserved(host.state());
+            programs.push_reserved(host.into_program());
         }
         let (place, works) = accelerator.into_parts();
-        (place, works, states)
+        (place, works, states, programs)
     }
 }

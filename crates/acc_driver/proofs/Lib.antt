@@ -1,3 +1,4 @@
+mod KeptPrograms
 mod ReplayAnswers
 mod RunSchedule
 mod ThreadRuns

@@ -19,10 +19,10 @@ ghost use Rattle.acc_script.specs.Scripts.{program_of, script_of};
 use crate::fault::{DriverFault, ReplayFault};
 use crate::input::{read_text, split};
 use crate::options::{Ended, Options};
-use crate::program::{config_of, copies_of, has_refused, hosts_of, read_script};
-use acc_core::World;
+use crate::program::{config_of, has_refused, hosts_of, read_script};
+use acc_core::{World, programs_stay};
 use acc_host::{Event, HostProgram};
-use acc_report::{ReportFault, Run, report_run};
+use acc_report::{ReportFault, Run, ids_are_not_told, report_run};
 use acc_schedule::{Schedule, ScheduleLine};
 use acc_script::{ReadError, Script};
 use std::alloc::Global;
@@ -177,16 +177,14 @@ fn run<W: Write>(
         arrays,
         programs,
     } = script;
-    let copies = match copies_of(alloc, programs.as_slice()) {
-        Ok(copies) => copies,
-        Err(_) => return Err(ReplayFault::Memory),
-    };
+    programs_stay();
+    ids_are_not_told();
     let mut world = match open(alloc, arrays, programs, options) {
         Ok(world) => world,
         Err(fault) => return Err(fault),
     };
     run_schedule(schedule, &mut world);
-    let (place, works, hosts) = world.into_parts();
+    let (place, works, hosts, programs) = world.into_parts();
     let left = Run {
         place: &place,
         works: &works,
@@ -196,7 +194,7 @@ fn run<W: Write>(
     let script = Script {
         names,
         arrays: Vec::new(alloc),
-        programs: copies,
+        programs,
     };
     match report_run(alloc, &left, &script, writer) {
         Ok(()) => {

@@ -47,6 +47,10 @@ bare_act act.ShowDevices = act.ShowDevices
 abbrev pub bare : Statement → Statement
 bare s = record { line = s.line; act = bare_act s.act }
 
+-- the statements of a program so
+abbrev pub bare_statements : HostProgram → List Statement
+bare_statements program = map bare program.statements
+
 -- a host before its first statement
 abbrev pub ready : HostProgram → HostView
 ready program =

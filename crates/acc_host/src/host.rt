@@ -10,7 +10,7 @@ use crate::engine::Engine;
 use crate::program::{HostProgram, Statement};
 use crate::state::{After, HostState, Ids, Phase, Reply};
 use crate::turn::turn_at;
-use acc_base::{DeviceId, Fault, HostId};
+use acc_base::{DeviceId, Fault, HostId, Listed};
 use acc_place::ASYNC_NOVAL;
 use std::alloc::Global;
 use std::marker::Model;
@@ -113,6 +113,22 @@ impl Host {
                 fault,
             },
             _ => HostState::Running { ended: self.ended },
+        }
+    }
+
+    /// Its program. A directive that it has come to has the ids that the host gave it. Takes no memory.
+    pub fn into_program(self) -> HostProgram
+        ensures host { result.host ≡ self.host }
+        ensures statements { map bare result.statements ≡ self.statements }
+    {
+        let Host {
+            host,
+            statements,
+            ..
+        } = self;
+        HostProgram {
+            host,
+            statements: Listed::from_vec(statements),
         }
     }
 }

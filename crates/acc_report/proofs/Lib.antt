@@ -1,3 +1,4 @@
+mod BarePrograms
 mod CountedQueues
 mod JoinedPuts
 mod LinesFound

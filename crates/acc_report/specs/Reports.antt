@@ -1,5 +1,5 @@
 -- The report of a run: what each host printed and where it stands, what is present, and what each queue has performed.
-use Rattle.std.specs.Prelude.{◌≡◌, ◌≤◌, ℕ, ◌++◌, List, [], length, reverse, take, slice_get, Option, Some, None, codes, decimal}
+use Rattle.std.specs.Prelude.{◌≡◌, ◌≤◌, ℕ, ◌++◌, List, [], length, map, reverse, take, slice_get, Option, Some, None, codes, decimal}
 use Rattle.std.specs.List.{flat_map}
 use Rattle.acc_base.specs.Configurations.{Configuration}
 use Rattle.acc_base.specs.declared.config.TheConstants.{MAX_HOSTS}
@@ -22,6 +22,7 @@ use Rattle.acc_host.specs.declared.state.HostState.TheVariants as state
 use Rattle.acc_host.specs.Discards.{discarded_on}
 use Rattle.acc_host.specs.Engines.{HostEntry}
 use Rattle.acc_host.specs.Entries.{entries_merged, items_shown, own_of}
+use Rattle.acc_host.specs.Hosts.{bare_statements}
 use Rattle.acc_report.specs.Lines.{each_below, line_text, presence_text, state_text, totals_text}
 use Rattle.acc_report.specs.Prints.{lines}
 use Rattle.acc_report.specs.declared.run.Run.{Run}
@@ -110,3 +111,9 @@ unfoldable pub report : List (List ℕ) → List HostProgram → Left → List �
 report names programs left =
     each_below (length left.hosts) (nth_host_text left programs) ++ (each_below left.config.devices (device_text names left)
     ++ (each_below left.config.devices (queues_text left) ++ codes "end\n"))
+
+-- Programs that differ in the two ids of their directives alone have one report.
+abbrev pub IdsAreNotTold : Type 0
+IdsAreNotTold =
+    (names : List (List ℕ)) (programs others : List HostProgram) (left : Left)
+    → map bare_statements programs ≡ map bare_statements others → report names programs left ≡ report names others left

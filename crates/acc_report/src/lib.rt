@@ -12,5 +12,5 @@ mod retold;
 mod run;
 
 pub use bytes::ReportFault;
-pub use laws::lines_are_found;
+pub use laws::{ids_are_not_told, lines_are_found};
 pub use run::{Run, report, report_run};

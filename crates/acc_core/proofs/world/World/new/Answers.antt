@@ -12,7 +12,10 @@ invariant_of-result c =
     let programs = c.args.programs.items in
     let states = c.in_ok-states.states in
     let few : length programs ≤ MAX_HOSTS = (let limits = c.keeps.ensures.limits in omega (arith, c.requires.count, limits.hosts)) in
+    let left = c.in_ok-left.left in
     let enough : length programs ≤ vec_capacity states = omega (arith, c.in_ok-states.ensures.capacity) in
+    let left_enough : length programs ≤ vec_capacity left = omega (arith, c.in_ok-left.ensures.capacity) in
     let laws : HostLaws = record { first = c.hosts_follow.ensures.first; steps = c.hosts_follow.ensures.steps; follow = c.hosts_follow.ensures.follow } in
-    let world : IsWorld (first_state config programs) states.items (vec_capacity states) = opens laws config programs states.items (vec_capacity states) few c.requires.numbered c.in_ok-states.ensures.items enough in
+    let world : IsWorld (first_state config programs) states.items (vec_capacity states) left.items (vec_capacity left) =
+    opens laws config programs states.items (vec_capacity states) left.items (vec_capacity left) few c.requires.numbered c.in_ok-states.ensures.items enough c.in_ok-left.ensures.items left_enough in
     rw (c.in_ok-accelerator.ensures.opened, c.in_ok-hosts.ensures.hosts) world

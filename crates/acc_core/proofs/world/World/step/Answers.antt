@@ -36,27 +36,27 @@ pub invariant_of-self : goal.invariant_of-self
 invariant_of-self c =
     let hosts = c.self.inside.hosts.items in
     let laws : HostLaws = record { first = c.hosts_follow.ensures.first; steps = c.hosts_follow.ensures.steps; follow = c.hosts_follow.ensures.follow } in
-    still_world laws (record c.self.inside.accelerator { hosts = hosts }) _ (event.Host c.in-Host.number) c.next.result _ _ c.self.invariant (length-set hosts c.from-index.result c.next.new.self) (goes_on c)
+    still_world laws (record c.self.inside.accelerator { hosts = hosts }) _ (event.Host c.in-Host.number) c.next.result _ _ _ _ c.self.invariant (length-set hosts c.from-index.result c.next.new.self) (goes_on c)
 
 pub invariant_of-self-in-Take : goal.invariant_of-self-in-Take
 invariant_of-self-in-Take c =
     let hosts = c.self.inside.hosts.items in
     let laws : HostLaws = record { first = c.hosts_follow.ensures.first; steps = c.hosts_follow.ensures.steps; follow = c.hosts_follow.ensures.follow } in
-    still_world laws (record c.self.inside.accelerator { hosts = hosts }) (record c.take.new.self { hosts = hosts }) (event.Take c.in-Take.at) c.take.result _ _ c.self.invariant refl
+    still_world laws (record c.self.inside.accelerator { hosts = hosts }) (record c.take.new.self { hosts = hosts }) (event.Take c.in-Take.at) c.take.result _ _ _ _ c.self.invariant refl
     (takes c.self.inside.accelerator c.take.new.self hosts c.in-Take.at c.take.result c.take.ensures)
 
 pub invariant_of-self-in-Perform : goal.invariant_of-self-in-Perform
 invariant_of-self-in-Perform c =
     let hosts = c.self.inside.hosts.items in
     let laws : HostLaws = record { first = c.hosts_follow.ensures.first; steps = c.hosts_follow.ensures.steps; follow = c.hosts_follow.ensures.follow } in
-    still_world laws (record c.self.inside.accelerator { hosts = hosts }) (record c.perform.new.self { hosts = hosts }) (event.Perform c.in-Perform.at) c.perform.result _ _ c.self.invariant refl
+    still_world laws (record c.self.inside.accelerator { hosts = hosts }) (record c.perform.new.self { hosts = hosts }) (event.Perform c.in-Perform.at) c.perform.result _ _ _ _ c.self.invariant refl
     (performs c.self.inside.accelerator c.perform.new.self hosts c.in-Perform.at c.perform.result c.perform.ensures)
 
 pub invariant_of-self-in-Close : goal.invariant_of-self-in-Close
 invariant_of-self-in-Close c =
     let hosts = c.self.inside.hosts.items in
     let laws : HostLaws = record { first = c.hosts_follow.ensures.first; steps = c.hosts_follow.ensures.steps; follow = c.hosts_follow.ensures.follow } in
-    still_world laws (record c.self.inside.accelerator { hosts = hosts }) (record c.close.new.self { hosts = hosts }) event.Close c.close.result _ _ c.self.invariant refl
+    still_world laws (record c.self.inside.accelerator { hosts = hosts }) (record c.close.new.self { hosts = hosts }) event.Close c.close.result _ _ _ _ c.self.invariant refl
     (closes_world c.self.inside.accelerator c.close.new.self hosts c.close.result c.close.ensures)
 
 pub returns-in-Close : goal.returns-in-Close
