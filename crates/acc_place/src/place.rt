@@ -32,7 +32,7 @@ use crate::directive::{Directive, PlaceEntry, Placed, Region};
 use crate::judge::Known;
 use crate::labels::Labels;
 use crate::plan::Plan;
-use crate::regions::{device_by, enter_or_leave};
+use crate::regions::{device_by, enter_or_leave, written_by};
 use crate::subject::ends_of;
 use crate::targets::queue_by;
 use crate::trial::Trial;
@@ -183,6 +183,36 @@ impl Place {
         ensures batch { IfOk result (λ q. q.batch ≡ (if with_batch then q.label else None)) }
     {
         let QueueAt { device, queue } = self.queue_for(host, directive)?;
+        self.seek(device, host, directive);
+        let at = QueueAt { device, queue };
+        self.plan_on(at, host, items_done, directive, with_batch)
+    }
+
+    // The same for a directive that acts on this queue.
+    fn plan_on(
+        &mut self,
+        at: QueueAt,
+        host: HostId,
+        items_done: u64,
+        directive: &Directive,
+        with_batch: bool,
+    ) -> Result<Plan, Fault>
+        requires early { (standing_in self.old).closing ≡ false }
+        requires device { directive.now.device < self.old.config.devices }
+        requires at { at ≡ queue_for self.old host directive.now }
+        requires there { IsQueue self.old.config at }
+        ensures config { self.new.config ≡ self.old.config }
+        ensures history { self.new.history ≡ self.old.history }
+        ensures counts { self.new.counts ≡ self.old.counts }
+        ensures closes { self.new.closes ≡ self.old.closes }
+        ensures roomy { (other : QueueAt) → IsRoomy self.old other → IsRoomy self.new other }
+        ensures refused { IfErr result (λ fault. IsRefusal (refusal self.old.config (standing_in self.old) host directive.now) fault) }
+        ensures plan { IfOk result (λ q. (q.host ≡ host) × (q.items_done ≡ items_done) × (q.directive ≡ directive.now)) }
+        ensures stamp { IfOk result (λ q. q.stamp ≡ length self.new.history) }
+        ensures fits { IfOk result (λ q. Fits self.new q × IsPlanOf self.new q) }
+        ensures batch { IfOk result (λ q. q.batch ≡ (if with_batch then q.label else None)) }
+    {
+        let QueueAt { device, queue } = at;
         let there = &self.devices[usize::from(device.number())];
         let known = Known {
             config: &self.config,
@@ -220,6 +250,18 @@ impl Place {
             device,
             queue: queue_by(directive),
         })
+    }
+
+    // Goes to where the first range that a host's directive names stands on this device.
+    fn seek(&mut self, device: DeviceId, host: HostId, directive: &Directive)
+        requires { device < self.old.config.devices }
+        ensures { self.new ≡ self.old }
+    {
+        if let Some(item) = written_by(self.regions.as_slice(), host, directive).first() {
+            self.devices[usize::from(device.number())]
+                .table
+                .seek(item.range);
+        }
     }
 
     // Makes room for one more directive with a batch on this queue, and for closing behind it, where it is missing.

@@ -79,6 +79,8 @@ pub struct Table {
     entries: Entries,
     capacity: u64,
     used: u64,
+    // where the last call went, near which the next one looks first, whatever stands there by then
+    near: usize,
 }
 
 impl Model for Table {
@@ -107,6 +109,7 @@ impl Table {
             entries: Entries::new(alloc),
             capacity,
             used: 0,
+            near: 0,
         }
     }
 
@@ -128,6 +131,13 @@ impl Table {
         self.entries.spare(count)
     }
 
+    /// Goes to where a range stands, so that what is asked of it next is found at once.
+    pub fn seek(&mut self, range: Range)
+        ensures { self.new ≡ self.old }
+    {
+        self.near = index_behind(self.entries.listed(), self.near, range);
+    }
+
     /// What the table has of a range with a cell.
     pub fn look(&self, range: Range) -> Look
         requires { 0 < range.len }
@@ -135,7 +145,7 @@ impl Table {
         ensures noted { (notes : Range → ℕ → Note) → HasNotes notes self.now.notes → IsNoted notes result }
     {
         let entries = self.entries.listed();
-        let behind = index_behind(entries, range);
+        let behind = index_behind(entries, self.near, range);
         match held_before(entries, behind, range) {
             Some(i) => Look::Present(*self.entries.at(i)),
             None => {
@@ -165,7 +175,8 @@ impl Table {
         ensures result { result ≡ (if is_present self.old.presences range then Entered.Counted else Entered.Opened) }
     {
         let entries = self.entries.listed();
-        let behind = index_behind(entries, range);
+        let behind = index_behind(entries, self.near, range);
+        self.near = behind;
         match held_before(entries, behind, range) {
             Some(i) => {
                 let entry = counted_up(self.entries.at(i), counter);
@@ -218,7 +229,7 @@ impl Table {
         ensures room { self.new.room ≡ self.old.room }
         ensures result { result ≡ left_of (holder self.old.presences range) change }
     {
-        match index_of(self.entries.listed(), range) {
+        match index_of(self.entries.listed(), self.near, range) {
             None => Left::Nothing,
             Some(i) => {
                 let entry = self.entries.at(i);
@@ -245,6 +256,7 @@ impl Table {
             return Left::Counted;
         }
         self.entries.remove(index);
+        self.near = index;
         self.used -= u64::from(after.range.len);
         Left::Ended(after.block)
     }
@@ -254,7 +266,7 @@ impl Table {
         ensures { result ≡ overlaps_any (beside (map entry_presence changed.now) self.now.presences) range }
     {
         let entries = self.entries.listed();
-        let behind = index_behind(entries, range);
+        let behind = index_behind(entries, self.near, range);
         overlaps_beside_in(entries, behind, range, changed)
     }
 
@@ -267,7 +279,7 @@ impl Table {
         ensures capacity { self.new.capacity ≡ self.old.capacity }
         ensures room { self.new.room ≡ self.old.room }
     {
-        match index_of(self.entries.listed(), range) {
+        match index_of(self.entries.listed(), self.near, range) {
             None => {}
             Some(i) => {
                 let entry = used_by(self.entries.at(i), queue, batch);
@@ -285,7 +297,7 @@ impl Table {
         ensures capacity { self.new.capacity ≡ self.old.capacity }
         ensures room { self.new.room ≡ self.old.room }
     {
-        match index_of(self.entries.listed(), range) {
+        match index_of(self.entries.listed(), self.near, range) {
             None => {}
             Some(i) => {
                 let entry = made_by(self.entries.at(i), queue, batch);
@@ -299,7 +311,7 @@ impl Table {
         requires { 0 < range.len }
         ensures { result ≡ option_map (λ p. (p.s, p.d)) (holder self.now.presences range) }
     {
-        match index_of(self.entries.listed(), range) {
+        match index_of(self.entries.listed(), self.near, range) {
             Some(i) => {
                 let entry = self.entries.at(i);
                 Some((entry.s, entry.d))
@@ -334,6 +346,7 @@ impl Table {
             entries,
             capacity: _,
             used: _,
+            near: _,
         } = self;
         entries.into_chains()
     }
@@ -357,17 +370,26 @@ fn stands_before(first: Range, second: Range) -> bool
     first.array < second.array || (first.array == second.array && first.lo < second.lo)
 }
 
-// The index of the first entry that begins behind the range's first cell, or the end.
-fn index_behind(entries: &Indexed<Entry>, range: Range) -> usize
+// Whether the entry at this index begins behind the range's first cell.
+fn begins_behind(entries: &Indexed<Entry>, at: usize, range: Range) -> bool
+    requires table { is_table (map entry_presence entries.now.items) ≡ true }
+    requires within { at < length entries.now.items }
+    ensures behind { result ≡ true → position_or_len (λ p. is_before range p.range) (map entry_presence entries.now.items) ≤ at }
+    ensures before { result ≡ false → at < position_or_len (λ p. is_before range p.range) (map entry_presence entries.now.items) }
+{
+    stands_before(range, entries.get(at).range)
+}
+
+// The index of the first entry that begins behind the range's first cell, or the end: looked for near a place, then by halves.
+fn index_behind(entries: &Indexed<Entry>, near: usize, range: Range) -> usize
     requires { is_table (map entry_presence entries.now.items) ≡ true }
     ensures index { result ≡ position_or_len (λ p. is_before range p.range) (map entry_presence entries.now.items) }
     ensures within { result ≤ length entries.now.items }
 {
-    let mut low = 0;
-    let mut high = entries.len();
+    let (mut low, mut high) = bounds_by(entries, near, range);
     while low < high {
         let middle = low + (high - low) / 2;
-        if stands_before(range, entries.get(middle).range) {
+        if begins_behind(entries, middle, range) {
             high = middle;
         } else {
             low = middle + 1;
@@ -376,14 +398,36 @@ fn index_behind(entries: &Indexed<Entry>, range: Range) -> usize
     low
 }
 
+// The bounds of that index, as the entries beside a place tell: both are the same where it is the place or the one behind.
+fn bounds_by(entries: &Indexed<Entry>, near: usize, range: Range) -> (usize, usize)
+    requires { is_table (map entry_presence entries.now.items) ≡ true }
+    ensures from { result.0 ≤ position_or_len (λ p. is_before range p.range) (map entry_presence entries.now.items) }
+    ensures until { position_or_len (λ p. is_before range p.range) (map entry_presence entries.now.items) ≤ result.1 }
+    ensures within { result.1 ≤ length entries.now.items }
+{
+    let len = entries.len();
+    let near = near.min(len);
+    if near < len && !begins_behind(entries, near, range) {
+        let next = near + 1;
+        if next < len && !begins_behind(entries, next, range) {
+            return (next + 1, len);
+        }
+        return (next, next);
+    }
+    if 0 < near && begins_behind(entries, near - 1, range) {
+        return (0, near - 1);
+    }
+    (near, near)
+}
+
 // The index of the entry that contains the range.
-fn index_of(entries: &Indexed<Entry>, range: Range) -> Option<usize>
+fn index_of(entries: &Indexed<Entry>, near: usize, range: Range) -> Option<usize>
     requires table { is_table (map entry_presence entries.now.items) ≡ true }
     requires cells { 0 < range.len }
     ensures held { holder (map entry_presence entries.now.items) range ≡ option_and_then (slice_get (map entry_presence entries.now.items)) result }
     ensures within { IfSome result (λ i. i < length entries.now.items) }
 {
-    held_before(entries, index_behind(entries, range), range)
+    held_before(entries, index_behind(entries, near, range), range)
 }
 
 // The same, where the first entry that begins behind the range's first cell stands at this index: no other entry contains

@@ -11,7 +11,7 @@ use Rattle.acc_place.specs.inner.Trials.{behind_noted, next_in, ops_by, steps_by
 use Rattle.acc_place.proofs.AcceptedDirective.{device_in}
 use Rattle.acc_place.proofs.StandingIn.{counted_by, fault_known, fits_known, known_in, known_of, memory_as, own_device, plan_of_now, refused_as, same_place}
 use Rattle.acc_place.proofs.PlaceParts.{seen, seen_with}
-use Rattle.acc_place.proofs.place.Place.make_plan.Goals as goal
+use Rattle.acc_place.proofs.place.Place.plan_on.Goals as goal
 
 pub judge-requires-clause-known : goal.judge-requires-clause-known
 judge-requires-clause-known c =
@@ -19,11 +19,11 @@ judge-requires-clause-known c =
     let p = seen w in
     let host = c.args.host in
     let d = c.args.directive.now in
-    let at_queue = c.in_ok-device.field-0 in
-    let early : (standing_in p).closing ≡ false = rw (← c.self.view_is) at c.in_ok-device.ensures.early in
-    let here : d.device < w.config.devices = rw (← c.self.view_is) at c.in_ok-device.ensures.device in
-    let is : at_queue ≡ queue_for p host d = rw (← c.self.view_is) at c.in_ok-device.ensures.at in
-    let there : IsQueue w.config at_queue = rw (← c.self.view_is) at c.in_ok-device.ensures.there in
+    let at_queue = c.args.at in
+    let early : (standing_in p).closing ≡ false = rw (← c.self.view_is) at c.requires.early in
+    let here : d.device < w.config.devices = rw (← c.self.view_is) at c.requires.device in
+    let is : at_queue ≡ queue_for p host d = rw (← c.self.view_is) at c.requires.at in
+    let there : IsQueue w.config at_queue = rw (← c.self.view_is) at c.requires.there in
     let known =
     known_of p host d _ w.devices.items w.regions.items w.labels.queues c.from.result c.index-there.result.now at_queue c.self.invariant.0 early here is there
     (c.from.ensures ∙ c.number.ensures) c.index-there.ensures refl refl refl c.as_slice.ensures.value (counted_by w.history.items c.len.result w.history.len c.len.ensures w.history.ok.0) refl refl in
@@ -35,11 +35,11 @@ judge-requires-clause-device c =
     let p = seen w in
     let host = c.args.host in
     let d = c.args.directive.now in
-    let at_queue = c.in_ok-device.field-0 in
-    let early : (standing_in p).closing ≡ false = rw (← c.self.view_is) at c.in_ok-device.ensures.early in
-    let here : d.device < w.config.devices = rw (← c.self.view_is) at c.in_ok-device.ensures.device in
-    let is : at_queue ≡ queue_for p host d = rw (← c.self.view_is) at c.in_ok-device.ensures.at in
-    let there : IsQueue w.config at_queue = rw (← c.self.view_is) at c.in_ok-device.ensures.there in
+    let at_queue = c.args.at in
+    let early : (standing_in p).closing ≡ false = rw (← c.self.view_is) at c.requires.early in
+    let here : d.device < w.config.devices = rw (← c.self.view_is) at c.requires.device in
+    let is : at_queue ≡ queue_for p host d = rw (← c.self.view_is) at c.requires.at in
+    let there : IsQueue w.config at_queue = rw (← c.self.view_is) at c.requires.there in
     let at_place = c.args.self.ref_ptr in
     let k : Known =
     record {
@@ -62,11 +62,11 @@ plan-requires-clause-known c =
     let p = seen w in
     let host = c.args.host in
     let d = c.args.directive.now in
-    let at_queue = c.in_ok-device.field-0 in
-    let early : (standing_in p).closing ≡ false = rw (← c.self.view_is) at c.in_ok-device.ensures.early in
-    let here : d.device < w.config.devices = rw (← c.self.view_is) at c.in_ok-device.ensures.device in
-    let is : at_queue ≡ queue_for p host d = rw (← c.self.view_is) at c.in_ok-device.ensures.at in
-    let there : IsQueue w.config at_queue = rw (← c.self.view_is) at c.in_ok-device.ensures.there in
+    let at_queue = c.args.at in
+    let early : (standing_in p).closing ≡ false = rw (← c.self.view_is) at c.requires.early in
+    let here : d.device < w.config.devices = rw (← c.self.view_is) at c.requires.device in
+    let is : at_queue ≡ queue_for p host d = rw (← c.self.view_is) at c.requires.at in
+    let there : IsQueue w.config at_queue = rw (← c.self.view_is) at c.requires.there in
     let known =
     known_of p host d _ w.devices.items w.regions.items w.labels.queues c.from.result c.index-there.result.now at_queue c.self.invariant.0 early here is there
     (c.from.ensures ∙ c.number.ensures) c.index-there.ensures refl refl refl c.as_slice.ensures.value (counted_by w.history.items c.len.result w.history.len c.len.ensures w.history.ok.0) refl refl in
@@ -78,11 +78,11 @@ returns-in-Some-clause-refused c =
     let p = seen w in
     let host = c.args.host in
     let d = c.args.directive.now in
-    let at_queue = c.in_ok-device.field-0 in
-    let early : (standing_in p).closing ≡ false = rw (← c.self.view_is) at c.in_ok-device.ensures.early in
-    let here : d.device < w.config.devices = rw (← c.self.view_is) at c.in_ok-device.ensures.device in
-    let is : at_queue ≡ queue_for p host d = rw (← c.self.view_is) at c.in_ok-device.ensures.at in
-    let there : IsQueue w.config at_queue = rw (← c.self.view_is) at c.in_ok-device.ensures.there in
+    let at_queue = c.args.at in
+    let early : (standing_in p).closing ≡ false = rw (← c.self.view_is) at c.requires.early in
+    let here : d.device < w.config.devices = rw (← c.self.view_is) at c.requires.device in
+    let is : at_queue ≡ queue_for p host d = rw (← c.self.view_is) at c.requires.at in
+    let there : IsQueue w.config at_queue = rw (← c.self.view_is) at c.requires.there in
     let at_place = c.args.self.ref_ptr in
     let k : Known =
     record {
@@ -106,11 +106,11 @@ returns-in_err-plan-clause-refused c =
     let p = seen w in
     let host = c.args.host in
     let d = c.args.directive.now in
-    let at_queue = c.in_ok-device.field-0 in
-    let early : (standing_in p).closing ≡ false = rw (← c.self.view_is) at c.in_ok-device.ensures.early in
-    let here : d.device < w.config.devices = rw (← c.self.view_is) at c.in_ok-device.ensures.device in
-    let is : at_queue ≡ queue_for p host d = rw (← c.self.view_is) at c.in_ok-device.ensures.at in
-    let there : IsQueue w.config at_queue = rw (← c.self.view_is) at c.in_ok-device.ensures.there in
+    let at_queue = c.args.at in
+    let early : (standing_in p).closing ≡ false = rw (← c.self.view_is) at c.requires.early in
+    let here : d.device < w.config.devices = rw (← c.self.view_is) at c.requires.device in
+    let is : at_queue ≡ queue_for p host d = rw (← c.self.view_is) at c.requires.at in
+    let there : IsQueue w.config at_queue = rw (← c.self.view_is) at c.requires.there in
     let at_place = c.args.self.ref_ptr in
     let k : Known =
     record {
@@ -126,7 +126,7 @@ returns-in_err-plan-clause-refused c =
     known_of p host d k w.devices.items w.regions.items w.labels.queues c.from.result c.index-there.result.now at_queue c.self.invariant.0 early here is there
     (c.from.ensures ∙ c.number.ensures) c.index-there.ensures refl refl refl c.as_slice.ensures.value (counted_by w.history.items c.len.result w.history.len c.len.ensures w.history.ok.0) refl refl in
     let none = fault_known p host d k known ∙ sym c.in_default.ensures.fault in
-    let q = err_from_is_err_and c.from_residual-in_err-plan.result c.from_residual-in_err-plan.ensures.1 in
+    let q = err_from_is_err_and c.from_residual.result c.from_residual.ensures.1 in
     rw (q.1, ← c.self.view_is) (memory_as (refusal w.config (standing_in p) host d) q.0 none (q.2 ∙ c.in_err-plan.ensures.fault))
 
 pub returns-in_err-make_room-clause-refused : goal.returns-in_err-make_room-clause-refused
@@ -135,11 +135,11 @@ returns-in_err-make_room-clause-refused c =
     let p = seen w in
     let host = c.args.host in
     let d = c.args.directive.now in
-    let at_queue = c.in_ok-device.field-0 in
-    let early : (standing_in p).closing ≡ false = rw (← c.self.view_is) at c.in_ok-device.ensures.early in
-    let here : d.device < w.config.devices = rw (← c.self.view_is) at c.in_ok-device.ensures.device in
-    let is : at_queue ≡ queue_for p host d = rw (← c.self.view_is) at c.in_ok-device.ensures.at in
-    let there : IsQueue w.config at_queue = rw (← c.self.view_is) at c.in_ok-device.ensures.there in
+    let at_queue = c.args.at in
+    let early : (standing_in p).closing ≡ false = rw (← c.self.view_is) at c.requires.early in
+    let here : d.device < w.config.devices = rw (← c.self.view_is) at c.requires.device in
+    let is : at_queue ≡ queue_for p host d = rw (← c.self.view_is) at c.requires.at in
+    let there : IsQueue w.config at_queue = rw (← c.self.view_is) at c.requires.there in
     let at_place = c.args.self.ref_ptr in
     let k : Known =
     record {
@@ -166,11 +166,11 @@ returns-clause-fits c =
     let p = seen_with c.self.inside room in
     let host = c.args.host in
     let d = c.args.directive.now in
-    let at_queue = c.in_ok-device.field-0 in
-    let early : (standing_in p).closing ≡ false = rw (← c.self.view_is) at c.in_ok-device.ensures.early in
-    let here : d.device < w.config.devices = rw (← c.self.view_is) at c.in_ok-device.ensures.device in
-    let is : at_queue ≡ queue_for p host d = rw (← c.self.view_is) at c.in_ok-device.ensures.at in
-    let there : IsQueue w.config at_queue = rw (← c.self.view_is) at c.in_ok-device.ensures.there in
+    let at_queue = c.args.at in
+    let early : (standing_in p).closing ≡ false = rw (← c.self.view_is) at c.requires.early in
+    let here : d.device < w.config.devices = rw (← c.self.view_is) at c.requires.device in
+    let is : at_queue ≡ queue_for p host d = rw (← c.self.view_is) at c.requires.at in
+    let there : IsQueue w.config at_queue = rw (← c.self.view_is) at c.requires.there in
     let at_place = c.args.self.ref_ptr in
     let k : Known =
     record {
