@@ -13,7 +13,7 @@ ghost use Rattle.acc_present.specs.Drafts.{beside, with_changed, drafted, IsDraf
 
 use crate::change::Change;
 use crate::table::{
-    COUNTER_LIMIT, Counter, Entered, Entry, Left, Look, Table, count_of, counted_down, counted_up,
+    COUNTER_LIMIT, Counter, Entered, Entry, Left, Look, Table, count_of, count_up, counted_down,
     exit_change, has_count, new_entry, overlaps_one,
 };
 use acc_base::{BlockId, Fault, Range};
@@ -105,7 +105,7 @@ impl Draft {
         table.keeps();
         match index_for(&mut self.changed, table, range, found) {
             Some(i) => {
-                self.changed[i] = counted_up(&self.changed[i], counter);
+                count_up(&mut self.changed[i], counter);
                 Entered::Counted
             }
             None => {

@@ -3,6 +3,7 @@
 ghost use Rattle.std.specs.Prelude.{◌≡◌, ◌+◌, ◌^◌, ◌<◌, ◌≤◌, [], length, slice_get, slice_set, insert, remove, IfOk, IfErr, OnOk, OnErr, OnSome};
 ghost use Rattle.std.specs.Option.{option_map};
 ghost use Rattle.std.proofs.Common.{get_or};
+ghost use Rattle.std.specs.Borrow.{sem};
 ghost use Rattle.acc_base.specs.declared.fault.Fault.TheVariants as fault;
 
 use crate::table::Entry;
@@ -33,6 +34,8 @@ impl Model for Entries {
 }
 
 impl Entries {
+    ghost use Rattle.acc_present.specs.inner.Lending.{LendsEntry};
+
     pub(crate) fn new(alloc: Global) -> Self
         ensures { result.items ≡ [] }
     {
@@ -89,6 +92,15 @@ impl Entries {
         ensures { result.now ≡ get_or self.now.items index result.now }
     {
         self.listed.get(index)
+    }
+
+    /// Lends the entry at this index to be changed.
+    pub(crate) fn at_mut(&mut self, index: usize) -> &mut Entry
+        requires { index < length self.old.items }
+        ensures value { result.now ≡ get_or self.old.items index result.now }
+        ensures* writes_back { sem 𝓛 (LendsEntry self.entry index result) }
+    {
+        self.listed.get_mut(index)
     }
 
     pub(crate) fn set(&mut self, index: usize, entry: Entry)

@@ -179,8 +179,7 @@ impl Table {
         self.near = behind;
         match held_before(entries, behind, range) {
             Some(i) => {
-                let entry = counted_up(self.entries.at(i), counter);
-                self.entries.set(i, entry);
+                count_up(self.entries.at_mut(i), counter);
                 Entered::Counted
             }
             None => {
@@ -229,7 +228,7 @@ impl Table {
         ensures room { self.new.room ≡ self.old.room }
         ensures result { result ≡ left_of (holder self.old.presences range) change }
     {
-        match index_of(self.entries.listed(), self.near, range) {
+        match index_of(self.entries.listed(), &mut self.near, range) {
             None => Left::Nothing,
             Some(i) => {
                 let entry = self.entries.at(i);
@@ -279,11 +278,10 @@ impl Table {
         ensures capacity { self.new.capacity ≡ self.old.capacity }
         ensures room { self.new.room ≡ self.old.room }
     {
-        match index_of(self.entries.listed(), self.near, range) {
+        match index_of(self.entries.listed(), &mut self.near, range) {
             None => {}
             Some(i) => {
-                let entry = used_by(self.entries.at(i), queue, batch);
-                self.entries.set(i, entry);
+                use_by(self.entries.at_mut(i), queue, batch);
             }
         }
     }
@@ -297,12 +295,25 @@ impl Table {
         ensures capacity { self.new.capacity ≡ self.old.capacity }
         ensures room { self.new.room ≡ self.old.room }
     {
-        match index_of(self.entries.listed(), self.near, range) {
+        match index_of(self.entries.listed(), &mut self.near, range) {
             None => {}
             Some(i) => {
-                let entry = made_by(self.entries.at(i), queue, batch);
-                self.entries.set(i, entry);
+                make_by(self.entries.at_mut(i), queue, batch);
             }
+        }
+    }
+
+    /// The entry of the present range that contains a range with a cell.
+    pub fn find(&self, range: Range) -> Option<&Entry>
+        requires { 0 < range.len }
+        ensures entry { option_map (λ e. entry_presence e.now) result ≡ holder self.now.presences range }
+        ensures noted { (notes : Range → ℕ → Note) → HasNotes notes self.now.notes → IfSome result (λ e. entry_note e.now ≡ notes e.now.range e.now.block) }
+    {
+        let entries = self.entries.listed();
+        let behind = index_behind(entries, self.near, range);
+        match held_before(entries, behind, range) {
+            Some(i) => Some(self.entries.at(i)),
+            None => None,
         }
     }
 
@@ -311,11 +322,8 @@ impl Table {
         requires { 0 < range.len }
         ensures { result ≡ option_map (λ p. (p.s, p.d)) (holder self.now.presences range) }
     {
-        match index_of(self.entries.listed(), self.near, range) {
-            Some(i) => {
-                let entry = self.entries.at(i);
-                Some((entry.s, entry.d))
-            }
+        match self.find(range) {
+            Some(entry) => Some((entry.s, entry.d)),
             None => None,
         }
     }
@@ -420,14 +428,15 @@ fn bounds_by(entries: &Indexed<Entry>, near: usize, range: Range) -> (usize, usi
     (near, near)
 }
 
-// The index of the entry that contains the range.
-fn index_of(entries: &Indexed<Entry>, near: usize, range: Range) -> Option<usize>
+// The index of the entry that contains the range. Remembers where it went.
+fn index_of(entries: &Indexed<Entry>, near: &mut usize, range: Range) -> Option<usize>
     requires table { is_table (map entry_presence entries.now.items) ≡ true }
     requires cells { 0 < range.len }
     ensures held { holder (map entry_presence entries.now.items) range ≡ option_and_then (slice_get (map entry_presence entries.now.items)) result }
     ensures within { IfSome result (λ i. i < length entries.now.items) }
 {
-    held_before(entries, index_behind(entries, near, range), range)
+    *near = index_behind(entries, *near, range);
+    held_before(entries, *near, range)
 }
 
 // The same, where the first entry that begins behind the range's first cell stands at this index: no other entry contains
@@ -508,7 +517,7 @@ pub(crate) fn new_entry(range: Range, counter: Counter, block: BlockId) -> Entry
     ensures presence { entry_presence result ≡ opening (entry_mark counter range) block }
     ensures note { entry_note result ≡ no_note }
 {
-    let uncounted = Entry {
+    let mut entry = Entry {
         range,
         block,
         s: 0,
@@ -516,23 +525,19 @@ pub(crate) fn new_entry(range: Range, counter: Counter, block: BlockId) -> Entry
         maker: (QueueId::SYNC, 0),
         uses: [0; QUEUES as usize],
     };
-    counted_up(&uncounted, counter)
+    count_up(&mut entry, counter);
+    entry
 }
 
-pub(crate) fn counted_up(entry: &Entry, counter: Counter) -> Entry
-    requires { counter_of counter (entry_presence entry.now) < COUNTER_LIMIT }
-    ensures presence { entry_presence result ≡ stepped (entry_change counter) (entry_presence entry.now) }
-    ensures note { entry_note result ≡ entry_note entry.now }
+// Counts an entry to this one's range.
+pub(crate) fn count_up(entry: &mut Entry, counter: Counter)
+    requires { counter_of counter (entry_presence entry.old) < COUNTER_LIMIT }
+    ensures presence { entry_presence entry.new ≡ stepped (entry_change counter) (entry_presence entry.old) }
+    ensures note { entry_note entry.new ≡ entry_note entry.old }
 {
     match counter {
-        Counter::Structured => Entry {
-            s: entry.s + 1,
-            ..*entry
-        },
-        Counter::Dynamic => Entry {
-            d: entry.d + 1,
-            ..*entry
-        },
+        Counter::Structured => entry.s += 1,
+        Counter::Dynamic => entry.d += 1,
     }
 }
 
@@ -557,27 +562,23 @@ pub(crate) fn counted_down(entry: &Entry, change: Change) -> Entry
     }
 }
 
-// The entry where this batch of a queue used its block.
-fn used_by(entry: &Entry, queue: QueueId, batch: u64) -> Entry
+// This batch of a queue used the entry's block.
+fn use_by(entry: &mut Entry, queue: QueueId, batch: u64)
     requires { queue < QUEUES }
-    ensures presence { entry_presence result ≡ entry_presence entry.now }
-    ensures note { entry_note result ≡ used_by queue batch (entry_note entry.now) }
+    ensures presence { entry_presence entry.new ≡ entry_presence entry.old }
+    ensures note { entry_note entry.new ≡ used_by queue batch (entry_note entry.old) }
 {
-    let mut uses = entry.uses;
-    uses[usize::from(queue.number())] = batch;
-    Entry { uses, ..*entry }
+    entry.uses[usize::from(queue.number())] = batch;
 }
 
-// The entry where this batch of a queue made its block.
-fn made_by(entry: &Entry, queue: QueueId, batch: u64) -> Entry
+// This batch of a queue made the entry's block.
+fn make_by(entry: &mut Entry, queue: QueueId, batch: u64)
     requires { queue < QUEUES }
-    ensures presence { entry_presence result ≡ entry_presence entry.now }
-    ensures note { entry_note result ≡ made_by queue batch (entry_note entry.now) }
+    ensures presence { entry_presence entry.new ≡ entry_presence entry.old }
+    ensures note { entry_note entry.new ≡ made_by queue batch (entry_note entry.old) }
 {
-    Entry {
-        maker: (queue, batch),
-        ..used_by(entry, queue, batch)
-    }
+    entry.maker = (queue, batch);
+    use_by(entry, queue, batch);
 }
 
 pub(crate) fn exit_change(counter: Counter) -> Change

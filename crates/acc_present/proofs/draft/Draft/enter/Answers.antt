@@ -14,21 +14,21 @@ returns-in-Some-clause-drafted c =
     let qs = with_changed (map entry_presence c.self.inside.changed.items) ps in
     let d = rw (← c.self.view_is) at c.requires.draft in
     let m = entry_mark c.args.counter r in
-    let k = counts_entry m c.index_for.new.changed.items ps qs c.in-Some.i c.index.result.now c.counted_up.result d.table d.after c.requires.cells c.in-Some.ensures.same c.in-Some.ensures.held
-    (omega (arith, c.in-Some.ensures.within)) c.index.ensures c.counted_up.ensures.presence in
-    rw (← c.self.view_is) (k.same ∙ stays m c.args.block qs (is_present-some qs r (entry_presence c.index.result.now) k.seen))
+    let k = counts_entry m c.index_for.new.changed.items ps qs c.in-Some.i c.index_mut.result.now c.count_up.new.entry d.table d.after c.requires.cells c.in-Some.ensures.same c.in-Some.ensures.held
+    (omega (arith, c.in-Some.ensures.within)) c.index_mut.ensures.value c.count_up.ensures.presence in
+    rw (← c.self.view_is) (k.same ∙ stays m c.args.block qs (is_present-some qs r (entry_presence c.index_mut.result.now) k.seen))
 
 pub returns-in-Some-clause-draft : goal.returns-in-Some-clause-draft
 returns-in-Some-clause-draft c =
     let r = c.args.range in
     let ps = c.args.table.now.presences in
     let qs = with_changed (map entry_presence c.self.inside.changed.items) ps in
-    let x = c.index.result.now in
+    let x = c.index_mut.result.now in
     let d = rw (← c.self.view_is) at c.requires.draft in
     let m = entry_mark c.args.counter r in
-    let k = counts_entry m c.index_for.new.changed.items ps qs c.in-Some.i x c.counted_up.result d.table d.after c.requires.cells c.in-Some.ensures.same c.in-Some.ensures.held
-    (omega (arith, c.in-Some.ensures.within)) c.index.ensures c.counted_up.ensures.presence in
-    let counted = ap has_count c.counted_up.ensures.presence ∙ has_count-entered c.args.counter (entry_presence x) in
+    let k = counts_entry m c.index_for.new.changed.items ps qs c.in-Some.i x c.count_up.new.entry d.table d.after c.requires.cells c.in-Some.ensures.same c.in-Some.ensures.held
+    (omega (arith, c.in-Some.ensures.within)) c.index_mut.ensures.value c.count_up.ensures.presence in
+    let counted = ap has_count c.count_up.ensures.presence ∙ has_count-entered c.args.counter (entry_presence x) in
     let cells = rw counted at k.used in
     record { table = d.table; after = k.after; counted = omega (arith, cells, d.counted); within = omega (arith, cells, d.within) }
 
@@ -37,10 +37,10 @@ returns-in-Some-clause-result c =
     let r = c.args.range in
     let ps = c.args.table.now.presences in
     let qs = with_changed (map entry_presence c.self.inside.changed.items) ps in
-    let x = c.index.result.now in
+    let x = c.index_mut.result.now in
     let d = rw (← c.self.view_is) at c.requires.draft in
-    let k = counts_entry (entry_mark c.args.counter r) c.index_for.new.changed.items ps qs c.in-Some.i x c.counted_up.result d.table d.after c.requires.cells c.in-Some.ensures.same c.in-Some.ensures.held
-    (omega (arith, c.in-Some.ensures.within)) c.index.ensures c.counted_up.ensures.presence in
+    let k = counts_entry (entry_mark c.args.counter r) c.index_for.new.changed.items ps qs c.in-Some.i x c.count_up.new.entry d.table d.after c.requires.cells c.in-Some.ensures.same c.in-Some.ensures.held
+    (omega (arith, c.in-Some.ensures.within)) c.index_mut.ensures.value c.count_up.ensures.presence in
     rw (← c.self.view_is) (rw (is_present-some qs r (entry_presence x) k.seen) refl)
 
 pub returns-in-None-clause-drafted : goal.returns-in-None-clause-drafted

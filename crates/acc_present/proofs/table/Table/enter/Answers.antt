@@ -12,27 +12,26 @@ invariant_of-self c =
     let es = c.self.inside.entries.items in
     let held = rw c.listed-entries.ensures at c.in-Some.ensures.held in
     let low = rw c.listed-entries.ensures at c.in-Some.ensures.within in
-    let f = found_at es c.args.range c.in-Some.i c.at.result.now held low c.at.ensures in
-    rw c.set.ensures.items
-    (entered_again es c.args.range c.args.counter c.args.block c.in-Some.i c.at.result.now c.counted_up-entry.result c.self.inside.used c.self.inside.capacity
-    c.self.invariant c.requires.cells f c.counted_up-entry.ensures.presence).table
+    let f = found_at es c.args.range c.in-Some.i c.at_mut.result.now held low c.at_mut.ensures.value in
+    (entered_again es c.args.range c.args.counter c.args.block c.in-Some.i c.at_mut.result.now c.count_up.new.entry c.self.inside.used c.self.inside.capacity
+    c.self.invariant c.requires.cells f c.count_up.ensures.presence).table
 
 pub returns-in-Some-clause-presences : goal.returns-in-Some-clause-presences
 returns-in-Some-clause-presences c =
     let es = c.self.inside.entries.items in
     let held = rw c.listed-entries.ensures at c.in-Some.ensures.held in
     let low = rw c.listed-entries.ensures at c.in-Some.ensures.within in
-    let f = found_at es c.args.range c.in-Some.i c.at.result.now held low c.at.ensures in
-    rw (← c.self.view_is, c.set.ensures.items)
-    (entered_again es c.args.range c.args.counter c.args.block c.in-Some.i c.at.result.now c.counted_up-entry.result c.self.inside.used c.self.inside.capacity
-    c.self.invariant c.requires.cells f c.counted_up-entry.ensures.presence).same
+    let f = found_at es c.args.range c.in-Some.i c.at_mut.result.now held low c.at_mut.ensures.value in
+    rw (← c.self.view_is)
+    (entered_again es c.args.range c.args.counter c.args.block c.in-Some.i c.at_mut.result.now c.count_up.new.entry c.self.inside.used c.self.inside.capacity
+    c.self.invariant c.requires.cells f c.count_up.ensures.presence).same
 
 pub returns-in-Some-clause-result : goal.returns-in-Some-clause-result
 returns-in-Some-clause-result c =
     let es = c.self.inside.entries.items in
     let held = rw c.listed-entries.ensures at c.in-Some.ensures.held in
     let low = rw c.listed-entries.ensures at c.in-Some.ensures.within in
-    let f = found_at es c.args.range c.in-Some.i c.at.result.now held low c.at.ensures in
+    let f = found_at es c.args.range c.in-Some.i c.at_mut.result.now held low c.at_mut.ensures.value in
     rw (← c.self.view_is) (rw f.held refl)
 
 pub invariant_of-self-in-None : goal.invariant_of-self-in-None
@@ -69,12 +68,12 @@ pub returns-in-Some-clause-notes : goal.returns-in-Some-clause-notes
 returns-in-Some-clause-notes c =
     let es = c.self.inside.entries.items in
     let low = rw c.listed-entries.ensures at c.in-Some.ensures.within in
-    let x = c.at.result.now in
-    let y = c.counted_up-entry.result in
-    let range : y.range ≡ x.range = ap (λ (p : Presence). p.range) c.counted_up-entry.ensures.presence in
-    let block : y.block ≡ x.block = ap (λ (p : Presence). p.block) c.counted_up-entry.ensures.presence in
-    rw (← c.self.view_is, c.set.ensures.items) (λ notes h fresh. noted_set notes es c.in-Some.i y h
-    (c.counted_up-entry.ensures.note ∙ (noted_at notes es c.in-Some.i x h low c.at.ensures ∙ (ap (λ r. notes r x.block) (sym range) ∙ ap (λ b. notes y.range b) (sym block)))))
+    let x = c.at_mut.result.now in
+    let y = c.count_up.new.entry in
+    let range : y.range ≡ x.range = ap (λ (p : Presence). p.range) c.count_up.ensures.presence in
+    let block : y.block ≡ x.block = ap (λ (p : Presence). p.block) c.count_up.ensures.presence in
+    rw (← c.self.view_is) (λ notes h fresh. noted_set notes es c.in-Some.i y h
+    (c.count_up.ensures.note ∙ (noted_at notes es c.in-Some.i x h low c.at_mut.ensures.value ∙ (ap (λ r. notes r x.block) (sym range) ∙ ap (λ b. notes y.range b) (sym block)))))
 
 pub returns-in-None-clause-notes : goal.returns-in-None-clause-notes
 returns-in-None-clause-notes c =

@@ -41,7 +41,7 @@ put_or_end-requires c =
     let held = rw c.listed.ensures at c.in-Some.ensures.held in
     let low = rw c.listed.ensures at c.in-Some.ensures.within in
     let f = found_at es c.args.range c.in-Some.i x held low c.at-entry.ensures in
-    rw (← c.self.view_is) (range_at es c.args.range c.counted_down-after.result.range c.in-Some.i x f (ap (λ (p : Presence). p.range) (sym c.counted_down-after.ensures.presence)))
+    range_at es c.args.range c.counted_down-after.result.range c.in-Some.i x f (ap (λ (p : Presence). p.range) (sym c.counted_down-after.ensures.presence))
 
 pub returns-else-count_of-eq0-clause-presences : goal.returns-else-count_of-eq0-clause-presences
 returns-else-count_of-eq0-clause-presences c =
@@ -52,7 +52,7 @@ returns-else-count_of-eq0-clause-presences c =
     let f = found_at es c.args.range c.in-Some.i x held low c.at-entry.ensures in
     rw (← c.self.view_is)
     (left_settled es (record { change = c.args.change; range = c.args.range }) c.in-Some.i x c.counted_down-after.result c.put_or_end.new.self.presences c.self.inside.used c.self.inside.capacity c.self.invariant c.requires.cells f
-    c.counted_down-after.ensures.presence (rw (← c.self.view_is) at c.put_or_end.ensures.presences))
+    c.counted_down-after.ensures.presence c.put_or_end.ensures.presences)
 
 pub returns-else-count_of-eq0-clause-result : goal.returns-else-count_of-eq0-clause-result
 returns-else-count_of-eq0-clause-result c =
@@ -72,5 +72,5 @@ returns-else-count_of-eq0-clause-notes c =
     let y = c.counted_down-after.result in
     let range : y.range ≡ x.range = ap (λ (p : Presence). p.range) c.counted_down-after.ensures.presence in
     let block : y.block ≡ x.block = ap (λ (p : Presence). p.block) c.counted_down-after.ensures.presence in
-    λ notes h. c.put_or_end.ensures.notes notes h
+    λ notes h. c.put_or_end.ensures.notes notes (rw (← c.self.view_is) at h)
     (c.counted_down-after.ensures.note ∙ (noted_at notes es c.in-Some.i x (rw (← c.self.view_is) at h) low c.at-entry.ensures ∙ (ap (λ r. notes r x.block) (sym range) ∙ ap (λ b. notes y.range b) (sym block))))

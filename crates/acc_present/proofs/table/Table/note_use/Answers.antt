@@ -6,28 +6,28 @@ use Rattle.acc_present.proofs.Holder.{is_present-none}
 use Rattle.acc_present.proofs.EntryNotes.{noted_change, noted_none, none_contains, shown_kept}
 use Rattle.acc_present.proofs.table.Table.note_use.Goals as goal
 
-pub invariant_of-self : goal.invariant_of-self
-invariant_of-self c =
+pub invariant_of-self-in-Some : goal.invariant_of-self-in-Some
+invariant_of-self-in-Some c =
     let es = c.self.inside.entries.items in
     let low = rw c.listed.ensures at c.in-Some.ensures.within in
-    rw (c.set.ensures.items, shown_kept es c.in-Some.i c.at.result.now c.used_by-entry.result low c.at.ensures c.used_by-entry.ensures.presence) c.self.invariant
+    rw (shown_kept es c.in-Some.i c.at_mut.result.now c.use_by.new.entry low c.at_mut.ensures.value c.use_by.ensures.presence) c.self.invariant
 
 pub returns-in-Some-clause-presences : goal.returns-in-Some-clause-presences
 returns-in-Some-clause-presences c =
     let es = c.self.inside.entries.items in
     let low = rw c.listed.ensures at c.in-Some.ensures.within in
-    rw (← c.self.view_is, c.set.ensures.items) (shown_kept es c.in-Some.i c.at.result.now c.used_by-entry.result low c.at.ensures c.used_by-entry.ensures.presence)
+    rw (← c.self.view_is) (shown_kept es c.in-Some.i c.at_mut.result.now c.use_by.new.entry low c.at_mut.ensures.value c.use_by.ensures.presence)
 
 pub returns-in-Some-clause-notes : goal.returns-in-Some-clause-notes
 returns-in-Some-clause-notes c =
     let es = c.self.inside.entries.items in
     let held = rw c.listed.ensures at c.in-Some.ensures.held in
     let low = rw c.listed.ensures at c.in-Some.ensures.within in
-    let x = c.at.result.now in
-    let y = c.used_by-entry.result in
-    let found = found_at es c.args.range c.in-Some.i x held low c.at.ensures in
-    rw (← c.self.view_is, c.set.ensures.items) (λ notes h. noted_change notes c.args.range (used_by c.args.queue c.args.batch) es c.in-Some.i x y c.self.invariant.table low c.at.ensures c.requires.cells found.has
-    (ap (λ (p : Presence). p.range) c.used_by-entry.ensures.presence) (ap (λ (p : Presence). p.block) c.used_by-entry.ensures.presence) c.used_by-entry.ensures.note h)
+    let x = c.at_mut.result.now in
+    let y = c.use_by.new.entry in
+    let found = found_at es c.args.range c.in-Some.i x held low c.at_mut.ensures.value in
+    rw (← c.self.view_is) (λ notes h. noted_change notes c.args.range (used_by c.args.queue c.args.batch) es c.in-Some.i x y c.self.invariant.table low c.at_mut.ensures.value c.requires.cells found.has
+    (ap (λ (p : Presence). p.range) c.use_by.ensures.presence) (ap (λ (p : Presence). p.block) c.use_by.ensures.presence) c.use_by.ensures.note h)
 
 pub returns-in-None-clause-notes : goal.returns-in-None-clause-notes
 returns-in-None-clause-notes c =
