@@ -1,9 +1,8 @@
 -- The numbers that a batch awaits, as they are raised range by range.
-use Rattle.std.proofs.Common.{inl, inr, ◌≡◌, ◌⊎◌, ℕ, suc, ◌-◌, ◌<◌, ◌≤◌, true, false, List, [], ◌∷◌, ◌++◌, length, map, get_or, drop, take, refl, sym, ap, ◌∙◌, arith, Option, Some, None}
-use Rattle.std.specs.Prelude.{All, max, not}
+use Rattle.std.proofs.Common.{◌≡◌, ℕ, suc, ◌-◌, ◌<◌, ◌≤◌, List, [], ◌∷◌, ◌++◌, length, map, get_or, drop, take, refl, sym, ap, ◌∙◌, arith, Option, Some, None}
+use Rattle.std.specs.Prelude.{All, max}
 use Rattle.std.specs.List.{flat_map}
 use Rattle.std.proofs.Math.Seq.{take-length}
-use Rattle.std.proofs.lemmas.Bool.{and_parts, not-true}
 use Rattle.std.proofs.lemmas.List.Elements.{All-head}
 use Rattle.std.proofs.lemmas.Grind.{flat_map-append}
 use Rattle.acc_base.specs.declared.range.Range.{Range}
@@ -12,11 +11,6 @@ use Rattle.acc_batch.specs.declared.label.OpLabel.{OpLabel}
 use Rattle.acc_batch.specs.declared.label.OpLabel.TheVariants.{CopyIn, CopyOut}
 use Rattle.acc_kernel.specs.Jobs.{Use}
 use Rattle.acc_present.specs.Notes.{Note}
-use Rattle.acc_present.specs.Presences.{Presence, holder, is_present, overlaps_any}
-use Rattle.acc_present.specs.Tables.{IsLook}
-use Rattle.acc_present.specs.declared.table.Look.{Look}
-use Rattle.acc_present.specs.declared.table.Look.TheVariants as look
-use Rattle.acc_present.proofs.Holder.{is_present-some}
 use Rattle.acc_place.specs.declared.judge.Marked.{Marked}
 use Rattle.acc_place.specs.declared.plan.Group.{Group}
 use Rattle.acc_place.specs.declared.plan.Group.TheVariants.{Makes, CopyIns, Updates, CopyOuts, Releases}
@@ -35,24 +29,6 @@ same_for f g (q ∷ qs) h = rw (h q, same_for f g qs h) refl
 -- nothing raises no number
 pub none_raised : (f : ℕ → ℕ) → map f every_queue ≡ map (λ q. max (f q) 0) every_queue
 none_raised f = same_for f (λ q. max (f q) 0) every_queue (λ q. omega arith)
-
--- ## Ranges that aren't present
-
--- what is partly present nothing holds
-partly_held : (ps : List Presence) (r : Range) → overlaps_any ps r ≡ true → not (is_present ps r) ≡ true → holder ps r ≡ None
-partly_held ps r some no_one = by_holder (holder ps r) refl
-  where
-    by_holder : (o : Option Presence) → holder ps r ≡ o → o ≡ None
-    by_holder None e = refl
-    by_holder (Some p) e = (let w : true ≡ false = sym (is_present-some ps r p e) ∙ not-true (is_present ps r) no_one in absurd cc)
-
--- what is absent or partly present has no entry
-pub no_holder : (ps : List Presence) (r : Range) (l : Look) → IsLook ps r l → (l ≡ look.Absent) ⊎ (l ≡ look.Partly) → holder ps r ≡ None
-no_holder ps r l found (inl absent) = (let none : IsLook ps r look.Absent = rw absent at found in none.0)
-no_holder ps r l found (inr partly) =
-    let some : IsLook ps r look.Partly = rw partly at found in
-    let parts = and_parts (overlaps_any ps r) (not (is_present ps r)) some in
-    partly_held ps r parts.0 parts.1
 
 -- ## Two lists, one behind the other
 

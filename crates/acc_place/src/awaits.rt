@@ -21,7 +21,7 @@ use crate::plan::{Group, op_of};
 use crate::targets::names_queue;
 use acc_base::{BlockId, DeviceId, Fault, Few, QUEUES, QueueAt, QueueCounts, QueueId, Range};
 use acc_batch::OpLabel;
-use acc_present::{Look, Table};
+use acc_present::Table;
 
 /// How many batches were placed on each queue of a device that a directive waits for, and 0 for the others.
 pub(crate) fn named_counts(labels: &Labels, device: DeviceId, directive: &Directive) -> QueueCounts
@@ -191,12 +191,12 @@ fn raise_range(table: &Table, range: Range, numbers: &mut QueueCounts)
     requires { 0 < range.len }
     ensures { (notes : Range → ℕ → Note) → HasNotes notes table.now.notes → Raises numbers.old (λ q. made_at q (note_found notes table.now.presences range)) numbers.new }
 {
-    match table.look(range) {
-        Look::Present(entry) => {
+    match table.find(range) {
+        Some(entry) => {
             let (queue, number) = entry.maker;
             raise(numbers, queue, number);
         }
-        Look::Absent | Look::Partly => {}
+        None => {}
     }
 }
 
@@ -229,9 +229,9 @@ fn raise_used(table: &Table, range: Range, numbers: &mut QueueCounts)
     requires { 0 < range.len }
     ensures { (notes : Range → ℕ → Note) → HasNotes notes table.now.notes → Raises numbers.old (λ q. used_at q (note_found notes table.now.presences range)) numbers.new }
 {
-    match table.look(range) {
-        Look::Present(entry) => raise_all(numbers, &entry.uses),
-        Look::Absent | Look::Partly => {}
+    match table.find(range) {
+        Some(entry) => raise_all(numbers, &entry.uses),
+        None => {}
     }
 }
 

@@ -1,8 +1,9 @@
-use Rattle.std.proofs.Common.{◌∙◌}
-use Rattle.acc_place.proofs.AwaitedNumbers.{no_holder, none_raised}
+use Rattle.std.proofs.Common.{◌≡◌, sym, ◌∙◌, None}
+use Rattle.acc_present.specs.Presences.{holder}
+use Rattle.acc_place.proofs.AwaitedNumbers.{none_raised}
 use Rattle.acc_place.proofs.awaits.raise_range.Goals as goal
 
-pub returns-in-Absent : goal.returns-in-Absent
-returns-in-Absent c = λ notes h f is.
-    let none = no_holder c.args.table.now.presences c.args.range c.look.result c.look.ensures.look c.in-Absent.is in
+pub returns-in-None : goal.returns-in-None
+returns-in-None c = λ notes h f is.
+    let none : holder c.args.table.now.presences c.args.range ≡ None = sym c.in-None.ensures.entry in
     rw none (is ∙ none_raised f)
