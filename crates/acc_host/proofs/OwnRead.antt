@@ -1,8 +1,8 @@
 -- A host's own entries, read off what a run leaves: its directives, its items, and both merged.
-use Rattle.std.proofs.Common.{◌≡◌, ◌⊎◌, inl, inr, ℕ, zero, suc, ◌+◌, ◌-◌, ◌<◌, ◌≤◌, Bool, true, false, List, [], ◌∷◌, ◌++◌, length, take, drop, reverse, refl, sym, ap, ◌∙◌, arith}
+use Rattle.std.proofs.Common.{◌≡◌, ◌⊎◌, inl, inr, ℕ, zero, suc, ◌+◌, ◌-◌, ◌<◌, ◌≤◌, Bool, true, false, List, [], ◌∷◌, ◌++◌, length, get_or, take, drop, reverse, refl, sym, ap, ◌∙◌, arith}
 use Rattle.std.specs.Borrow.{Bor}
 use Rattle.std.specs.Prelude.{All, ◌==◌, ◌^◌, Option, Some, None, option_copied, option_map, if◌then◌else◌}
-use Rattle.std.proofs.lemmas.List.{append_assoc, append-nil, length-reverse, length-take-le, reverse-append, reverse-reverse, take-append-drop}
+use Rattle.std.proofs.lemmas.List.{append_assoc, append-nil, drop_all, drop-drop, drop_more, length-reverse, length-take-le, reverse-append, reverse-reverse, take-append-drop}
 use Rattle.std.proofs.lemmas.List.Elements.{All-head, All-tail}
 use Rattle.acc_base.specs.Configurations.{Configuration}
 use Rattle.acc_place.specs.Answers.{answers_of, is_directive, GoTogether}
@@ -20,7 +20,7 @@ use Rattle.acc_host.specs.Entries.{Own, entries_merged, items_shown, own_after, 
 use Rattle.acc_host.specs.OwnEntries.{own, Takes}
 use Rattle.acc_host.specs.declared.own_entries.OwnDirective.{OwnDirective}
 use Rattle.acc_host.specs.declared.own_entries.OwnEntry.TheVariants as read
-use Rattle.acc_host.specs.inner.Unread.{item_by, item_then, items_by, own_by, own_then, owned_by, unread, IsFirst, IsLater}
+use Rattle.acc_host.specs.inner.Unread.{item_by, item_then, items_by, own_by, own_then, owned_by, owned_from, unread, IsFirst, IsOther, IsLater}
 
 -- ## Directives
 
@@ -114,6 +114,39 @@ owned_are config host history counts h =
     ∙ (ap (λ told. owned_by host first (reverse counts) (reverse told)) answers
     ∙ (ap (λ hs. owned_by host hs (reverse counts) (reverse (answers_of config (reverse first) counts))) (sym (reverse-reverse first))
     ∙ (owned_all config host (reverse first) counts directives (omega (arith, many, length-reverse first)) ∙ sym own))))
+
+-- without a count or an answer there is no directive
+no-counts : (host : ℕ) (places : List PlaceEntry) (answers : List Placed) → owned_by host places [] answers ≡ []
+no-counts host [] answers = refl
+no-counts host (e ∷ places) answers = refl
+
+no-answers : (host : ℕ) (places : List PlaceEntry) (counts : List ℕ) → owned_by host places counts [] ≡ []
+no-answers host [] counts = refl
+no-answers host (e ∷ places) [] = refl
+no-answers host (e ∷ places) (n ∷ counts) = refl
+
+-- Where a count or an answer is missing, there is none from there on.
+no-owned : (host : ℕ) (places : List PlaceEntry) (counts : List ℕ) (answers : List Placed) (i : ℕ) → (length counts ≤ i) ⊎ (length answers ≤ i) → owned_from host places counts answers i ≡ []
+no-owned host places counts answers i (inl few) = rw (drop_all i counts few) (no-counts host (drop i places) (drop i answers))
+no-owned host places counts answers i (inr few) = rw (drop_all i answers few) (no-answers host (drop i places) (drop i counts))
+
+pub owned-ended : (host : ℕ) (places : List PlaceEntry) (counts : List ℕ) (answers : List Placed) (i : ℕ) → (length counts ≤ i) ⊎ (length answers ≤ i)
+    → owned_from host places counts answers i ≡ owned_from host places counts answers (i + 1)
+owned-ended host places counts answers i few =
+    no-owned host places counts answers i few
+    ∙ sym (no-owned host places counts answers (i + 1) (elim few [ inl c ↦ inl (omega (arith, c)) | inr a ↦ inr (omega (arith, a)) ]))
+
+-- an entry that is no directive of the host is passed over
+other-first : (host : ℕ) (e : PlaceEntry) (es : List PlaceEntry) (counts : List ℕ) (answers : List Placed) → IsOther host e
+    → owned_by host (e ∷ es) counts answers ≡ owned_by host es (drop 1 counts) (drop 1 answers)
+other-first host e es [] answers other = sym (no-counts host es (drop 1 answers))
+other-first host e es (n ∷ counts) [] other = sym (no-answers host es counts)
+other-first host e es (n ∷ counts) (a ∷ answers) other = rw (other n a) refl
+
+pub owned-other : (host : ℕ) (places : List PlaceEntry) (counts : List ℕ) (answers : List Placed) (i : ℕ) (d : PlaceEntry) → i < length places → IsOther host (get_or places i d)
+    → owned_from host places counts answers i ≡ owned_from host places counts answers (i + 1)
+owned-other host places counts answers i d within other =
+    rw (drop_more places i d within, sym (drop-drop 1 i counts), sym (drop-drop 1 i answers)) (other-first host (get_or places i d) (drop (i + 1) places) (drop i counts) (drop i answers) other)
 
 -- ## Items
 

@@ -1,14 +1,15 @@
 //! A host's own entries, read one after another off what a run leaves: its directives with their answers, and its items.
 
-ghost use Rattle.std.specs.Prelude.{◌≡◌, option_copied, option_map, reverse};
+ghost use Rattle.std.specs.Prelude.{◌≡◌, ◌+◌, ◌<◌, [], ◌∷◌, length, MatchOption, option_copied, option_map, reverse};
+ghost use Rattle.acc_place.specs.declared.directive.PlaceEntry.TheVariants.{Accepted};
 ghost use Rattle.acc_host.specs.Engines.{Had};
 ghost use Rattle.acc_host.specs.Entries.{entries_merged, items_shown, own_of};
 ghost use Rattle.acc_host.specs.OwnEntries.{entry, own, Takes};
-ghost use Rattle.acc_host.specs.inner.Unread.{IsFirst};
+ghost use Rattle.acc_host.specs.inner.Unread.{items_by, owned_from, IsFirst, IsOther};
 
 use acc_base::HostId;
 use acc_place::{Answer, Directive, Place, PlaceEntry, Placed};
-use acc_work::{Entries, Told, WorkEntry, WorkLog};
+use acc_work::{Pages, Told, WorkEntry, WorkLog};
 use std::marker::Model;
 
 /// A directive of a host, how many items the host had before it, and its answer.
@@ -27,6 +28,8 @@ pub struct OwnDirectives<'a> {
     places: &'a [PlaceEntry],
     counts: &'a [u64],
     answers: &'a [Answer],
+    // how many of them are read or passed over
+    gone: usize,
 }
 
 impl<'a> Model for OwnDirectives<'a> {
@@ -34,13 +37,13 @@ impl<'a> Model for OwnDirectives<'a> {
     ghost use Rattle.std.specs.Coded.{codes};
     ghost use Rattle.acc_kernel.specs.contracts.expr.Expr as expr;
     ghost use Rattle.acc_host.specs.Entries.{Own};
-    ghost use Rattle.acc_host.specs.inner.Unread.{owned_by};
+    ghost use Rattle.acc_host.specs.inner.Unread.{owned_from};
 
     ghost Value = { List Own };
 
     ghost coded = { Prim.hlevel (codes, expr.the_row.coded) };
 
-    ghost view = { λ d. owned_by d.host d.places.now d.counts.now d.answers.now };
+    ghost view = { λ d. owned_from d.host d.places.now d.counts.now d.answers.now d.gone };
 }
 
 impl<'a> OwnDirectives<'a> {
@@ -53,6 +56,7 @@ impl<'a> OwnDirectives<'a> {
             places: place.history(),
             counts: place.counts(),
             answers: place.answers(),
+            gone: 0,
         }
     }
 
@@ -60,24 +64,45 @@ impl<'a> OwnDirectives<'a> {
     pub fn next(&mut self) -> Option<OwnDirective<'a>>
         ensures { Takes self.old (option_map own result) self.new }
     {
-        while let Some((entry, places)) = self.places.split_first()
-            && let Some((items_before, counts)) = self.counts.split_first()
-            && let Some((answer, answers)) = self.answers.split_first()
-        {
-            self.places = places;
-            self.counts = counts;
-            self.answers = answers;
-            if let PlaceEntry::Accepted { host, directive } = entry
-                && *host == self.host
-            {
-                return Some(OwnDirective {
-                    items_before: *items_before,
-                    directive,
-                    placed: answer.placed(),
-                });
+        for index in self.gone..self.places.len() {
+            if let Some(own) = own_at(self.host, self.places, self.counts, self.answers, index) {
+                self.gone = index + 1;
+                return Some(own);
             }
         }
         None
+    }
+}
+
+// The directive of a host at an index, with its count and its answer, if there is one.
+fn own_at<'a>(
+    host: HostId,
+    places: &'a [PlaceEntry],
+    counts: &[u64],
+    answers: &[Answer],
+    index: usize,
+) -> Option<OwnDirective<'a>>
+    requires { index < length places.now }
+    ensures { MatchOption result (owned_from host places.now counts.now answers.now index ≡ owned_from host places.now counts.now answers.now (index + 1)) (λ o. owned_from host places.now counts.now answers.now index ≡ own o ∷ owned_from host places.now counts.now answers.now (index + 1)) }
+{
+    let directive = directive_by(host, &places[index])?;
+    Some(OwnDirective {
+        items_before: *counts.get(index)?,
+        directive,
+        placed: answers.get(index)?.placed(),
+    })
+}
+
+// The directive of an entry, if it is one of the host.
+fn directive_by(host: HostId, entry: &PlaceEntry) -> Option<&Directive>
+    ensures { MatchOption result (IsOther host entry.now) (λ directive. entry.now ≡ Accepted host directive.now) }
+{
+    match entry {
+        PlaceEntry::Accepted {
+            host: other,
+            directive,
+        } if *other == host => Some(directive),
+        _ => None,
     }
 }
 
@@ -85,12 +110,13 @@ impl<'a> OwnDirectives<'a> {
 #[derive(Drop)]
 pub struct OwnItems<'a> {
     host: HostId,
-    // the entries of all hosts and queues
-    works: Entries<'a>,
+    // the entries of all hosts and queues: of the page that is read, and of those behind it
+    page: &'a [WorkEntry],
+    pages: Pages<'a>,
 }
 
 impl<'a> Model for OwnItems<'a> {
-    ghost use Rattle.std.specs.Prelude.{List};
+    ghost use Rattle.std.specs.Prelude.{List, ◌++◌};
     ghost use Rattle.std.specs.Coded.{codes};
     ghost use Rattle.acc_kernel.specs.contracts.expr.Expr as expr;
     ghost use Rattle.acc_host.specs.Engines.{HostEntry};
@@ -100,7 +126,7 @@ impl<'a> Model for OwnItems<'a> {
 
     ghost coded = { Prim.hlevel (codes, expr.the_row.coded) };
 
-    ghost view = { λ i. items_by i.host i.works };
+    ghost view = { λ i. items_by i.host (i.page.now ++ i.pages) };
 }
 
 impl<'a> OwnItems<'a> {
@@ -110,7 +136,8 @@ impl<'a> OwnItems<'a> {
     {
         OwnItems {
             host,
-            works: works.iter(),
+            page: &[],
+            pages: works.pages(),
         }
     }
 
@@ -118,15 +145,30 @@ impl<'a> OwnItems<'a> {
     pub fn next(&mut self) -> Option<&'a Told>
         ensures { Takes self.old (option_map Had (option_copied result)) self.new }
     {
-        while let Some(entry) = self.works.next() {
-            if let WorkEntry::Item { host, what } = entry
-                && *host == self.host
-            {
+        loop {
+            if let Some((what, behind)) = first_item(self.host, self.page) {
+                self.page = behind;
                 return Some(what);
             }
+            self.page = self.pages.next()?;
         }
-        None
     }
+}
+
+// The first item of a host among these entries, and the entries behind it.
+fn first_item(host: HostId, entries: &[WorkEntry]) -> Option<(&Told, &[WorkEntry])>
+    ensures { MatchOption result (items_by host entries.now ≡ []) (λ found. items_by host entries.now ≡ Had found.0.now ∷ items_by host found.1.now) }
+{
+    let mut left = entries;
+    while let Some((entry, behind)) = left.split_first() {
+        if let WorkEntry::Item { host: other, what } = entry
+            && *other == host
+        {
+            return Some((what, behind));
+        }
+        left = behind;
+    }
+    None
 }
 
 /// An entry of a host's own list: a directive, or an item.

@@ -1,4 +1,3 @@
-pub mod Entries
 pub mod Jobs
 pub mod Lanes
 pub mod Records

@@ -18,4 +18,4 @@ pub use job::JobOut;
 pub use laws::{any_order_is_live, never_stuck, whole_is_greatest, worked_logs};
 pub use log::MAX_HOST_ITEMS;
 pub use work::{Done, Work};
-pub use work_log::{Entries, WorkLog};
+pub use work_log::{Entries, Pages, WorkLog};

@@ -1,6 +1,6 @@
 //! The entries of the work log, on pages.
 
-ghost use Rattle.std.specs.Prelude.{◌≡◌, ◌+◌, ◌<◌, [], ◌∷◌, ◌++◌, IfOk, IfErr};
+ghost use Rattle.std.specs.Prelude.{◌≡◌, ◌+◌, ◌<◌, [], ◌∷◌, ◌++◌, length, IfOk, IfErr, IfSome, MatchOption};
 ghost use Rattle.std.specs.Iterator.{YieldsFirstRef, item_count};
 ghost use Rattle.std.specs.List.{All};
 ghost use Rattle.acc_base.specs.declared.fault.Fault.TheVariants.{Memory as no_memory};
@@ -59,7 +59,16 @@ impl WorkLog {
         ensures { result ≡ self.now.items }
     {
         Entries {
-            entries: &[],
+            page: &[],
+            pages: self.pages(),
+        }
+    }
+
+    /// All entries, in their order, page by page.
+    pub fn pages(&self) -> Pages<'_>
+        ensures { result ≡ self.now.items }
+    {
+        Pages {
             full: self.full.iter(),
             last: self.page.value().entries(),
         }
@@ -99,29 +108,67 @@ impl WorkLog {
     }
 }
 
-/// The entries of a work log that are left, in its order. A contract sees the list of them.
+/// The pages of a work log that are left, in its order. A contract sees the list of their entries.
 #[derive(Drop)]
-pub struct Entries<'log> {
-    // of the page that is read
-    entries: &'log [WorkEntry],
-    // the full pages behind it
+pub struct Pages<'log> {
+    // those that are full
     full: Iter<'log, Page>,
-    // and of the last page
+    // and the entries of the last one
     last: &'log [WorkEntry],
 }
 
-impl<'log> Model for Entries<'log> {
-    ghost use Rattle.std.specs.Prelude.{List};
+impl<'log> Model for Pages<'log> {
+    ghost use Rattle.std.specs.Prelude.{List, ◌++◌};
     ghost use Rattle.std.specs.Coded.{codes};
+    ghost use Rattle.std.specs.List.{flat_map};
     ghost use Rattle.acc_kernel.specs.contracts.expr.Expr as expr;
     ghost use Rattle.acc_batch.specs.declared.entry.WorkEntry.{WorkEntry};
-    ghost use Rattle.acc_work.specs.inner.Entries.{entries_left};
 
     ghost Value = { List WorkEntry };
 
     ghost coded = { Prim.hlevel (codes, expr.the_row.coded) };
 
-    ghost view = { λ e. entries_left e.entries.now e.full e.last.now };
+    ghost view = { λ p. flat_map (λ page. page.items) p.full ++ p.last.now };
+}
+
+impl<'log> Pages<'log> {
+    /// The entries of the next page that has some, which is then read.
+    pub fn next(&mut self) -> Option<&'log [WorkEntry]>
+        ensures page { MatchOption result ((self.old ≡ []) × (self.new ≡ [])) (λ page. self.old ≡ page.now ++ self.new) }
+        ensures some { IfSome result (λ page. 0 < length page.now) }
+    {
+        while let Some(page) = self.full.next() {
+            if !page.entries().is_empty() {
+                return Some(page.entries());
+            }
+        }
+        if self.last.is_empty() {
+            return None;
+        }
+        Some(mem::replace(&mut self.last, &[]))
+    }
+}
+
+/// The entries of a work log that are left, in its order. A contract sees the list of them.
+#[derive(Drop)]
+pub struct Entries<'log> {
+    // of the page that is read
+    page: &'log [WorkEntry],
+    // and of those behind it
+    pages: Pages<'log>,
+}
+
+impl<'log> Model for Entries<'log> {
+    ghost use Rattle.std.specs.Prelude.{List, ◌++◌};
+    ghost use Rattle.std.specs.Coded.{codes};
+    ghost use Rattle.acc_kernel.specs.contracts.expr.Expr as expr;
+    ghost use Rattle.acc_batch.specs.declared.entry.WorkEntry.{WorkEntry};
+
+    ghost Value = { List WorkEntry };
+
+    ghost coded = { Prim.hlevel (codes, expr.the_row.coded) };
+
+    ghost view = { λ e. e.page.now ++ e.pages };
 }
 
 impl<'log> Iterator for Entries<'log> {
@@ -132,18 +179,12 @@ impl<'log> Iterator for Entries<'log> {
     ghost remaining = { item_count (λ rest. rest) };
 
     fn next(&mut self) -> Option<&'log WorkEntry> {
-        if let Some((entry, behind)) = self.entries.split_first() {
-            self.entries = behind;
+        if let Some((entry, behind)) = self.page.split_first() {
+            self.page = behind;
             return Some(entry);
         }
-        while let Some(page) = self.full.next() {
-            if let Some((entry, behind)) = page.entries().split_first() {
-                self.entries = behind;
-                return Some(entry);
-            }
-        }
-        let (entry, behind) = self.last.split_first()?;
-        self.last = behind;
+        let (entry, behind) = self.pages.next()?.split_first()?;
+        self.page = behind;
         Some(entry)
     }
 }

@@ -1,5 +1,5 @@
 -- What is unread of a host's own entries. Only private contracts and proofs cite it.
-use Rattle.std.specs.Prelude.{◌≡◌, ◌⊎◌, ℕ, ◌+◌, ◌<◌, ◌≤◌, ◌==◌, ◌^◌, List, [], ◌∷◌, ◌++◌, Option, Some, None, if◌then◌else◌}
+use Rattle.std.specs.Prelude.{◌≡◌, ◌⊎◌, ℕ, ◌+◌, ◌<◌, ◌≤◌, ◌==◌, ◌^◌, List, [], ◌∷◌, ◌++◌, drop, Option, Some, None, if◌then◌else◌}
 use Rattle.std.specs.Borrow.{Bor}
 use Rattle.std.specs.List.{flat_map}
 use Rattle.acc_place.specs.declared.directive.Placed.{Placed}
@@ -22,12 +22,20 @@ own_by host (noted.Accepted h d) count placed =
 own_by host noted.Closing count placed = []
 own_by host (noted.Closed at) count placed = []
 
+-- It is no directive of the host.
+abbrev pub IsOther : ℕ → PlaceEntry → Type 0
+IsOther host e = (n : ℕ) (a : Placed) → own_by host e n a ≡ []
+
 -- The directives of a host: the first entry has the first count and the first answer, and so on.
 abbrev pub owned_by : ℕ → List PlaceEntry → List ℕ → List Placed → List Own
 owned_by host [] counts answers = []
 owned_by host (e ∷ es) [] answers = []
 owned_by host (e ∷ es) (n ∷ ns) [] = []
 owned_by host (e ∷ es) (n ∷ ns) (a ∷ rest) = own_by host e n a ++ owned_by host es ns rest
+
+-- those from an index on
+abbrev pub owned_from : ℕ → List PlaceEntry → List ℕ → List Placed → ℕ → List Own
+owned_from host places counts answers index = owned_by host (drop index places) (drop index counts) (drop index answers)
 
 -- an entry of the work log, if it is an item of the host
 abbrev pub item_by : ℕ → WorkEntry → List HostEntry
