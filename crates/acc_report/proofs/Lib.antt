@@ -2,6 +2,7 @@ mod BarePrograms
 mod CountedQueues
 mod JoinedPuts
 mod LinesFound
+mod OneDigit
 mod PlacedTotals
 mod PrintedLines
 mod PutPages
