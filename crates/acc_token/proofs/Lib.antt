@@ -1,4 +1,5 @@
 pub mod GapAt
+mod Span
 pub mod TokenSpelling
 pub mod Turns
 mod ValueBehind

@@ -1,20 +1,21 @@
 -- Tokens that are spelled out are read again.
-use Rattle.std.proofs.Common.{◌≡◌, ℕ, ◌+◌, ◌-◌, ◌*◌, ◌/◌, ◌%◌, ◌^◌, ◌<◌, ◌≤◌, Bool, true, false, List, [], ◌∷◌, ◌++◌, length, drop, get_or, Ok, refl, ap, ◌∙◌, arith, ⊎_elim, add-one, eq-eqb, length-append}
-use Rattle.std.specs.Prelude.{◌==◌, ◌&&◌, ◌||◌, not, nat_lt, bytes_eq, All, codes}
+use Rattle.std.proofs.Common.{◌≡◌, ℕ, ◌+◌, ◌-◌, ◌*◌, ◌/◌, ◌%◌, ◌^◌, ◌<◌, ◌≤◌, Bool, true, false, List, [], ◌∷◌, ◌++◌, length, drop, get_or, Ok, refl, ap, sym, ◌∙◌, arith, ⊎_elim, add-one, eq-eqb, length-append}
+use Rattle.std.specs.Prelude.{◌==◌, ◌&&◌, ◌||◌, not, nat_lt, take, bytes_eq, All, codes}
 use Rattle.std.specs.List.{list_any, prefix_len}
 use Rattle.std.specs.Fmt.{decimal}
-use Rattle.std.proofs.lemmas.Bool.{and_left, and_right, and_parts, or_parts, eqb-true, false≢true, ltb-true, le-ltb, lt-ltb, ne_eqb, not-true, cases_lt}
+use Rattle.std.proofs.lemmas.Bool.{and_left, and_right, and_parts, or_parts, eqb-true, false≢true, ltb-true, le-ltb, lt-ltb, ne_eqb, not-true, not-false, cases_lt}
 use Rattle.std.proofs.lemmas.Bool.Decides.{nat_tests}
 use Rattle.std.proofs.lemmas.Fmt.{decimal_by_steps}
 use Rattle.std.proofs.lemmas.List.Elements.{All-tail}
 use Rattle.std.proofs.lemmas.List.Folds.{prefix_len-append}
-use Rattle.std.proofs.lemmas.List.Sums.{prefix_len_is}
+use Rattle.std.proofs.lemmas.List.Sums.{prefix_len_is, prefix_len_passes}
+use Rattle.std.proofs.lemmas.List.{take-append-drop}
 use Rattle.std.proofs.lemmas.Slice.Eq.{bytes_eq-Decides}
 use Rattle.std.proofs.Math.Seq.{take-append_seam, drop-append_seam}
 use Rattle.acc_token.proofs.GapAt.{gap_stops}
 use Rattle.acc_token.specs.declared.token.Gap.TheVariants.{Plain}
 use Rattle.acc_token.specs.declared.token.Step.TheVariants.{Stop}
-use Rattle.acc_token.specs.Tokens.{front, is_letter, is_digit, is_word_byte, is_blank, is_pair, is_sign, step_of, gap_at, number_len, token_len, token_at, exactly, expect, value_behind}
+use Rattle.acc_token.specs.Tokens.{front, is_letter, is_digit, is_word, is_word_byte, is_blank, is_pair, is_sign, is_single, step_of, gap_at, number_len, token_len, token_at, exactly, expect, value_behind}
 
 -- ## A token at the front
 
@@ -99,6 +100,44 @@ sign_at_once in_directive line text (sign ∷ rest) some is =
     let same : text ≡ sign ∷ [] = (bytes_eq-Decides text (sign ∷ [])).0 known.0 in
     rw same (expected_sign in_directive line sign rest known.1 (not-true (is_pair sign (front rest)) all.1))
 
+-- a bracket or a comma is no pair's first byte
+is_first : ℕ → Bool
+is_first b = b == 60 || (b == 62 || (b == 61 || (b == 33 || b == 43)))
+
+not_first : (b next : ℕ) → is_single b ≡ true → is_pair b next ≡ false
+unfolding is_first
+not_first b next is =
+    let none = no_member is_first (codes "()[],") b refl is in
+    let less = or_parts (b == 60) _ none in
+    let more = or_parts (b == 62) _ less.1 in
+    let equal = or_parts (b == 61) _ more.1 in
+    let differs = or_parts (b == 33) (b == 43) equal.1 in
+    rw (less.0, more.0, equal.0, differs.0, differs.1) (not_second (next == 61))
+
+is_one : (b : ℕ) → is_single b ≡ true → is_sign b ≡ true
+is_one b is = not-false (is_sign b) (no_member (λ s. not (is_sign s)) (codes "()[],") b refl is)
+
+pub single_token : (in_directive : Bool) (line : ℕ) (bytes : List ℕ) → 1 ≤ length bytes → is_single (get_or bytes 0 0) ≡ true
+    → token_at in_directive (record { line = line; bytes = bytes })
+    ≡ Ok (record { text = take 1 bytes; line = line; after = record { line = line; bytes = drop 1 bytes } })
+single_token in_directive line [] some is = absurd (omega arith)
+single_token in_directive line (b ∷ rest) some is =
+    let other = no_member is_other (codes "()[],") b refl is in
+    let letter = or_parts (is_letter b) _ other in
+    let digit = or_parts (is_digit b) _ letter.1 in
+    let plain = or_parts (b == 10) _ digit.1 in
+    let blank = or_parts (is_blank b) (b == 47) plain.1 in
+    let stops : step_of Plain in_directive b ≡ Stop = rw (plain.0, blank.0, blank.1) refl in
+    sign_token in_directive line b rest stops plain.0 letter.0 digit.0 (not_first b (front rest) is) (is_one b is)
+
+-- the end of a directive's line
+pub line_feed_token : (line : ℕ) (bytes : List ℕ) → 1 ≤ length bytes → get_or bytes 0 0 ≡ 10
+    → token_at true (record { line = line; bytes = bytes })
+    ≡ Ok (record { text = take 1 bytes; line = line; after = record { line = line + 1; bytes = drop 1 bytes } })
+unfolding token_at gap_at token_len
+line_feed_token line [] some is = absurd (omega arith)
+line_feed_token line (b ∷ rest) some is = rw (is, not_second (front rest == 61)) refl
+
 pub opening_bracket : (in_directive : Bool) (line : ℕ) (rest : List ℕ)
     → token_at in_directive (record { line = line; bytes = 91 ∷ rest })
     ≡ Ok (record { text = codes "["; line = line; after = record { line = line; bytes = rest } })
@@ -119,13 +158,14 @@ one_byte text b v w is =
     let known = and_parts (bytes_eq text (b ∷ [])) v (and_parts (bytes_eq text (b ∷ []) && v) w is).0 in
     ap (λ (bytes : List ℕ). length bytes) ((bytes_eq-Decides text (b ∷ [])).0 known.0)
 
--- the same behind a space
-pub sign_behind_space : (in_directive : Bool) (line : ℕ) (text bytes : List ℕ) → 2 ≤ length bytes → get_or bytes 0 0 ≡ 32
-    → (bytes_eq text (get_or bytes 1 0 ∷ []) && is_sign (get_or bytes 1 0) && not (is_pair (get_or bytes 1 0) (front (drop 2 bytes)))) ≡ true
-    → expect in_directive text (record { line = line; bytes = bytes }) ≡ Ok (record { line = line; bytes = drop 2 bytes })
-unfolding expect token_at gap_at
-sign_behind_space in_directive line text [] some space is = absurd (omega arith)
-sign_behind_space in_directive line text (b ∷ bytes) some space is = rw space (sign_at_once in_directive line text bytes (omega (arith, some)) is)
+-- the same of bytes that have the same token
+pub sign_found : (in_directive : Bool) (line : ℕ) (text bytes rest : List ℕ)
+    → token_at in_directive (record { line = line; bytes = rest }) ≡ token_at in_directive (record { line = line; bytes = bytes })
+    → 1 ≤ length rest
+    → (bytes_eq text (get_or rest 0 0 ∷ []) && is_sign (get_or rest 0 0) && not (is_pair (get_or rest 0 0) (front (drop 1 rest)))) ≡ true
+    → expect in_directive text (record { line = line; bytes = bytes }) ≡ Ok (record { line = line; bytes = drop 1 rest })
+unfolding expect
+sign_found in_directive line text bytes rest same some is = rw (sym same) (sign_at_once in_directive line text rest some is)
 
 -- ## Numbers
 
@@ -219,3 +259,23 @@ word_token in_directive line (b ∷ bs) rest letter all ends =
 
     len : token_len line (b ∷ (bs ++ rest)) ≡ Ok (length bs + 1)
     len = rw (letter, prefix_seam is_word_byte bs rest word ends) refl
+
+no_more : (bytes : List ℕ) → is_word_byte (front bytes) ≡ false → prefix_len is_word_byte bytes ≡ 0
+no_more [] ends = refl
+no_more (b ∷ bytes) ends = rw ends refl
+
+-- a word that is expected, behind what has no token of its own
+pub word_found : (in_directive : Bool) (line : ℕ) (word bytes rest : List ℕ)
+    → token_at in_directive (record { line = line; bytes = rest }) ≡ token_at in_directive (record { line = line; bytes = bytes })
+    → is_word word ≡ true → bytes_eq (take (length word) rest) word ≡ true → is_word_byte (front (drop (length word) rest)) ≡ false
+    → expect in_directive word (record { line = line; bytes = bytes }) ≡ Ok (record { line = line; bytes = drop (length word) rest })
+unfolding expect exactly
+word_found in_directive line word bytes rest same is stands ends =
+    let behind = drop (length word) rest in
+    let known = and_parts (is_letter (front word)) (prefix_len is_word_byte word == length word) is in
+    let len = eqb-true (prefix_len is_word_byte word) (length word) known.1 in
+    let all : All (λ b. is_word_byte b ≡ true) word = λ k d under. prefix_len_passes is_word_byte word k d (omega (arith, len, under)) in
+    let starts : take (length word) rest ≡ word = (bytes_eq-Decides (take (length word) rest) word).0 stands in
+    let parts : word ++ behind ≡ rest = rw starts at (take-append-drop {A = ℕ} (length word) rest) in
+    let token = rw (parts, same) at (word_token in_directive line word behind known.0 all (no_more behind ends)) in
+    rw (token, rw starts at stands) refl

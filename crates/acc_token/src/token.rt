@@ -1,9 +1,9 @@
 //! The lexer, which gives the next token on demand.
 
-ghost use Rattle.std.specs.Prelude.{◌≡◌, ◌+◌, ◌<◌, ◌≤◌, ◌^◌, length, bytes_eq, IfOk};
+ghost use Rattle.std.specs.Prelude.{ℕ, ◌≡◌, ◌+◌, ◌==◌, ◌<◌, ◌≤◌, ◌&&◌, ◌^◌, not, length, bytes_eq, Ok, IfOk, if◌then◌else◌};
 ghost use Rattle.std.specs.List.{prefix_len};
-ghost use Rattle.acc_token.specs.Faults.{Reads};
-ghost use Rattle.acc_token.specs.Tokens.{spot, lexeme, front, is_digit, is_letter, is_word_byte, is_blank, is_pair, is_sign, line_after, step_of, ends_in, gap_at, number_len, token_len, token_at};
+ghost use Rattle.acc_token.specs.Faults.{fails, Reads};
+ghost use Rattle.acc_token.specs.Tokens.{spot, lexeme, front, is_digit, is_letter, is_word_byte, is_blank, is_pair, is_sign, is_single, line_after, step_of, ends_in, gap_at, number_len, no_token, token_len, token_at, spanned};
 
 use crate::at::At;
 use crate::read_fault::{ReadFault, ReadKind};
@@ -103,8 +103,11 @@ fn is_blank(byte: u8) -> bool
 pub fn is_pair(first: u8, second: u8) -> bool
     ensures { result ≡ is_pair first second }
 {
-    second == b'=' && (first == b'<' || first == b'>' || first == b'=' || first == b'!')
-        || first == b'+' && second == b'+'
+    match first {
+        b'<' | b'>' | b'=' | b'!' => second == b'=',
+        b'+' => second == b'+',
+        _ => false,
+    }
 }
 
 /// Whether a byte is a sign.
@@ -131,6 +134,22 @@ pub fn is_sign(byte: u8) -> bool
             | b'>'
             | b'?'
     )
+}
+
+// Whether a byte is a line feed that counts for nothing.
+#[inline(always)]
+fn is_skipped(byte: u8, in_directive: bool) -> bool
+    ensures { result ≡ (byte == 10 && not in_directive) }
+{
+    byte == b'\n' && !in_directive
+}
+
+// Whether a byte is a bracket or a comma, which begin no longer sign.
+#[inline(always)]
+fn is_single(byte: u8) -> bool
+    ensures { result ≡ is_single byte }
+{
+    matches!(byte, b'(' | b')' | b'[' | b']' | b',')
 }
 
 #[inline(always)]
@@ -219,32 +238,17 @@ fn past_comments<'a>(at: At<'a>, in_directive: bool) -> Result<At<'a>, ReadFault
     ends_in(gap, line)
 }
 
-// Where the next token begins. Most stand at once or behind a blank.
+// How many blanks stand at the front.
 #[inline(always)]
-#[tactic(auto, using(crate::proofs::GapAt::gap_skips, crate::proofs::GapAt::gap_stops), unfolding(crate::specs::Tokens::gap_at))]
-fn gap_at<'a>(at: At<'a>, in_directive: bool) -> Result<At<'a>, ReadFault>
-    ensures gap { Reads spot result (gap_at Gap.Plain in_directive at.entry.line at.entry.bytes.now) }
-    ensures shorter { IfOk result (λ a. length a.bytes.now ≤ length at.entry.bytes.now) }
+fn blanks_len(bytes: &[u8]) -> usize
+    ensures len { result ≡ prefix_len is_blank bytes.now }
+    ensures within { result ≤ length bytes.now }
 {
-    let mut line = at.line;
-    for (i, byte) in at.bytes.iter().enumerate() {
-        if *byte == b'\n' && !in_directive {
-            line += 1;
-        } else if !is_blank(*byte) {
-            let (_, bytes) = at.bytes.split_at(i);
-            let here = At { line, bytes };
-            return if *byte == b'/' {
-                past_comments(here, in_directive)
-            } else {
-                Ok(here)
-            };
-        }
-    }
-    Ok(At { line, bytes: b"" })
+    bytes.iter().take_while(|byte| is_blank(**byte)).count()
 }
 
 // How many digits stand at the front.
-#[inline(never)]
+#[inline(always)]
 fn digits_len(bytes: &[u8]) -> usize
     ensures len { result ≡ prefix_len is_digit bytes.now }
     ensures within { result ≤ length bytes.now }
@@ -253,7 +257,7 @@ fn digits_len(bytes: &[u8]) -> usize
 }
 
 // How many bytes at the front can stand in a word.
-#[inline(never)]
+#[inline(always)]
 fn word_len(bytes: &[u8]) -> usize
     ensures len { result ≡ prefix_len is_word_byte bytes.now }
     ensures within { result ≤ length bytes.now }
@@ -261,46 +265,111 @@ fn word_len(bytes: &[u8]) -> usize
     bytes.iter().take_while(|byte| is_word_byte(**byte)).count()
 }
 
-// How many bytes a number has that begins with this digit.
+// How many bytes a number has that begins with this digit, or 0 where its form is wrong.
+#[inline(always)]
 #[tactic(auto, unfolding(crate::specs::Tokens::number_len))]
-fn number_len(line: u32, first: u8, rest: &[u8]) -> Result<usize, ReadFault>
-    ensures len { result ≡ number_len line first rest.now }
-    ensures within { IfOk result (λ n. n ≤ length rest.now + 1) }
-    ensures some { IfOk result (λ n. 0 < n) }
+fn number_len(first: u8, rest: &[u8]) -> usize
+    ensures len { (line : ℕ) → number_len line first rest.now ≡ (if result == 0 then fails line ReadKind.Form else Ok result) }
+    ensures within { result ≤ length rest.now + 1 }
 {
     let more = digits_len(rest);
     let (_, behind) = rest.split_at(more);
     if first == b'0' && 0 < more || is_letter(front(behind)) {
-        Err(fault(line, ReadKind::Form))
+        0
     } else {
-        Ok(more + 1)
+        more + 1
+    }
+}
+
+// How many bytes the token has that begins here, or 0 where none does.
+#[inline(always)]
+#[tactic(auto, unfolding(crate::specs::Tokens::token_len))]
+fn plain_len(bytes: &[u8]) -> usize
+    ensures len { (line : ℕ) → token_len line bytes.now ≡ (if result == 0 then no_token line bytes.now else Ok result) }
+    ensures within { result ≤ length bytes.now }
+{
+    match bytes {
+        [] => 0,
+        [first, rest @ ..] => {
+            if is_letter(*first) {
+                word_len(rest) + 1
+            } else if is_digit(*first) {
+                number_len(*first, rest)
+            } else if is_pair(*first, front(rest)) {
+                2
+            } else if is_sign(*first) || *first == b'\n' {
+                1
+            } else {
+                0
+            }
+        }
     }
 }
 
 // How many bytes the token has that begins here.
-#[inline(always)]
-#[tactic(auto, unfolding(crate::specs::Tokens::token_len))]
 fn token_len(line: u32, bytes: &[u8]) -> Result<usize, ReadFault>
     ensures len { result ≡ token_len line bytes.now }
     ensures within { IfOk result (λ n. n ≤ length bytes.now) }
     ensures some { IfOk result (λ n. 0 < length bytes.now → 0 < n) }
 {
-    match bytes {
-        [] => Ok(0),
-        [first, rest @ ..] => {
-            if is_letter(*first) {
-                Ok(word_len(rest) + 1)
-            } else if is_digit(*first) {
-                number_len(line, *first, rest)
-            } else if is_pair(*first, front(rest)) {
-                Ok(2)
-            } else if is_sign(*first) || *first == b'\n' {
-                Ok(1)
-            } else {
-                Err(fault(line, ReadKind::Text))
-            }
-        }
+    match plain_len(bytes) {
+        0 if bytes.is_empty() => Ok(0),
+        0 if is_digit(front(bytes)) => Err(fault(line, ReadKind::Form)),
+        0 => Err(fault(line, ReadKind::Text)),
+        count => Ok(count),
     }
+}
+
+// What is left behind a line feed that counts for nothing.
+#[inline(always)]
+#[tactic(auto, unfolding(crate::specs::Tokens::token_at, crate::specs::Tokens::gap_at))]
+fn past_line_feed<'a>(at: At<'a>, in_directive: bool) -> At<'a>
+    ensures token { token_at in_directive (spot result) ≡ token_at in_directive (spot at.entry) }
+    ensures shorter { length result.bytes.now ≤ length at.entry.bytes.now }
+{
+    match at.bytes {
+        [b'\n', bytes @ ..] if !in_directive => At {
+            line: at.line + 1,
+            bytes,
+        },
+        _ => at,
+    }
+}
+
+// How many blanks stand at the front, and how many bytes the token has behind them; none where it has to be
+// looked at more closely what stands there.
+#[inline(never)]
+#[tactic(auto, using(crate::proofs::Span::span_token))]
+fn span_at(bytes: &[u8], in_directive: bool) -> (usize, usize)
+    ensures token { (line : ℕ) → 0 < result.1 → token_at in_directive (record { line = line; bytes = bytes.now }) ≡ Ok (spanned in_directive line result.0 result.1 bytes.now) }
+    ensures within { result.0 + result.1 ≤ length bytes.now }
+{
+    let gap = blanks_len(bytes);
+    let (_, from) = bytes.split_at(gap);
+    if is_skipped(front(from), in_directive) {
+        (gap, 0)
+    } else {
+        (gap, plain_len(from))
+    }
+}
+
+// The next token, which may stand behind comments.
+#[inline(never)]
+#[tactic(auto, unfolding(crate::specs::Tokens::token_at))]
+fn token_behind<'a>(at: At<'a>, in_directive: bool) -> Result<Token<'a>, ReadFault>
+    ensures token { Reads lexeme result (token_at in_directive (spot at.entry)) }
+    ensures shorter { IfOk result (λ t. length t.text.now + length t.after.bytes.now ≤ length at.entry.bytes.now) }
+{
+    let from = past_comments(at, in_directive)?;
+    let count = token_len(from.line, from.bytes)?;
+    let (text, bytes) = from.bytes.split_at(count);
+    let line = line_after(from.line, front(from.bytes));
+    let after = At { line, bytes };
+    Ok(Token {
+        line: from.line,
+        text,
+        after,
+    })
 }
 
 /// The next token, in a directive or outside one.
@@ -311,19 +380,56 @@ fn token_len(line: u32, bytes: &[u8]) -> Result<usize, ReadFault>
 /// leading zero or with a letter behind it.
 // Inlined, as is what looks at a single token: to hand a token on through memory costs more than to find it.
 #[inline(always)]
-#[tactic(auto, unfolding(crate::specs::Tokens::token_at))]
 pub fn token_at<'a>(at: At<'a>, in_directive: bool) -> Result<Token<'a>, ReadFault>
     ensures token { Reads lexeme result (token_at in_directive (spot at.entry)) }
     ensures shorter { IfOk result (λ t. length t.text.now + length t.after.bytes.now ≤ length at.entry.bytes.now) }
 {
-    let from = gap_at(at, in_directive)?;
-    let count = token_len(from.line, from.bytes)?;
-    let (text, bytes) = from.bytes.split_at(count);
-    let line = line_after(from.line, front(from.bytes));
+    let here = past_line_feed(at, in_directive);
+    let (gap, count) = span_at(here.bytes, in_directive);
+    if count == 0 {
+        return token_behind(here, in_directive);
+    }
+    let (_, from) = here.bytes.split_at(gap);
+    let (text, bytes) = from.split_at(count);
+    let line = if in_directive {
+        line_after(here.line, front(from))
+    } else {
+        here.line
+    };
     let after = At { line, bytes };
     Ok(Token {
-        line: from.line,
+        line: here.line,
         text,
         after,
     })
+}
+
+/// The same, where a bracket, a comma or the end of the directive's line is likely to stand at once.
+///
+/// # Errors
+///
+/// As `token_at`.
+#[inline(always)]
+#[tactic(auto, using(crate::proofs::TokenSpelling::single_token, crate::proofs::TokenSpelling::line_feed_token))]
+pub fn sign_at<'a>(at: At<'a>, in_directive: bool) -> Result<Token<'a>, ReadFault>
+    ensures token { Reads lexeme result (token_at in_directive (spot at.entry)) }
+    ensures shorter { IfOk result (λ t. length t.text.now + length t.after.bytes.now ≤ length at.entry.bytes.now) }
+{
+    let line = at.line;
+    match at.bytes {
+        [first, ..] if is_single(*first) => {
+            let (text, bytes) = at.bytes.split_at(1);
+            let after = At { line, bytes };
+            Ok(Token { line, text, after })
+        }
+        [first, ..] if *first == b'\n' && in_directive => {
+            let (text, bytes) = at.bytes.split_at(1);
+            let after = At {
+                line: line + 1,
+                bytes,
+            };
+            Ok(Token { line, text, after })
+        }
+        _ => token_at(at, in_directive),
+    }
 }

@@ -1,12 +1,14 @@
 //! Single tokens: the expected one, a number, a name.
 
-ghost use Rattle.std.specs.Prelude.{◌≡◌, ◌+◌, ◌==◌, ◌<◌, ◌≤◌, ◌&&◌, not, [], ◌∷◌, length, nat_lt, bytes_eq, IfOk, OnOk, if◌then◌else◌};
+ghost use Rattle.std.specs.Prelude.{ℕ, Bool, true, ◌≡◌, ◌+◌, ◌==◌, ◌<◌, ◌≤◌, ◌&&◌, not, [], ◌∷◌, length, nat_lt, bytes_eq, IfOk, OnOk, if◌then◌else◌};
 ghost use Rattle.acc_token.specs.Faults.{Reads};
-ghost use Rattle.acc_token.specs.Tokens.{spot, lexeme, exactly, expect, value_behind, is_large, is_pair, is_sign, number_of, is_reserved, name_of};
+ghost use Rattle.acc_token.specs.Tokens.{spot, lexeme, token_at, exactly, expect, is_word, value_behind, is_large, is_pair, is_sign, number_of, is_reserved, name_of};
 
 use crate::at::At;
 use crate::read_fault::{ReadFault, ReadKind};
-use crate::token::{Token, fault, front, is, is_digit, is_letter, is_pair, is_sign, token_at};
+use crate::token::{
+    Token, fault, front, is, is_digit, is_letter, is_pair, is_sign, is_word_byte, token_at,
+};
 
 /// How many bytes a name can have.
 pub const MAX_NAME: usize = 32;
@@ -54,6 +56,19 @@ fn is_sign_here(text: &[u8], first: u8, next: u8) -> bool
     is(text, &[first]) && is_sign(first) && !is_pair(first, next)
 }
 
+// What is left behind a space, if one stands here: most of what is expected stands at once or behind one.
+#[inline(always)]
+#[tactic(auto, unfolding(crate::specs::Tokens::token_at, crate::specs::Tokens::gap_at))]
+fn past_space(bytes: &[u8]) -> &[u8]
+    ensures token { (in_directive : Bool) (line : ℕ) → token_at in_directive (record { line = line; bytes = result.now }) ≡ token_at in_directive (record { line = line; bytes = bytes.now }) }
+    ensures shorter { length result.now ≤ length bytes.now }
+{
+    match bytes {
+        [b' ', rest @ ..] => rest,
+        _ => bytes,
+    }
+}
+
 /// What is left behind the next token, which has to be this one.
 ///
 /// # Errors
@@ -65,17 +80,11 @@ pub fn expect<'a>(at: At<'a>, in_directive: bool, text: &[u8]) -> Result<At<'a>,
     ensures found { Reads spot result (expect in_directive text.now (spot at.entry)) }
     ensures shorter { IfOk result (λ a. length a.bytes.now + length text.now ≤ length at.entry.bytes.now) }
 {
-    match at.bytes {
-        // most signs stand at once or behind a space
+    match past_space(at.bytes) {
         [first, bytes @ ..] if is_sign_here(text, *first, front(bytes)) => Ok(At {
             line: at.line,
             bytes,
         }),
-        [space, first, bytes @ ..] if *space == b' ' && is_sign_here(text, *first, front(bytes)) =>
-            Ok(At {
-                line: at.line,
-                bytes,
-            }),
         _ => expect_token(at, in_directive, text),
     }
 }
@@ -88,6 +97,26 @@ fn expect_token<'a>(at: At<'a>, in_directive: bool, text: &[u8]) -> Result<At<'a
     ensures shorter { IfOk result (λ a. length a.bytes.now + length text.now ≤ length at.entry.bytes.now) }
 {
     exactly(token_at(at, in_directive)?, text)
+}
+
+/// What is left behind the next token, which has to be this word. Condition: the bytes are a word's.
+///
+/// # Errors
+///
+/// As `token_at` and `unwanted_token`.
+#[inline(always)]
+pub fn expect_word<'a>(at: At<'a>, in_directive: bool, word: &[u8]) -> Result<At<'a>, ReadFault>
+    requires word { is_word word.now ≡ true }
+    ensures found { Reads spot result (expect in_directive word.now (spot at.entry)) }
+    ensures shorter { IfOk result (λ a. length a.bytes.now + length word.now ≤ length at.entry.bytes.now) }
+{
+    match past_space(at.bytes).strip_prefix(word) {
+        Some(bytes) if !is_word_byte(front(bytes)) => Ok(At {
+            line: at.line,
+            bytes,
+        }),
+        _ => expect_token(at, in_directive, word),
+    }
 }
 
 /// The value of decimal digits, unless it passes the limit.
