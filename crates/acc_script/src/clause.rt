@@ -12,7 +12,7 @@ use crate::queue::{queue_of, waits_at};
 use crate::range::items_at;
 use acc_base::Few;
 use acc_place::{Clause, DataItem, Kind, Target, Waits};
-use acc_token::{At, ReadError, ReadFault, Token, expect, is, token_at, unwanted_token};
+use acc_token::{At, ReadError, ReadFault, Token, expect, is, sign_at, token_at, unwanted_token};
 use std::alloc::Global;
 
 /// What a directive begins with.
@@ -165,7 +165,7 @@ fn target_at<'a>(at: At<'a>) -> Result<(Target, At<'a>), ReadFault>
     ensures found { Reads (λ x. (x.0, spot x.1)) result (target_at (spot at.entry)) }
     ensures shorter { IfOk result (λ x. length x.1.bytes.now ≤ length at.entry.bytes.now) }
 {
-    let t = token_at(at, true)?;
+    let t = sign_at(at, true)?;
     if is(t.text, b"(") {
         let u = token_at(t.after, true)?;
         let (value, at) = queue_of(u, true)?;
@@ -273,15 +273,16 @@ fn clause_turn<'a>(
     ensures complete { IfOk result (λ x. x.0 ≡ false → is_complete head clauses.new ≡ true) }
     ensures shorter { IfOk result (λ x. (if x.0 then 1 else 0) + length x.1.bytes.now ≤ length at.entry.bytes.now) }
 {
-    let t = token_at(at, true)?;
+    let t = sign_at(at, true)?;
     if ends_line(t.text) && clauses.is_complete(head) {
-        Ok((false, t.after))
-    } else if is(t.text, b",") && clauses.may_have_comma(head) {
-        let u = token_at(t.after, true)?;
-        Ok((true, clause_of(alloc, arrays, head, clauses, u)?))
-    } else {
-        Ok((true, clause_of(alloc, arrays, head, clauses, t)?))
+        return Ok((false, t.after));
     }
+    let first = if is(t.text, b",") && clauses.may_have_comma(head) {
+        token_at(t.after, true)?
+    } else {
+        t
+    };
+    Ok((true, clause_of(alloc, arrays, head, clauses, first)?))
 }
 
 /// The clauses of a directive, up to the end of its line, behind those that are there.

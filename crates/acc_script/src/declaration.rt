@@ -13,7 +13,7 @@ use crate::arrays::Arrays;
 use acc_base::{MAX_ARRAYS, MAX_CELLS};
 use acc_token::{
     At, ReadError, ReadFault, ReadKind, Token, exactly, expect, fault, front, is, is_digit,
-    name_of, number_of, token_at, unwanted_token,
+    name_of, number_at, number_of, sign_at, token_at, unwanted_token,
 };
 use std::alloc::Global;
 
@@ -59,7 +59,7 @@ fn value_turn_behind<'a>(cells: &mut Vec<i64>, t: Token<'a>) -> Result<(bool, At
 {
     let (value, at) = value_of(t)?;
     cells.push(value)?;
-    let u = token_at(at, false)?;
+    let u = sign_at(at, false)?;
     if is(u.text, b",") {
         Ok((true, u.after))
     } else {
@@ -80,7 +80,7 @@ fn value_turn<'a>(
     ensures few { OnOk result (length cells.new.items ≤ size) }
     ensures shorter { IfOk result (λ x. (if x.0 then 1 else 0) + length x.1.bytes.now ≤ length at.entry.bytes.now) }
 {
-    let t = token_at(at, false)?;
+    let t = number_at(at, false)?;
     if is(t.text, b"}") && 0 < cells.len() {
         Ok((false, t.after))
     } else if !begins_value(t.text) {
@@ -119,7 +119,7 @@ fn size_at<'a>(at: At<'a>) -> Result<(usize, At<'a>), ReadFault>
     ensures within { IfOk result (λ x. (1 ≤ x.0) × (x.0 ≤ MAX_CELLS)) }
     ensures shorter { IfOk result (λ x. length x.1.bytes.now ≤ length at.entry.bytes.now) }
 {
-    let t = token_at(at, false)?;
+    let t = number_at(at, false)?;
     let n = number_of(t, MAX_CELLS as u64)?;
     if n == 0 {
         Err(fault(t.line, ReadKind::Limit))

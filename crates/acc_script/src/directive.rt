@@ -20,7 +20,8 @@ use acc_host::Act;
 use acc_kernel::Kernel;
 use acc_place::{Directive, Kind, Waits, Written};
 use acc_token::{
-    At, ReadError, ReadFault, ReadKind, Token, expect, fault, is, token_at, unwanted_token,
+    At, ReadError, ReadFault, ReadKind, Token, expect, expect_word, fault, is, token_at,
+    unwanted_token,
 };
 use std::alloc::Global;
 
@@ -48,9 +49,9 @@ fn head_of<'a>(depth: u32, t: Token<'a>) -> Result<(Head, At<'a>), ReadFault>
     ensures shorter { IfOk result (λ x. length x.1.bytes.now ≤ length t.entry.after.bytes.now) }
 {
     if is(t.text, b"enter") {
-        Ok((Head::EnterData, expect(t.after, true, b"data")?))
+        Ok((Head::EnterData, expect_word(t.after, true, b"data")?))
     } else if is(t.text, b"exit") {
-        Ok((Head::ExitData, expect(t.after, true, b"data")?))
+        Ok((Head::ExitData, expect_word(t.after, true, b"data")?))
     } else if is(t.text, b"update") {
         Ok((Head::Update, t.after))
     } else if is(t.text, b"wait") {
@@ -62,7 +63,7 @@ fn head_of<'a>(depth: u32, t: Token<'a>) -> Result<(Head, At<'a>), ReadFault>
             Ok((Head::Data, t.after))
         }
     } else if is(t.text, b"parallel") {
-        Ok((Head::Loop, expect(t.after, true, b"loop")?))
+        Ok((Head::Loop, expect_word(t.after, true, b"loop")?))
     } else {
         Err(unwanted_token(t))
     }
@@ -161,8 +162,8 @@ pub(crate) fn directive_at<'a>(
     ensures found { Gives (λ x. (x.0, spot x.1)) result (directive_at arrays.now depth (spot at.entry)) }
     ensures shorter { IfOk result (λ x. length x.1.bytes.now ≤ length at.entry.bytes.now) }
 {
-    let at = expect(at, true, b"pragma")?;
-    let at = expect(at, true, b"acc")?;
+    let at = expect_word(at, true, b"pragma")?;
+    let at = expect_word(at, true, b"acc")?;
     let t = token_at(at, true)?;
     let (head, at) = head_of(depth, t)?;
     let (mut clauses, at) = opening_at(alloc, head, at)?;

@@ -11,7 +11,7 @@ use crate::declaration::{begins_value, negative};
 use acc_base::Listed;
 use acc_place::{ASYNC_NOVAL, ASYNC_SYNC, Waits};
 use acc_token::{
-    At, ReadError, ReadFault, ReadKind, Token, exactly, fault, is, number_of, token_at,
+    At, ReadError, ReadFault, ReadKind, Token, exactly, fault, is, number_of, sign_at, token_at,
 };
 use std::alloc::Global;
 
@@ -54,7 +54,7 @@ fn queue_behind<'a>(values: &mut Vec<i64>, t: Token<'a>) -> Result<(bool, At<'a>
 {
     let (value, at) = queue_of(t, true)?;
     values.push(value)?;
-    let u = token_at(at, true)?;
+    let u = sign_at(at, true)?;
     if is(u.text, b",") {
         Ok((true, u.after))
     } else {
@@ -101,9 +101,10 @@ pub(crate) fn waits_at<'a>(alloc: Global, at: At<'a>) -> Result<(Waits, At<'a>),
     ensures some { IfOk result (λ x. is_nothing x.0 ≡ false) }
     ensures shorter { IfOk result (λ x. length x.1.bytes.now ≤ length at.entry.bytes.now) }
 {
-    let t = token_at(at, true)?;
+    let t = sign_at(at, true)?;
     if is(t.text, b"(") {
-        let mut queues = Vec::new(alloc);
+        // most lists have one queue
+        let mut queues = Vec::with_capacity(alloc, 1)?;
         let at = queues_at(&mut queues, t.after)?;
         queues.shrink_to_fit();
         let values = Listed::from_vec(queues);

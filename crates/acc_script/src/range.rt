@@ -17,7 +17,7 @@ use acc_base::{Few, Range};
 use acc_place::{Clause, DataItem};
 use acc_token::{
     At, ReadError, ReadFault, ReadKind, Token, exactly, expect, fault, front, is, is_digit,
-    number_of, token_at,
+    number_of, sign_at, token_at,
 };
 
 /// The greatest number in a range, of a cell that a host writes, and of a device that it sets.
@@ -80,7 +80,7 @@ fn range_behind<'a>(
     ensures found { Reads (λ x. (x.0, spot x.1)) result (range_behind in_directive array size (spot at.entry)) }
     ensures shorter { IfOk result (λ x. length x.1.bytes.now ≤ length at.entry.bytes.now) }
 {
-    let t = token_at(at, in_directive)?;
+    let t = sign_at(at, in_directive)?;
     if is(t.text, b"[") {
         bounds_at(array, size, t.after, in_directive)
     } else {
@@ -134,7 +134,7 @@ fn item_behind<'a>(
 {
     let (range, at) = range_behind(array, size, at, true)?;
     items.push(DataItem { clause, range })?;
-    let t = token_at(at, true)?;
+    let t = sign_at(at, true)?;
     if is(t.text, b",") {
         Ok((true, t.after))
     } else {

@@ -15,7 +15,7 @@ use crate::routine::{call_of, is_routine, print_at};
 use acc_base::Few;
 use acc_host::{Act, Statement};
 use acc_place::{Kind, Target, Waits, Written};
-use acc_token::{At, ReadError, ReadFault, Token, expect, is, number_of, token_at};
+use acc_token::{At, ReadError, ReadFault, Token, expect, is, number_at, number_of, token_at};
 use std::alloc::Global;
 
 #[tactic(auto, unfolding(crate::specs::Statements::value_at))]
@@ -23,7 +23,7 @@ fn value_at<'a>(at: At<'a>) -> Result<(i64, At<'a>), ReadFault>
     ensures found { Reads (λ x. (x.0, spot x.1)) result (value_at (spot at.entry)) }
     ensures shorter { IfOk result (λ x. length x.1.bytes.now ≤ length at.entry.bytes.now) }
 {
-    let t = token_at(at, false)?;
+    let t = number_at(at, false)?;
     value_of(t)
 }
 
@@ -32,7 +32,7 @@ fn cell_at<'a>(at: At<'a>) -> Result<(u32, At<'a>), ReadFault>
     ensures found { Reads (λ x. (x.0, spot x.1)) result (cell_at (spot at.entry)) }
     ensures shorter { IfOk result (λ x. length x.1.bytes.now ≤ length at.entry.bytes.now) }
 {
-    let t = token_at(at, false)?;
+    let t = number_at(at, false)?;
     let n = number_of(t, u64::from(MAX_INDEX))?;
     Ok((n as u32, t.after))
 }

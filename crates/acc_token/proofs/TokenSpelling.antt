@@ -239,6 +239,18 @@ number_token in_directive line n ds rest is ends apart =
     len : token_len line (is.first ∷ (is.more ++ rest)) ≡ Ok (length is.more + 1)
     len = rw (no_letter is.first bounds.1, is.digit, prefix_seam is_digit is.more rest is.digits ends, drop-append_seam is.more rest, no_leading_zero n ds is, apart) refl
 
+-- a number that stands at once, by its length
+pub digits_token : (in_directive : Bool) (line count : ℕ) (bytes : List ℕ) → 1 ≤ length bytes → is_digit (get_or bytes 0 0) ≡ true
+    → number_len line (get_or bytes 0 0) (drop 1 bytes) ≡ Ok count
+    → token_at in_directive (record { line = line; bytes = bytes })
+    ≡ Ok (record { text = take count bytes; line = line; after = record { line = line; bytes = drop count bytes } })
+unfolding token_at token_len
+digits_token in_directive line count [] some digit len = absurd (omega arith)
+digits_token in_directive line count (b ∷ rest) some digit len =
+    let bounds = digit_bounds b digit in
+    let all : token_len line (b ∷ rest) ≡ Ok count = rw (no_letter b bounds.1, digit) len in
+    rw (gap_stops Plain in_directive line 0 (b ∷ rest) (omega arith) (stops_here in_directive b bounds.0), all, ne_eqb b 10 (λ e. omega (arith, bounds.0))) refl
+
 -- ## Words
 
 -- a word, before a byte that ends it

@@ -1,6 +1,6 @@
 //! The lexer, which gives the next token on demand.
 
-ghost use Rattle.std.specs.Prelude.{ℕ, ◌≡◌, ◌+◌, ◌==◌, ◌<◌, ◌≤◌, ◌&&◌, ◌^◌, not, length, bytes_eq, Ok, IfOk, if◌then◌else◌};
+ghost use Rattle.std.specs.Prelude.{ℕ, Bool, ◌≡◌, ◌+◌, ◌==◌, ◌<◌, ◌≤◌, ◌&&◌, ◌^◌, not, length, take, drop, bytes_eq, Ok, IfOk, if◌then◌else◌};
 ghost use Rattle.std.specs.List.{prefix_len};
 ghost use Rattle.acc_token.specs.Faults.{fails, Reads};
 ghost use Rattle.acc_token.specs.Tokens.{spot, lexeme, front, is_digit, is_letter, is_word_byte, is_blank, is_pair, is_sign, is_single, line_after, step_of, ends_in, gap_at, number_len, no_token, token_len, token_at, spanned};
@@ -281,6 +281,18 @@ fn number_len(first: u8, rest: &[u8]) -> usize
     }
 }
 
+// How many bytes the number has that stands here, or 0 where none does, or its form is wrong.
+#[inline(always)]
+fn number_here(bytes: &[u8]) -> usize
+    ensures token { (in_directive : Bool) (line : ℕ) → 0 < result → token_at in_directive (record { line = line; bytes = bytes.now }) ≡ Ok (record { text = take result bytes.now; line = line; after = record { line = line; bytes = drop result bytes.now } }) }
+    ensures within { result ≤ length bytes.now }
+{
+    match bytes {
+        [first, rest @ ..] if is_digit(*first) => number_len(*first, rest),
+        _ => 0,
+    }
+}
+
 // How many bytes the token has that begins here, or 0 where none does.
 #[inline(always)]
 #[tactic(auto, unfolding(crate::specs::Tokens::token_len))]
@@ -404,7 +416,7 @@ pub fn token_at<'a>(at: At<'a>, in_directive: bool) -> Result<Token<'a>, ReadFau
     })
 }
 
-/// The same, where a bracket, a comma or the end of the directive's line is likely to stand at once.
+/// The next token, where a bracket, a comma or the end of the directive's line is likely to stand at once.
 ///
 /// # Errors
 ///
@@ -432,4 +444,38 @@ pub fn sign_at<'a>(at: At<'a>, in_directive: bool) -> Result<Token<'a>, ReadFaul
         }
         _ => token_at(at, in_directive),
     }
+}
+
+/// What is left behind a space, if one stands here: most of what is expected stands at once or behind one.
+#[inline(always)]
+#[tactic(auto, unfolding(crate::specs::Tokens::token_at, crate::specs::Tokens::gap_at))]
+pub fn past_space(bytes: &[u8]) -> &[u8]
+    ensures token { (in_directive : Bool) (line : ℕ) → token_at in_directive (record { line = line; bytes = result.now }) ≡ token_at in_directive (record { line = line; bytes = bytes.now }) }
+    ensures shorter { length result.now ≤ length bytes.now }
+{
+    match bytes {
+        [b' ', rest @ ..] => rest,
+        _ => bytes,
+    }
+}
+
+/// The next token, where a number is likely to stand at once or behind a space.
+///
+/// # Errors
+///
+/// As `token_at`.
+#[inline(always)]
+pub fn number_at<'a>(at: At<'a>, in_directive: bool) -> Result<Token<'a>, ReadFault>
+    ensures token { Reads lexeme result (token_at in_directive (spot at.entry)) }
+    ensures shorter { IfOk result (λ t. length t.text.now + length t.after.bytes.now ≤ length at.entry.bytes.now) }
+{
+    let from = past_space(at.bytes);
+    let count = number_here(from);
+    if count == 0 {
+        return token_at(at, in_directive);
+    }
+    let line = at.line;
+    let (text, bytes) = from.split_at(count);
+    let after = At { line, bytes };
+    Ok(Token { line, text, after })
 }

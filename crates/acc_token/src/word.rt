@@ -7,7 +7,8 @@ ghost use Rattle.acc_token.specs.Tokens.{spot, lexeme, token_at, exactly, expect
 use crate::at::At;
 use crate::read_fault::{ReadFault, ReadKind};
 use crate::token::{
-    Token, fault, front, is, is_digit, is_letter, is_pair, is_sign, is_word_byte, token_at,
+    Token, fault, front, is, is_digit, is_letter, is_pair, is_sign, is_word_byte, past_space,
+    token_at,
 };
 
 /// How many bytes a name can have.
@@ -54,19 +55,6 @@ fn is_sign_here(text: &[u8], first: u8, next: u8) -> bool
     ensures { result ≡ (bytes_eq text.now (first ∷ []) && is_sign first && not (is_pair first next)) }
 {
     is(text, &[first]) && is_sign(first) && !is_pair(first, next)
-}
-
-// What is left behind a space, if one stands here: most of what is expected stands at once or behind one.
-#[inline(always)]
-#[tactic(auto, unfolding(crate::specs::Tokens::token_at, crate::specs::Tokens::gap_at))]
-fn past_space(bytes: &[u8]) -> &[u8]
-    ensures token { (in_directive : Bool) (line : ℕ) → token_at in_directive (record { line = line; bytes = result.now }) ≡ token_at in_directive (record { line = line; bytes = bytes.now }) }
-    ensures shorter { length result.now ≤ length bytes.now }
-{
-    match bytes {
-        [b' ', rest @ ..] => rest,
-        _ => bytes,
-    }
 }
 
 /// What is left behind the next token, which has to be this one.
