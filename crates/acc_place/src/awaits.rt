@@ -158,8 +158,6 @@ fn raise_if(table: &Table, op: &Option<OpLabel>, numbers: &mut QueueCounts)
     }
 }
 
-// Stays a call, so that where there is no operation none is put together for it.
-#[inline(never)]
 fn raise_op(table: &Table, op: &OpLabel, numbers: &mut QueueCounts)
     requires { All (λ u. 0 < u.1.len) (used_ranges op.now) }
     ensures { (notes : Range → ℕ → Note) → HasNotes notes table.now.notes → Raises numbers.old (last_made (note_found notes table.now.presences) (used_ranges op.now)) numbers.new }

@@ -244,7 +244,9 @@ fn block_found(found: &Look) -> Option<u64>
     }
 }
 
-// Leaves the mark of an item, whose range was found so, in the draft.
+// Leaves the mark of an item, whose range was found so, in the draft. Inlined, so that what became of the item is put
+// together where it is kept.
+#[inline(always)]
 #[tactic(auto, using(crate::proofs::FaultIn::block_is), unfolding(crate::specs::inner::Judging::marked_in))]
 fn mark(
     table: &Table,

@@ -287,6 +287,8 @@ impl Place {
     }
 
     /// Accepts the directive of a plan that fits, by `Plan::fits`. Takes no memory.
+    // Inlined, so that the plan is not moved.
+    #[inline(always)]
     pub fn accept(&mut self, plan: Plan) -> Placed
         requires { Fits self.old plan }
         ensures place { self.new ≡ place_after self.old plan }

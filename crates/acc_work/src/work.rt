@@ -278,6 +278,8 @@ impl Work {
     }
 
     /// A queue takes a batch, whose lane is empty, by `lane_empty`. It takes no memory; a page that the log doesn't need is freed.
+    // Inlined, so that the batch is not moved.
+    #[inline(always)]
     pub fn offer(&mut self, at: QueueAt, batch: Batch)
         requires queue { HasQueue self.old at }
         requires place { batch.at ≡ at }
