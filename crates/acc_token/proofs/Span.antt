@@ -8,7 +8,8 @@ use Rattle.acc_token.proofs.TokenSpelling.{not_second}
 use Rattle.acc_token.specs.declared.read_fault.ReadFault.{ReadFault}
 use Rattle.acc_token.specs.declared.token.Gap.TheVariants.{Plain}
 use Rattle.acc_token.specs.declared.token.Step.TheVariants.{Skip, Stop}
-use Rattle.acc_token.specs.Tokens.{front, is_blank, line_after, step_of, gap_at, token_len, token_at, spanned}
+use Rattle.acc_token.specs.Tokens.{front, is_blank, line_after, step_of, gap_at, token_len, token_at}
+use Rattle.acc_token.specs.inner.Spans.{spanned}
 
 -- a blank is skipped, and ends no line
 blank_skips : (in_directive : Bool) (line b : ℕ) (bytes : List ℕ) → is_blank b ≡ true

@@ -15,7 +15,8 @@ use Rattle.std.proofs.Math.Seq.{take-append_seam, drop-append_seam}
 use Rattle.acc_token.proofs.GapAt.{gap_stops}
 use Rattle.acc_token.specs.declared.token.Gap.TheVariants.{Plain}
 use Rattle.acc_token.specs.declared.token.Step.TheVariants.{Stop}
-use Rattle.acc_token.specs.Tokens.{front, is_letter, is_digit, is_word, is_word_byte, is_blank, is_pair, is_sign, is_single, step_of, gap_at, number_len, token_len, token_at, exactly, expect, value_behind}
+use Rattle.acc_token.specs.Tokens.{front, is_letter, is_digit, is_word, is_word_byte, is_blank, is_pair, is_sign, step_of, gap_at, number_len, token_len, token_at, exactly, expect, value_behind}
+use Rattle.acc_token.specs.inner.Spans.{is_single}
 
 -- ## A token at the front
 

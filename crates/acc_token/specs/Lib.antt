@@ -2,3 +2,4 @@ pub mod Faults
 pub mod Texts
 pub mod Tokens
 pub mod Turns
+pub mod inner

@@ -57,10 +57,6 @@ is_pair a b = b == 61 && (a == 60 || a == 62 || a == 61 || a == 33) || a == 43 &
 abbrev pub is_sign : ℕ → Bool
 is_sign b = list_any (λ s. s == b) (codes "#{}()[],;:=+-*<>?")
 
--- a bracket or a comma, which begin no longer sign
-abbrev pub is_single : ℕ → Bool
-is_single b = list_any (λ s. s == b) (codes "()[],")
-
 abbrev pub line_after : ℕ → ℕ → ℕ
 line_after line b = if b == 10 then line + 1 else line
 
@@ -106,23 +102,6 @@ token_len line (b ∷ bs) =
     else (if is_pair b (front bs) then Ok 2
     else (if is_sign b || b == 10 then Ok 1
     else fails line Text)))
-
--- where no token begins: the text ends, or its next number or byte can't stand there
-abbrev pub no_token : ℕ → List ℕ → Result ℕ ReadFault
-no_token line [] = Ok 0
-no_token line (b ∷ bs) = fails line (if is_digit b then Form else Text)
-
--- the token of so many bytes behind so many blanks
-abbrev pub spanned : Bool → ℕ → ℕ → ℕ → List ℕ → Lexeme
-spanned in_directive line gap count bytes =
-    record {
-      text = take count (drop gap bytes);
-      line = line;
-      after = record {
-        line = if in_directive then line_after line (front (drop gap bytes)) else line;
-        bytes = drop count (drop gap bytes);
-      };
-    }
 
 unfoldable pub token_at : Bool → Spot → Result Lexeme ReadFault
 token_at in_directive at =

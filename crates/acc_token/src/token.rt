@@ -3,7 +3,8 @@
 ghost use Rattle.std.specs.Prelude.{ℕ, Bool, ◌≡◌, ◌+◌, ◌==◌, ◌<◌, ◌≤◌, ◌&&◌, ◌^◌, not, length, take, drop, bytes_eq, Ok, IfOk, if◌then◌else◌};
 ghost use Rattle.std.specs.List.{prefix_len};
 ghost use Rattle.acc_token.specs.Faults.{fails, Reads};
-ghost use Rattle.acc_token.specs.Tokens.{spot, lexeme, front, is_digit, is_letter, is_word_byte, is_blank, is_pair, is_sign, is_single, line_after, step_of, ends_in, gap_at, number_len, no_token, token_len, token_at, spanned};
+ghost use Rattle.acc_token.specs.Tokens.{spot, lexeme, front, is_digit, is_letter, is_word_byte, is_blank, is_pair, is_sign, line_after, step_of, ends_in, gap_at, number_len, token_len, token_at};
+ghost use Rattle.acc_token.specs.inner.Spans.{is_single, no_token, spanned};
 
 use crate::at::At;
 use crate::read_fault::{ReadFault, ReadKind};
