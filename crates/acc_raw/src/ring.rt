@@ -66,7 +66,11 @@ impl Ring {
         match self.places.pop_back() {
             None => place,
             Some(last) => {
-                let _ = self.places.insert(at, place);
+                if at == 0 {
+                    self.places.push_front_reserved(place);
+                } else {
+                    let _ = self.places.insert(at, place);
+                }
                 last
             }
         }
@@ -79,7 +83,11 @@ impl Ring {
         ensures room { self.old.room ≤ self.new.room }
     {
         let place = self.places[at];
-        let _ = self.places.remove(at);
+        let _ = if at == 0 {
+            self.places.pop_front()
+        } else {
+            self.places.remove(at)
+        };
         place
     }
 

@@ -1,8 +1,8 @@
 -- The memory goes on to show what the log says, and an operation uses live blocks exactly where the memory has them.
-use Rattle.std.proofs.Common.{inl, inr, ◌≡◌, ℕ, zero, suc, ◌+◌, ◌≤◌, Bool, true, false, List, [], ◌∷◌, length, refl, sym, ap, subst, ◌∙◌, arith, Some, None, Option}
+use Rattle.std.proofs.Common.{inl, inr, ◌≡◌, ℕ, zero, suc, ◌+◌, ◌<◌, ◌≤◌, Bool, true, false, List, [], ◌∷◌, length, refl, sym, ap, subst, ◌∙◌, arith, Some, None, Option}
 use Rattle.std.specs.Prelude.{All, Contains, not, nat_lt, ◌==◌, ◌&&◌, ◌||◌, ℤ, map, slice_get, is_some}
 use Rattle.std.specs.List.{list_all}
-use Rattle.std.proofs.lemmas.Bool.{cases_eq, and_parts, and_from, leb-true, eq-eqb, ne_eqb}
+use Rattle.std.proofs.lemmas.Bool.{cases_Bool, cases_eq, and_parts, and_from, leb-true, eq-eqb, ne_eqb}
 use Rattle.std.proofs.lemmas.Bool.Decides.{eqb_tells}
 use Rattle.std.proofs.lemmas.List.Elements.{All-nil, All-cons, All-head, All-tail}
 use Rattle.acc_base.specs.Configurations.{ends_within, has_range, lengths_of}
@@ -251,6 +251,27 @@ live_to arrays v d (Release b) m live u =
 live_to arrays v d (Run k uses) m live u = (uses_to arrays v d uses m live u, refl)
 live_to arrays v d (Await q n) m live u = (refl, refl)
 live_to arrays v d Close m live u = (refl, refl)
+
+-- A block that was never made isn't there, so that it needn't be looked for.
+pub new_alone : (arrays : List (List ℤ)) (v : WorkView) (d b : ℕ) (r : Range) → Remembers arrays v.work v.memory → AllLive arrays v.work
+    → is_new v d (Make r b) ≡ (finds_blocks (held_blocks v.memory d) (Make r b) && is_new v d (Make r b))
+new_alone arrays v d b r m live = elim (cases_Bool (is_new v d (Make r b))) [
+  | inl new ↦
+      let both = and_parts (not (was_made (ops_on d v) b)) (has_range v.memory.arrays r) new in
+      let found = (live_to arrays v d (Make r b) m live (not_made (ops_on d v) b both.0, range_same arrays v.memory.arrays r (sym m.lengths) ∙ both.1)).0 in
+      new ∙ sym (and_from (finds_blocks (held_blocks v.memory d) (Make r b)) (is_new v d (Make r b)) found new)
+  | inr old ↦ old ∙ sym (ap (λ t. finds_blocks (held_blocks v.memory d) (Make r b) && t) old ∙ and_false (finds_blocks (held_blocks v.memory d) (Make r b)))
+]
+  where
+    and_false : (b : Bool) → (b && false) ≡ false
+    and_false true = refl
+    and_false false = refl
+
+pub new_if : (arrays : List (List ℤ)) (v : WorkView) (d b : ℕ) (r : Range) → Remembers arrays v.work v.memory → AllLive arrays v.work → d < length v.memory.devices → not (was_made_on v.memory d b) ≡ true
+    → has_range v.memory.arrays r ≡ (finds_blocks (held_blocks v.memory d) (Make r b) && is_new v d (Make r b))
+new_if arrays v d b r m live low fresh =
+    let new : not (was_made (ops_on d v) b) ≡ true = ap not (sym (m.made d b low)) ∙ fresh in
+    sym (ap (λ t. t && has_range v.memory.arrays r) new) ∙ new_alone arrays v d b r m live
 
 -- A queue's next operation that uses live blocks can be performed as soon as it goes on.
 pub can_go_on : (arrays : List (List ℤ)) (v : WorkView) (at : QueueAt) (op : OpLabel) (ops : List OpLabel) → Remembers arrays v.work v.memory → AllLive arrays v.work → UsesLive arrays op (ops_on at.device v)

@@ -1,6 +1,6 @@
 //! The memory, the log, and a lane for each queue of each device.
 
-ghost use Rattle.std.specs.Prelude.{ℕ, ℤ, ◌≡◌, ◌+◌, ◌*◌, ◌<◌, ◌≤◌, ◌==◌, nat_le, All, [], ◌∷◌, length, drop, vec_capacity, ◌++◌, is_some, IfOk, IfErr, IfSome, OnSome, IfNone, OnOk, OnErr, IsTrue, ◌↔◌, true, false, Bool, Some, reverse, ◌^◌};
+ghost use Rattle.std.specs.Prelude.{ℕ, ℤ, ◌≡◌, ◌+◌, ◌*◌, ◌<◌, ◌≤◌, ◌==◌, nat_le, All, [], ◌∷◌, length, drop, vec_capacity, ◌++◌, ◌&&◌, is_some, IfOk, IfErr, IfSome, OnSome, IfNone, OnOk, OnErr, IsTrue, ◌↔◌, true, false, Bool, Some, reverse, ◌^◌};
 ghost use Rattle.std.specs.Option.{option_map};
 ghost use Rattle.acc_base.specs.Queues.{seat};
 ghost use Rattle.acc_base.specs.Configurations.{has_range};
@@ -19,7 +19,7 @@ ghost use Rattle.acc_work.specs.Remembering.{Remembers, blocks_in};
 ghost use Rattle.acc_batch.specs.Labels.{on_queue};
 ghost use Rattle.acc_batch.specs.Pages.{HasRoomFor};
 ghost use Rattle.acc_batch.specs.Ops.{first_loop, op_label};
-ghost use Rattle.acc_memory.specs.Memories.{Shows, IsAllowed, PerformsOn, find_block, has_array, has_cell, rows_on};
+ghost use Rattle.acc_memory.specs.Memories.{Shows, IsAllowed, PerformsOn, find_block, finds_blocks, has_array, has_cell, held_blocks, rows_on};
 ghost use Rattle.acc_memory.specs.Values.{Block_cell, Cell, Host_cell, values_of};
 ghost use Rattle.acc_work.specs.inner.Telling.{HasChanged, HasItsCells, IsTold, answer_to};
 ghost use Rattle.acc_work.specs.Works.{lane_at, taken_labels, HasQueue, goes_on, is_live, is_new, can_go, Performs, CanTell, Tells, HasRecorded, KeepsOrder};
@@ -421,22 +421,27 @@ impl Work {
             None => false,
             Some(lane) => match lane.first() {
                 None => false,
-                Some(op) => self.memory.finds_blocks(device, op) && self.is_new(device, op),
+                Some(op) => self.uses_live(device, op),
             },
         }
     }
 
-    // Whether a block that an operation makes was never made, and lies in its array.
-    fn is_new(&self, device: DeviceId, op: &Op) -> bool
+    // Whether an operation uses live blocks. The one that it makes isn't looked for among those that are there: what was never made
+    // isn't.
+    fn uses_live(&self, device: DeviceId, op: &Op) -> bool
         requires { device < length self.now.memory.devices }
-        ensures { result ≡ is_new self.now device (op_label op.now) }
+        ensures { result ≡ (finds_blocks (held_blocks self.now.memory device) (op_label op.now) && is_new self.now device (op_label op.now)) }
     {
+        self.keeps();
         match op {
             Op::Make { block, .. } => {
                 let block = block.value();
                 !self.memory.was_made(device, block.block) && self.memory.has_range(block.range)
             }
-            _ => true,
+            Op::CopyIn { .. } | Op::CopyOut { .. } | Op::Release { .. } | Op::Run { .. } => self
+                .memory
+                .finds_blocks(device, op),
+            Op::Await { .. } | Op::Close => true,
         }
     }
 
