@@ -6,6 +6,7 @@ mod input;
 mod laws;
 mod options;
 mod program;
+mod remains;
 mod replays;
 mod runs;
 
@@ -15,6 +16,7 @@ pub use fault::{DriverFault, ReplayFault};
 pub use input::split;
 pub use laws::{worked_replays, worked_splits};
 pub use options::{Ended, Options};
+pub use remains::Remains;
 pub use replays::{
     INPUT_LIMIT, INPUT_TURNS, TEXT_LIMIT, TEXT_TURNS, replay, replay_one, replay_texts,
 };

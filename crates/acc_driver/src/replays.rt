@@ -20,6 +20,7 @@ use crate::fault::{DriverFault, ReplayFault};
 use crate::input::{read_text, split};
 use crate::options::{Ended, Options};
 use crate::program::{config_of, has_refused, hosts_of, read_script};
+use crate::remains::Remains;
 use acc_core::{World, programs_stay};
 use acc_host::{Event, HostProgram};
 use acc_report::{ReportFault, Run, ids_are_not_told, report_run};
@@ -42,7 +43,7 @@ pub const INPUT_LIMIT: usize = 2_097_156;
 pub const INPUT_TURNS: u32 = 4_194_304;
 
 /// Reads a script and a schedule, each from a reader of its own, runs the schedule, and writes the report. The
-/// schedule is read once the script is understood.
+/// schedule is read once the script is understood. What the run left is then put into `remains`.
 ///
 /// # Errors
 ///
@@ -56,6 +57,7 @@ pub fn replay<R: Read, S: Read, W: Write>(
     schedule: &mut S,
     options: Options,
     writer: &mut W,
+    remains: &mut Remains,
 ) -> Result<Ended, DriverFault>
     ensures answers { IfSome (R.remaining script.old) (λ script. IfSome (S.remaining schedule.old) (λ schedule. Answers options (record { script = script; schedule = schedule }) (W.contents writer.old) (W.contents writer.new) result)) }
     ensures unread { IfErr result (λ f. IsOfScript f → schedule.new ≡ schedule.old) }
@@ -74,11 +76,11 @@ pub fn replay<R: Read, S: Read, W: Write>(
         Ok(schedule) => schedule,
         Err(fault) => return Err(fault.of_reader()),
     };
-    of_input(replay_script(alloc, script, schedule.as_slice(), options, writer))
+    of_input(replay_script(alloc, script, schedule.as_slice(), options, writer, remains))
 }
 
 /// Reads a script and a schedule from one text, which is split at its first line that is exactly `%%`, runs
-/// the schedule, and writes the report.
+/// the schedule, and writes the report. What the run left is then put into `remains`.
 ///
 /// # Errors
 ///
@@ -90,6 +92,7 @@ pub fn replay_one<R: Read, W: Write>(
     reader: &mut R,
     options: Options,
     writer: &mut W,
+    remains: &mut Remains,
 ) -> Result<Ended, DriverFault>
     ensures answers { IfSome (R.remaining reader.old) (λ text. Answers options (parts text) (W.contents writer.old) (W.contents writer.new) result) }
     ensures run { AreUsable options → IsRun result }
@@ -97,7 +100,7 @@ pub fn replay_one<R: Read, W: Write>(
     match read_text(alloc, reader, INPUT_LIMIT, INPUT_TURNS) {
         Ok(text) => {
             let (script, schedule) = split(text.as_slice());
-            of_input(replay_texts(alloc, script, schedule, options, writer))
+            of_input(replay_texts(alloc, script, schedule, options, writer, remains))
         }
         Err(fault) => Err(fault.of_reader()),
     }
@@ -113,7 +116,8 @@ fn of_input(answer: Result<Ended, ReplayFault>) -> Result<Ended, DriverFault>
     }
 }
 
-/// Runs a schedule on a script, and writes the report: the same for the two texts, already read.
+/// Runs a schedule on a script, and writes the report: the same for the two texts, already read. What the run left is then
+/// put into `remains`.
 ///
 /// # Errors
 ///
@@ -126,23 +130,25 @@ pub fn replay_texts<W: Write>(
     schedule: &[u8],
     options: Options,
     writer: &mut W,
+    remains: &mut Remains,
 ) -> Result<Ended, ReplayFault>
     ensures answers { Answers options (record { script = script.now; schedule = schedule.now }) (W.contents writer.old) (W.contents writer.new) (of_input result) }
     ensures run { AreUsable options → IsRun (of_input result) }
 {
     match read_script(alloc, script) {
-        Ok(script) => replay_script(alloc, script, schedule, options, writer),
+        Ok(script) => replay_script(alloc, script, schedule, options, writer, remains),
         Err(fault) => Err(fault),
     }
 }
 
-// Runs a schedule on what a script says, and writes the report.
+// Runs a schedule on what a script says, writes the report, and hands out what the run left.
 fn replay_script<W: Write>(
     alloc: Global,
     script: Script,
     schedule: &[u8],
     options: Options,
     writer: &mut W,
+    remains: &mut Remains,
 ) -> Result<Ended, ReplayFault>
     requires declared { IsDeclared (record { names = texts script.names.keys; cells = rows script.arrays.items }) }
     requires numbered { AreNumbered 0 script.programs.items }
@@ -152,19 +158,20 @@ fn replay_script<W: Write>(
 {
     let hosts = hosts_of(&script.programs);
     match Schedule::read(alloc, schedule, hosts, options.devices) {
-        Ok(schedule) => run(alloc, script, &schedule, options, writer),
+        Ok(schedule) => run(alloc, script, &schedule, options, writer, remains),
         Err(ReadError::Memory) => Err(ReplayFault::Memory),
         Err(ReadError::Fault(fault)) => Err(ReplayFault::Schedule(fault)),
     }
 }
 
-// Runs events on what a script says, and writes the report.
+// Runs events on what a script says, writes the report, and hands out what the run left.
 fn run<W: Write>(
     alloc: Global,
     script: Script,
     schedule: &Schedule,
     options: Options,
     writer: &mut W,
+    remains: &mut Remains,
 ) -> Result<Ended, ReplayFault>
     requires declared { IsDeclared (record { names = texts script.names.keys; cells = rows script.arrays.items }) }
     requires numbered { AreNumbered 0 script.programs.items }
@@ -199,6 +206,7 @@ fn run<W: Write>(
     match report_run(alloc, &left, &script, writer) {
         Ok(()) => {
             let refused = has_refused(hosts.as_slice());
+            *remains = Remains::of_replay(place, works, hosts, script.programs);
             Ok(Ended { refused })
         }
         Err(ReportFault::Write) => Err(ReplayFault::Output),

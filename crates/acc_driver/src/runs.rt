@@ -18,6 +18,7 @@ use crate::fault::DriverFault;
 use crate::input::read_text;
 use crate::options::{Ended, Options};
 use crate::program::{config_of, copies_of, has_refused, read_script};
+use crate::remains::Remains;
 use crate::replays::{TEXT_LIMIT, TEXT_TURNS};
 use acc_base::{Config, Fault, QueueAt};
 use acc_host::{Host, HostProgram, HostState, Outcome, ready_hosts};
@@ -42,7 +43,7 @@ impl Gate for OpenGate {
 
 /// Reads a script, runs its hosts and its queues, each in a thread of its own, and writes the report. What two threads do at
 /// once may come in either order, so the same script may be reported in another way the next time. Where the gate kept a queue from
-/// its batches, what it hasn't performed is discarded, and reported so.
+/// its batches, what it hasn't performed is discarded, and reported so. What the run left is then put into `remains`.
 ///
 /// # Errors
 ///
@@ -57,6 +58,7 @@ pub fn run_script<R: Threads + Wait + Sync, S: Read, G: Gate + Sync, W: Write>(
     options: Options,
     gate: &G,
     writer: &mut W,
+    remains: &mut Remains,
 ) -> Result<Ended, DriverFault>
     ensures answers { IfSome (S.remaining script.old) (λ script. ScriptAnswers options script (W.contents writer.old) (W.contents writer.new) result) }
     ensures configured { AreUsable options → IsConfigured result }
@@ -66,12 +68,12 @@ pub fn run_script<R: Threads + Wait + Sync, S: Read, G: Gate + Sync, W: Write>(
         Err(fault) => return Err(fault.of_reader()),
     };
     match read_script(alloc, text.as_slice()) {
-        Ok(script) => run(rt, alloc, script, options, gate, writer),
+        Ok(script) => run(rt, alloc, script, options, gate, writer, remains),
         Err(fault) => Err(fault.of_input()),
     }
 }
 
-// Runs what a script says by threads, and writes the report.
+// Runs what a script says by threads, writes the report, and hands out what the run left.
 fn run<R: Threads + Wait + Sync, G: Gate + Sync, W: Write>(
     rt: &R,
     alloc: Global,
@@ -79,6 +81,7 @@ fn run<R: Threads + Wait + Sync, G: Gate + Sync, W: Write>(
     options: Options,
     gate: &G,
     writer: &mut W,
+    remains: &mut Remains,
 ) -> Result<Ended, DriverFault>
     requires declared { IsDeclared (record { names = texts script.names.keys; cells = rows script.arrays.items }) }
     requires numbered { AreNumbered 0 script.programs.items }
@@ -112,6 +115,7 @@ fn run<R: Threads + Wait + Sync, G: Gate + Sync, W: Write>(
     match report(alloc, &outcome, &script, writer) {
         Ok(()) => {
             let refused = has_refused(outcome.hosts.as_slice());
+            *remains = Remains::of_threads(outcome, script.programs);
             Ok(Ended { refused })
         }
         Err(ReportFault::Write) => Err(DriverFault::Output),

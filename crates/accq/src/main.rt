@@ -8,10 +8,11 @@ mod store;
 #[cfg(test)]
 mod tests;
 
-use acc_driver::DriverFault;
+use acc_driver::{DriverFault, Remains};
 use status::{status_of, told, told_no_text};
 use std::env;
 use std::io::{self, BufWriter, ErrorKind};
+use std::mem::ManuallyDrop;
 use std::process::ExitCode;
 use store::Disk;
 
@@ -31,6 +32,8 @@ fn main(rt: HostRuntime) -> ExitCode {
         Ok(output) => output,
         Err(_) => return ExitCode::from(told(DriverFault::Memory, &mut errors)),
     };
+    // what a run leaves is left to the end of the process
+    let mut remains = ManuallyDrop::new(Remains::nothing());
     let status = status_of(
         &rt,
         rt.alloc(),
@@ -39,6 +42,7 @@ fn main(rt: HostRuntime) -> ExitCode {
         &mut rt.stdin(),
         &mut output,
         &mut errors,
+        &mut remains,
     );
     ExitCode::from(status)
 }

@@ -13,7 +13,7 @@ ghost use Rattle.clap.specs.declared.error.kind.ErrorKind.TheVariants.{OutOfMemo
 
 use crate::command::{Replay, Run, Task, task_of};
 use crate::store::Store;
-use acc_driver::{DriverFault, Ended, OpenGate, Options, replay, replay_one, run_script};
+use acc_driver::{DriverFault, Ended, OpenGate, Options, Remains, replay, replay_one, run_script};
 use clap::Error;
 use clap::error::ErrorKind;
 use std::alloc::Global;
@@ -26,7 +26,7 @@ use std::thread::Threads;
 /// options; the words `replay SCRIPT SCHEDULE`, with options, replay two files, and `run SCRIPT`, with options, runs the
 /// script of a file by threads. The report goes to the output, and the answer is 0, or 1 where a host was refused. A
 /// fault of a text or of the words is answered by 2, all else by 3, and told to the errors: by one line, or for the words
-/// by the parser's own text.
+/// by the parser's own text. What a run left is put into `remains`.
 pub fn status_of<
     T: Threads + Wait + Sync,
     F: Read + Drop,
@@ -43,6 +43,7 @@ pub fn status_of<
     input: &mut R,
     output: &mut W,
     errors: &mut E,
+    remains: &mut Remains,
 ) -> u8
     ensures input { length words.now ≤ 1 → InputReplayed (R.remaining input.old) (W.contents output.old) (W.contents output.new) result }
     ensures words { 1 < length words.now → TellsWords (asked_of (map N.text words.now)) (S.holds files.now) (S.opens files.now) (W.contents output.old) (W.contents output.new) result }
@@ -50,11 +51,17 @@ pub fn status_of<
     ensures quiet { result < 2 → errors.new ≡ errors.old }
 {
     if words.len() <= 1 {
-        return status_after(replay_input(alloc, input, output), errors);
+        return status_after(replay_input(alloc, input, output, remains), errors);
     }
     match task_of(alloc, words) {
-        Ok(Task::Replay(asked)) => status_after(replay_files(alloc, &asked, files, output), errors),
-        Ok(Task::Run(asked)) => status_after(run_file(rt, alloc, &asked, files, output), errors),
+        Ok(Task::Replay(asked)) => {
+            let answer = replay_files(alloc, &asked, files, output, remains);
+            status_after(answer, errors)
+        }
+        Ok(Task::Run(asked)) => {
+            let answer = run_file(rt, alloc, &asked, files, output, remains);
+            status_after(answer, errors)
+        }
         Err(error) => told_words(&error, errors),
     }
 }
@@ -75,11 +82,12 @@ fn replay_input<R: Read, W: Write>(
     alloc: Global,
     input: &mut R,
     output: &mut W,
+    remains: &mut Remains,
 ) -> Result<Ended, DriverFault>
     ensures answers { IfSome (R.remaining input.old) (λ text. Answers defaults (parts text) (W.contents output.old) (W.contents output.new) result) }
     ensures run { IsRun result }
 {
-    let ended = replay_one(alloc, input, Options::DEFAULT, output)?;
+    let ended = replay_one(alloc, input, Options::DEFAULT, output, remains)?;
     sent(ended, output)
 }
 
@@ -89,6 +97,7 @@ fn replay_files<F: Read + Drop, S: Store<F>, W: Write>(
     asked: &Replay,
     files: &S,
     output: &mut W,
+    remains: &mut Remains,
 ) -> Result<Ended, DriverFault>
     requires { AreUsable asked.now.options }
     ensures answers { FilesAnswer (S.holds files.now) (replay_by asked.now) (W.contents output.old) (W.contents output.new) result }
@@ -102,7 +111,14 @@ fn replay_files<F: Read + Drop, S: Store<F>, W: Write>(
     let Some(mut schedule) = files.open(asked.schedule) else {
         return Err(DriverFault::Input);
     };
-    let ended = replay(alloc, &mut script, &mut schedule, asked.options, output)?;
+    let ended = replay(
+        alloc,
+        &mut script,
+        &mut schedule,
+        asked.options,
+        output,
+        remains,
+    )?;
     sent(ended, output)
 }
 
@@ -113,6 +129,7 @@ fn run_file<T: Threads + Wait + Sync, F: Read + Drop, S: Store<F>, W: Write>(
     asked: &Run,
     files: &S,
     output: &mut W,
+    remains: &mut Remains,
 ) -> Result<Ended, DriverFault>
     requires { AreUsable asked.now.options }
     ensures answers { IfSome (S.holds files.now asked.now.script.now) (λ script. ScriptAnswers asked.now.options script (W.contents output.old) (W.contents output.new) result) }
@@ -122,7 +139,15 @@ fn run_file<T: Threads + Wait + Sync, F: Read + Drop, S: Store<F>, W: Write>(
     let Some(mut file) = files.open(asked.script) else {
         return Err(DriverFault::Input);
     };
-    let ended = run_script(rt, alloc, &mut file, asked.options, &OpenGate, output)?;
+    let ended = run_script(
+        rt,
+        alloc,
+        &mut file,
+        asked.options,
+        &OpenGate,
+        output,
+        remains,
+    )?;
     sent(ended, output)
 }
 

@@ -4,7 +4,7 @@ ghost use Rattle.std.specs.Prelude.{None};
 
 use crate::status::{status_of, told, told_no_text};
 use crate::store::Store;
-use acc_driver::DriverFault;
+use acc_driver::{DriverFault, Remains};
 use std::alloc::Global;
 use std::io::{Error, ErrorKind, Read, Result, Write};
 use std::process::Abort;
@@ -424,6 +424,7 @@ fn answered<T: Threads + Wait + Sync>(
         &mut input,
         &mut output,
         &mut errors,
+        &mut Remains::nothing(),
     );
     (status, output, errors)
 }
@@ -496,7 +497,16 @@ fn check_streams<T: Abort + Threads + Wait + Sync, R: Read, W: Write>(
     text: &[u8],
 ) {
     let mut errors = Vec::new(alloc);
-    let status = status_of(rt, alloc, words, &Shelf, input, output, &mut errors);
+    let status = status_of(
+        rt,
+        alloc,
+        words,
+        &Shelf,
+        input,
+        output,
+        &mut errors,
+        &mut Remains::nothing(),
+    );
     check_told(rt, status, errors.as_slice(), 3, text);
 }
 
@@ -545,6 +555,7 @@ fn errors_that_fail_change_no_status(rt: HostRuntime) -> std::result::Result<(),
             &mut Broken,
             &mut output,
             &mut Broken,
+            &mut Remains::nothing(),
         );
         assert_eq!(rt; status, *wanted);
     }

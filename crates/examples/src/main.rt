@@ -3,7 +3,7 @@
 
 use acc_base::QueueAt;
 use acc_driver::{
-    DriverFault, Ended, Gate, OpenGate, Options, replay, replay_one, run_script, split,
+    DriverFault, Ended, Gate, OpenGate, Options, Remains, replay, replay_one, run_script, split,
 };
 use std::alloc::Global;
 use std::sync::Wait;
@@ -113,12 +113,26 @@ fn answer(rt: &HostRuntime, name: &str, options: Option<Options>) -> io::Result<
     let script = read(rt, name, "acc")?;
     let mut script = script.as_slice();
     let mut written = Vec::new(alloc);
+    let mut remains = Remains::nothing();
     let answered = match options {
-        None => replay_one(alloc, &mut script, Options::DEFAULT, &mut written),
+        None => replay_one(
+            alloc,
+            &mut script,
+            Options::DEFAULT,
+            &mut written,
+            &mut remains,
+        ),
         Some(options) => {
             let schedule = read(rt, name, "schedule")?;
             let mut schedule = schedule.as_slice();
-            replay(alloc, &mut script, &mut schedule, options, &mut written)
+            replay(
+                alloc,
+                &mut script,
+                &mut schedule,
+                options,
+                &mut written,
+                &mut remains,
+            )
         }
     };
     told(alloc, answered, written)
@@ -136,7 +150,15 @@ fn run_answer<R: Threads + Wait + Sync, G: Gate + Sync>(
     let text = read(rt, name, "acc")?;
     let (mut script, _) = split(text.as_slice());
     let mut written = Vec::new(alloc);
-    let answered = run_script(threads, alloc, &mut script, options, gate, &mut written);
+    let answered = run_script(
+        threads,
+        alloc,
+        &mut script,
+        options,
+        gate,
+        &mut written,
+        &mut Remains::nothing(),
+    );
     told(alloc, answered, written)
 }
 

@@ -1,6 +1,6 @@
 //! What is answered to an input, and what is written, beside what was wanted.
 
-use acc_driver::{DriverFault, Ended, Options, ReadFault, ReadKind, replay_one};
+use acc_driver::{DriverFault, Ended, Options, ReadFault, ReadKind, Remains, replay_one};
 use std::alloc::Global;
 use std::io::Read;
 use std::process::Abort;
@@ -40,7 +40,13 @@ pub fn check_read<R: Read>(
     report: &[u8],
 ) {
     let mut written = Vec::new(alloc);
-    let answer = replay_one(alloc, reader, options, &mut written);
+    let answer = replay_one(
+        alloc,
+        reader,
+        options,
+        &mut written,
+        &mut Remains::nothing(),
+    );
     check_bytes(rt, written.as_slice(), report);
     check_answer(rt, answer, wanted);
 }

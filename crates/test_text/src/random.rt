@@ -2,7 +2,7 @@
 
 use crate::answers::{ENDED, check_answer};
 use crate::threads::check_run;
-use acc_driver::{OpenGate, Options, replay_one};
+use acc_driver::{OpenGate, Options, Remains, replay_one};
 use std::alloc::{AllocError, Global};
 use std::process::Abort;
 use std::test::Fail;
@@ -230,7 +230,13 @@ fn replayed(rt: &impl Abort, alloc: Global, script: &str) -> Result<Vec<u8>, All
     let input = format!(in alloc; "{script}%%\nround 1000\n")?;
     let mut reader = input.as_bytes();
     let mut written = Vec::new(alloc);
-    let answer = replay_one(alloc, &mut reader, OPTIONS, &mut written);
+    let answer = replay_one(
+        alloc,
+        &mut reader,
+        OPTIONS,
+        &mut written,
+        &mut Remains::nothing(),
+    );
     check_answer(rt, answer, ENDED);
     Ok(written)
 }

@@ -7,7 +7,7 @@ use crate::answers::{
 };
 use crate::streams::{End, Late, Narrow, Trickle};
 use acc_base::Fault;
-use acc_driver::{DriverFault, Ended, Options, ReadFault, ReadKind, replay_one};
+use acc_driver::{DriverFault, Ended, Options, ReadFault, ReadKind, Remains, replay_one};
 use std::alloc::{AllocError, Global};
 use std::process::Abort;
 use std::test::Fail;
@@ -190,7 +190,13 @@ fn check_narrow(rt: &impl Abort, alloc: Global, room: usize, fails: bool) {
         was_interrupted: false,
     };
     let mut input = STALE;
-    let answer = replay_one(alloc, &mut input, Options::DEFAULT, &mut narrow);
+    let answer = replay_one(
+        alloc,
+        &mut input,
+        Options::DEFAULT,
+        &mut narrow,
+        &mut Remains::nothing(),
+    );
     let is_whole = STALE_REPORT.len() <= room;
     check_answer(
         rt,
@@ -293,7 +299,7 @@ fn try_amounts(alloc: Global, written: &mut Vec<u8>) -> Result<Tried, AllocError
     hoard.fill(alloc);
     for _ in 0..Purse::GIFTS {
         let mut input = LARGE;
-        tried.answer = replay_one(alloc, &mut input, options, written);
+        tried.answer = replay_one(alloc, &mut input, options, written, &mut Remains::nothing());
         match tried.answer {
             Err(DriverFault::Memory) if written.is_empty() => {
                 tried.silent = tried.silent.saturating_add(1);

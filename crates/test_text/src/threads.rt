@@ -3,7 +3,7 @@
 use crate::answers::{Answer, ENDED, REFUSED, check_answer, check_bytes, script_fault};
 use crate::streams::{End, Narrow, Trickle};
 use acc_base::{Fault, HostId, QueueAt};
-use acc_driver::{DriverFault, Gate, OpenGate, Options, ReadKind, run_script};
+use acc_driver::{DriverFault, Gate, OpenGate, Options, ReadKind, Remains, run_script};
 use std::alloc::Global;
 use std::process::Abort;
 use std::sync::Wait;
@@ -24,7 +24,15 @@ pub fn check_run<R: Abort + Threads + Wait + Sync, G: Gate + Sync>(
 ) {
     let mut script = script;
     let mut written = Vec::new(alloc);
-    let answer = run_script(rt, alloc, &mut script, options, gate, &mut written);
+    let answer = run_script(
+        rt,
+        alloc,
+        &mut script,
+        options,
+        gate,
+        &mut written,
+        &mut Remains::nothing(),
+    );
     check_bytes(rt, written.as_slice(), report);
     check_answer(rt, answer, wanted);
 }
@@ -336,6 +344,7 @@ fn check_narrow<R: Abort + Threads + Wait + Sync>(rt: &R, alloc: Global, room: u
         Options::DEFAULT,
         &OpenGate,
         &mut narrow,
+        &mut Remains::nothing(),
     );
     check_answer(rt, answer, Err(DriverFault::Output));
     let (taken, _) = ON_NOVAL_REPORT.split_at(room.min(ON_NOVAL_REPORT.len()));
@@ -367,6 +376,7 @@ fn readers_fail(rt: HostRuntime) -> Result<(), Fail> {
         Options::DEFAULT,
         &OpenGate,
         &mut written,
+        &mut Remains::nothing(),
     );
     check_answer(&rt, answer, Err(DriverFault::Input));
     check_bytes(&rt, written.as_slice(), b"");
