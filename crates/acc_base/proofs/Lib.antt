@@ -1,4 +1,5 @@
 pub mod ContainsAndOverlaps
+pub mod EachQueue
 pub mod Lists
 pub mod Members
 mod Rows

@@ -1,8 +1,9 @@
 //! What stays the same in a run, and its limits.
 
-ghost use Rattle.std.specs.Prelude.{◌≡◌, ◌<◌, ◌&&◌, ◌==◌, ◌↔◌, nat_lt, IfOk, OnOk, IfErr, IsTrue, length, None, Some, slice_get};
+ghost use Rattle.std.specs.Prelude.{◌≡◌, ◌<◌, ◌*◌, ◌&&◌, ◌==◌, ◌↔◌, nat_lt, IfOk, OnOk, IfErr, IsTrue, length, None, Some, slice_get};
 ghost use Rattle.std.specs.List.{list_any};
 ghost use Rattle.acc_base.specs.declared.fault.Fault.TheVariants.{Memory};
+ghost use Rattle.acc_base.specs.Queues.{queue_count};
 ghost use Rattle.acc_base.specs.Configurations.{configuration, rows, fault_of, passes_a_limit, is_outside, has_long_array, has_empty_array, has_range, IsRefusal, IsWithinLimits};
 
 use crate::fault::Fault;
@@ -181,6 +182,14 @@ impl Config {
         ensures { result ≡ nat_lt device self.now.devices }
     {
         device.number() < self.devices
+    }
+
+    /// How many queues all devices have.
+    pub fn queue_count(&self) -> u16
+        ensures count { result ≡ queue_count self.now }
+        ensures few { result < 256 * QUEUES }
+    {
+        u16::from(self.devices) * u16::from(QUEUES)
     }
 
     /// Whether there is such a queue of such a device.

@@ -1,15 +1,33 @@
 //! Devices, queues, hosts and blocks, each a type of its own that contracts see as its number.
 
-ghost use Rattle.std.specs.Prelude.{◌≡◌, ◌<◌};
+ghost use Rattle.std.specs.Prelude.{◌≡◌, ◌<◌, ◌*◌, IsTrue, length, replicate};
+ghost use Rattle.acc_base.specs.Queues.{is_nothing};
 
 use std::marker::Model;
 
-/// How many activity queues each device has: `sync`, `noval`, and the queues of the async values
-/// `0` to `5`, in this order.
+/// How many activity queues each device has: `sync`, `noval`, and those of the async values, in this order (OpenACC API 3.0, 2.16,
+/// Asynchronous Behavior).
 pub const QUEUES: u8 = 8;
+
+/// The number of the queue of the async value 0.
+pub const FIRST_VALUE: u8 = 2;
+
+/// How many queues the async values of zero or more share.
+pub const VALUES: u8 = QUEUES - FIRST_VALUE;
 
 /// A number for each queue of a device, in queue order.
 pub type QueueCounts = [u64; QUEUES as usize];
+
+/// Whether each of these numbers is 0.
+pub fn is_nothing(counts: &[u64]) -> bool
+    ensures tells { result ≡ is_nothing counts.now }
+    ensures zeros { IsTrue result → counts.now ≡ replicate (length counts.now) 0 }
+{
+    match counts {
+        [] => true,
+        [first, rest @ ..] => *first == 0 && is_nothing(rest),
+    }
+}
 
 /// A device, by its number from 0.
 #[derive(Clone, Copy, Debug, PartialEq, Eq)]
@@ -42,8 +60,8 @@ impl DeviceId {
     }
 }
 
-/// An activity queue of a device, by its number: 0 is `sync`, 1 is `noval`, 2 to 7 are those of the
-/// async values `0` to `5` (OpenACC API 3.0, 2.16, Asynchronous Behavior).
+/// An activity queue of a device, by its number: 0 is `sync`, 1 is `noval`, and from 2 on they are those of the async values `0`
+/// and more, below `VALUES` (OpenACC API 3.0, 2.16, Asynchronous Behavior).
 #[derive(Clone, Copy, Debug, PartialEq, Eq)]
 pub struct QueueId(u8);
 
@@ -58,6 +76,9 @@ impl Model for QueueId {
 }
 
 impl QueueId {
+    ghost use Rattle.acc_base.specs.Queues.{queue_of_value};
+    ghost use Rattle.acc_base.specs.declared.ids.TheConstants.{QUEUES};
+
     /// The queue of a directive without an `async` clause.
     pub const SYNC: QueueId = QueueId(0);
 
@@ -69,6 +90,14 @@ impl QueueId {
         ensures { result ≡ number }
     {
         QueueId(number)
+    }
+
+    /// The queue of an async value of zero or more. The values share those behind `noval`, one after another (2.16.1, async clause).
+    pub fn of_value(value: u64) -> Self
+        ensures queue { result ≡ queue_of_value value }
+        ensures there { result < QUEUES }
+    {
+        QueueId((value % u64::from(VALUES)) as u8 + FIRST_VALUE)
     }
 
     /// Its number, from 0.
@@ -172,7 +201,7 @@ impl QueueAt {
 
     /// The queue with this index among those of all devices.
     pub fn at_seat(index: u16) -> Self
-        requires { index < 2048 }
+        requires { index < 256 * QUEUES }
         ensures at { result ≡ at_seat index }
         ensures seat { seat result ≡ index }
         ensures queue { result.queue < QUEUES }

@@ -14,7 +14,10 @@ pub use boxed::Boxed;
 pub use config::{Config, MAX_ARRAYS, MAX_CAPACITY, MAX_CELLS, MAX_DEVICES, MAX_HOSTS, MAX_ROOM};
 pub use fault::Fault;
 pub use few::Few;
-pub use ids::{BlockId, DeviceId, HostId, QUEUES, QueueAt, QueueCounts, QueueId};
+pub use ids::{
+    BlockId, DeviceId, FIRST_VALUE, HostId, QUEUES, QueueAt, QueueCounts, QueueId, VALUES,
+    is_nothing,
+};
 pub use listed::Listed;
 pub use range::Range;
 pub use shared::Shared;

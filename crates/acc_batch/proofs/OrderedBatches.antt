@@ -1,5 +1,5 @@
 -- A batch stands behind those that it needs.
-use Rattle.std.proofs.Common.{inl, inr, ◌≡◌, ◌⊎◌, ℕ, zero, suc, ◌<◌, ◌≤◌, Bool, true, false, cond, List, [], ◌∷◌, ◌++◌, map, refl, sym, ap, ◌∙◌, arith}
+use Rattle.std.proofs.Common.{inl, inr, ◌≡◌, ◌⊎◌, ℕ, ◌<◌, ◌≤◌, Bool, true, false, cond, List, [], ◌∷◌, ◌++◌, map, refl, sym, ap, ◌∙◌, arith}
 use Rattle.std.specs.Prelude.{All, Contains, filter, ◌==◌, ◌||◌}
 use Rattle.std.specs.List.{flat_map}
 use Rattle.std.proofs.lemmas.Bool.{cases_Bool, eq-eqb, ne_eqb, eqb-true}
@@ -8,6 +8,7 @@ use Rattle.std.proofs.lemmas.List.{append-nil}
 use Rattle.std.proofs.lemmas.List.Elements.{All-nil, All-cons, All-append, Contains-append_left, Contains-append_right}
 use Rattle.acc_base.specs.declared.ids.QueueAt.{QueueAt}
 use Rattle.acc_base.specs.Queues.{every_queue, same_queue}
+use Rattle.acc_base.proofs.EachQueue.{has_queue}
 use Rattle.acc_base.proofs.Members.{no_member, member_first, member_rest, member_one, member_cases}
 use Rattle.acc_base.proofs.SameQueue.{same_queue_itself}
 use Rattle.acc_batch.specs.declared.label.Label.{Label}
@@ -73,18 +74,6 @@ needed_number named ls used released m b c (inr h) =
     let low = last_least (touches_block b) ls m h.1 c in
     let most = greatest_least (λ k. last_number (touches_block k) ls) released b h.0 in
     omega (arith, low, most)
-
--- each queue of a device is one of them
-every : (q : ℕ) → q < 8 → Contains every_queue q
-every zero h = (0, omega arith, refl)
-every (suc zero) h = (1, omega arith, refl)
-every (suc (suc zero)) h = (2, omega arith, refl)
-every (suc (suc (suc zero))) h = (3, omega arith, refl)
-every (suc (suc (suc (suc zero)))) h = (4, omega arith, refl)
-every (suc (suc (suc (suc (suc zero))))) h = (5, omega arith, refl)
-every (suc (suc (suc (suc (suc (suc zero)))))) h = (6, omega arith, refl)
-every (suc (suc (suc (suc (suc (suc (suc zero))))))) h = (7, omega arith, refl)
-every (suc (suc (suc (suc (suc (suc (suc (suc n)))))))) h = absurd (omega (arith, h))
 
 flat_has : (f : ℕ → List OpLabel) (qs : List ℕ) (q : ℕ) (op : OpLabel) → Contains qs q → Contains (f q) op → Contains (flat_map f qs) op
 flat_has f [] q op h g = absurd (no_member q h)
@@ -200,7 +189,7 @@ label_ordered alone named own labels host items_done ops known ordered none = re
           let differ : m.at.queue ≡ own.queue → ⊥ = λ e. (let w : true ≡ false = sym (eq-eqb m.at.queue own.queue e) ∙ other in cc) in
           let is = await_there own.queue m.at.queue number differ (omega (arith, low, some)) in
           let first : Contains (awaits named own labels used released) (Await m.at.queue number) =
-          flat_has (λ q. await_of own.queue q (number_awaited named own labels used released q)) every_queue m.at.queue (Await m.at.queue number) (every m.at.queue (known m c).1) (rw is (member_first (Await m.at.queue number) [])) in
+          flat_has (λ q. await_of own.queue q (number_awaited named own labels used released q)) every_queue m.at.queue (Await m.at.queue number) (has_queue m.at.queue (known m c).1) (rw is (member_first (Await m.at.queue number) [])) in
           awaited number low (Contains-append_left (awaits named own labels used released) (o ∷ os) (Await m.at.queue number) first)
     ]
 

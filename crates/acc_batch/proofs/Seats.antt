@@ -22,7 +22,7 @@ set_there (x ∷ xs) (suc i) zero new other = refl
 set_there (x ∷ xs) (suc i) (suc j) new other = set_there xs i j new (λ e. other (ap suc e))
 
 -- two queues that are there have one seat only if they are one
-pub one_seat : (a b : QueueAt) → a.queue < 8 → b.queue < 8 → seat a ≡ seat b → same_queue a b ≡ true
+pub one_seat : (a b : QueueAt) → a.queue < QUEUES → b.queue < QUEUES → seat a ≡ seat b → same_queue a b ≡ true
 one_seat a b low_a low_b same =
     let device : a.device ≡ b.device = omega (arith, same, low_a, low_b) in
     let queue : a.queue ≡ b.queue = omega (arith, same, low_a, low_b) in
@@ -36,10 +36,10 @@ pub record StandsAt {X : Type 0} (P : QueueAt → X → Type 0) (xs : List X) (a
   pub holds : P at it
 
 abbrev pub AtEachSeat : {X : Type 0} → (QueueAt → X → Type 0) → ℕ → List X → Type 0
-AtEachSeat P devices xs = (at : QueueAt) → at.device < devices → at.queue < 8 → StandsAt P xs at
+AtEachSeat P devices xs = (at : QueueAt) → at.device < devices → at.queue < QUEUES → StandsAt P xs at
 
 -- One queue's is changed, and the others go on to have what is wanted.
-pub seat_changed : {X : Type 0} (P Q : QueueAt → X → Type 0) (devices : ℕ) (xs : List X) (at : QueueAt) (new : X) → at.device < devices → at.queue < 8 → AtEachSeat P devices xs
+pub seat_changed : {X : Type 0} (P Q : QueueAt → X → Type 0) (devices : ℕ) (xs : List X) (at : QueueAt) (new : X) → at.device < devices → at.queue < QUEUES → AtEachSeat P devices xs
     → Q at new → ((other : QueueAt) → same_queue at other ≡ false → (x : X) → P other x → Q other x) → AtEachSeat Q devices (slice_set xs (seat at) new)
 seat_changed P Q devices xs at new there low all mine others = λ other device queue.
     let before = all other device queue in

@@ -1,12 +1,12 @@
-//! How many batches each queue has performed: one number, or all eight.
+//! How many batches each queue has performed: one number, or all of them.
 
 ghost use Rattle.std.specs.Prelude.{◌≡◌, IfOk, IfErr};
 
-use acc_base::{Boxed, Fault, QueueCounts};
+use acc_base::{Boxed, Fault, QUEUES, QueueCounts, is_nothing};
 use std::alloc::Global;
 use std::marker::Model;
 
-/// How many batches each queue of a device has performed. A contract sees the eight numbers.
+/// How many batches each queue of a device has performed. A contract sees all numbers.
 #[derive(Drop)]
 pub struct Counts {
     form: Form,
@@ -41,25 +41,25 @@ impl Counts {
         ensures counts { IfOk result (λ c. c ≡ counts) }
         ensures fault { IfErr result (λ f. f ≡ Memory) }
     {
-        match counts {
-            [count, 0, 0, 0, 0, 0, 0, 0] => Ok(Counts {
-                form: Form::First { count },
-            }),
-            _ => {
-                let counts = Boxed::new(alloc, counts)?;
-                Ok(Counts {
-                    form: Form::All { counts },
-                })
-            }
-        }
+        let form = if is_nothing(&counts[1..]) {
+            Form::First { count: counts[0] }
+        } else {
+            let counts = Boxed::new(alloc, counts)?;
+            Form::All { counts }
+        };
+        Ok(Counts { form })
     }
 
-    /// The eight numbers, by queue.
+    /// The numbers, by queue.
     pub fn numbers(&self) -> QueueCounts
         ensures { result ≡ self.now }
     {
         match &self.form {
-            Form::First { count } => [*count, 0, 0, 0, 0, 0, 0, 0],
+            Form::First { count } => {
+                let mut counts = [0; QUEUES as usize];
+                counts[0] = *count;
+                counts
+            }
             Form::All { counts } => *counts.get(),
         }
     }

@@ -58,7 +58,7 @@ some_enabled w legal left =
     let any = never_stuck labels w.work (taken_on w) sound.ordered (have_items w legal.counts) left in
     let p = passing (λ (l : Label). enabled labels w.work (taken_on w l.at) l.at) labels any in
     let at = p.it.at in
-    let place = All-contains (λ (l : Label). (l.at.device < w.config.devices) × (l.at.queue < 8) × (0 < length l.ops)) labels p.it (labels_there w.config w.history w.counts legal.accepted) p.member in
+    let place = All-contains (λ (l : Label). (l.at.device < w.config.devices) × (l.at.queue < QUEUES) × (0 < length l.ops)) labels p.it (labels_there w.config w.history w.counts legal.accepted) p.member in
     let there : is_there w at ≡ true = and_from (nat_lt at.device w.config.devices) (nat_lt at.queue QUEUES) (lt-ltb at.device w.config.devices place.0) (lt-ltb at.queue QUEUES place.1) in
     (at, enabled_says w at there ∙ p.holds)
 
@@ -92,10 +92,10 @@ left_on w at left =
 pub none_left : (w : State) → Legal w → ((n : ℕ) → n < queue_count w.config → has_left (labels_of w) w.work (at_seat n) ≡ false) → is_left w ≡ false
 none_left w legal none =
     none_passes (λ (l : Label). has_left (labels_of w) w.work l.at) (labels_of w)
-    (All-weaker (λ (l : Label). (l.at.device < w.config.devices) × (l.at.queue < 8) × (0 < length l.ops)) (λ (l : Label). has_left (labels_of w) w.work l.at ≡ false) (λ l there. here l.at there.0 there.1) (labels_of w)
+    (All-weaker (λ (l : Label). (l.at.device < w.config.devices) × (l.at.queue < QUEUES) × (0 < length l.ops)) (λ (l : Label). has_left (labels_of w) w.work l.at ≡ false) (λ l there. here l.at there.0 there.1) (labels_of w)
     (labels_there w.config w.history w.counts legal.accepted))
   where
-    here : (at : QueueAt) → at.device < w.config.devices → at.queue < 8 → has_left (labels_of w) w.work at ≡ false
+    here : (at : QueueAt) → at.device < w.config.devices → at.queue < QUEUES → has_left (labels_of w) w.work at ≡ false
     here at device low =
         let same : at_seat (seat at) ≡ at = same_queue_is (at_seat (seat at)) at (one_seat (at_seat (seat at)) at (omega arith) low (omega arith)) in
         subst (λ q. has_left (labels_of w) w.work q ≡ false) same (none (seat at) (omega (arith, device, low)))

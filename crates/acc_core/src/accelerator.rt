@@ -22,7 +22,7 @@ ghost use Rattle.acc_present.specs.Presences.{presences, holder};
 ghost use Rattle.acc_present.specs.Tables.{entry_presence};
 
 use crate::queue::{Queue, queues_of};
-use acc_base::{BlockId, Config, DeviceId, Fault, HostId, QUEUES, QueueAt, QueueCounts, Range};
+use acc_base::{BlockId, Config, DeviceId, Fault, HostId, QueueAt, QueueCounts, Range};
 use acc_batch::Page;
 use acc_host::{Engine, Reply};
 use acc_place::{Directive, Place, Placed};
@@ -265,7 +265,7 @@ impl Accelerator {
     {
         self.begin_closing();
         let mut remaining = 0u32;
-        for index in 0..u16::from(self.config().devices()) * u16::from(QUEUES) {
+        for index in 0..self.config().queue_count() {
             if !self.close_queue(QueueAt::at_seat(index)) {
                 remaining += 1;
             }
@@ -326,7 +326,7 @@ impl Accelerator {
         ensures enabled { IsTrue result → SomeEnabled self.now }
     {
         let _ = &self.work;
-        for index in 0..u16::from(self.config().devices()) * u16::from(QUEUES) {
+        for index in 0..self.config().queue_count() {
             if self.is_left(QueueAt::at_seat(index)) {
                 return true;
             }

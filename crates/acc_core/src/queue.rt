@@ -1,11 +1,11 @@
 //! The batches that a queue holds.
 
-ghost use Rattle.std.specs.Prelude.{◌≡◌, ◌*◌, ◌<◌, [], ◌∷◌, List, All, length, IfOk, IfErr, IfSome, IfNone};
-ghost use Rattle.acc_base.specs.declared.ids.TheConstants.{QUEUES};
+ghost use Rattle.std.specs.Prelude.{◌≡◌, ◌<◌, [], ◌∷◌, List, All, length, IfOk, IfErr, IfSome, IfNone};
+ghost use Rattle.acc_base.specs.Queues.{queue_count};
 ghost use Rattle.acc_batch.specs.declared.label.Label.{Label};
 ghost use Rattle.acc_core.specs.inner.Queues.{IsEmptyQueue, queue_pushed, queue_in};
 
-use acc_base::{Config, DeviceId, Fault, QUEUES, QueueAt, QueueId};
+use acc_base::{Config, DeviceId, Fault, QueueAt, QueueId};
 use acc_batch::Batch;
 use std::alloc::Global;
 use std::collections::VecDeque;
@@ -77,12 +77,12 @@ impl Queue {
 ///
 /// `Memory` where memory is refused.
 pub(crate) fn queues_of(alloc: Global, config: &Config) -> Result<Vec<Queue>, Fault>
-    ensures count { IfOk result (λ queues. length queues.items ≡ config.now.devices * QUEUES) }
+    ensures count { IfOk result (λ queues. length queues.items ≡ queue_count config.now) }
     ensures empty { IfOk result (λ queues. All (IsEmptyQueue config.now.room) queues.items) }
     ensures fault { IfErr result (λ fault. fault ≡ Fault.Memory) }
 {
     let mut queues = Vec::new(alloc);
-    for _ in 0..u16::from(config.devices()) * u16::from(QUEUES) {
+    for _ in 0..config.queue_count() {
         queues.push(Queue::new(alloc, config.room() as usize)?)?;
     }
     Ok(queues)

@@ -5,7 +5,7 @@ use Rattle.acc_host.specs.declared.state.HostState.TheVariants as state
 use Rattle.acc_host.specs.Engines.{Gave, Had}
 use Rattle.acc_host.specs.worked.Hosts.{answered, counts_of, asked, sync_create, writes_and_creates, waiting, QuestionsAreAnswered, SynchronousIsSeen, DefaultStays}
 use Rattle.acc_host.specs.Following.{Follows}
-use Rattle.acc_host.specs.Steps.{nothing_owed, owes_seen}
+use Rattle.acc_host.specs.Steps.{alone, nothing_owed, owes_seen}
 
 pub questions_follow : QuestionsAreAnswered
 questions_follow = (
@@ -67,7 +67,7 @@ questions_follow = (
   refl,
 )
 
-some_owed : owes_seen 0 (1 ∷ 0 ∷ 0 ∷ 0 ∷ 0 ∷ 0 ∷ 0 ∷ 0 ∷ []) ≡ nothing_owed → ⊥
+some_owed : owes_seen 0 (alone 0 1) ≡ nothing_owed → ⊥
 some_owed e = cc
 
 waiting_follows : Follows 1 writes_and_creates (state.Running 1) waiting

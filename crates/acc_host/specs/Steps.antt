@@ -1,10 +1,9 @@
 -- What a host does for a statement: the ids that it sets, what it asks of its engine, and what it owes after a directive.
 use Rattle.std.specs.Prelude.{ℕ, ℤ, zero, suc, pos, negsuc, Bool, true, false, ◌==◌, nat_lt, List, map, Option, Some, None, Result, Ok, Err, if◌then◌else◌}
-use Rattle.std.specs.List.{list_all}
 use Rattle.acc_base.specs.declared.fault.Fault.{Fault}
 use Rattle.acc_base.specs.declared.fault.Fault.TheVariants.{BadDevice, BadAsync}
 use Rattle.acc_base.specs.declared.ids.QueueAt.{QueueAt}
-use Rattle.acc_base.specs.Queues.{every_queue}
+use Rattle.acc_base.specs.Queues.{every_queue, is_nothing}
 use Rattle.acc_place.specs.Directives.{Directive}
 use Rattle.acc_place.specs.declared.directive.Kind.{Kind}
 use Rattle.acc_place.specs.declared.directive.Kind.TheVariants as kind
@@ -51,9 +50,6 @@ pub data Owed : Type 0 where
   nothing_owed : Owed
   owes_seen : ℕ → List ℕ → Owed
   owes_test : ℕ → List ℕ → Owed
-
-abbrev pub is_nothing : List ℕ → Bool
-is_nothing ns = list_all (λ n. n == 0) ns
 
 -- the counts of one batch alone
 abbrev pub alone : ℕ → ℕ → List ℕ

@@ -6,13 +6,13 @@ ghost use Rattle.acc_base.specs.declared.fault.Fault.TheVariants.{BadAsync};
 ghost use Rattle.acc_host.specs.Engines.{Record, Keeps, MayRecord};
 ghost use Rattle.acc_host.specs.Hosts.{bare, wants_at, Asks, Adds, bare_act, IsSet, owing, after_item};
 ghost use Rattle.acc_host.specs.declared.program.Act.TheVariants.{SetDevice, SetAsync};
-ghost use Rattle.acc_host.specs.Steps.{wanted, set_by, set_or_refuse, ids_after, owed_batch, owed_by, is_nothing, is_async, set_default, records, awaits};
+ghost use Rattle.acc_host.specs.Steps.{wanted, set_by, set_or_refuse, ids_after, owed_batch, owed_by, is_async, set_default, records, awaits};
 ghost use Rattle.acc_work.specs.declared.item.Shown.{Shown};
 
 use crate::engine::Engine;
 use crate::program::{Act, Statement};
 use crate::state::{After, Awaited, Ids, Phase};
-use acc_base::{DeviceId, Fault, HostId, QUEUES, QueueCounts, QueueId};
+use acc_base::{DeviceId, Fault, HostId, QUEUES, QueueCounts, QueueId, is_nothing};
 use acc_place::{ASYNC_NOVAL, Directive, Kind, Placed};
 use acc_work::Item;
 use std::alloc::Global;
@@ -34,13 +34,6 @@ fn owed_batch(placed: Placed) -> After
         }
         _ => After::Ended,
     }
-}
-
-// Whether no batch is counted.
-fn is_nothing(counts: &QueueCounts) -> bool
-    ensures { result ≡ is_nothing counts.now }
-{
-    counts.iter().all(|count| *count == 0)
 }
 
 /// What a host owes after a directive that was answered so: nothing more, or that it waits, or asks.

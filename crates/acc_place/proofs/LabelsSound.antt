@@ -8,6 +8,7 @@ use Rattle.std.proofs.lemmas.List.{append_assoc, append-nil}
 use Rattle.std.proofs.lemmas.List.Elements.{All-nil, All-cons, All-head, All-tail, All-append, filter-append, Contains-push_cases, Contains-append_left, Contains-append_right}
 use Rattle.std.proofs.lemmas.Grind.{flat_map-append}
 use Rattle.acc_base.specs.declared.ids.QueueAt.{QueueAt}
+use Rattle.acc_base.specs.declared.ids.TheConstants.{QUEUES}
 use Rattle.acc_base.specs.declared.range.Range.{Range}
 use Rattle.acc_base.specs.Configurations.{Configuration}
 use Rattle.acc_base.proofs.Members.{no_member, member_first, member_rest, member_cases}
@@ -204,7 +205,7 @@ label_is st host items_done walk known ordered =
     (none_awaits (runs walk ms) (all_visits ms walk) (run_each walk.runs _ _))
 
 -- one more walk leaves the labels sound
-pub sound_more : (config : Configuration) (st : Standing) (host items_done : ℕ) (d : Directive) (walk : Walk) → Sound config st → AllInArrays config.arrays (asks_of walk) → walk.queue < 8
+pub sound_more : (config : Configuration) (st : Standing) (host items_done : ℕ) (d : Directive) (walk : Walk) → Sound config st → AllInArrays config.arrays (asks_of walk) → walk.queue < QUEUES
     → Sound config (after_walk st host items_done d walk)
 sound_more config st host items_done d walk h inside low =
     let b = behaves config st walk h inside in
@@ -241,7 +242,7 @@ closed_ops config st at d h = elim (cases_Bool (at.device == d)) [
 ]
 
 -- One more close leaves the labels sound.
-pub sound_close : (config : Configuration) (st : Standing) (at : QueueAt) → Sound config st → at.queue < 8 → Sound config (after_close st at)
+pub sound_close : (config : Configuration) (st : Standing) (at : QueueAt) → Sound config st → at.queue < QUEUES → Sound config (after_close st at)
 sound_close config st at h low = record {
   use_live = λ d. (closed_ops config st at d h).0;
   booked = λ d. (closed_ops config st at d h).1;
@@ -253,23 +254,23 @@ sound_close config st at h low = record {
 }
 
 -- each queue that a directive names is one of its device
-own_low : (v : ℤ) → or_sync (queue_of_own v) < 8
+own_low : (v : ℤ) → or_sync (queue_of_own v) < QUEUES
 own_low (pos v) = omega arith
 own_low (negsuc zero) = omega arith
 own_low (negsuc (suc zero)) = omega arith
 own_low (negsuc (suc (suc n))) = omega arith
 
-queue_low : (default v : ℤ) → or_sync (queue_of default v) < 8
+queue_low : (default v : ℤ) → or_sync (queue_of default v) < QUEUES
 queue_low default (negsuc zero) = own_low default
 queue_low default (pos v) = own_low (pos v)
 queue_low default (negsuc (suc n)) = own_low (negsuc (suc n))
 
-target_low : (default : ℤ) (t : Target) → or_sync (target_queue default t) < 8
+target_low : (default : ℤ) (t : Target) → or_sync (target_queue default t) < QUEUES
 target_low default Plain = omega arith
 target_low default Unvalued = own_low default
 target_low default (Value v) = queue_low default v
 
-pub by_kind_low : (k : Kind) (d : Directive) → queue_by k d < 8
+pub by_kind_low : (k : Kind) (d : Directive) → queue_by k d < QUEUES
 by_kind_low kind.EndData d = omega arith
 by_kind_low kind.Data d = target_low d.default d.target
 by_kind_low kind.EnterData d = target_low d.default d.target
@@ -280,7 +281,7 @@ by_kind_low kind.Wait d = target_low d.default d.target
 by_kind_low kind.AsyncTest d = target_low d.default d.target
 by_kind_low kind.IsPresent d = target_low d.default d.target
 
-pub walk_low : (st : Standing) (host : ℕ) (d : Directive) → (walk_of st host d).queue < 8
+pub walk_low : (st : Standing) (host : ℕ) (d : Directive) → (walk_of st host d).queue < QUEUES
 unfolding walk_of
 walk_low st host d = by_kind_low d.kind d
 

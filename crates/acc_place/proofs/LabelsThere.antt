@@ -5,6 +5,7 @@ use Rattle.std.proofs.lemmas.Bool.{cases_Bool}
 use Rattle.std.proofs.lemmas.List.Elements.{All-nil, All-cons, All-head, All-tail, All-filter, All-push}
 use Rattle.acc_base.specs.declared.ids.QueueAt.{QueueAt}
 use Rattle.acc_base.specs.Configurations.{Configuration}
+use Rattle.acc_base.specs.declared.ids.TheConstants.{QUEUES}
 use Rattle.acc_batch.specs.declared.label.Label.{Label}
 use Rattle.acc_batch.specs.declared.label.OpLabel.{OpLabel}
 use Rattle.acc_batch.specs.declared.label.OpLabel.TheVariants.{Close}
@@ -23,7 +24,7 @@ use Rattle.acc_place.proofs.InArrays.{accepted_fits}
 use Rattle.acc_place.proofs.LabelsSound.{walk_low}
 
 abbrev IsThere : ℕ → Label → Type 0
-IsThere devices l = (l.at.device < devices) × (l.at.queue < 8) × (0 < length l.ops)
+IsThere devices l = (l.at.device < devices) × (l.at.queue < QUEUES) × (0 < length l.ops)
 
 abbrev IsIn : ℕ → Region → Type 0
 IsIn devices r = r.device < devices
@@ -70,7 +71,7 @@ regions_in devices host d kind.Wait rs h low = h
 regions_in devices host d kind.AsyncTest rs h low = h
 regions_in devices host d kind.IsPresent rs h low = h
 
-labels_in : (devices : ℕ) (at : QueueAt) (host items_done : ℕ) (labels : List Label) (ops : List OpLabel) → All (IsThere devices) labels → at.device < devices → at.queue < 8 → All (IsThere devices) (labels_with at host items_done labels ops)
+labels_in : (devices : ℕ) (at : QueueAt) (host items_done : ℕ) (labels : List Label) (ops : List OpLabel) → All (IsThere devices) labels → at.device < devices → at.queue < QUEUES → All (IsThere devices) (labels_with at host items_done labels ops)
 labels_in devices at host items_done labels [] h device queue = h
 labels_in devices at host items_done labels (op ∷ ops) h device queue = All-push (IsThere devices) labels _ h (device, queue, omega arith)
 

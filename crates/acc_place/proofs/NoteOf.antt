@@ -1,11 +1,13 @@
 -- The note of a block, where one more label is placed.
-use Rattle.std.proofs.Common.{inl, inr, ◌≡◌, ℕ, zero, suc, ◌<◌, ◌≤◌, Bool, true, false, cond, List, [], ◌∷◌, ◌++◌, map, refl, sym, ap, subst, ◌∙◌, arith, Option, Some, None}
-use Rattle.std.specs.Prelude.{All, Contains, filter, max, ◌&&◌, ◌==◌, slice_set, slice_index_or}
+use Rattle.std.proofs.Common.{inl, inr, ◌≡◌, ℕ, ◌<◌, ◌≤◌, Bool, true, false, cond, List, [], ◌∷◌, ◌++◌, map, refl, sym, ap, subst, ◌∙◌, arith, Option, Some, None}
+use Rattle.std.specs.Prelude.{All, Contains, filter, max, ◌&&◌, ◌==◌}
 use Rattle.std.specs.List.{find}
 use Rattle.std.proofs.lemmas.Bool.{cases_Bool, or_parts, and_parts, and_from, eq-eqb, eqb-true, ne_eqb}
 use Rattle.std.proofs.lemmas.List.{append-nil}
 use Rattle.std.proofs.lemmas.List.Elements.{All-head, All-tail, All-filter, filter-append}
+use Rattle.acc_base.proofs.EachQueue.{at_queue, none_each, set_queue}
 use Rattle.acc_base.proofs.Members.{member_first, member_rest, member_filter}
+use Rattle.acc_base.specs.declared.ids.TheConstants.{QUEUES}
 use Rattle.acc_batch.proofs.OrderedBatches.{last_least, filter_member}
 use Rattle.acc_base.specs.declared.ids.QueueAt.{QueueAt}
 use Rattle.acc_base.specs.Queues.{every_queue, same_queue}
@@ -75,18 +77,6 @@ use_after labels l b q next passes_it = elim (cases_Bool (q == l.at.queue)) [
     by_queue : (k : ℕ) → k ≡ l.at.queue → last_use l.at.device (labels ++ l ∷ []) b k ≡ l.number
     by_queue k e = rw e (ap (last_number (touches_block b)) (on_same labels l) ∙ last_passes (touches_block b) (on_queue l.at labels) l passes_it next.highest)
 
--- a list of one number for each queue, with one of them set
-set_each : (f g : ℕ → ℕ) (q n : ℕ) → q < 8 → ((k : ℕ) → g k ≡ cond (k == q) n (f k)) → map g every_queue ≡ slice_set (map f every_queue) q n
-set_each f g zero n low h = rw (h 0, h 1, h 2, h 3, h 4, h 5, h 6, h 7) refl
-set_each f g (suc zero) n low h = rw (h 0, h 1, h 2, h 3, h 4, h 5, h 6, h 7) refl
-set_each f g (suc (suc zero)) n low h = rw (h 0, h 1, h 2, h 3, h 4, h 5, h 6, h 7) refl
-set_each f g (suc (suc (suc zero))) n low h = rw (h 0, h 1, h 2, h 3, h 4, h 5, h 6, h 7) refl
-set_each f g (suc (suc (suc (suc zero)))) n low h = rw (h 0, h 1, h 2, h 3, h 4, h 5, h 6, h 7) refl
-set_each f g (suc (suc (suc (suc (suc zero))))) n low h = rw (h 0, h 1, h 2, h 3, h 4, h 5, h 6, h 7) refl
-set_each f g (suc (suc (suc (suc (suc (suc zero)))))) n low h = rw (h 0, h 1, h 2, h 3, h 4, h 5, h 6, h 7) refl
-set_each f g (suc (suc (suc (suc (suc (suc (suc zero))))))) n low h = rw (h 0, h 1, h 2, h 3, h 4, h 5, h 6, h 7) refl
-set_each f g (suc (suc (suc (suc (suc (suc (suc (suc q)))))))) n low h = absurd (omega (arith, low))
-
 -- the first that passes, where one more stands behind
 find_push : (test : Label → Bool) (ls : List Label) (l : Label) → test l ≡ false → find test (ls ++ l ∷ []) ≡ find test ls
 find_push test [] l fails = rw fails refl
@@ -126,7 +116,7 @@ pub notes_follow : NotesFollow
 unfolding note_of
 notes_follow labels l b next =
     let d = l.at.device in
-    let uses = λ (passes_it : touches_block b l ≡ true). set_each (last_use d labels b) (last_use d (labels ++ l ∷ []) b) l.at.queue l.number next.queue (λ q. use_after labels l b q next passes_it) in (
+    let uses = λ (passes_it : touches_block b l ≡ true). set_queue (last_use d labels b) (last_use d (labels ++ l ∷ []) b) l.at.queue l.number next.queue (λ q. use_after labels l b q next passes_it) in (
       (λ none made.
           let found : maker_in d b (labels ++ l ∷ []) ≡ Some l = find_new (λ (k : Label). (k.at.device == d) && makes_block b k) labels l none (and_from (l.at.device == d) (makes_block b l) (eq-eqb d d refl) made) in
           rw (found, uses (touches_made b l made)) refl),
@@ -219,17 +209,6 @@ last_made device labels b q one = by_maker (maker_in device b labels) refl
         some_is : (x y : Label) → Some x ≡ Some y → x ≡ y
         some_is x y h = cc
 
-at_queue : (f : ℕ → ℕ) (q : ℕ) → q < 8 → slice_index_or (map f every_queue) q 0 ≡ f q
-at_queue f zero h = refl
-at_queue f (suc zero) h = refl
-at_queue f (suc (suc zero)) h = refl
-at_queue f (suc (suc (suc zero))) h = refl
-at_queue f (suc (suc (suc (suc zero)))) h = refl
-at_queue f (suc (suc (suc (suc (suc zero))))) h = refl
-at_queue f (suc (suc (suc (suc (suc (suc zero)))))) h = refl
-at_queue f (suc (suc (suc (suc (suc (suc (suc zero))))))) h = refl
-at_queue f (suc (suc (suc (suc (suc (suc (suc (suc n)))))))) h = absurd (omega (arith, h))
-
 made_all : (device : ℕ) (labels : List Label) (q : ℕ) (used : List ℕ) → ((b : ℕ) → Contains used b → HasOneMaker device labels b)
     → map (λ b. last_number (makes_block b) (on_queue (record { device = device; queue = q }) labels)) used ≡ map (made_at q) (map (note_of device labels) used)
 unfolding note_of
@@ -237,7 +216,7 @@ made_all device labels q [] one = refl
 made_all device labels q (b ∷ used) one =
     rw (last_made device labels b q (one b (member_first b used)), made_all device labels q used (λ k c. one k (member_rest k b used c))) refl
 
-used_all : (device : ℕ) (labels : List Label) (q : ℕ) (blocks : List ℕ) → q < 8
+used_all : (device : ℕ) (labels : List Label) (q : ℕ) (blocks : List ℕ) → q < QUEUES
     → map (λ b. last_number (touches_block b) (on_queue (record { device = device; queue = q }) labels)) blocks ≡ map (used_at q) (map (note_of device labels) blocks)
 unfolding note_of
 used_all device labels q [] low = refl
@@ -252,7 +231,7 @@ notes_tell device labels named used released q low one =
 -- a block that no label of the device touches has no note
 pub note_fresh : (device : ℕ) (labels : List Label) (b : ℕ) → ((m : Label) → Contains labels m → m.at.device ≡ device → touches_block b m ≡ false) → note_of device labels b ≡ no_note
 unfolding note_of
-note_fresh device labels b none = rw (find_none labels (λ m c. c), unused 0, unused 1, unused 2, unused 3, unused 4, unused 5, unused 6, unused 7) refl
+note_fresh device labels b none = rw (find_none labels (λ m c. c), none_each (last_use device labels b) unused) refl
   where
     test : Label → Bool
     test l = (l.at.device == device) && makes_block b l

@@ -1,6 +1,6 @@
 -- The notes of a device, where the walk of an accepted directive is planned and accepted: what it awaits, what is noted of
 -- it, and which blocks have no note.
-use Rattle.std.proofs.Common.{inl, inr, ◌≡◌, ℕ, ◌<◌, ◌≤◌, Bool, true, false, List, [], ◌∷◌, length, map, refl, sym, ap, ◌∙◌, arith}
+use Rattle.std.proofs.Common.{inl, inr, ◌≡◌, ℕ, zero, suc, ◌+◌, ◌<◌, ◌≤◌, Bool, true, false, List, [], ◌∷◌, ◌++◌, length, map, refl, sym, ap, ◌∙◌, arith}
 use Rattle.std.specs.Prelude.{All, Contains, max, ◌==◌}
 use Rattle.std.specs.List.{flat_map}
 use Rattle.std.proofs.lemmas.Bool.{eq-eqb, ne_eqb}
@@ -9,11 +9,12 @@ use Rattle.acc_base.specs.declared.ids.TheConstants.{QUEUES}
 use Rattle.acc_base.specs.declared.ids.QueueAt.{QueueAt}
 use Rattle.acc_base.specs.declared.range.Range.{Range}
 use Rattle.acc_base.specs.Configurations.{Configuration}
-use Rattle.acc_base.specs.Queues.{every_queue}
+use Rattle.acc_base.specs.Queues.{every_queue, numbers_from}
+use Rattle.acc_base.proofs.EachQueue.{same_each}
 use Rattle.acc_base.proofs.Members.{member_first, member_rest}
 use Rattle.acc_batch.specs.declared.label.Label.{Label}
 use Rattle.acc_batch.specs.declared.label.OpLabel.{OpLabel}
-use Rattle.acc_batch.specs.Awaits.{number_awaited, with_awaits, behind_awaits}
+use Rattle.acc_batch.specs.Awaits.{await_of, number_awaited, with_awaits, behind_awaits}
 use Rattle.acc_batch.specs.Labels.{used_blocks, released_blocks, has_number, greatest}
 use Rattle.acc_present.specs.Lifetimes.{Lifetime, opened_lifetimes}
 use Rattle.acc_present.specs.Marks.{Mark}
@@ -57,13 +58,17 @@ numbers_are config st walk w q low =
     let tell = notes_tell walk.device st.labels (has_number walk.waits q) (flat_map used_blocks ops) (flat_map released_blocks ops) q low (λ b c. one_maker config.arrays [] walk.device st.labels b (w.sound.use_live walk.device)) in
     rw (ap greatest first, ap greatest second) (sym tell)
 
+awaits_flat : (own : ℕ) (f : ℕ → ℕ) (first count : ℕ) → awaits_from own first (map f (numbers_from first count)) ≡ flat_map (λ q. await_of own q (f q)) (numbers_from first count)
+awaits_flat own f first zero = refl
+awaits_flat own f first (suc count) = ap (λ ops. await_of own first (f first) ++ ops) (awaits_flat own f (first + 1) count)
+
 -- the operations behind these numbers' awaits, where they are those that a walk awaits
 awaits_are : (alone : Bool) (named : List ℕ) (own : QueueAt) (labels : List Label) (ops : List OpLabel) (numbers : ℕ → ℕ)
     → ((q : ℕ) → q < QUEUES → numbers q ≡ number_awaited named own labels (flat_map used_blocks ops) (flat_map released_blocks ops) q)
     → with_awaits alone (awaits_from own.queue 0 (map numbers every_queue)) ops ≡ behind_awaits alone named own labels ops
 awaits_are alone named own labels ops numbers h =
-    ap (λ before. with_awaits alone before ops)
-    (rw (h 0 (omega arith), h 1 (omega arith), h 2 (omega arith), h 3 (omega arith), h 4 (omega arith), h 5 (omega arith), h 6 (omega arith), h 7 (omega arith)) refl)
+    let awaited = number_awaited named own labels (flat_map used_blocks ops) (flat_map released_blocks ops) in
+    ap (λ before. with_awaits alone before ops) (ap (awaits_from own.queue 0) (same_each numbers awaited h) ∙ awaits_flat own.queue awaited 0 QUEUES)
 
 -- So its batch is its operations behind the awaits of these numbers.
 pub batch_planned : (config : Configuration) (st : Standing) (walk : Walk) → IsWalked config st walk → (numbers : ℕ → ℕ)

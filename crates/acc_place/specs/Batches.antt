@@ -3,6 +3,7 @@
 use Rattle.std.specs.Prelude.{ℕ, ◌+◌, Bool, true, false, not, nat_lt, List, [], ◌∷◌, ◌++◌, length, map, filter, Option, Some, None, replicate, if◌then◌else◌, ◌==◌}
 use Rattle.std.specs.List.{flat_map, list_all}
 use Rattle.acc_base.specs.declared.ids.QueueAt.{QueueAt}
+use Rattle.acc_base.specs.declared.ids.TheConstants.{QUEUES}
 use Rattle.acc_base.specs.declared.range.Range.{Range}
 use Rattle.acc_base.specs.Queues.{every_queue}
 use Rattle.acc_kernel.specs.Jobs.{Use}
@@ -149,7 +150,7 @@ count_of labels device named q = if has_number named q then length (on_queue (re
 
 abbrev pub counts_by : Bool → List Label → ℕ → List ℕ → List ℕ
 counts_by true labels device named = map (count_of labels device named) every_queue
-counts_by false labels device named = replicate 8 0
+counts_by false labels device named = replicate QUEUES 0
 
 -- The answer to a directive that is accepted.
 unfoldable pub answer_of : Standing → Directive → Walk → Placed

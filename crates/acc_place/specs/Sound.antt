@@ -2,6 +2,7 @@
 use Rattle.std.specs.Prelude.{◌≡◌, ℕ, ◌<◌, Bool, true, false, List, [], ◌∷◌, length, All}
 use Rattle.acc_base.specs.Configurations.{Configuration}
 use Rattle.acc_base.specs.declared.ids.QueueAt.{QueueAt}
+use Rattle.acc_base.specs.declared.ids.TheConstants.{QUEUES}
 use Rattle.acc_batch.specs.declared.label.Label.{Label}
 use Rattle.acc_batch.specs.declared.label.OpLabel.{OpLabel}
 use Rattle.acc_batch.specs.declared.label.OpLabel.TheVariants.{Close}
@@ -20,7 +21,7 @@ AcceptedAreSound =
 abbrev pub AcceptedAreThere : Type 0
 AcceptedAreThere =
     (config : Configuration) (history : List PlaceEntry) (counts : List ℕ) → AllAccepted config history counts
-    → All (λ (l : Label). (l.at.device < config.devices) × (l.at.queue < 8) × (0 < length l.ops)) (standing config history counts).labels
+    → All (λ (l : Label). (l.at.device < config.devices) × (l.at.queue < QUEUES) × (0 < length l.ops)) (standing config history counts).labels
 
 abbrev pub is_close : OpLabel → Bool
 is_close Close = true

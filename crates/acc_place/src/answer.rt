@@ -1,6 +1,6 @@
 //! What was answered to a directive, as the place keeps it: most answers take two words, and the others a place of their own.
 
-ghost use Rattle.std.specs.Prelude.{All, ◌≡◌, ◌<◌, IfOk, IfErr};
+ghost use Rattle.std.specs.Prelude.{All, ◌≡◌, ◌<◌, IfOk, IfErr, IfSome};
 ghost use Rattle.std.specs.Option.{option_map};
 ghost use Rattle.acc_base.specs.declared.fault.Fault.TheVariants.{Memory};
 ghost use Rattle.acc_place.specs.Batches.{counts_queues, is_answered};
@@ -13,7 +13,7 @@ use crate::directive::{DataItem, Directive, Kind, Placed};
 use crate::judge::Known;
 use crate::labels::Labels;
 use crate::targets::queue_by;
-use acc_base::{Boxed, DeviceId, Fault, QUEUES, QueueAt, QueueCounts, QueueId};
+use acc_base::{Boxed, DeviceId, Fault, QUEUES, QueueAt, QueueCounts, QueueId, is_nothing};
 use acc_batch::Label;
 use acc_present::Table;
 use std::alloc::Global;
@@ -86,20 +86,34 @@ fn form_of(alloc: Global, placed: Placed) -> Result<Form, Fault>
     ensures form { IfOk result (λ form. placed_of form ≡ placed) }
     ensures fault { IfErr result (λ f. f ≡ Memory) }
 {
-    match placed {
-        Placed {
-            batch: None,
-            counts: [0, 0, 0, 0, 0, 0, 0, 0],
-            present,
-        } => Ok(Form::Plain { present }),
-        Placed {
-            batch: Some((at, number)),
-            counts: [0, 0, 0, 0, 0, 0, 0, 0],
-            present: false,
-        } => Ok(Form::Batch { at, number }),
-        _ => {
+    match short_form(&placed) {
+        Some(form) => Ok(form),
+        None => {
             let placed = Boxed::new(alloc, placed)?;
             Ok(Form::Whole { placed })
+        }
+    }
+}
+
+// How an answer is held that needs no memory of its own.
+fn short_form(placed: &Placed) -> Option<Form>
+    ensures { IfSome result (λ form. placed_of form ≡ placed.now) }
+{
+    if !is_nothing(&placed.counts) {
+        return None;
+    }
+    match &placed.batch {
+        None => Some(Form::Plain {
+            present: placed.present,
+        }),
+        Some((at, number)) => {
+            if placed.present {
+                return None;
+            }
+            Some(Form::Batch {
+                at: *at,
+                number: *number,
+            })
         }
     }
 }

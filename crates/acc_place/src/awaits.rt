@@ -27,19 +27,14 @@ use acc_present::Table;
 pub(crate) fn named_counts(labels: &Labels, device: DeviceId, directive: &Directive) -> QueueCounts
     ensures { result ≡ map (named_count labels.now.queues device (queues_named directive.now)) every_queue }
 {
+    let mut counts = [0; QUEUES as usize];
     if matches!(directive.waits(), Waits::Nothing) {
-        return [0; QUEUES as usize];
+        return counts;
     }
-    [
-        named_count(labels, device, directive, 0),
-        named_count(labels, device, directive, 1),
-        named_count(labels, device, directive, 2),
-        named_count(labels, device, directive, 3),
-        named_count(labels, device, directive, 4),
-        named_count(labels, device, directive, 5),
-        named_count(labels, device, directive, 6),
-        named_count(labels, device, directive, 7),
-    ]
+    for queue in 0..QUEUES {
+        counts[usize::from(queue)] = named_count(labels, device, directive, queue);
+    }
+    counts
 }
 
 fn named_count(labels: &Labels, device: DeviceId, directive: &Directive, queue: u8) -> u64
@@ -247,16 +242,9 @@ fn raise(numbers: &mut QueueCounts, queue: QueueId, number: u64)
 fn raise_all(numbers: &mut QueueCounts, others: &QueueCounts)
     ensures { Raises numbers.old (λ q. slice_index_or others.now q 0) numbers.new }
 {
-    *numbers = [
-        greater(numbers[0], others[0]),
-        greater(numbers[1], others[1]),
-        greater(numbers[2], others[2]),
-        greater(numbers[3], others[3]),
-        greater(numbers[4], others[4]),
-        greater(numbers[5], others[5]),
-        greater(numbers[6], others[6]),
-        greater(numbers[7], others[7]),
-    ];
+    for queue in 0..usize::from(QUEUES) {
+        numbers[queue] = greater(numbers[queue], others[queue]);
+    }
 }
 
 fn greater(a: u64, b: u64) -> u64

@@ -3,12 +3,11 @@
 ghost use Rattle.std.specs.Prelude.{◌≡◌, ◌<◌, length, IfOk, IfErr};
 ghost use Rattle.acc_base.specs.declared.fault.Fault.TheVariants.{Memory};
 ghost use Rattle.acc_base.specs.declared.ids.QueueAt.{QueueAt};
-ghost use Rattle.acc_base.specs.declared.ids.TheConstants.{QUEUES};
 ghost use Rattle.acc_base.specs.Queues.{queue_count, seat};
 ghost use Rattle.acc_place.specs.Histories.{IsQueue};
 ghost use Rattle.acc_place.specs.inner.Places.{close_in, new_close};
 
-use acc_base::{Config, Fault, Few, HostId, QUEUES, QueueAt, Shared};
+use acc_base::{Config, Fault, Few, HostId, QueueAt, Shared};
 use acc_batch::{Batch, Label, OpLabel};
 use std::alloc::Global;
 
@@ -53,7 +52,7 @@ pub(crate) fn closes_of(alloc: Global, config: &Config) -> Result<Vec<Close>, Fa
     ensures fault { IfErr result (λ f. f ≡ Memory) }
 {
     let mut closes = Vec::new(alloc);
-    for index in 0..u16::from(config.devices()) * u16::from(QUEUES) {
+    for index in 0..config.queue_count() {
         closes.push(Close::new(alloc, QueueAt::at_seat(index))?)?;
     }
     Ok(closes)

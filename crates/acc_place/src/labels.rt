@@ -1,12 +1,12 @@
 //! The labels of the batches on each queue of each device.
 
-ghost use Rattle.std.specs.Prelude.{ℕ, All, ◌≡◌, ◌*◌, ◌<◌, ◌≤◌, ◌++◌, [], ◌∷◌, length, slice_index_or, slice_set, IfOk, IfErr, OnOk, OnErr};
+ghost use Rattle.std.specs.Prelude.{ℕ, All, ◌≡◌, ◌<◌, ◌≤◌, ◌++◌, [], ◌∷◌, length, slice_index_or, slice_set, IfOk, IfErr, OnOk, OnErr};
 ghost use Rattle.acc_base.specs.declared.fault.Fault.TheVariants.{Memory};
 ghost use Rattle.acc_base.specs.declared.ids.TheConstants.{QUEUES};
-ghost use Rattle.acc_base.specs.Queues.{seat};
+ghost use Rattle.acc_base.specs.Queues.{queue_count, seat};
 ghost use Rattle.acc_place.specs.inner.Places.{queue_in};
 
-use acc_base::{Fault, QUEUES, QueueAt};
+use acc_base::{Config, Fault, QUEUES, QueueAt};
 use acc_batch::Label;
 use std::alloc::Global;
 use std::marker::Model;
@@ -34,18 +34,18 @@ impl Model for Labels {
 }
 
 impl Labels {
-    /// No labels, for so many devices.
+    /// No labels of a run's queues.
     ///
     /// # Errors
     ///
     /// `Memory` where memory is refused.
-    pub(crate) fn new(alloc: Global, devices: u8) -> Result<Self, Fault>
-        ensures count { IfOk result (λ w. length w.queues ≡ devices * QUEUES) }
+    pub(crate) fn new(alloc: Global, config: &Config) -> Result<Self, Fault>
+        ensures count { IfOk result (λ w. length w.queues ≡ queue_count config.now) }
         ensures none { IfOk result (λ w. All (λ labels. labels ≡ []) w.queues) }
         ensures fault { IfErr result (λ fault. fault ≡ Memory) }
     {
         let mut queues = Vec::new(alloc);
-        for _ in 0..u16::from(devices) * u16::from(QUEUES) {
+        for _ in 0..config.queue_count() {
             queues.push(Vec::with_capacity(alloc, 1)?)?;
         }
         Ok(Labels { queues })

@@ -95,7 +95,7 @@ impl Place {
         ensures fault { IfErr result (λ fault. fault ≡ Memory) }
     {
         let devices = devices_of(alloc, &config)?;
-        let labels = Labels::new(alloc, config.devices())?;
+        let labels = Labels::new(alloc, &config)?;
         let closes = closes_of(alloc, &config)?;
         let history = Vec::with_capacity(alloc, closes.len() + 1)?;
         let trial = Trial::new(alloc)?;

@@ -68,7 +68,7 @@ pub(crate) fn waits_on_too_many(waits: &Waits) -> bool
     }
 }
 
-/// Whether a directive waits for this queue, one of the first eight (2.16.2, wait clause).
+/// Whether a directive waits for this queue, one that each device has (2.16.2, wait clause).
 pub(crate) fn names_queue(directive: &Directive, queue: QueueId) -> bool
     requires { queue < QUEUES }
     ensures { result ≡ has_number (queues_named directive.now) queue }
@@ -134,5 +134,5 @@ fn queue_of_value(value: i64) -> Option<QueueId>
     if value < 0 {
         return None;
     }
-    Some(QueueId::new((value % 6) as u8 + 2))
+    Some(QueueId::of_value(value as u64))
 }

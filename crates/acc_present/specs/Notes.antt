@@ -1,5 +1,6 @@
 -- What a table keeps beside the counters: which batches made and used the block of a present range.
 use Rattle.std.specs.Prelude.{◌≡◌, ℕ, List, All, slice_set, replicate, if◌then◌else◌}
+use Rattle.acc_base.specs.declared.ids.TheConstants.{QUEUES}
 use Rattle.acc_base.specs.declared.range.Range.{Range}
 use Rattle.acc_base.specs.Ranges.{range_contains}
 use Rattle.acc_present.specs.declared.table.Entry.{Entry}
@@ -15,7 +16,7 @@ pub record Note : Type 0 where
 
 -- no batch made or used it yet
 abbrev pub no_note : Note
-no_note = record { queue = 0; number = 0; uses = replicate 8 0 }
+no_note = record { queue = 0; number = 0; uses = replicate QUEUES 0 }
 
 abbrev pub entry_note : Entry → Note
 entry_note e = record { queue = e.maker.0; number = e.maker.1; uses = e.uses }

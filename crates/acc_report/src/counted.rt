@@ -8,7 +8,7 @@ ghost use Rattle.acc_report.specs.inner.Counting.{AreCounted, IsCounted, counted
 ghost use Rattle.acc_work.specs.Logs.{performed};
 
 use crate::run::Run;
-use acc_base::{Fault, QUEUES, QueueAt};
+use acc_base::{Config, Fault, QUEUES, QueueAt};
 use acc_batch::OpLabel;
 use acc_host::Discarded;
 use acc_work::{WorkEntry, WorkLog};
@@ -30,48 +30,48 @@ pub(crate) fn count_run(alloc: Global, run: &Run) -> Result<Counted, Fault>
     ensures counted { IfOk result (λ counted. IsCounted (left_after run.now) counted) }
     ensures fault { IfErr result (λ f. f ≡ Memory) }
 {
-    let devices = run.place.config().devices();
-    let performed = count_performed(alloc, devices, run.works)?;
-    let discarded = count_discarded(alloc, devices, run.discarded)?;
+    let config = run.place.config();
+    let performed = count_performed(alloc, config, run.works)?;
+    let discarded = count_discarded(alloc, config, run.discarded)?;
     Ok(Counted {
         performed,
         discarded,
     })
 }
 
-// How many operations each queue of so many devices has performed.
+// How many operations each queue has performed.
 #[tactic(auto, using(crate::proofs::CountedQueues::entry_counted))]
-fn count_performed(alloc: Global, devices: u8, works: &WorkLog) -> Result<Vec<u64>, Fault>
-    ensures counted { IfOk result (λ counts. AreCounted devices (λ at. performed at (reverse works.now.items)) counts.items) }
+fn count_performed(alloc: Global, config: &Config, works: &WorkLog) -> Result<Vec<u64>, Fault>
+    ensures counted { IfOk result (λ counts. AreCounted config.now.devices (λ at. performed at (reverse works.now.items)) counts.items) }
     ensures fault { IfErr result (λ f. f ≡ Memory) }
 {
-    let mut counts = no_counts(alloc, devices)?;
+    let mut counts = no_counts(alloc, config)?;
     for entry in works.iter() {
         count_entry(counts.as_mut_slice(), entry)?;
     }
     Ok(counts)
 }
 
-// How many of the operations of each queue of so many devices were discarded.
+// How many of the operations of each queue were discarded.
 #[tactic(auto, using(crate::proofs::CountedQueues::discard_counted))]
-fn count_discarded(alloc: Global, devices: u8, list: &[Discarded]) -> Result<Vec<u64>, Fault>
-    ensures counted { IfOk result (λ counts. AreCounted devices (λ at. discarded_on at list.now) counts.items) }
+fn count_discarded(alloc: Global, config: &Config, list: &[Discarded]) -> Result<Vec<u64>, Fault>
+    ensures counted { IfOk result (λ counts. AreCounted config.now.devices (λ at. discarded_on at list.now) counts.items) }
     ensures fault { IfErr result (λ f. f ≡ Memory) }
 {
-    let mut counts = no_counts(alloc, devices)?;
+    let mut counts = no_counts(alloc, config)?;
     for entry in list {
         count(counts.as_mut_slice(), &entry.at, &entry.what)?;
     }
     Ok(counts)
 }
 
-// No operation of each queue of so many devices.
-fn no_counts(alloc: Global, devices: u8) -> Result<Vec<u64>, Fault>
-    ensures counted { IfOk result (λ counts. AreCounted devices (λ at. []) counts.items) }
+// No operation of each queue.
+fn no_counts(alloc: Global, config: &Config) -> Result<Vec<u64>, Fault>
+    ensures counted { IfOk result (λ counts. AreCounted config.now.devices (λ at. []) counts.items) }
     ensures fault { IfErr result (λ f. f ≡ Memory) }
 {
     let mut counts = Vec::new(alloc);
-    counts.resize(usize::from(devices) * usize::from(QUEUES), 0u64)?;
+    counts.resize(usize::from(config.queue_count()), 0u64)?;
     Ok(counts)
 }
 

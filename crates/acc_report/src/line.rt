@@ -8,7 +8,7 @@ ghost use Rattle.acc_report.specs.Puts.{Puts, sink};
 
 use crate::bytes::{put, put_number};
 use crate::page::{PAGE, add, add_number, add_spaced, hand_on};
-use acc_base::{DeviceId, Fault, QueueAt, QueueId};
+use acc_base::{DeviceId, FIRST_VALUE, Fault, QueueAt, QueueId};
 use acc_batch::ValuesIter;
 use acc_host::HostState;
 use acc_present::Entry;
@@ -143,13 +143,13 @@ fn put_discarded<W: Write>(out: &mut W, failed: &mut bool, count: u64)
     }
 }
 
-// The queue of an async value is two behind that value.
+// The queue of an async value stands so far behind that value as the first of them.
 fn put_queue_name<W: Write>(out: &mut W, failed: &mut bool, queue: QueueId)
     ensures { Puts (sink (W.contents out.old) failed.old) (sink (W.contents out.new) failed.new) (queue_name queue) }
 {
     match queue.number() {
         0 => put(out, failed, b"sync"),
         1 => put(out, failed, b"noval"),
-        number => put_number(out, failed, number - 2),
+        number => put_number(out, failed, number - FIRST_VALUE),
     }
 }

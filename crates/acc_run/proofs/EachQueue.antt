@@ -41,7 +41,7 @@ there_or_not config at = elim (cases_lt at.device config.devices) [
 -- ## A queue that isn't there has no batch
 
 abbrev IsThere : Configuration → Label → Type 0
-IsThere config l = (l.at.device < config.devices) × (l.at.queue < 8) × (0 < length l.ops)
+IsThere config l = (l.at.device < config.devices) × (l.at.queue < QUEUES) × (0 < length l.ops)
 
 none_on : (config : Configuration) (at : QueueAt) (labels : List Label) → (IsQueue config at → ⊥) → All (IsThere config) labels → on_queue at labels ≡ []
 none_on config at [] absent h = refl

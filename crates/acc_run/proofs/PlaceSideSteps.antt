@@ -100,7 +100,7 @@ is_planned p q b fits all is =
     let parts = label_parts (walk_at walk) (next_number (walk_at walk) st.labels) q.host q.items_done (batch_of st walk) b (sym fits.labelled ∙ is) in
     let labels : (standing_in (place_after p q)).labels ≡ st.labels ++ b ∷ [] = labels_after p q fits ∙ ap (λ l. st.labels ++ option_to_list l) is in
     let all_there = labels_there p.config (place_after p q).history (place_after p q).counts (fits.accepted, all) in
-    let Q = λ (l : Label). (l.at.device < p.config.devices) × (l.at.queue < 8) × (0 < length l.ops) in
+    let Q = λ (l : Label). (l.at.device < p.config.devices) × (l.at.queue < QUEUES) × (0 < length l.ops) in
     let last = All-head Q b [] (All-behind Q st.labels (b ∷ []) (rw labels at all_there)) in
     record { at = parts.0; host = parts.1; filled = parts.2; there = (last.0, last.1) }
 

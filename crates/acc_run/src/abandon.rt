@@ -12,7 +12,7 @@ use crate::finish::{Sides, SidesRefused, are_of_one_run, outcome_of};
 use crate::place_side::PlaceSide;
 use crate::token::HostToken;
 use crate::work_side::WorkSide;
-use acc_base::{Config, Fault, QUEUES, QueueAt};
+use acc_base::{Config, Fault, QueueAt};
 use acc_batch::{Label, OpLabel};
 use acc_host::{Discarded, Outcome};
 use std::alloc::Global;
@@ -84,7 +84,7 @@ fn list_all(
     ensures fault { IfErr result (λ f. f ≡ Memory) }
 {
     let mut list = Vec::new(alloc);
-    for index in 0..u16::from(config.devices()) * u16::from(QUEUES) {
+    for index in 0..config.queue_count() {
         list_queue(&mut list, place, work, QueueAt::at_seat(index))?;
     }
     Ok(list)

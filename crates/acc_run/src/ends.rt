@@ -4,7 +4,7 @@ ghost use Rattle.std.specs.Prelude.{◌≡◌, IfOk, IfErr};
 ghost use Rattle.acc_base.specs.declared.fault.Fault.TheVariants.{Memory};
 ghost use Rattle.acc_run.specs.WorkSides.{AreEnds};
 
-use acc_base::{Config, Fault, QUEUES, QueueAt};
+use acc_base::{Config, Fault, QueueAt};
 use acc_queue::{Activity, Sender, Taker};
 use std::alloc::Global;
 
@@ -20,7 +20,7 @@ pub(crate) fn ends_of(alloc: Global, config: &Config) -> Result<(Vec<Sender>, Ve
     config.keeps();
     let mut senders = Vec::new(alloc);
     let mut takers = Vec::new(alloc);
-    for index in 0..u16::from(config.devices()) * u16::from(QUEUES) {
+    for index in 0..config.queue_count() {
         let (sender, taker) = Activity::new(alloc, QueueAt::at_seat(index), config.room())?;
         senders.push(sender)?;
         takers.push(taker)?;

@@ -7,7 +7,7 @@ use crate::agreement::all_agree;
 use crate::place_side::PlaceSide;
 use crate::token::HostToken;
 use crate::work_side::WorkSide;
-use acc_base::{Config, Fault, QUEUES, QueueAt};
+use acc_base::{Config, Fault, QueueAt};
 use acc_host::Outcome;
 
 /// What both locks of a runtime hold.
@@ -120,7 +120,7 @@ pub(crate) fn are_of_one_run(
 fn all_ended(config: &Config, work: &WorkSide) -> bool
     ensures { IsTrue result ↔ AllEnded config.now work.now }
 {
-    for index in 0..u16::from(config.devices()) * u16::from(QUEUES) {
+    for index in 0..config.queue_count() {
         if !work.is_closed(QueueAt::at_seat(index)) {
             return false;
         }
@@ -132,7 +132,7 @@ fn all_ended(config: &Config, work: &WorkSide) -> bool
 fn all_took_first(config: &Config, place: &PlaceSide, work: &WorkSide) -> bool
     ensures { IsTrue result ↔ AllTookFirst config.now place.now work.now }
 {
-    for index in 0..u16::from(config.devices()) * u16::from(QUEUES) {
+    for index in 0..config.queue_count() {
         if !took_first(place, work, QueueAt::at_seat(index)) {
             return false;
         }

@@ -1,9 +1,10 @@
 //! What the place lock holds: a place, and the end of each queue that sends.
 
-ghost use Rattle.std.specs.Prelude.{ℕ, ◌≡◌, ◌<◌, IfOk, IfErr, IfSome, OnOk, OnErr, true, []};
+ghost use Rattle.std.specs.Prelude.{ℕ, ◌≡◌, ◌*◌, ◌<◌, IfOk, IfErr, IfSome, OnOk, OnErr, true, []};
 ghost use Rattle.acc_base.specs.declared.fault.Fault.TheVariants.{Memory, QueueFull};
 ghost use Rattle.acc_base.specs.declared.config.TheConstants.{MAX_HOSTS};
 ghost use Rattle.acc_base.specs.declared.ids.QueueAt.{QueueAt};
+ghost use Rattle.acc_base.specs.declared.ids.TheConstants.{QUEUES};
 ghost use Rattle.acc_place.specs.Histories.{AllAccepted, IsQueue, is_closed};
 ghost use Rattle.acc_base.specs.Queues.{queue_count};
 ghost use Rattle.acc_place.specs.Closing.{left_open, place_after_begin};
@@ -12,7 +13,7 @@ ghost use Rattle.acc_queue.specs.Tied.{WasHeld};
 ghost use Rattle.acc_run.specs.PlaceSides.{CanSend, ClosesOne, HasClosed, HasPlaced, HasRefused, IsHeld, IsSent, lines_sent, lines_with};
 ghost use Rattle.acc_run.specs.WorkSides.{AreEnds, line_in};
 
-use acc_base::{Config, Fault, HostId, QUEUES, QueueAt};
+use acc_base::{Config, Fault, HostId, QueueAt};
 use acc_batch::Batch;
 use acc_place::{Directive, Place, Placed, Plan};
 use acc_queue::Sender;
@@ -129,9 +130,8 @@ impl PlaceSide {
         ensures left { result ≡ left_open (standing_in self.new.place) (queue_count self.new.place.config) }
     {
         self.begin_closing();
-        let devices = self.devices();
         let mut remaining = 0u32;
-        for index in 0..u16::from(devices) * u16::from(QUEUES) {
+        for index in 0..self.queue_count() {
             if !self.close_queue(rt, QueueAt::at_seat(index)) {
                 remaining += 1;
             }
@@ -155,11 +155,12 @@ impl PlaceSide {
         self.place.close_begin();
     }
 
-    // How many devices there are.
-    fn devices(&self) -> u8
-        ensures { result ≡ self.now.place.config.devices }
+    // How many queues all devices have.
+    fn queue_count(&self) -> u16
+        ensures count { result ≡ queue_count self.now.place.config }
+        ensures few { result < 256 * QUEUES }
     {
-        self.place.config().devices()
+        self.place.config().queue_count()
     }
 
     // Closes a queue, if it isn't closed and there is room, and answers whether it is closed then.

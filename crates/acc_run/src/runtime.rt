@@ -1,7 +1,8 @@
 //! Two locks: directives are placed under one, performed and told under the other.
 
-ghost use Rattle.acc_base.specs.declared.config.TheConstants.{MAX_HOSTS};
-ghost use Rattle.std.specs.Prelude.{◌<◌, ◌≤◌, ◌≡◌, ◌⊎◌, ◌++◌, ◌∷◌, [], IfOk, IfErr, OnErr, false, length};
+ghost use Rattle.acc_base.specs.declared.config.TheConstants.{MAX_DEVICES, MAX_HOSTS};
+ghost use Rattle.acc_base.specs.declared.ids.TheConstants.{QUEUES};
+ghost use Rattle.std.specs.Prelude.{◌<◌, ◌≤◌, ◌≡◌, ◌*◌, ◌⊎◌, ◌++◌, ◌∷◌, [], IfOk, IfErr, OnErr, false, length};
 ghost use Rattle.acc_base.specs.declared.fault.Fault.TheVariants.{BadRange, HostsDiffer, Memory, TooMany, Unfinished};
 ghost use Rattle.acc_host.specs.Engines.{MayRecord};
 ghost use Rattle.acc_run.specs.Calling.{IsAnswerTo};
@@ -21,7 +22,7 @@ use crate::place_side::PlaceSide;
 use crate::token::HostToken;
 use crate::work_side::WorkSide;
 use crate::workers::Crew;
-use acc_base::{Config, DeviceId, Fault, HostId, QUEUES, QueueAt, QueueCounts};
+use acc_base::{Config, DeviceId, Fault, HostId, QueueAt, QueueCounts};
 use acc_host::Outcome;
 use acc_kernel::Job;
 use acc_place::{Directive, Placed};
@@ -268,10 +269,10 @@ impl Runtime {
 
     // How many queues all devices have.
     pub(crate) fn queues(&self) -> u16
-        ensures few { result ≤ 32 }
+        ensures few { result ≤ MAX_DEVICES * QUEUES }
     {
         self.config.keeps();
-        u16::from(self.config.devices()) * u16::from(QUEUES)
+        self.config.queue_count()
     }
 
     // Each worker is woken that sleeps.
@@ -504,7 +505,7 @@ fn parkers_of(alloc: Global, config: &Config) -> Result<Vec<Parker>, Fault>
     ensures { IfErr result (λ f. f ≡ Memory) }
 {
     let mut parkers = Vec::new(alloc);
-    for _ in 0..u16::from(config.devices()) * u16::from(QUEUES) {
+    for _ in 0..config.queue_count() {
         parkers.push(Parker::new())?;
     }
     Ok(parkers)

@@ -4,6 +4,7 @@ use Rattle.std.proofs.lemmas.List.{append-nil, flat_map_more, length-map, map-id
 use native.Mathlib.Nat.{mul-suc, mul_comm}
 use Rattle.std.proofs.lemmas.List.FromFn.{map-range_with_len_more, length-range_with_len}
 use Rattle.std.specs.List.{flat_map, range_with_len}
+use Rattle.acc_base.specs.declared.ids.TheConstants.{QUEUES}
 use Rattle.acc_host.specs.declared.event.Event.{Event}
 use Rattle.acc_host.specs.declared.event.Event.TheVariants.{Host}
 use Rattle.acc_schedule.specs.Schedules.{repeated, device_turn, turn_of}
@@ -41,13 +42,13 @@ repeated-next turn n = repeated-more turn n 1 ∙ ap (λ es. repeated n turn ++ 
 
 -- ## How many
 
-length-devices : (ds : List ℕ) → length (flat_map device_turn ds) ≡ 16 * length ds
+length-devices : (ds : List ℕ) → length (flat_map device_turn ds) ≡ 2 * QUEUES * length ds
 length-devices [] = refl
 length-devices (d ∷ ds) =
-    let one : length (device_turn d) ≡ 16 = refl in
+    let one : length (device_turn d) ≡ 2 * QUEUES = refl in
     length-append (device_turn d) (flat_map device_turn ds) ∙ omega (arith, one, length-devices ds)
 
-pub round_length : (hosts devices : ℕ) → length (turn_of hosts devices) ≡ hosts + 16 * devices
+pub round_length : (hosts devices : ℕ) → length (turn_of hosts devices) ≡ hosts + 2 * QUEUES * devices
 round_length hosts devices =
     length-append (map (λ h. Host h) (range_with_len 0 hosts)) (flat_map device_turn (range_with_len 0 devices))
     ∙ omega (arith, length-map (range_with_len 0 hosts) (λ h. Host h), length-devices (range_with_len 0 devices), length-range_with_len 0 hosts, length-range_with_len 0 devices)

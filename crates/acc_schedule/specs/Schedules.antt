@@ -1,8 +1,9 @@
 -- The events of a schedule: line by line, each a few words.
-use Rattle.std.specs.Prelude.{ℕ, zero, suc, ◌+◌, ◌-◌, Bool, true, false, ◌&&◌, ◌||◌, not, ◌==◌, nat_lt, List, [], ◌∷◌, ◌++◌, length, map, filter, Option, Some, None, option_map, Result, Ok, Err, codes, bytes_eq, if◌then◌else◌}
+use Rattle.std.specs.Prelude.{ℕ, zero, suc, ◌+◌, Bool, true, false, ◌&&◌, ◌||◌, not, ◌==◌, nat_lt, List, [], ◌∷◌, ◌++◌, length, map, filter, Option, Some, None, option_map, Result, Ok, Err, codes, bytes_eq, if◌then◌else◌}
 use Rattle.std.specs.List.{flat_map, list_all, range_with_len, slice_split}
 use Rattle.acc_base.specs.declared.ids.QueueAt.{QueueAt}
-use Rattle.acc_base.specs.Queues.{every_queue}
+use Rattle.acc_base.specs.declared.ids.TheConstants.{VALUES}
+use Rattle.acc_base.specs.Queues.{every_queue, noval, queue_of_value, sync}
 use Rattle.acc_host.specs.declared.event.Event.{Event}
 use Rattle.acc_host.specs.declared.event.Event.TheVariants.{Host, Take, Perform, Close}
 use Rattle.acc_token.specs.declared.read_fault.ReadFault.{ReadFault}
@@ -63,17 +64,15 @@ number_below count word = if nat_lt (value_behind 0 word) count then Some (value
 abbrev pub host_named : ℕ → List ℕ → Option Event
 host_named hosts k = option_map (λ h. Host h) (number_below hosts k)
 
--- the queue of an async value, `0` to `5`
+-- the queue of an async value: one for each below the number of queues that such values share
 abbrev pub async_queue : List ℕ → Option ℕ
-async_queue [] = None
-async_queue (b ∷ []) = if nat_lt 47 b && nat_lt b 54 then Some (b - 46) else None
-async_queue (b ∷ c ∷ bs) = None
+async_queue word = if is_number word then option_map queue_of_value (number_below VALUES word) else None
 
 -- the queue that a word stands for, by its number
 abbrev pub queue_of : List ℕ → Option ℕ
 queue_of q =
-    if bytes_eq q (codes "sync") then Some 0
-    else (if bytes_eq q (codes "noval") then Some 1
+    if bytes_eq q (codes "sync") then Some sync
+    else (if bytes_eq q (codes "noval") then Some noval
     else async_queue q)
 
 abbrev pub queue_on : Option ℕ → Option ℕ → Option QueueAt

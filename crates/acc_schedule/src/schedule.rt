@@ -1,16 +1,17 @@
 //! Schedules.
 
-ghost use Rattle.std.specs.Prelude.{◌≡◌, ℕ, ◌+◌, ◌^◌, ◌<◌, ◌≤◌, ◌==◌, not, [], ◌∷◌, ◌++◌, length, map, option_map, List, Ok, IfOk, IfErr, IfSome, MatchOption, if◌then◌else◌};
+ghost use Rattle.std.specs.Prelude.{◌≡◌, ℕ, ◌+◌, ◌*◌, ◌^◌, ◌<◌, ◌≤◌, ◌==◌, not, [], ◌∷◌, ◌++◌, length, map, option_map, List, Ok, IfOk, IfErr, IfSome, MatchOption, if◌then◌else◌};
 ghost use Rattle.std.specs.List.{flat_map, list_all, prefix_len, range_with_len};
 ghost use Rattle.acc_host.specs.declared.event.Event.{Event};
 ghost use Rattle.acc_host.specs.declared.event.Event.TheVariants.{Host, Take, Perform};
 ghost use Rattle.acc_token.specs.Faults.{Gives};
 ghost use Rattle.acc_token.specs.declared.read_fault.ReadError.TheVariants.{Memory};
+ghost use Rattle.acc_base.specs.declared.ids.TheConstants.{QUEUES};
 ghost use Rattle.acc_token.specs.declared.text.TheConstants.{MAX_TEXT};
 ghost use Rattle.acc_schedule.specs.Schedules.{lines, is_space, words, with_first, is_skipped, is_plain, is_number, number_below, host_named, async_queue, queue_of, queue_named, repeated, queue_turn, device_turn, turn_of, one_turn, times_of, asked_turn, times_word, host_events, queue_events, close_events, round_events, events_by, line_events, joined_events, events_behind, schedule_of, turn_events, kept_events, all_events, turn_read, line_read};
 ghost use Rattle.acc_token.specs.Tokens.{is_digit};
 
-use acc_base::{DeviceId, HostId, QUEUES, QueueAt, QueueId};
+use acc_base::{DeviceId, HostId, QUEUES, QueueAt, QueueId, VALUES};
 use acc_host::Event;
 use acc_token::{ReadError, ReadFault, ReadKind, check_length, is, line_len, value_of};
 use std::alloc::Global;
@@ -193,10 +194,11 @@ fn host_named(word: &[u8], hosts: u8) -> Option<Event>
 fn async_queue(word: &[u8]) -> Option<u8>
     ensures { result ≡ async_queue word.now }
 {
-    match word {
-        [digit] if 47 < *digit && *digit < 54 => Some(*digit - 46),
-        _ => None,
+    if !is_number(word) {
+        return None;
     }
+    let value = number_below(word, VALUES)?;
+    Some(QueueId::of_value(u64::from(value)).number())
 }
 
 // The queue that a word stands for.
@@ -431,7 +433,7 @@ fn round_of(alloc: Global, hosts: u8, devices: u8) -> Result<Vec<Event>, ReadErr
 #[tactic(auto, using(crate::proofs::RepeatedTurns::round_length))]
 fn turn_len(turn: Turn, hosts: u8, devices: u8) -> u64
     ensures value { result ≡ length (turn_events (turn_of hosts devices) turn) }
-    ensures few { result < 8192 }
+    ensures few { result < 512 * (QUEUES + 1) }
 {
     match turn {
         Turn::One(_) => 1,

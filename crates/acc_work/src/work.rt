@@ -2,7 +2,7 @@
 
 ghost use Rattle.std.specs.Prelude.{ℕ, ℤ, ◌≡◌, ◌+◌, ◌*◌, ◌<◌, ◌≤◌, ◌==◌, nat_le, All, [], ◌∷◌, length, drop, vec_capacity, ◌++◌, ◌&&◌, is_some, IfOk, IfErr, IfSome, OnSome, IfNone, OnOk, OnErr, IsTrue, ◌↔◌, true, false, Bool, Some, reverse, ◌^◌};
 ghost use Rattle.std.specs.Option.{option_map};
-ghost use Rattle.acc_base.specs.Queues.{seat};
+ghost use Rattle.acc_base.specs.Queues.{queue_count, seat};
 ghost use Rattle.acc_base.specs.Configurations.{has_range};
 ghost use Rattle.acc_base.specs.declared.config.TheConstants.{MAX_HOSTS};
 ghost use Rattle.acc_base.specs.declared.ids.QueueAt.{QueueAt};
@@ -95,7 +95,7 @@ impl Work {
         config.keeps();
         let memory = Memory::new(alloc, config)?;
         let log = Log::new(alloc)?;
-        let lanes = lanes_of(alloc, config.devices())?;
+        let lanes = lanes_of(alloc, config)?;
         let opening = Snapshot::of(config);
         Ok(Work {
             opening,
@@ -558,14 +558,14 @@ impl Work {
     }
 }
 
-// So many lanes as there are queues of so many devices, of which none took a batch.
-fn lanes_of(alloc: Global, devices: u8) -> Result<Vec<Lane>, Fault>
-    ensures count { IfOk result (λ lanes. length lanes.items ≡ devices * QUEUES) }
+// So many lanes as there are queues, of which none took a batch.
+fn lanes_of(alloc: Global, config: &Config) -> Result<Vec<Lane>, Fault>
+    ensures count { IfOk result (λ lanes. length lanes.items ≡ queue_count config.now) }
     ensures fresh { IfOk result (λ lanes. All IsFresh lanes.items) }
     ensures fault { IfErr result (λ f. f ≡ Fault.Memory) }
 {
     let mut lanes = Vec::new(alloc);
-    for _ in 0..u16::from(devices) * u16::from(QUEUES) {
+    for _ in 0..config.queue_count() {
         lanes.push(Lane::new(alloc))?;
     }
     Ok(lanes)

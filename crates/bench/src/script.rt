@@ -1,7 +1,7 @@
 //! A host's statements beside the events that run them, one directive after another, so that no
 //! event is idle.
 
-use acc_base::{DeviceId, Fault, Few, HostId, Listed, QueueAt, QueueId, Range};
+use acc_base::{DeviceId, FIRST_VALUE, Fault, Few, HostId, Listed, QueueAt, QueueId, Range};
 use acc_core::{Act, DataItem, Directive, Event, Kind, Statement, Target, Waits, Written};
 use std::alloc::Global;
 
@@ -10,11 +10,11 @@ pub(crate) fn sync() -> QueueAt {
     QueueAt::sync(DeviceId::new(0))
 }
 
-/// The queue of an async value from 0 to 5.
+/// The queue of an async value.
 pub(crate) fn queue_of(device: u8, value: u8) -> QueueAt {
     QueueAt {
         device: DeviceId::new(device),
-        queue: QueueId::new(value.wrapping_add(2)),
+        queue: QueueId::of_value(u64::from(value)),
     }
 }
 
@@ -66,7 +66,7 @@ impl Script {
         waits: Waits,
         operations: u32,
     ) -> Result<(), Fault> {
-        let value = i64::from(at.queue.number()) - 2;
+        let value = i64::from(at.queue.number()) - i64::from(FIRST_VALUE);
         self.add_directive(kind, items, Target::Value { value }, waits)?;
         self.perform(at, operations)
     }

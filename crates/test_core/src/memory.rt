@@ -1,12 +1,15 @@
 //! Worlds in which memory is refused to one event and not to the next, worlds that get enough
 //! at last, and worlds that are dropped wherever they stand; no clause can tell how much there is.
 
+ghost use Rattle.std.specs.Prelude.{◌<◌};
+ghost use Rattle.acc_base.specs.declared.ids.TheConstants.{QUEUES};
+
 use crate::checks::{
     FINISHED, check_last_print, check_present, check_same, check_states, check_steps, entries,
     refused,
 };
 use crate::worlds::{ROOM, host, on, queue, reply_to, turns, world_of};
-use acc_base::{Config, Fault, HostId, Range};
+use acc_base::{Config, Fault, HostId, QUEUES, QueueCounts, Range};
 use acc_core::{Counts, Event, HostState, Outcome, Reply, World};
 use std::alloc::{AllocError, Global};
 use std::process::Abort;
@@ -232,16 +235,25 @@ fn memory_is_refused_to_a_new_world(rt: HostRuntime) -> Result<(), Fail> {
     Ok(())
 }
 
+// A count of one queue, and none of the others.
+fn counts_on(queue: u8, count: u64) -> QueueCounts
+    requires { queue < QUEUES }
+{
+    let mut counts = [0; QUEUES as usize];
+    counts[usize::from(queue)] = count;
+    counts
+}
+
 /// The first queue's number takes no memory.
 #[test]
 fn counts_are_refused_until_there_is_memory(rt: HostRuntime) -> Result<(), Fail> {
     let alloc = rt.alloc();
     let cases = [
-        ([0; 8], false),
-        ([u64::MAX, 0, 0, 0, 0, 0, 0, 0], false),
-        ([0, 1, 0, 0, 0, 0, 0, 0], true),
-        ([0, 0, 0, 0, 0, 0, 0, 1], true),
-        ([1, 2, 3, 4, 5, 6, 7, u64::MAX], true),
+        (counts_on(0, 0), false),
+        (counts_on(0, u64::MAX), false),
+        (counts_on(1, 1), true),
+        (counts_on(QUEUES - 1, 1), true),
+        ([u64::MAX; QUEUES as usize], true),
     ];
     for (numbers, is_refused) in &cases {
         let (refusals, counts) = at_each_amount(alloc, || Counts::new(alloc, *numbers))?;

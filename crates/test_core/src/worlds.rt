@@ -52,9 +52,12 @@ pub fn queue(device: u8, number: u8) -> QueueAt {
     }
 }
 
-// The queue of the first device for an async value from 0 to 5.
+// The queue of the first device for an async value.
 pub fn on(value: u8) -> QueueAt {
-    queue(0, value.wrapping_add(2))
+    QueueAt {
+        device: DeviceId::new(0),
+        queue: QueueId::of_value(u64::from(value)),
+    }
 }
 
 pub fn host(number: u8) -> Event {

@@ -1,7 +1,7 @@
 //! Configurations at each limit and one beyond it, in numbers, where a contract has names.
 
 use crate::fixtures::check_same;
-use acc_base::{Config, DeviceId, Fault, HostId, QueueAt, QueueId};
+use acc_base::{Config, DeviceId, Fault, HostId, QUEUES, QueueAt, QueueId};
 use std::alloc::{AllocError, Global};
 use std::process::Abort;
 use std::test::Fail;
@@ -74,9 +74,9 @@ fn check_names(rt: &impl Abort, config: &Config) {
     assert!(rt; !config.has_device(DeviceId::new(2)));
     assert!(rt; config.has_host(HostId::new(2)));
     assert!(rt; !config.has_host(HostId::new(3)));
-    assert!(rt; config.has_queue(queue_at(1, 7)));
-    assert!(rt; !config.has_queue(queue_at(1, 8)));
-    assert!(rt; !config.has_queue(queue_at(2, 7)));
+    assert!(rt; config.has_queue(queue_at(1, QUEUES - 1)));
+    assert!(rt; !config.has_queue(queue_at(1, QUEUES)));
+    assert!(rt; !config.has_queue(queue_at(2, QUEUES - 1)));
 }
 
 #[test]

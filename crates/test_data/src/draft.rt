@@ -5,7 +5,7 @@ ghost use Rattle.std.specs.Prelude.{◌≡◌, ◌+◌, ◌<◌, ◌≤◌, leng
 ghost use Rattle.acc_present.specs.Drafts.{IsDraft};
 
 use crate::fixtures::{CELLS, cells, check_same, entered_into};
-use acc_base::{BlockId, Fault, QueueId, Range};
+use acc_base::{BlockId, Fault, QUEUES, QueueId, Range};
 use acc_present::{Counter, Draft, Entered, Entry, Left, Look, Table};
 use std::process::Abort;
 use std::test::Fail;
@@ -64,7 +64,7 @@ fn entry(range: Range, block: u64, d: u64) -> Look {
         s: 0,
         d,
         maker: (QueueId::SYNC, 0),
-        uses: [0; 8],
+        uses: [0; QUEUES as usize],
     })
 }
 

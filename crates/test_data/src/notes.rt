@@ -4,9 +4,12 @@
 ghost use Rattle.std.specs.Prelude.{◌<◌};
 
 use crate::fixtures::{CELLS, cells, entered_into};
-use acc_base::{QueueCounts, QueueId, Range};
+use acc_base::{QUEUES, QueueCounts, QueueId, Range};
 use acc_present::{Look, Table};
 use std::test::Fail;
+
+/// No batch used a block.
+const NONE: QueueCounts = [0; QUEUES as usize];
 
 // The queue and the number of the batch that made the block of a range, and the last batches that used it.
 fn noted(table: &Table, range: Range) -> Option<((QueueId, u64), QueueCounts)>
@@ -23,7 +26,7 @@ fn noted(table: &Table, range: Range) -> Option<((QueueId, u64), QueueCounts)>
 
 #[test]
 fn batches_are_noted_at_the_range_that_contains_theirs(rt: HostRuntime) -> Result<(), Fail> {
-    let none = Some(((QueueId::SYNC, 0), [0; 8]));
+    let none = Some(((QueueId::SYNC, 0), NONE));
     let first = cells(0, 4);
     let second = cells(4, 2);
     let mut table = Table::new(rt.alloc(), CELLS);
@@ -38,12 +41,14 @@ fn batches_are_noted_at_the_range_that_contains_theirs(rt: HostRuntime) -> Resul
     // absent, and partly present
     table.note_use(cells(6, 1), QueueId::SYNC, 3);
     table.note_make(cells(3, 2), QueueId::SYNC, 3);
-    let made = Some(((QueueId::new(2), 5), [0, 0, 5, 0, 0, 0, 0, 11]));
+    let mut uses = NONE;
+    uses[2] = 5;
+    uses[7] = 11;
+    let made = Some(((QueueId::new(2), 5), uses));
     assert_eq!(rt; noted(&table, cells(2, 1)), made);
-    assert_eq!(rt;
-        noted(&table, second),
-        Some(((QueueId::SYNC, 0), [1, 0, 0, 0, 0, 0, 0, 0]))
-    );
+    let mut uses = NONE;
+    uses[0] = 1;
+    assert_eq!(rt; noted(&table, second), Some(((QueueId::SYNC, 0), uses)));
 
     // counting keeps the notes, and a new lifetime has none
     let _ = entered_into(&rt, &mut table, first, 9);

@@ -5,13 +5,14 @@ ghost use Rattle.std.specs.Prelude.{◌≡◌};
 use crate::fixtures::{check_labels, check_same, directive_with, place_with};
 use crate::tables::Cells::{self, A};
 use crate::tables::{Deed, Named, Word};
-use acc_base::{DeviceId, Fault, HostId, QUEUES, QueueAt, QueueCounts, QueueId};
+use acc_base::{DeviceId, Fault, HostId, QUEUES, QueueAt, QueueCounts, QueueId, VALUES};
 use acc_batch::Label;
 use acc_place::Clause::{Create, Delete};
 use acc_place::{ASYNC_NOVAL, Clause, Place, Target};
 use std::alloc::{AllocError, Global};
 use std::process::Abort;
 use std::test::Fail;
+use tool_directives::counts_of;
 use tool_scarce::Hoard;
 
 // A queue of a device.
@@ -54,11 +55,14 @@ fn give(
     Ok(())
 }
 
-// A place of two devices, with batches on queue 3 of the first, and on queue 7 of the second.
+/// The async value of a device's last queue.
+const LAST: i64 = VALUES as i64 - 1;
+
+// A place of two devices, with batches on queue 3 of the first, and on the last queue of the second.
 fn place_with_batches(alloc: Global) -> Result<Box<Place>, Fault> {
     const ENTERS: &[(Clause, Cells)] = &[(Create, A(2, 3)), (Create, A(6, 1))];
     const EXITS: &[(Clause, Cells)] = &[(Delete, A(2, 3)), (Delete, A(6, 1))];
-    const TURNS: &[(u8, i64)] = &[(0, 1), (0, 1), (1, 5)];
+    const TURNS: &[(u8, i64)] = &[(0, 1), (0, 1), (1, LAST)];
     let mut place = place_with(alloc, 2, 8)?;
     for (device, value) in TURNS {
         give(alloc, &mut place, *device, *value, Word::Enter, ENTERS)?;
@@ -67,8 +71,8 @@ fn place_with_batches(alloc: Global) -> Result<Box<Place>, Fault> {
     Ok(place)
 }
 
-/// How many batches it has on each queue.
-const PLACED: [QueueCounts; 2] = [[0, 0, 0, 4, 0, 0, 0, 0], [0, 0, 0, 0, 0, 0, 0, 2]];
+/// How many batches it has, by device and queue.
+const PLACED: [(u8, u64); 2] = [(3, 4), (QUEUES - 1, 2)];
 
 // Closes a queue, at the second try, and answers whether its close was there both times.
 fn is_closed(place: &mut Place, device: u8, number: u8) -> bool {
@@ -107,7 +111,7 @@ fn check_last(rt: &impl Abort, place: &Place, device: u8, number: u8, last: u64)
 
 // So it is of each of a device's queues, behind so many others, and there is none left.
 fn check_closed(rt: &impl Abort, place: &mut Place, device: u8, counts: &QueueCounts) {
-    for number in 0..8u8 {
+    for number in 0..QUEUES {
         let last = counts[usize::from(number)].wrapping_add(1);
         check_same(rt, place.placed_count(at(device, number)), last);
         check_last(rt, place, device, number, last);
@@ -130,9 +134,11 @@ fn count_scarcely(alloc: Global, place: &mut Place) -> Result<(u32, u32), AllocE
 fn closing_takes_no_memory(rt: HostRuntime) -> Result<(), Fail> {
     let mut place = place_with_batches(rt.alloc())?;
     let counts = count_scarcely(rt.alloc(), &mut place)?;
-    check_same(&rt, counts, (8, 8));
+    let all = u32::from(QUEUES);
+    check_same(&rt, counts, (all, all));
     for device in 0..2u8 {
-        check_closed(&rt, &mut place, device, &PLACED[usize::from(device)]);
+        let placed = counts_of(&[PLACED[usize::from(device)]]);
+        check_closed(&rt, &mut place, device, &placed);
     }
     Ok(())
 }

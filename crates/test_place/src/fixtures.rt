@@ -14,7 +14,7 @@ use acc_raw::Cells as Values;
 use std::alloc::Global;
 use std::fmt::Debug;
 use std::process::Abort;
-use tool_directives::{Operation, directive_of, operation_of, performed_by, sync};
+use tool_directives::{Operation, counts_of, directive_of, operation_of, performed_by, sync};
 
 // Stops the test where the two differ. An assertion that is written out takes as long to prove as the rest of a test.
 pub fn check_same<T: PartialEq + Debug + Copy>(rt: &impl Abort, found: T, wanted: T) {
@@ -122,7 +122,7 @@ pub fn accept_each(alloc: Global, place: &mut Place, steps: &[Step]) -> Result<(
 pub fn answer(batch: Option<(QueueAt, u64)>, present: bool) -> Placed {
     Placed {
         batch,
-        counts: [0; 8],
+        counts: counts_of(&[]),
         present,
     }
 }

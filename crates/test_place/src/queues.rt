@@ -13,14 +13,14 @@ use crate::tables::Word::{
     self, Data, End, Enter, Exit, Over, Test, Update, UpdateIfPresent, Wait,
 };
 use Answer::{Counts, NoBatch, Placing};
-use acc_base::{DeviceId, Fault, HostId, QueueAt, QueueCounts};
+use acc_base::{DeviceId, Fault, HostId, QueueAt};
 use acc_batch::{Batch, Label};
 use acc_place::Clause::{self, Copyin, Copyout, Create, Delete, Present, UpdateDevice, UpdateSelf};
 use acc_place::{ASYNC_NOVAL, ASYNC_SYNC, Directive, Place, Placed, Plan, Target};
 use std::alloc::Global;
 use std::process::Abort;
 use std::test::Fail;
-use tool_directives::queue;
+use tool_directives::{counts_of, queue};
 use tool_loops::Body;
 
 /// How a directive is answered.
@@ -29,7 +29,8 @@ enum Answer {
     NoBatch,
     /// By its batch, with the queue of the directive's device and the number there.
     Placing(u8, u64),
-    Counts(QueueCounts),
+    /// By the counts of these queues.
+    Counts(&'static [(u8, u64)]),
 }
 
 /// A directive of a host, whose default async value is given, for a device; its answer, and the operations of its batch.
@@ -94,7 +95,7 @@ fn answer_of(case: &Case) -> Placed {
         Placing(number, batch) => answer(Some((queue(case.device, number), batch)), false),
         Counts(counts) => Placed {
             batch: None,
-            counts,
+            counts: counts_of(counts),
             present: false,
         },
     }
@@ -307,12 +308,12 @@ fn waits_place_their_awaits_alone(rt: HostRuntime) -> Result<(), Fail> {
         },
         Case {
             waits: OTHER,
-            answer: Counts([0; 8]),
+            answer: Counts(&[]),
             ..PLAIN
         },
         Case {
             waits: ONE,
-            answer: Counts([0, 0, 0, 1, 0, 0, 0, 0]),
+            answer: Counts(&[(3, 1)]),
             ..PLAIN
         },
         Case {
@@ -341,7 +342,7 @@ fn waits_place_their_awaits_alone(rt: HostRuntime) -> Result<(), Fail> {
         Case {
             target: Target::Value { value: ASYNC_SYNC },
             waits: All,
-            answer: Counts([0, 0, 0, 1, 2, 0, 0, 0]),
+            answer: Counts(&[(3, 1), (4, 2)]),
             ..PLAIN
         },
         Case {
@@ -395,13 +396,13 @@ fn hosts_share_the_queues_of_each_device(rt: HostRuntime) -> Result<(), Fail> {
         },
         Case {
             waits: BOTH,
-            answer: Counts([0, 0, 0, 2, 0, 0, 0, 0]),
+            answer: Counts(&[(3, 2)]),
             ..PLAIN
         },
         Case {
             device: 1,
             waits: BOTH,
-            answer: Counts([0, 0, 0, 1, 1, 0, 0, 0]),
+            answer: Counts(&[(3, 1), (4, 1)]),
             ..PLAIN
         },
         Case {
@@ -409,14 +410,14 @@ fn hosts_share_the_queues_of_each_device(rt: HostRuntime) -> Result<(), Fail> {
             device: 1,
             waits: These(&[2]),
             word: Test,
-            answer: Counts([0, 0, 0, 0, 1, 0, 0, 0]),
+            answer: Counts(&[(4, 1)]),
             ..PLAIN
         },
         Case {
             host: 1,
             waits: All,
             word: Test,
-            answer: Counts([0, 0, 0, 2, 0, 0, 0, 0]),
+            answer: Counts(&[(3, 2)]),
             ..PLAIN
         },
         Case {

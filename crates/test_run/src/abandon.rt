@@ -78,22 +78,25 @@ fn abandon(
     }
 }
 
-/// Eight batches of two operations, and eight closes: whatever passes, nothing more is performed, and nothing is lost.
+/// How many operations eight batches of two have, and a close of each queue.
+pub const ALL: usize = 16 + QUEUES as usize;
+
+/// Eight batches of two operations, and a close of each queue: whatever passes, nothing more is performed, and nothing is lost.
 #[test]
 fn what_is_performed_and_what_is_discarded_are_all(rt: HostRuntime) -> Result<(), Fail> {
     let alloc = rt.alloc();
     let mut before = 0;
-    for passes in 0..17u64 {
+    for passes in 0..u64::from(QUEUES) + 9 {
         let (runtime, tokens) = served(&rt, alloc, 8, passes)?;
         let (performed, discarded) = abandon(alloc, runtime, tokens)?;
         assert!(rt;
-            performed.wrapping_add(discarded) == 24,
+            performed.wrapping_add(discarded) == ALL,
             "{passes}: {performed}, {discarded}"
         );
         assert!(rt; passes == 0 || before < performed, "{passes}: {performed}");
         before = performed;
     }
-    assert!(rt; before == 24);
+    assert!(rt; before == ALL);
     Ok(())
 }
 
@@ -126,7 +129,8 @@ fn abandoned_later<R: Wait>(rt: &R, alloc: Global) -> Result<(usize, usize), Fau
 /// One directive was placed.
 #[test]
 fn a_run_comes_back_and_is_abandoned_later(rt: HostRuntime) -> Result<(), Fail> {
-    assert!(rt; abandoned_later(&rt, rt.alloc())? == (0, 10));
+    let all = 2 + usize::from(QUEUES);
+    assert!(rt; abandoned_later(&rt, rt.alloc())? == (0, all));
     Ok(())
 }
 
@@ -154,7 +158,7 @@ fn a_run_is_refused_until_there_is_memory_for_the_list(rt: HostRuntime) -> Resul
     let (refusals, counts) = at_each_amount(alloc, || try_abandon(alloc, &mut held))?;
     let (performed, discarded) = counts;
     assert!(rt; 1 < refusals, "{refusals}");
-    assert!(rt; performed.wrapping_add(discarded) == 24);
+    assert!(rt; performed.wrapping_add(discarded) == ALL);
     Ok(())
 }
 
@@ -163,7 +167,7 @@ fn abandon_many<R: Wait>(rt: &R, alloc: Global, runs: u64) -> Result<bool, Fault
     for run in 0..runs {
         let (runtime, tokens) = served(rt, alloc, 4, run % 4)?;
         let (performed, discarded) = abandon(alloc, runtime, tokens)?;
-        if performed.wrapping_add(discarded) != 16 {
+        if performed.wrapping_add(discarded) != 8 + QUEUES as usize {
             return Ok(false);
         }
     }

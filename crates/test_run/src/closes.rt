@@ -7,6 +7,7 @@ use acc_run::Runtime;
 use std::alloc::Global;
 use std::sync::Wait;
 use std::test::Fail;
+use tool_directives::counts_of;
 
 // With room for this many batches a create is placed on queue `1`. The counts that closing gives: at first, once the queue's worker
 // took a batch, which didn't pass, and in the end. Whether a directive is refused between, for which the token lists nothing.
@@ -23,7 +24,7 @@ fn closed<R: Wait>(rt: &R, alloc: Global, room: u32) -> Result<(u32, u32, bool),
     runtime.serve(rt, queue(3), &Shut);
     let second = runtime.close(rt);
     runtime.serve(rt, queue(3), &Open);
-    runtime.wait_for(rt, &mut token, DeviceId::new(0), [0, 0, 0, 2, 0, 0, 0, 0])?;
+    runtime.wait_for(rt, &mut token, DeviceId::new(0), counts_of(&[(3, 2)]))?;
     let is_refused = matches!(late, Err(Fault::Closed)) && token.entries().len() == 2;
     Ok((first, second, is_refused))
 }

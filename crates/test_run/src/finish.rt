@@ -80,10 +80,12 @@ fn left<R: Wait>(rt: &R, alloc: Global, wrong: Wrong, performed: bool) -> Result
     Ok(finish(runtime, tokens))
 }
 
-// Two directives, the closing and eight closes are accepted; two arrays are made and printed, and eight closes performed.
+/// Two directives, the closing and a close of each queue are accepted; two arrays are made and printed, and each close is performed.
+const WHOLE: (usize, usize) = (3 + QUEUES as usize, 4 + QUEUES as usize);
+
 #[test]
 fn a_finished_run_leaves_both_histories(rt: HostRuntime) -> Result<(), Fail> {
-    assert!(rt; left(&rt, rt.alloc(), Wrong::Nothing, true)? == Ok((11, 12)));
+    assert!(rt; left(&rt, rt.alloc(), Wrong::Nothing, true)? == Ok(WHOLE));
     Ok(())
 }
 
@@ -118,6 +120,6 @@ fn finished_later<R: Wait>(rt: &R, alloc: Global) -> Result<Left, Fault> {
 
 #[test]
 fn a_run_comes_back_and_is_finished_later(rt: HostRuntime) -> Result<(), Fail> {
-    assert!(rt; finished_later(&rt, rt.alloc())? == Ok((11, 12)));
+    assert!(rt; finished_later(&rt, rt.alloc())? == Ok(WHOLE));
     Ok(())
 }

@@ -41,7 +41,7 @@ pub fn entries(log: &WorkLog) -> usize {
     count
 }
 
-/// A queue of the first device; `0` to `5` have the numbers 2 to 7.
+/// A queue of the first device; those of async values have the numbers from 2 on.
 pub fn queue(number: u8) -> QueueAt {
     queue_on(0, number)
 }

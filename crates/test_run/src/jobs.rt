@@ -12,7 +12,7 @@ use std::sync::atomic::{AtomicU64, Ordering};
 use std::test::Fail;
 use std::thread;
 use std::thread::{Scope, Threads};
-use tool_directives::{Form, UPDATE, directive_of, over};
+use tool_directives::{Form, UPDATE, counts_of, directive_of, over};
 use tool_loops::Body;
 
 /// Cells of an array: its number, the first of them, and how many.
@@ -282,7 +282,7 @@ fn serve<R: Threads + Wait + Sync>(
             if while_out {
                 Ok(())
             } else {
-                runtime.wait_for(rt, token, DeviceId::new(0), [0, 0, 0, 3, 0, 0, 0, 0])
+                runtime.wait_for(rt, token, DeviceId::new(0), counts_of(&[(3, 3)]))
             }
         } else {
             Err(Fault::Memory)

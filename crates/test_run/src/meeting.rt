@@ -10,6 +10,7 @@ use std::sync::atomic::{AtomicU64, Ordering};
 use std::test::Fail;
 use std::thread;
 use std::thread::{Scope, Threads};
+use tool_directives::counts_of;
 
 // The first batches of queues `1` and `2` go on once both workers stand here. A close goes at once.
 #[derive(Drop)]
@@ -49,7 +50,12 @@ fn place_both<R: Wait>(
     };
     let _ = runtime.place(rt, &mut token, &first)?;
     let _ = runtime.place(rt, &mut other, &second)?;
-    runtime.wait_for(rt, &mut token, DeviceId::new(0), [0, 0, 0, 1, 1, 0, 0, 0])
+    runtime.wait_for(
+        rt,
+        &mut token,
+        DeviceId::new(0),
+        counts_of(&[(3, 1), (4, 1)]),
+    )
 }
 
 // The worker of a queue.

@@ -1,7 +1,7 @@
 //! Each call is refused for want of memory, at each amount in turn, until there is enough; a token then lists what was done, once. What was
 //! placed is performed without any; and what a dropped runtime held is free again.
 
-use crate::abandon::served;
+use crate::abandon::{ALL, served};
 use crate::fixtures::{Open, config_of, entries, entry_of, print, queue, whole};
 use acc_base::{DeviceId, Fault, QUEUES};
 use acc_place::Clause;
@@ -9,6 +9,7 @@ use acc_run::{HostToken, Runtime};
 use std::alloc::Global;
 use std::sync::Wait;
 use std::test::Fail;
+use tool_directives::counts_of;
 use tool_scarce::{Hoard, at_each_amount};
 
 // A runtime whose queues have room for two batches, with the token of its one host.
@@ -48,7 +49,7 @@ fn a_wait_is_refused_until_there_is_memory(rt: HostRuntime) -> Result<(), Fail> 
     let (runtime, mut token) = runtime_of(alloc)?;
     let device = DeviceId::new(0);
     let (refusals, ()) = at_each_amount(alloc, || {
-        runtime.wait_for(&rt, &mut token, device, [0; 8])
+        runtime.wait_for(&rt, &mut token, device, counts_of(&[]))
     })?;
     assert!(rt; 0 < refusals);
     assert!(rt; token.items() == 1);
@@ -67,7 +68,7 @@ fn an_item_is_refused_until_there_is_memory(rt: HostRuntime) -> Result<(), Fail>
     Ok(())
 }
 
-/// Eight batches of two operations, and eight closes: no request for memory is granted behind the last of them.
+/// Eight batches of two operations, and a close of each queue: no request for memory is granted behind the last of them.
 #[test]
 fn what_was_placed_is_performed_without_memory(rt: HostRuntime) -> Result<(), Fail> {
     let alloc = rt.alloc();
@@ -79,7 +80,7 @@ fn what_was_placed_is_performed_without_memory(rt: HostRuntime) -> Result<(), Fa
     }
     hoard.free();
     match runtime.finish(tokens) {
-        Ok(outcome) => assert!(rt; entries(&outcome.works) == 24),
+        Ok(outcome) => assert!(rt; entries(&outcome.works) == ALL),
         Err(refused) => assert!(rt; false, "{}", refused.fault),
     }
     Ok(())

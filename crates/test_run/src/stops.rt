@@ -8,6 +8,7 @@ use std::alloc::Global;
 use std::sync::Wait;
 use std::sync::atomic::{AtomicU64, Ordering};
 use std::test::Fail;
+use tool_directives::counts_of;
 
 // Each batch is stopped once, and passes when it comes again.
 #[derive(Drop)]
@@ -48,7 +49,7 @@ fn stopped<R: Wait>(rt: &R, alloc: Global) -> Result<(u64, u64), Fault> {
     }
     let before = gate.passed.load(Ordering::SeqCst);
     runtime.serve(rt, queue(3), &gate);
-    runtime.wait_for(rt, &mut token, DeviceId::new(0), [0, 0, 0, 9, 0, 0, 0, 0])?;
+    runtime.wait_for(rt, &mut token, DeviceId::new(0), counts_of(&[(3, 9)]))?;
     Ok((before, gate.passed.load(Ordering::SeqCst)))
 }
 

@@ -1,6 +1,6 @@
 //! A schedule with all its events in one list.
 
-use acc_base::{DeviceId, HostId, QueueAt, QueueId};
+use acc_base::{DeviceId, HostId, QUEUES, QueueAt, QueueId};
 use acc_host::Event;
 use acc_schedule::read_schedule;
 use std::test::Fail;
@@ -19,11 +19,12 @@ fn a_schedule_is_read_as_its_events(rt: HostRuntime) -> Result<(), Fail> {
     let text = b"host 1 2\n\n# a remark\ntake 1 5\ndo 1 sync 3\nround 1\nclose\n";
     let at = QueueAt {
         device: DeviceId::new(1),
-        queue: QueueId::new(7),
+        queue: QueueId::of_value(5),
     };
     let events = read_schedule(rt.alloc(), text.as_slice(), 2, 2)?;
     let events = events.as_slice();
-    assert_eq!(rt; events.len(), 2 + 1 + 3 + 34 + 1);
+    let round = 2 + 4 * usize::from(QUEUES);
+    assert_eq!(rt; events.len(), 2 + 1 + 3 + round + 1);
     assert!(rt; has_at(events, 0, Event::Host(HostId::new(1))));
     assert!(rt; has_at(events, 1, Event::Host(HostId::new(1))));
     assert!(rt; has_at(events, 2, Event::Take(at)));
@@ -32,6 +33,6 @@ fn a_schedule_is_read_as_its_events(rt: HostRuntime) -> Result<(), Fail> {
         assert!(rt; has_at(events, place, Event::Perform(sync)));
     }
     assert!(rt; has_at(events, 6, Event::Host(HostId::new(0))));
-    assert!(rt; has_at(events, 40, Event::Close));
+    assert!(rt; has_at(events, 6 + round, Event::Close));
     Ok(())
 }

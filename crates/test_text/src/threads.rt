@@ -2,7 +2,7 @@
 
 use crate::answers::{Answer, ENDED, REFUSED, check_answer, check_bytes, script_fault};
 use crate::streams::{End, Narrow, Trickle};
-use acc_base::{Fault, HostId, QueueAt};
+use acc_base::{Fault, HostId, QUEUES, QueueAt};
 use acc_driver::{DriverFault, Gate, OpenGate, Options, ReadKind, Remains, run_script};
 use std::alloc::Global;
 use std::process::Abort;
@@ -127,7 +127,7 @@ fn a_thousand_runs_have_one_report(rt: HostRuntime) -> Result<(), Fail> {
     Ok(())
 }
 
-/// A gate where both hosts wait for one another; the workers of queues `1` and `2` with their first batch; and all eight workers with
+/// A gate where both hosts wait for one another; the workers of queues `1` and `2` with their first batch; and all workers with
 /// their close. It notes each that comes, and each that nobody joined.
 #[derive(Drop)]
 struct Meeting {
@@ -157,7 +157,7 @@ impl Gate for Meeting {
         if number == 1 && (at.queue.number() == 3 || at.queue.number() == 4) {
             self.meet(&self.batches, 2);
         } else {
-            self.meet(&self.closes, 8);
+            self.meet(&self.closes, u64::from(QUEUES));
         }
         true
     }
@@ -188,7 +188,7 @@ fn hosts_and_workers_meet_at_the_gate(rt: HostRuntime) -> Result<(), Fail> {
     assert_eq!(rt; gate.failures.load(Ordering::SeqCst), 0);
     assert_eq!(rt; gate.hosts.load(Ordering::SeqCst), 2);
     assert_eq!(rt; gate.batches.load(Ordering::SeqCst), 2);
-    assert_eq!(rt; gate.closes.load(Ordering::SeqCst), 8);
+    assert_eq!(rt; gate.closes.load(Ordering::SeqCst), u64::from(QUEUES));
     Ok(())
 }
 

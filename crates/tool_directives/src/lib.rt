@@ -9,4 +9,4 @@ mod queues;
 pub use directive::directive_of;
 pub use form::{EXIT, FINALIZE, Form, UPDATE, UPDATE_IF_PRESENT, over};
 pub use operation::{Operation, operation_of, performed_by};
-pub use queues::{queue, sync};
+pub use queues::{counts_of, queue, sync};

@@ -1,7 +1,9 @@
 -- The machine computed on programs whose owner closes.
-use Rattle.std.specs.Prelude.{◌≡◌, ℕ, false, List, [], ◌∷◌, ◌++◌, map, replicate, pos}
+use Rattle.std.specs.Prelude.{◌≡◌, ℕ, ◌+◌, ◌-◌, ◌*◌, false, List, [], ◌∷◌, ◌++◌, map, replicate, reverse, pos}
 use Rattle.acc_base.specs.declared.fault.Fault.TheVariants.{Closed}
+use Rattle.acc_base.specs.declared.ids.TheConstants.{QUEUES}
 use Rattle.acc_base.specs.Configurations.{configuration}
+use Rattle.acc_base.specs.Queues.{numbers_from}
 use Rattle.acc_batch.specs.declared.label.OpLabel.TheVariants.{Make, Close}
 use Rattle.acc_place.specs.declared.directive.Clause.TheVariants.{Create, UpdateSelf}
 use Rattle.acc_place.specs.declared.directive.Kind.TheVariants as kind
@@ -15,7 +17,7 @@ use Rattle.acc_batch.specs.declared.entry.WorkEntry.TheVariants as entry
 use Rattle.acc_host.specs.declared.event.Event.TheVariants as event
 use Rattle.acc_core.specs.worked.Programs.{host, look_after, program_of, world}
 use Rattle.acc_core.specs.worked.Hosts.{repeated}
-use Rattle.acc_core.specs.worked.Queues.{both, five_and_six, first, place_async, round}
+use Rattle.acc_core.specs.worked.Queues.{both, five_and_six, first, place_async, replies_of, round}
 use Rattle.acc_core.specs.Worlds.{first_state}
 
 -- a directive, and one that comes late
@@ -34,11 +36,11 @@ LateIsRefused =
     ≡ record {
       replies =
           reply.Did ∷ reply.Remaining 0 ∷ reply.Refused Closed ∷ reply.Remaining 0
-          ∷ reply.Idle ∷ replicate 16 reply.Did
-          ++ replicate 7 reply.Idle ++ reply.Did ∷ reply.Did ∷ replicate 8 reply.Idle
-          ++ replicate 51 reply.Idle;
+          ∷ reply.Idle ∷ replicate (2 * QUEUES) reply.Did
+          ++ reply.Idle ∷ replies_of 3 reply.Did reply.Did
+          ++ replicate (3 * (1 + 2 * QUEUES)) reply.Idle;
       present = record { range = both; block = 1; s = 0; d = 1 } ∷ [];
-      work = closes_of (3 ∷ 7 ∷ 6 ∷ 5 ∷ 4 ∷ []) ++ entry.Op first (Make both 1) ∷ closes_of (2 ∷ 1 ∷ 0 ∷ []);
+      work = closes_of (3 ∷ reverse (numbers_from 4 (QUEUES - 4))) ++ entry.Op first (Make both 1) ∷ closes_of (2 ∷ 1 ∷ 0 ∷ []);
       ended = 1 ∷ [];
       phases = phase.Refused Closed ∷ [];
     }

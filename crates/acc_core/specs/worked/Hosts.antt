@@ -1,7 +1,8 @@
 -- The machine computed on programs with several hosts, and with the waits and questions of one (OpenACC API 3.0, 2.16.3, Wait
 -- Directive, and 3.2, Runtime Library Routines).
-use Rattle.std.specs.Prelude.{◌≡◌, ℕ, zero, suc, false, true, List, [], ◌∷◌, ◌++◌, replicate, ℤ, pos}
+use Rattle.std.specs.Prelude.{◌≡◌, ℕ, zero, suc, ◌+◌, ◌*◌, false, true, List, [], ◌∷◌, ◌++◌, replicate, ℤ, pos}
 use Rattle.acc_base.specs.declared.fault.Fault.TheVariants.{BadDevice, QueueFull}
+use Rattle.acc_base.specs.declared.ids.TheConstants.{QUEUES}
 use Rattle.acc_base.specs.declared.range.Range.{Range}
 use Rattle.acc_base.specs.Configurations.{configuration}
 use Rattle.acc_batch.specs.declared.label.OpLabel.TheVariants.{Make, CopyIn, CopyOut, Release, Run}
@@ -17,12 +18,13 @@ use Rattle.acc_host.specs.declared.program.Act.TheVariants as act
 use Rattle.acc_host.specs.declared.state.Phase.TheVariants as phase
 use Rattle.acc_host.specs.declared.state.Reply.{Reply}
 use Rattle.acc_host.specs.declared.state.Reply.TheVariants as reply
+use Rattle.acc_host.specs.Steps.{alone}
 use Rattle.acc_batch.specs.declared.entry.Told.TheVariants as shown
 use Rattle.acc_batch.specs.declared.entry.WorkEntry.TheVariants as entry
 use Rattle.acc_host.specs.declared.event.Event.{Event}
 use Rattle.acc_host.specs.declared.event.Event.TheVariants as event
 use Rattle.acc_core.specs.worked.Programs.{host, look_after, place, program_of, world}
-use Rattle.acc_core.specs.worked.Queues.{both, first, place_async, place_on, queues_go_on, round, wait_for}
+use Rattle.acc_core.specs.worked.Queues.{both, first, none_goes_on, place_async, place_on, queues_go_on, replies_of, round, wait_for}
 use Rattle.acc_core.specs.Worlds.{first_state}
 
 abbrev pub other_host : Event
@@ -46,8 +48,8 @@ OneHostIsRefused =
     ≡ record {
       replies =
           reply.Did ∷ reply.Refused QueueFull ∷ reply.Did ∷ reply.Did
-          ∷ replicate 9 reply.Idle ++ reply.Did ∷ replicate 8 reply.Idle
-          ++ replicate 8 reply.Idle ++ reply.Did ∷ reply.Did ∷ replicate 8 reply.Idle ++ replicate 54 reply.Idle;
+          ∷ reply.Idle ∷ reply.Idle ∷ replies_of 3 reply.Idle reply.Did
+          ++ reply.Idle ∷ reply.Idle ∷ replies_of 3 reply.Did reply.Did ++ replicate (3 * (2 + 2 * QUEUES)) reply.Idle;
       present = record { range = both; block = 1; s = 0; d = 1 } ∷ [];
       work = entry.Op first (CopyIn both 1) ∷ entry.Op first (Make both 1) ∷ [];
       ended = 2 ∷ 0 ∷ [];
@@ -60,7 +62,7 @@ tens = loop (pos 0) (pos 2) (record { array = 0; value = Binary Plus (Read 0 (po
 
 -- the replies to a round in which the host waits, and its queue performs an operation
 abbrev pub still_running : List Reply
-still_running = replicate 8 reply.Idle ++ reply.Did ∷ replicate 8 reply.Idle
+still_running = reply.Idle ∷ replies_of 3 reply.Idle reply.Did
 
 abbrev pub one_and_two : List (List ℤ)
 one_and_two = (pos 1 ∷ pos 2 ∷ []) ∷ []
@@ -73,13 +75,13 @@ LoopIsDoneAtTheWait =
     (place_async (pos 1) (kind.Loop tens) Copy ∷ place kind.IsPresent Present both ∷ act.Print both ∷ wait_for (pos 1) ∷ act.Print both ∷ []))
     ≡ record {
       replies =
-          replicate 4 reply.Did ++ replicate 6 reply.Idle ++ reply.Did ∷ reply.Did ∷ replicate 8 reply.Idle
+          replicate 4 reply.Did ++ replies_of 3 reply.Did reply.Did
           ++ still_running ++ still_running ++ still_running ++ still_running
-          ++ reply.Did ∷ replicate 16 reply.Idle ++ reply.Did ∷ replicate 16 reply.Idle ++ replicate 17 reply.Idle;
+          ++ reply.Did ∷ none_goes_on ++ reply.Did ∷ none_goes_on ++ reply.Idle ∷ none_goes_on;
       present = [];
       work =
           entry.Item 0 (shown.Print both (pos 11 ∷ pos 12 ∷ []))
-          ∷ entry.Item 0 (shown.Seen 0 (0 ∷ 0 ∷ 0 ∷ 1 ∷ 0 ∷ 0 ∷ 0 ∷ 0 ∷ []))
+          ∷ entry.Item 0 (shown.Seen 0 (alone 3 1))
           ∷ entry.Op first (Release 1) ∷ entry.Op first (CopyOut both 1) ∷ entry.Op first (Run tens ((1, both) ∷ []))
           ∷ entry.Op first (CopyIn both 1) ∷ entry.Op first (Make both 1)
           ∷ entry.Item 0 (shown.Print both (pos 1 ∷ pos 2 ∷ [])) ∷ [];
@@ -93,6 +95,10 @@ test v = place_on kind.AsyncTest [] Plain (Listed (v ∷ []))
 
 abbrev pub test_all : Act
 test_all = place_on kind.AsyncTest [] Plain All
+
+-- the replies where no queue of either device does anything
+abbrev pub none_on_both : List Reply
+none_on_both = none_goes_on ++ none_goes_on
 
 abbrev pub only_cell : Range
 only_cell = record { array = 0; lo = 0; len = 1 }
@@ -110,16 +116,16 @@ QuestionsTellTheirMoment =
     ∷ []))
     ≡ record {
       replies =
-          replicate 5 reply.Did ++ replicate 6 reply.Idle ++ reply.Did ∷ reply.Did ∷ replicate 24 reply.Idle
-          ++ reply.Did ∷ replicate 32 reply.Idle ++ reply.Did ∷ replicate 32 reply.Idle ++ reply.Did ∷ replicate 32 reply.Idle
-          ++ reply.Did ∷ replicate 32 reply.Idle ++ reply.Did ∷ replicate 32 reply.Idle ++ reply.Did ∷ replicate 32 reply.Idle
-          ++ reply.Did ∷ replicate 32 reply.Idle ++ reply.Refused BadDevice ∷ replicate 32 reply.Idle ++ replicate 33 reply.Idle;
+          replicate 5 reply.Did ++ replies_of 3 reply.Did reply.Did ++ none_goes_on
+          ++ reply.Did ∷ none_on_both ++ reply.Did ∷ none_on_both ++ reply.Did ∷ none_on_both
+          ++ reply.Did ∷ none_on_both ++ reply.Did ∷ none_on_both ++ reply.Did ∷ none_on_both
+          ++ reply.Did ∷ none_on_both ++ reply.Refused BadDevice ∷ none_on_both ++ reply.Idle ∷ none_on_both;
       present = record { range = only_cell; block = 1; s = 0; d = 1 } ∷ [];
       work =
-          entry.Item 0 (shown.Test 0 true (0 ∷ 0 ∷ 0 ∷ 1 ∷ 0 ∷ 0 ∷ 0 ∷ 0 ∷ []))
-          ∷ entry.Item 0 (shown.Seen 0 (0 ∷ 0 ∷ 0 ∷ 1 ∷ 0 ∷ 0 ∷ 0 ∷ 0 ∷ []))
+          entry.Item 0 (shown.Test 0 true (alone 3 1))
+          ∷ entry.Item 0 (shown.Seen 0 (alone 3 1))
           ∷ entry.Op first (Make only_cell 1)
-          ∷ entry.Item 0 (shown.Test 0 false (0 ∷ 0 ∷ 0 ∷ 1 ∷ 0 ∷ 0 ∷ 0 ∷ 0 ∷ [])) ∷ [];
+          ∷ entry.Item 0 (shown.Test 0 false (alone 3 1)) ∷ [];
       ended = 9 ∷ [];
       phases = phase.Refused BadDevice ∷ [];
     }

@@ -19,6 +19,7 @@ use Rattle.acc_host.specs.declared.event.Event.{Event}
 use Rattle.acc_host.specs.declared.event.Event.TheVariants as event
 use Rattle.acc_host.specs.declared.state.Reply.{Reply}
 use Rattle.acc_host.specs.declared.state.Reply.TheVariants as reply
+use Rattle.acc_host.specs.Steps.{alone}
 use Rattle.acc_batch.specs.declared.entry.Told.TheVariants as shown
 use Rattle.acc_batch.specs.declared.entry.WorkEntry.{WorkEntry}
 use Rattle.acc_batch.specs.declared.entry.WorkEntry.TheVariants as entry
@@ -103,7 +104,7 @@ look_after events w = look_in (all_from events (record { replies = []; state = w
 
 -- the host saw so many batches of queue sync
 abbrev pub batches_seen : ℕ → WorkEntry
-batches_seen n = entry.Item 0 (shown.Seen 0 (n ∷ 0 ∷ 0 ∷ 0 ∷ 0 ∷ 0 ∷ 0 ∷ 0 ∷ []))
+batches_seen n = entry.Item 0 (shown.Seen 0 (alone 0 n))
 
 -- a[4] enters twice and leaves once: one batch, and the dynamic counter is 1
 abbrev pub EnteredTwice : Type 0

@@ -1,8 +1,9 @@
 -- The machine computed on programs that use several queues (OpenACC API 3.0, 2.16, Asynchronous Behavior).
-use Rattle.std.specs.Prelude.{◌≡◌, ℕ, false, List, [], ◌∷◌, ◌++◌, replicate, ℤ, pos, negsuc}
+use Rattle.std.specs.Prelude.{◌≡◌, ℕ, ◌+◌, ◌-◌, ◌*◌, false, List, [], ◌∷◌, ◌++◌, replicate, ℤ, pos, negsuc}
 use Rattle.std.specs.List.{flat_map}
 use Rattle.acc_base.specs.Queues.{every_queue}
 use Rattle.acc_base.specs.declared.ids.QueueAt.{QueueAt}
+use Rattle.acc_base.specs.declared.ids.TheConstants.{QUEUES, VALUES}
 use Rattle.acc_base.specs.declared.fault.Fault.TheVariants.{BadAsync, DeviceFull}
 use Rattle.acc_base.specs.declared.range.Range.{Range}
 use Rattle.acc_batch.specs.declared.label.OpLabel.TheVariants.{Make, CopyIn, CopyOut, Release, Run, Await}
@@ -21,7 +22,9 @@ use Rattle.acc_place.specs.declared.directive.Waits.TheVariants.{Nothing, All, L
 use Rattle.acc_host.specs.declared.program.Act.{Act}
 use Rattle.acc_host.specs.declared.program.Act.TheVariants as act
 use Rattle.acc_host.specs.declared.state.Phase.TheVariants as phase
+use Rattle.acc_host.specs.declared.state.Reply.{Reply}
 use Rattle.acc_host.specs.declared.state.Reply.TheVariants as reply
+use Rattle.acc_host.specs.Steps.{alone}
 use Rattle.acc_batch.specs.declared.entry.Told.TheVariants as shown
 use Rattle.acc_batch.specs.declared.entry.WorkEntry.TheVariants as entry
 use Rattle.acc_host.specs.declared.event.Event.{Event}
@@ -76,7 +79,7 @@ UseAwaitsItsMaker =
       present = record { range = both; block = 1; s = 0; d = 1 } ∷ [];
       work =
           entry.Item 0 (shown.Print both (pos 6 ∷ pos 7 ∷ []))
-          ∷ entry.Item 0 (shown.Seen 0 (0 ∷ 0 ∷ 0 ∷ 0 ∷ 2 ∷ 0 ∷ 0 ∷ 0 ∷ []))
+          ∷ entry.Item 0 (shown.Seen 0 (alone 4 2))
           ∷ entry.Op second (CopyOut both 1) ∷ entry.Op second (Await 3 1)
           ∷ entry.Op second (Run adds ((1, both) ∷ [])) ∷ entry.Op second (Await 3 1)
           ∷ entry.Op first (CopyIn both 1) ∷ entry.Op first (Make both 1) ∷ [];
@@ -100,7 +103,7 @@ ReleaseAwaitsEachUse =
       present = [];
       work =
           entry.Item 0 (shown.Print both (pos 7 ∷ pos 8 ∷ []))
-          ∷ entry.Item 0 (shown.Seen 0 (0 ∷ 0 ∷ 0 ∷ 2 ∷ 0 ∷ 0 ∷ 0 ∷ 0 ∷ []))
+          ∷ entry.Item 0 (shown.Seen 0 (alone 3 2))
           ∷ entry.Op first (Release 1) ∷ entry.Op first (CopyOut both 1) ∷ entry.Op first (Await 4 1)
           ∷ entry.Op second (Run sevens ((1, both) ∷ [])) ∷ entry.Op second (Await 3 1)
           ∷ entry.Op first (Make both 1) ∷ [];
@@ -108,11 +111,11 @@ ReleaseAwaitsEachUse =
       phases = phase.Ready ∷ [];
     }
 
--- An async value from 6 on names the queue of what 6 leaves of it; a negative value of no meaning names none.
+-- An async value past those that have a queue each goes round, and names that of its remainder; a negative value of no meaning names none.
 abbrev pub AsyncValuesNameQueues : Type 0
 AsyncValuesNameQueues =
     look_after (host ∷ host ∷ host ∷ host ∷ event.Take first ∷ event.Perform first ∷ event.Take first ∷ event.Perform first ∷ [])
-    (world five_and_six (place_async (pos 7) kind.EnterData Create ∷ place_async (pos 1) (kind.Update false) UpdateSelf ∷ place_async (negsuc 4) (kind.Update false) UpdateSelf ∷ []))
+    (world five_and_six (place_async (pos (VALUES + 1)) kind.EnterData Create ∷ place_async (pos 1) (kind.Update false) UpdateSelf ∷ place_async (negsuc 4) (kind.Update false) UpdateSelf ∷ []))
     ≡ record {
       replies = reply.Did ∷ reply.Did ∷ reply.Refused BadAsync ∷ reply.Idle ∷ replicate 4 reply.Did;
       present = record { range = both; block = 1; s = 0; d = 1 } ∷ [];
@@ -147,7 +150,7 @@ DefaultQueueRunsInOrder =
       present = [];
       work =
           entry.Item 0 (shown.Print first_cell (pos 42 ∷ []))
-          ∷ entry.Item 0 (shown.Seen 0 (0 ∷ 3 ∷ 0 ∷ 0 ∷ 0 ∷ 0 ∷ 0 ∷ 0 ∷ []))
+          ∷ entry.Item 0 (shown.Seen 0 (alone 1 3))
           ∷ entry.Op noval (Release 1) ∷ entry.Op noval (CopyOut first_cell 1)
           ∷ entry.Op noval (Run times_six ((1, first_cell) ∷ []))
           ∷ entry.Op noval (CopyIn first_cell 1) ∷ entry.Op noval (Make first_cell 1)
@@ -187,6 +190,14 @@ queues_go_on device = flat_map (turn_of device) every_queue
 abbrev pub round : List Event
 round = host ∷ queues_go_on 0
 
+-- the replies where this queue of a device alone takes or performs something
+abbrev pub replies_of : ℕ → Reply → Reply → List Reply
+replies_of q taken performed = replicate (2 * q) reply.Idle ++ taken ∷ performed ∷ replicate (2 * (QUEUES - (q + 1))) reply.Idle
+
+-- and where none does
+abbrev pub none_goes_on : List Reply
+none_goes_on = replicate (2 * QUEUES) reply.Idle
+
 abbrev pub eight_cells : Range
 eight_cells = record { array = 0; lo = 0; len = 8 }
 
@@ -204,8 +215,7 @@ CapacityIsOfWhatIsPresent =
     ∷ place_on kind.EnterData (record { clause = Create; range = eight_cells } ∷ []) (Value (pos 2)) Nothing ∷ []))
     ≡ record {
       replies =
-          replicate 3 reply.Did ++ replicate 14 reply.Idle
-          ++ reply.Did ∷ replicate 16 reply.Idle ++ reply.Did ∷ reply.Did ∷ reply.Refused DeviceFull ∷ [];
+          reply.Did ∷ replies_of 0 reply.Did reply.Did ++ reply.Did ∷ none_goes_on ++ reply.Did ∷ reply.Did ∷ reply.Refused DeviceFull ∷ [];
       present = record { range = other_cell; block = 2; s = 0; d = 1 } ∷ [];
       work = batches_seen 1 ∷ entry.Op sync (Make eight_cells 1) ∷ [];
       ended = 3 ∷ [];

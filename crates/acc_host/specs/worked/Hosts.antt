@@ -18,6 +18,7 @@ use Rattle.acc_host.specs.declared.program.Statement.{Statement}
 use Rattle.acc_host.specs.declared.state.HostState.TheVariants as state
 use Rattle.acc_host.specs.Engines.{HostEntry, Gave, Had}
 use Rattle.acc_host.specs.Following.{Follows}
+use Rattle.acc_host.specs.Steps.{alone}
 
 abbrev pub directive : ℕ → ℤ → Kind → List DataItem → Target → Waits → Directive
 directive device default k items t w = record { device = device; default = default; kind = k; items = items; target = t; waits = w }
@@ -27,7 +28,7 @@ at_line line a = record { line = line; act = a }
 
 -- so many batches on queue `1`, which is queue 3
 abbrev pub counts_of : ℕ → List ℕ
-counts_of n = 0 ∷ 0 ∷ 0 ∷ n ∷ 0 ∷ 0 ∷ 0 ∷ 0 ∷ []
+counts_of n = alone 3 n
 
 abbrev pub answered : Option (ℕ × ℕ) → List ℕ → Bool → Placed
 answered None counts present = record { batch = None; counts = counts; present = present }
@@ -86,7 +87,7 @@ waiting = Had (told.Write 0 0 (pos 7)) ∷ Gave sync_create (answered (Some (0, 
 abbrev pub SynchronousIsSeen : Type 0
 SynchronousIsSeen =
     Follows 1 writes_and_creates (state.Running 1) waiting
-    × Follows 1 writes_and_creates state.Finished (waiting ++ Had (told.Seen 0 (1 ∷ 0 ∷ 0 ∷ 0 ∷ 0 ∷ 0 ∷ 0 ∷ 0 ∷ [])) ∷ [])
+    × Follows 1 writes_and_creates state.Finished (waiting ++ Had (told.Seen 0 (alone 0 1)) ∷ [])
 
 -- with the default async value set, the directive has it
 abbrev pub unvalued : ℤ → Directive

@@ -4,6 +4,7 @@ use Rattle.std.specs.Prelude.{All, ◌≡◌, ℕ, ◌+◌, ◌<◌, ◌≤◌, 
 use Rattle.std.specs.List.{flat_map}
 use Rattle.std.specs.Option.{option_map}
 use Rattle.acc_base.specs.declared.fault.Fault.{Fault}
+use Rattle.acc_base.specs.declared.ids.TheConstants.{QUEUES}
 use Rattle.acc_base.specs.declared.range.Range.{Range}
 use Rattle.acc_base.specs.Queues.{every_queue}
 use Rattle.acc_batch.specs.declared.label.Label.{Label}
@@ -71,7 +72,7 @@ named_count queues device named q = if has_number named q then length (queue_in 
 -- where they are asked for
 abbrev pub counts_in : Bool → List (List Label) → ℕ → List ℕ → List ℕ
 counts_in true queues device named = map (named_count queues device named) every_queue
-counts_in false queues device named = replicate 8 0
+counts_in false queues device named = replicate QUEUES 0
 
 -- what a directive is answered whose batch has this label, if it has one, where its question is answered so
 abbrev pub placed_by : Known → Directive → Option Label → Bool → Placed

@@ -1,7 +1,8 @@
 -- What batches of several queues await, computed on short histories.
-use Rattle.std.specs.Prelude.{◌≡◌, ◌+◌, false, ℕ, ℤ, pos, negsuc, List, [], ◌∷◌, map, replicate, Some, None}
+use Rattle.std.specs.Prelude.{◌≡◌, ◌+◌, false, ℕ, ℤ, pos, negsuc, List, [], ◌∷◌, map, replicate, slice_set, Some, None}
 use Rattle.acc_base.specs.declared.fault.Fault.TheVariants.{BadAsync, DeviceFull}
 use Rattle.acc_base.specs.declared.ids.QueueAt.{QueueAt}
+use Rattle.acc_base.specs.declared.ids.TheConstants.{QUEUES, VALUES}
 use Rattle.acc_base.specs.declared.range.Range.{Range}
 use Rattle.acc_base.specs.Configurations.{Configuration, configuration}
 use Rattle.acc_batch.specs.declared.label.Label.{Label}
@@ -115,19 +116,23 @@ counts_behind d =
     let st = left_by (async 2 runs ∷ async 2 runs ∷ async 1 (enters a) ∷ []) in
     (answer_of st d (walk_of st 0 d)).counts
 
+-- no batch on any queue
+abbrev none : List ℕ
+none = replicate QUEUES 0
+
 -- a wait on queue sync, and a question, are answered by how many batches were placed on each queue that they name
 abbrev pub CountsOfWaits : Type 0
 CountsOfWaits =
-    (counts_behind (waiting (pos 1 ∷ []) (directive kind.Wait [])) ≡ 0 ∷ 0 ∷ 0 ∷ 1 ∷ 0 ∷ 0 ∷ 0 ∷ 0 ∷ [])
-    × (counts_behind (record (directive kind.Wait []) { waits = waits.All }) ≡ 0 ∷ 0 ∷ 0 ∷ 1 ∷ 2 ∷ 0 ∷ 0 ∷ 0 ∷ [])
-    × (counts_behind (waiting (pos 1 ∷ []) (directive kind.AsyncTest [])) ≡ 0 ∷ 0 ∷ 0 ∷ 1 ∷ 0 ∷ 0 ∷ 0 ∷ 0 ∷ [])
-    × (counts_behind (async 2 (waiting (pos 1 ∷ []) (directive kind.Wait []))) ≡ replicate 8 0)
+    (counts_behind (waiting (pos 1 ∷ []) (directive kind.Wait [])) ≡ slice_set none 3 1)
+    × (counts_behind (record (directive kind.Wait []) { waits = waits.All }) ≡ slice_set (slice_set none 3 1) 4 2)
+    × (counts_behind (waiting (pos 1 ∷ []) (directive kind.AsyncTest [])) ≡ slice_set none 3 1)
+    × (counts_behind (async 2 (waiting (pos 1 ∷ []) (directive kind.Wait []))) ≡ none)
 
--- Values of zero or more go round the last six queues; `async` without an argument, and a value of -1, name the queue of
+-- Values of zero or more go round the queues behind noval; `async` without an argument, and a value of -1, name the queue of
 -- the host's default, and -2 names queue sync.
 abbrev pub QueuesOfValues : Type 0
 QueuesOfValues =
-    (queue_of (negsuc 0) (pos 7) ≡ queue_of (negsuc 0) (pos 1))
+    (queue_of (negsuc 0) (pos (VALUES + 1)) ≡ queue_of (negsuc 0) (pos 1))
     × (queue_of (negsuc 0) (pos 1) ≡ Some 3)
     × (queue_of (pos 3) (negsuc 0) ≡ Some 5)
     × (queue_of (negsuc 0) (negsuc 0) ≡ Some 1)

@@ -1,5 +1,6 @@
 -- The batch of a directive, and its number, computed on short histories.
 use Rattle.std.specs.Prelude.{◌≡◌, false, [], ◌∷◌, replicate, Some, None}
+use Rattle.acc_base.specs.declared.ids.TheConstants.{QUEUES}
 use Rattle.acc_batch.specs.declared.label.OpLabel.TheVariants.{Make, CopyIn, CopyOut, Release}
 use Rattle.acc_place.specs.worked.Directives.{cells, first_four, copyin, copyout, batch_after, answer_after}
 
@@ -27,5 +28,5 @@ EntersAgain =
 -- an empty batch isn't placed, and takes no number
 abbrev pub EmptyBatch : Type 0
 EmptyBatch =
-    (answer_after (first_four ∷ []) first_four ≡ record { batch = None; counts = replicate 8 0; present = false })
-    × (answer_after (first_four ∷ first_four ∷ []) (copyin (cells 4 2 ∷ [])) ≡ record { batch = Some (record { device = 0; queue = 0 }, 2); counts = replicate 8 0; present = false })
+    (answer_after (first_four ∷ []) first_four ≡ record { batch = None; counts = replicate QUEUES 0; present = false })
+    × (answer_after (first_four ∷ first_four ∷ []) (copyin (cells 4 2 ∷ [])) ≡ record { batch = Some (record { device = 0; queue = 0 }, 2); counts = replicate QUEUES 0; present = false })

@@ -3,6 +3,7 @@ use Rattle.std.specs.Prelude.{◌≡◌, ℕ, negsuc, List, [], ◌∷◌, map, 
 use Rattle.acc_base.specs.declared.fault.Fault.{Fault}
 use Rattle.acc_base.specs.declared.fault.Fault.TheVariants as fault
 use Rattle.acc_base.specs.declared.ids.QueueAt.{QueueAt}
+use Rattle.acc_base.specs.declared.ids.TheConstants.{QUEUES}
 use Rattle.acc_batch.specs.declared.label.Label.{Label}
 use Rattle.acc_batch.specs.declared.label.OpLabel.{OpLabel}
 use Rattle.acc_batch.specs.declared.label.OpLabel.TheVariants.{Make, Close}
@@ -99,4 +100,4 @@ ClosedOnce =
     × (¬ IsLawful (Closed sync ∷ entered))
     × (¬ IsLawful (Closed (queue 1) ∷ two_closed))
     × (¬ IsLawful (Closed (record { device = 2; queue = 0 }) ∷ closing))
-    × (¬ IsLawful (Closed (record { device = 0; queue = 8 }) ∷ closing))
+    × (¬ IsLawful (Closed (record { device = 0; queue = QUEUES }) ∷ closing))

@@ -9,5 +9,5 @@ invariant-loop-entry l =
     let read = map (λ e. e.now) l.yielded in
     record {
       all : l.works.items ≡ read ++ l.entry-iterator;
-      counted : AreCounted l.devices (λ at. performed at (reverse read)) l.counts.items;
+      counted : AreCounted l.config.devices (λ at. performed at (reverse read)) l.counts.items;
     }

@@ -1,5 +1,4 @@
-use Rattle.std.proofs.Common.{◌≡◌, ◌*◌, sym, ap, ◌∙◌, arith}
-use Rattle.acc_base.specs.Configurations.{Configuration}
+use Rattle.std.proofs.Common.{◌≡◌, sym, ap, ◌∙◌, arith}
 use Rattle.acc_base.specs.Queues.{queue_count}
 use Rattle.acc_core.specs.inner.Ties.{state_of_parts}
 use Rattle.acc_core.proofs.Enabled.{left_on, none_left, some_enabled}
@@ -18,6 +17,5 @@ pub returns-clause-left : goal.returns-clause-left
 returns-clause-left c =
     let i = c.self.inside in
     let w = state_of_parts i.place i.work in
-    let devices : c.devices.result ≡ w.config.devices = c.devices.ensures ∙ ap (λ (x : Configuration). x.devices) (rw (← c.self.view_is) at c.config.ensures) in
-    let count : c.from.result * c.from-2.result ≡ queue_count w.config = ap (λ k. k * c.from-2.result) (c.from.ensures ∙ devices) ∙ ap (λ k. w.config.devices * k) c.from-2.ensures in
+    let count : c.queue_count-index-end.result ≡ queue_count w.config = c.queue_count-index-end.ensures.count ∙ ap queue_count (rw (← c.self.view_is) at c.config.ensures) in
     rw (← c.self.view_is) (sym (none_left w c.self.invariant.0.legal (λ n low. (rw (← c.self.view_is) at c.loop-index.invariant) n (omega (arith, low, count, c.loop-index.auto.index-end, c.loop-index-test.false)))))

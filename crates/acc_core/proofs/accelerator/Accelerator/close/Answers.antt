@@ -1,8 +1,7 @@
-use Rattle.std.proofs.Common.{◌≡◌, ◌+◌, ◌*◌, ◌<◌, cond, sym, ap, ◌∙◌, arith}
+use Rattle.std.proofs.Common.{◌≡◌, ◌+◌, ◌<◌, cond, sym, ap, ◌∙◌, arith}
 use Rattle.acc_place.specs.Closing.{left_open}
 use Rattle.acc_place.proofs.LeftOpen.{left_few}
 use Rattle.acc_base.specs.Queues.{queue_count, at_seat}
-use Rattle.acc_base.specs.Configurations.{Configuration}
 use Rattle.acc_host.specs.declared.state.Reply.TheVariants as reply
 use Rattle.acc_core.specs.inner.Closing.{closing_begun, close_in_turn, closed_state, closes_one, closes_all}
 use Rattle.acc_core.specs.Machine.{State, standing_of}
@@ -17,8 +16,7 @@ close_queue-requires-clause-there c =
     let start = c.begin_closing.new.self in
     let n = c.loop-index.index in
     let config : c.loop-index.self.config ≡ start.config = ap (λ (x : State). x.config) c.loop-index.invariant.state ∙ all_config start n in
-    let devices : c.devices.result ≡ start.config.devices = c.devices.ensures ∙ ap (λ (x : Configuration). x.devices) c.config.ensures in
-    let count : c.from.result * c.from-2.result ≡ queue_count start.config = ap (λ k. k * c.from-2.result) (c.from.ensures ∙ devices) ∙ ap (λ k. start.config.devices * k) c.from-2.ensures in
+    let count : c.queue_count-index-end.result ≡ queue_count start.config = c.queue_count-index-end.ensures.count ∙ ap queue_count c.config.ensures in
     let low : n < queue_count start.config = omega (arith, c.loop-index-test.true, count) in
     rw (c.at_seat.ensures.at, config) (place_there start.config n low)
 
@@ -53,8 +51,7 @@ returns c =
     let n = c.loop-index.index in
     let inv = c.loop-index.invariant in
     let config : start.config ≡ old.config = ap (λ (x : State). x.config) c.begin_closing.ensures.state in
-    let devices : c.devices.result ≡ old.config.devices = c.devices.ensures ∙ (ap (λ (x : Configuration). x.devices) c.config.ensures ∙ ap (λ (x : Configuration). x.devices) config) in
-    let count : c.from.result * c.from-2.result ≡ queue_count old.config = ap (λ k. k * c.from-2.result) (c.from.ensures ∙ devices) ∙ ap (λ k. old.config.devices * k) c.from-2.ensures in
+    let count : c.queue_count-index-end.result ≡ queue_count old.config = c.queue_count-index-end.ensures.count ∙ ap queue_count (c.config.ensures ∙ config) in
     let end : n ≡ queue_count old.config = omega (arith, count, c.loop-index.auto.index-end, c.loop-index-test.false) in
     let state : c.loop-index.self ≡ closed_state old = inv.state ∙ (ap (λ v. closes_all v n) c.begin_closing.ensures.state ∙ ap (closes_all (closing_begun old)) end) in
     let left : c.loop-index.remaining ≡ left_open (standing_of (closed_state old)) (queue_count old.config) = inv.remaining ∙ (ap (left_open (standing_of c.loop-index.self)) end ∙ ap (λ v. left_open (standing_of v) (queue_count old.config)) state) in

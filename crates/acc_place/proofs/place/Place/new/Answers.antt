@@ -12,7 +12,7 @@ invariant_of-result c =
     let closes = c.in_ok-closes.ensures in
     let history = c.in_ok-history in (
       first_place c.args.config history.history.items c.new-3.result.items c.new-4.result.items c.in_ok-devices.devices.items c.new-5.result.items c.in_ok-labels.labels.queues
-          history.ensures.items c.new-3.ensures.items c.new-4.ensures.items c.new-5.ensures.items devices.count devices.empty (rw c.devices.ensures at labels.count) labels.none,
+          history.ensures.items c.new-3.ensures.items c.new-4.ensures.items c.new-5.ensures.items devices.count devices.empty labels.count labels.none,
       closes_new c.args.config history.history.items c.new-3.result.items c.in_ok-closes.closes.items _ c.in_ok-labels.labels.room history.ensures.items closes.count closes.new
           (omega (arith, history.ensures.capacity, c.len.ensures)),
     )

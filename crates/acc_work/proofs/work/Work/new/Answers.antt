@@ -11,5 +11,5 @@ invariant_of-result c =
     let m = c.in_ok-memory.ensures in
     let l = c.in_ok-log.ensures in
     let same : memory.arrays ≡ c.of-opening.result.value.arrays = m.arrays ∙ sym (ap (λ config. config.arrays) c.of-opening.ensures) in
-    let count : length lanes ≡ length memory.devices * QUEUES = c.in_ok-lanes.ensures.count ∙ ap (λ n. n * QUEUES) (c.devices.ensures ∙ sym m.devices) in
+    let count : length lanes ≡ length memory.devices * QUEUES = c.in_ok-lanes.ensures.count ∙ ap (λ n. n * QUEUES) (sym m.devices) in
     rw (l.work, l.unclaimed) (work_first c.of-opening.result.value.arrays memory lanes log.free same m.rows m.made c.in_ok-lanes.ensures.fresh count)
