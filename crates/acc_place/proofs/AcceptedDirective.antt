@@ -15,8 +15,6 @@ use Rattle.acc_base.specs.Configurations.{Configuration}
 use Rattle.acc_kernel.specs.Kernels.{Loop}
 use Rattle.acc_present.specs.declared.table.TheConstants.{COUNTER_LIMIT}
 use Rattle.acc_present.specs.Legality.{AllLegal}
-use Rattle.acc_present.specs.declared.change.Change.{Change}
-use Rattle.acc_present.specs.declared.change.Change.TheVariants.{StructuredDown}
 use Rattle.acc_present.specs.Marks.{Mark}
 use Rattle.acc_present.specs.Lifetimes.{opened_lifetimes}
 use Rattle.acc_present.specs.Notes.{Note, Noted, HasNotes}
@@ -41,14 +39,14 @@ use Rattle.acc_place.specs.inner.Places.{IsTiedOn}
 use Rattle.acc_place.specs.Plans.{label_for}
 use Rattle.acc_place.specs.Regions.{open_region, regions_on}
 use Rattle.acc_place.specs.Targets.{has_bad_queue, waits_on_too_many}
-use Rattle.acc_place.specs.Standings.{Asked, Standing, Subject, Walk, all_asked, all_visits, change_by, ends_by, loop_of, marks_after, marks_behind, marks_between, subject_by, visits, walk_of, walk_on, with_marks}
-use Rattle.acc_place.specs.inner.Judging.{Holding, device_by, holding, holding_after, holding_after_all, holding_between, holding_behind, ends_of, opens_one, fault_or, limit_fault, first_fault_in, past_fault, all_steps, run_in, marked_ops, AllHeldFor, AllLow, HasRoomFor, AllEntered, AllFine}
+use Rattle.acc_place.specs.Standings.{Asked, Standing, Subject, Walk, all_asked, all_visits, counted_among, counted_items, ends_by, loop_of, marks_after, marks_behind, marks_between, subject_by, visits, walk_of, walk_on, with_marks}
+use Rattle.acc_place.specs.inner.Judging.{Holding, all_marked, change_in, counted_steps, device_by, holding, holding_after, holding_with, holding_after_all, holding_between, holding_behind, ends_of, opens_one, fault_or, limit_fault, first_fault_in, past_fault, all_steps, run_in, marked_ops, AllHeldFor, AllLow, HasRoomFor, AllEntered, AllFine}
 use Rattle.acc_place.proofs.EnteredRanges.{entered_after, entered_ends, entered_subject, fine_left, held_between}
 use Rattle.acc_place.proofs.RegionsOn.{regions_beside, subject_device}
 use Rattle.acc_place.proofs.NotesOn.{notes_beside}
 use Rattle.acc_place.proofs.NoteFound.{walked, IsWalked as IsWalkOf}
 use Rattle.acc_place.proofs.VisitLives.{ended_uses}
-use Rattle.acc_place.proofs.Visits.{holding_of, ended_ranges_are, faults_are, all_fine, marks_are, legal_all, ops_are, IsWalk}
+use Rattle.acc_place.proofs.Visits.{counted_are, holding_of, ended_ranges_are, faults_are, all_fine, marks_are, legal_all, ops_are, IsWalk}
 use Rattle.acc_place.proofs.WalkItem.{AllLow-by, AllLow-fewer, low_left, opened_left, opened-most}
 
 -- what a directive acts on
@@ -69,6 +67,13 @@ walk_is : (st : Standing) (host : ℕ) (d : Directive) → walk_of st host d ≡
 unfolding walk_of
 walk_is st host d = refl
 
+-- the items that it counts
+abbrev pub items_counted : Standing → ℕ → Directive → List DataItem
+items_counted st host d = counted_items (st.marks (walk_of st host d).device) (walk_of st host d)
+
+pub counted_is : (st : Standing) (host : ℕ) (d : Directive) → items_counted st host d ≡ counted_among (st.marks (device_in st host d)) (all_asked d.kind (items_in st host d))
+counted_is st host d = ap (λ (w : Walk). counted_items (st.marks w.device) w) (walk_is st host d)
+
 -- ## Refusals
 
 three_first : (a b c : Bool) (fs : List (Option Fault)) → first_fault (fault_where a BadAsync ∷ fault_where b TooMany ∷ fault_where c NoRegion ∷ fs)
@@ -88,15 +93,15 @@ first_behind [] gs = refl
 first_behind (None ∷ fs) gs = first_behind fs gs
 first_behind (Some f ∷ fs) gs = refl
 
-items_asked : (change : Option Change) (items : List DataItem) → map (λ (a : Asked). a.item) (all_asked change items) ≡ items
-items_asked change [] = refl
-items_asked change (i ∷ is) = ap (λ xs. i ∷ xs) (items_asked change is)
+items_asked : (k : Kind) (items : List DataItem) → map (λ (a : Asked). a.item) (all_asked k items) ≡ items
+items_asked k [] = refl
+items_asked k (i ∷ is) = ap (λ xs. i ∷ xs) (items_asked k is)
 
 abbrev limit_in : Standing → ℕ → Directive → Option Fault
 limit_in st host d = limit_fault st.accepted st.regions host d (length (items_in st host d))
 
 abbrev faults_in : Configuration → Standing → Subject → Kind → Option Fault
-faults_in config st s k = first_fault (map (fault_at config k) (visits (st.marks s.device) (all_asked (change_by k) s.items)))
+faults_in config st s k = first_fault (map (fault_at config k) (visits (st.marks s.device) (all_asked k s.items)))
 
 -- closing before everything else, then the device
 pub refused_closing : (config : Configuration) (st : Standing) (host : ℕ) (d : Directive) → st.closing ≡ true → refusal config st host d ≡ Some Closed
@@ -125,9 +130,9 @@ refusal_is : (config : Configuration) (st : Standing) (host : ℕ) (d : Directiv
 unfolding refusal limit_fault walk_of
 refusal_is config st host d early here =
     let s = subject_of st host d in
-    let faults = map (fault_at config d.kind) (visits (st.marks s.device) (all_asked (change_by d.kind) s.items)) in
+    let faults = map (fault_at config d.kind) (visits (st.marks s.device) (all_asked d.kind s.items)) in
     let past = past_fault (loop_of d.kind) s.items in
-    rw (early, lt-leb config.devices d.device here, length-map s.items, items_asked (change_by d.kind) s.items)
+    rw (early, lt-leb config.devices d.device here, length-map s.items, items_asked d.kind s.items)
     (three_first (has_bad_queue d) (nat_lt MAX_ITEMS (length s.items) || (waits_on_too_many d.waits || (is_deep d.kind host st.regions || nat_le MAX_DIRECTIVES st.accepted))) (is_outside d.kind (open_region host st.regions)) (faults ++ past ∷ [])
     ∙ ap (fault_or (limit_in st host d)) (first_behind faults (past ∷ []) ∙ ap (fault_or (first_fault faults)) (first_one past)))
 
@@ -153,7 +158,7 @@ is_within accepted rs host d count none =
       few = leb-false MAX_DIRECTIVES accepted others.1;
     }
 
-table_in : {config : Configuration} {device : ℕ} (st : Standing) (t : TableView) (blocks : ℕ) → IsTiedOn config st device t blocks → is_table t.presences ≡ true
+pub table_in : {config : Configuration} {device : ℕ} (st : Standing) (t : TableView) (blocks : ℕ) → IsTiedOn config st device t blocks → is_table t.presences ≡ true
 table_in {device = device} st t blocks tied = ap is_table tied.presences ∙ (legal (st.marks device) tied.legal).table
 
 -- what the open regions of its device have entered is present
@@ -163,14 +168,14 @@ on_device st host d t blocks tied = subst (λ n. IsEnteredBy (entered_ranges (re
 
 -- each item of a region's end was entered
 pub entered_in : {config : Configuration} (st : Standing) (host : ℕ) (d : Directive) (t : TableView) (blocks : ℕ) → IsTiedAt config st host d t blocks
-    → AllEntered (change_by d.kind) (holding t.presences blocks) (items_in st host d)
+    → AllEntered d.kind (holding t.presences blocks) (items_in st host d)
 entered_in st host d t blocks tied = entered_subject st.lengths st.regions host d d.kind t.presences blocks (table_in st t blocks tied) (on_device st host d t blocks tied)
 
 -- What the subject's device has, and that its marks are legal.
 record IsSubject (st : Standing) (host : ℕ) (d : Directive) (t : TableView) (blocks : ℕ) : Type 0 where
   held : holding t.presences blocks ≡ holding_of (st.marks (device_in st host d))
   legal : AllLegal (st.marks (device_in st host d))
-  entered : AllEntered (change_by d.kind) (holding_of (st.marks (device_in st host d))) (items_in st host d)
+  entered : AllEntered d.kind (holding_of (st.marks (device_in st host d))) (items_in st host d)
 
 is_subject : {config : Configuration} (st : Standing) (host : ℕ) (d : Directive) (t : TableView) (blocks : ℕ) → IsTiedAt config st host d t blocks → IsSubject st host d t blocks
 is_subject st host d t blocks tied =
@@ -198,9 +203,9 @@ none_or (Some f) b h = absurd (cc)
 -- ## A directive that isn't refused
 
 -- its ranges have cells
-pub all_cells : (capacity : ℕ) (change : Option Change) (h : Holding) (items : List DataItem) → AllFine capacity change h items → All (λ (i : DataItem). 0 < i.range.len) items
-all_cells capacity change h [] fine = All-nil (λ (i : DataItem). 0 < i.range.len)
-all_cells capacity change h (i ∷ is) fine = All-cons (λ (i : DataItem). 0 < i.range.len) i is fine.0.cells (all_cells capacity change (holding_after change i.range h) is fine.1)
+pub all_cells : (capacity : ℕ) (k : Kind) (h : Holding) (items : List DataItem) → AllFine capacity k h items → All (λ (i : DataItem). 0 < i.range.len) items
+all_cells capacity k h [] fine = All-nil (λ (i : DataItem). 0 < i.range.len)
+all_cells capacity k h (i ∷ is) fine = All-cons (λ (i : DataItem). 0 < i.range.len) i is fine.0.cells (all_cells capacity k (holding_with k i h) is fine.1)
 
 pub ends_all : (P : DataItem → Type 0) (k : Kind) (items : List DataItem) → All P items → All P (ends_of k items)
 ends_all P (kind.Loop kernel) items all = all
@@ -218,11 +223,11 @@ pub record IsFree (config : Configuration) (st : Standing) (host : ℕ) (d : Dir
   pub here : d.device < config.devices
   pub within : IsWithin st.accepted (length (items_in st host d))
   pub faultless : first_fault_in config d.kind (holding t.presences blocks) (items_in st host d) ≡ None
-  pub fine : AllFine config.capacity (change_by d.kind) (holding t.presences blocks) (items_in st host d)
+  pub fine : AllFine config.capacity d.kind (holding t.presences blocks) (items_in st host d)
   pub held : AllHeldFor d.kind (holding_between d.kind (holding t.presences blocks) (items_in st host d)).presences (items_in st host d)
-  pub ends_entered : AllEntered (Some StructuredDown) (holding_between d.kind (holding t.presences blocks) (items_in st host d)) (ends_of d.kind (items_in st host d))
+  pub ends_entered : AllEntered kind.EndData (holding_between d.kind (holding t.presences blocks) (items_in st host d)) (ends_of d.kind (items_in st host d))
   pub ends_cells : All (λ (i : DataItem). 0 < i.range.len) (ends_of d.kind (items_in st host d))
-  pub ends_fine : AllFine config.capacity (Some StructuredDown) (holding_between d.kind (holding t.presences blocks) (items_in st host d)) (ends_of d.kind (items_in st host d))
+  pub ends_fine : AllFine config.capacity kind.EndData (holding_between d.kind (holding t.presences blocks) (items_in st host d)) (ends_of d.kind (items_in st host d))
   subject : IsSubject st host d t blocks
 
 pub is_free : (config : Configuration) (st : Standing) (host : ℕ) (d : Directive) (t : TableView) (blocks : ℕ) → IsTiedAt config st host d t blocks
@@ -238,7 +243,7 @@ is_free config st host d t blocks tied accepted =
     let fine = all_fine config d.kind h items faultless in
     let table = table_in st t blocks tied in
     let entered = entered_ends config.capacity d.kind h items (entered_ranges (regions_on (device_in st host d) st.regions)) table fine tied.entered in
-    let cells = ends_all (λ (i : DataItem). 0 < i.range.len) d.kind items (all_cells config.capacity (change_by d.kind) h items fine) in
+    let cells = ends_all (λ (i : DataItem). 0 < i.range.len) d.kind items (all_cells config.capacity d.kind h items fine) in
     record {
       here = here;
       within = within;
@@ -253,7 +258,7 @@ is_free config st host d t blocks tied accepted =
 
 -- ## The batch
 
-ends_are : (k : Kind) (items : List DataItem) → ends_by k items ≡ all_asked (Some StructuredDown) (ends_of k items)
+ends_are : (k : Kind) (items : List DataItem) → ends_by k items ≡ all_asked kind.EndData (ends_of k items)
 ends_are (kind.Loop kernel) items = refl
 ends_are kind.Data items = refl
 ends_are kind.EndData items = refl
@@ -266,29 +271,49 @@ ends_are kind.IsPresent items = refl
 
 -- the two walks of a directive
 record IsWalked (config : Configuration) (st : Standing) (host : ℕ) (d : Directive) (t : TableView) (blocks : ℕ) : Type 0 where
-  first : IsWalk config.capacity (change_by d.kind) (st.marks (device_in st host d)) (items_in st host d)
-  between : holding_of (marks_after (st.marks (device_in st host d)) (all_asked (change_by d.kind) (items_in st host d))) ≡ holding_between d.kind (holding t.presences blocks) (items_in st host d)
-  later : IsWalk config.capacity (Some StructuredDown) (marks_after (st.marks (device_in st host d)) (all_asked (change_by d.kind) (items_in st host d))) (ends_of d.kind (items_in st host d))
+  first : IsWalk config.capacity d.kind (st.marks (device_in st host d)) (items_in st host d)
+  between : holding_of (marks_after (st.marks (device_in st host d)) (all_asked d.kind (items_in st host d))) ≡ holding_between d.kind (holding t.presences blocks) (items_in st host d)
+  later : IsWalk config.capacity kind.EndData (marks_after (st.marks (device_in st host d)) (all_asked d.kind (items_in st host d))) (ends_of d.kind (items_in st host d))
 
 is_walked : (config : Configuration) (st : Standing) (host : ℕ) (d : Directive) (t : TableView) (blocks : ℕ) → IsFree config st host d t blocks → IsWalked config st host d t blocks
 is_walked config st host d t blocks free =
     let s = subject_of st host d in
     let sub = free.subject in
-    let change = change_by d.kind in
     let ms = st.marks s.device in
-    let fine : AllFine config.capacity change (holding_of ms) s.items = rw (← sub.held) free.fine in
-    let same : holding_of (marks_after ms (all_asked change s.items)) ≡ holding_between d.kind (holding t.presences blocks) s.items =
-    marks_are config.capacity change ms s.items sub.legal sub.entered fine ∙ ap (λ h. holding_after_all change h s.items) (sym sub.held) in
+    let fine : AllFine config.capacity d.kind (holding_of ms) s.items = rw (← sub.held) free.fine in
+    let same : holding_of (marks_after ms (all_asked d.kind s.items)) ≡ holding_between d.kind (holding t.presences blocks) s.items =
+    marks_are config.capacity d.kind ms s.items sub.legal sub.entered fine ∙ ap (λ h. holding_after_all d.kind h s.items) (sym sub.held) in
     record {
       first = record { allowed = sub.legal; entered = sub.entered; fine = fine };
       between = same;
       later =
           record {
-            allowed = legal_all config.capacity change ms s.items sub.legal sub.entered fine;
+            allowed = legal_all config.capacity d.kind ms s.items sub.legal sub.entered fine;
             entered = rw same free.ends_entered;
             fine = rw same free.ends_fine;
           };
     }
+
+-- a data construct counts what its steps tell
+counted_data : (capacity : ℕ) (k : Kind) (ms : List Mark) (items : List DataItem) → k ≡ kind.Data → IsWalk capacity k ms items → counted_among ms (all_asked k items) ≡ counted_steps (all_marked k (holding_of ms) items)
+counted_data capacity k ms items is w = rw is (counted_are capacity ms items w.allowed (rw is at w.entered) (rw is at w.fine))
+
+pub counted_marked : (config : Configuration) (st : Standing) (host : ℕ) (d : Directive) (t : TableView) (blocks : ℕ) → IsFree config st host d t blocks → d.kind ≡ kind.Data
+    → items_counted st host d ≡ counted_steps (all_marked d.kind (holding t.presences blocks) (items_in st host d))
+counted_marked config st host d t blocks free is =
+    let walked = is_walked config st host d t blocks free in
+    counted_is st host d
+    ∙ (counted_data config.capacity d.kind (st.marks (device_in st host d)) (items_in st host d) is walked.first
+    ∙ ap (λ h. counted_steps (all_marked d.kind h (items_in st host d))) (sym free.subject.held))
+
+-- which has no ends
+no_ends : (k : Kind) (h : Holding) (items : List DataItem) → k ≡ kind.Data → all_steps k h items ≡ all_marked k h items
+no_ends k h items is = rw is (append-nil (all_marked kind.Data h items))
+
+pub counted_stepped : (config : Configuration) (st : Standing) (host : ℕ) (d : Directive) (t : TableView) (blocks : ℕ) → IsFree config st host d t blocks → d.kind ≡ kind.Data
+    → items_counted st host d ≡ counted_steps (all_steps d.kind (holding t.presences blocks) (items_in st host d))
+counted_stepped config st host d t blocks free is =
+    counted_marked config st host d t blocks free is ∙ ap counted_steps (sym (no_ends d.kind (holding t.presences blocks) (items_in st host d) is))
 
 -- a loop uses what is present then
 run_is : (k : Option Loop) (items : List DataItem) (marks : List Mark) → runs_by k items marks ≡ run_in k items (presences marks)
@@ -303,17 +328,16 @@ pub batch_is : (config : Configuration) (st : Standing) (host : ℕ) (d : Direct
 batch_is config st host d t blocks tied free =
     let s = subject_of st host d in
     let sub = free.subject in
-    let change = change_by d.kind in
     let ms = st.marks s.device in
-    let between = marks_after ms (all_asked change s.items) in
+    let between = marks_after ms (all_asked d.kind s.items) in
     let walked = is_walked config st host d t blocks free in
-    let run : runs_by (loop_of d.kind) (map (λ (a : Asked). a.item) (all_asked change s.items)) between ≡ run_in (loop_of d.kind) s.items (holding_between d.kind (holding t.presences blocks) s.items).presences =
-    ap (λ is. runs_by (loop_of d.kind) is between) (items_asked change s.items)
+    let run : runs_by (loop_of d.kind) (map (λ (a : Asked). a.item) (all_asked d.kind s.items)) between ≡ run_in (loop_of d.kind) s.items (holding_between d.kind (holding t.presences blocks) s.items).presences =
+    ap (λ is. runs_by (loop_of d.kind) is between) (items_asked d.kind s.items)
     ∙ (run_is (loop_of d.kind) s.items between ∙ ap (λ (h : Holding). run_in (loop_of d.kind) s.items h.presences) walked.between) in
     ap (λ (w : Walk). grouped (runs w (st.marks w.device)) (all_visits (st.marks w.device) w)) (walk_is st host d)
-    ∙ (ap (λ r. grouped r (visits ms (all_asked change s.items) ++ visits between (ends_by d.kind s.items))) run
-    ∙ (ap (λ es. grouped (run_in (loop_of d.kind) s.items (holding_between d.kind (holding t.presences blocks) s.items).presences) (visits ms (all_asked change s.items) ++ visits between es)) (ends_are d.kind s.items)
-    ∙ (ops_are config.capacity change (Some StructuredDown) ms s.items (ends_of d.kind s.items) _ walked.first walked.later
+    ∙ (ap (λ r. grouped r (visits ms (all_asked d.kind s.items) ++ visits between (ends_by d.kind s.items))) run
+    ∙ (ap (λ es. grouped (run_in (loop_of d.kind) s.items (holding_between d.kind (holding t.presences blocks) s.items).presences) (visits ms (all_asked d.kind s.items) ++ visits between es)) (ends_are d.kind s.items)
+    ∙ (ops_are config.capacity d.kind kind.EndData ms s.items (ends_of d.kind s.items) _ walked.first walked.later
     ∙ ap (λ h. marked_ops (run_in (loop_of d.kind) s.items (holding_between d.kind (holding t.presences blocks) s.items).presences) (all_steps d.kind h s.items)) (sym sub.held))))
 
 -- the blocks that its steps ended, each with the item's range
@@ -323,12 +347,11 @@ pub ended_is : (config : Configuration) (st : Standing) (host : ℕ) (d : Direct
 ended_is config st host d t blocks tied free =
     let s = subject_of st host d in
     let ms = st.marks s.device in
-    let change = change_by d.kind in
-    let between = marks_after ms (all_asked change s.items) in
+    let between = marks_after ms (all_asked d.kind s.items) in
     let walked = is_walked config st host d t blocks free in
     ap (λ (w : Walk). flat_map ended_uses (all_visits ms w)) (walk_is st host d)
-    ∙ (ap (λ es. flat_map ended_uses (visits ms (all_asked change s.items) ++ visits between es)) (ends_are d.kind s.items)
-    ∙ (ended_ranges_are config.capacity change (Some StructuredDown) ms s.items (ends_of d.kind s.items) walked.first walked.later
+    ∙ (ap (λ es. flat_map ended_uses (visits ms (all_asked d.kind s.items) ++ visits between es)) (ends_are d.kind s.items)
+    ∙ (ended_ranges_are config.capacity d.kind kind.EndData ms s.items (ends_of d.kind s.items) walked.first walked.later
     ∙ ap (λ h. flat_map ended_range (all_steps d.kind h s.items)) (sym free.subject.held)))
 
 -- what its device has between its items and their ends
@@ -375,17 +398,17 @@ length-ends kind.IsPresent items = omega arith
 
 -- ## After an accepted directive
 
-AllLow-all : (limit : ℕ) (change : Option Change) (h : Holding) (items : List DataItem) → length items ≤ limit → AllLow limit (length items) h.presences → AllLow limit 0 (holding_after_all change h items).presences
+AllLow-all : (limit : ℕ) (k : Kind) (h : Holding) (items : List DataItem) → length items ≤ limit → AllLow limit (length items) h.presences → AllLow limit 0 (holding_after_all k h items).presences
 unfolding holding_after
-AllLow-all limit change h [] few low = low
-AllLow-all limit change h (i ∷ is) few low =
-    AllLow-all limit change (holding_after change i.range h) is (omega arith) (AllLow-by limit (length is) (h.opened + 1) change i.range h.presences (omega arith) low)
+AllLow-all limit k h [] few low = low
+AllLow-all limit k h (i ∷ is) few low =
+    AllLow-all limit k (holding_with k i h) is (omega arith) (AllLow-by limit (length is) (h.opened + 1) (change_in k h.presences i) i.range h.presences (omega arith) low)
 
-opened-all : (change : Option Change) (h : Holding) (items : List DataItem) → (holding_after_all change h items).opened ≤ h.opened + length items
+opened-all : (k : Kind) (h : Holding) (items : List DataItem) → (holding_after_all k h items).opened ≤ h.opened + length items
 unfolding holding_after
-opened-all change h [] = omega arith
-opened-all change h (i ∷ is) =
-    omega (arith, opened-all change (holding_after change i.range h) is, opened-most (opens_one change h.presences i.range) h.opened)
+opened-all k h [] = omega arith
+opened-all k h (i ∷ is) =
+    omega (arith, opened-all k (holding_with k i h) is, opened-most (opens_one (change_in k h.presences i) h.presences i.range) h.opened)
 
 own_marks : (others : ℕ → List Mark) (ms : List Mark) (device : ℕ) → with_marks device ms others device ≡ ms
 own_marks others ms device = rw (eq-eqb device device refl) refl
@@ -407,11 +430,10 @@ pub tied_after : (config : Configuration) (st : Standing) (d : Directive) (host 
     → HasNotes (notes_on (device_in st host d) (after_directive st host items_done d).labels) after.notes → IsTiedOn config (after_directive st host items_done d) (device_in st host d) after next
 tied_after config st d host items_done t after blocks next tied free is same noted =
     let s = subject_of st host d in
-    let change = change_by d.kind in
     let before = holding t.presences blocks in
     let ends = ends_of d.kind s.items in
-    let down = Some StructuredDown in
-    let mid = marks_after (st.marks s.device) (all_asked change s.items) in
+    let down = kind.EndData in
+    let mid = marks_after (st.marks s.device) (all_asked d.kind s.items) in
     let ms = marks_after mid (all_asked down ends) in
     let walked = is_walked config st host d t blocks free in
     let later = walked.later in
@@ -422,7 +444,7 @@ tied_after config st d host items_done t after blocks next tied free is same not
     ∙ (ap (λ es. with_marks s.device (marks_after mid es) st.marks s.device) (ends_are d.kind s.items) ∙ own_marks st.marks ms s.device) in
     let all = held ∙ ap holding_of (sym own) in
     let short = free.within.short in
-    let low = AllLow-all (MAX_ITEMS * st.accepted + MAX_ITEMS) change before s.items (omega (arith, short))
+    let low = AllLow-all (MAX_ITEMS * st.accepted + MAX_ITEMS) d.kind before s.items (omega (arith, short))
     (AllLow-fewer (MAX_ITEMS * st.accepted) (MAX_ITEMS * st.accepted + MAX_ITEMS) 0 (length s.items) t.presences (omega (arith, short)) tied.low) in
     let low2 : AllLow (MAX_ITEMS * st.accepted + MAX_ITEMS) 0 after.presences =
     rw (ap (λ (h : Holding). h.presences) is) (low_left (MAX_ITEMS * st.accepted + MAX_ITEMS) 0 (holding_between d.kind before s.items) ends low) in
@@ -435,9 +457,9 @@ tied_after config st d host items_done t after blocks next tied free is same not
       opened = ap (λ (h : Holding). h.opened) all;
       entered =
           rw (ap (λ (h : Holding). h.presences) is, device)
-          (entered_after config.capacity st.lengths st.regions host d d.kind t.presences blocks (table_in st t blocks tied) free.fine (on_device st host d t blocks tied));
+          (entered_after config.capacity st.lengths st.regions host d d.kind (items_counted st host d) t.presences blocks (table_in st t blocks tied) free.fine (counted_marked config st host d t blocks free) (on_device st host d t blocks tied));
       few = omega (arith, free.within.few);
-      few_blocks = omega (arith, ap (λ (h : Holding). h.opened) is, opened_left (holding_between d.kind before s.items) ends, opened-all change before s.items, short, tied.few_blocks);
+      few_blocks = omega (arith, ap (λ (h : Holding). h.opened) is, opened_left (holding_between d.kind before s.items) ends, opened-all d.kind before s.items, short, tied.few_blocks);
       low = AllLow-fewer (MAX_ITEMS * st.accepted + MAX_ITEMS) (MAX_ITEMS * (st.accepted + 1)) 0 0 after.presences (omega arith) low2;
     }
 
@@ -458,7 +480,7 @@ tied_beside config st d host items_done device t blocks other few tied =
     ap (λ (w : Walk). with_marks w.device (marks_behind (st.marks w.device) w) st.marks device) (walk_is st host d) ∙ rw away refl in
     let notes : (r : Range) (b : ℕ) → notes_on device (after_directive st host items_done d).labels r b ≡ notes_on device st.labels r b =
     λ r b. notes_beside st (walk_of st host d) host items_done device b (ap (λ (w : Walk). device == w.device) (walk_is st host d) ∙ away) in
-    let regions = regions_beside st.regions host d d.kind device (ap (λ n. n == device) (sym (subject_device st.lengths st.regions host d d.kind)) ∙ beside) in
+    let regions = regions_beside st.regions host d d.kind (items_counted st host d) device (ap (λ n. n == device) (sym (subject_device st.lengths st.regions host d d.kind)) ∙ beside) in
     record {
       capacity = tied.capacity;
       presences = tied.presences ∙ ap presences (sym same);

@@ -1,8 +1,8 @@
 -- The items of a walk and their ends, visited as one list.
 use Rattle.std.proofs.Common.{◌≡◌, List, [], ◌∷◌, ◌++◌, refl, ap}
 use Rattle.acc_present.specs.Marks.{Mark}
-use Rattle.acc_place.specs.Standings.{Asked, Walk, visits, marks_after, all_visits, marks_behind}
-use Rattle.acc_place.proofs.VisitLives.{marked_by, visit}
+use Rattle.acc_place.specs.Standings.{Asked, Walk, visits, marks_after, all_visits, marks_behind, marked_by}
+use Rattle.acc_place.proofs.VisitLives.{visit}
 
 -- the marks after two lists of items, one behind the other
 pub marks_after-append : (ms : List Mark) (xs ys : List Asked) → marks_after ms (xs ++ ys) ≡ marks_after (marks_after ms xs) ys

@@ -24,22 +24,23 @@ use Rattle.acc_place.specs.Counters.{AcceptedAreCounted, EnteredCanBeLeft}
 use Rattle.acc_place.specs.Histories.{AllAccepted, after_directive, standing}
 use Rattle.acc_place.specs.inner.Places.{IsTiedOn}
 use Rattle.acc_place.specs.Regions.{open_region, region_of, regions_after}
-use Rattle.acc_place.specs.Standings.{Standing, change_by, left_by, loop_of, subject_by}
-use Rattle.acc_place.specs.inner.Judging.{Holding, holding, holding_after, holding_behind, fault_in, fault_or, first_fault_in, limit_fault, past_fault, AllEntered}
+use Rattle.acc_place.specs.Standings.{Standing, left_by, loop_of, subject_by}
+use Rattle.acc_place.specs.inner.Judging.{Holding, holding, holding_after, holding_with, holding_behind, fault_in, fault_or, first_fault_in, limit_fault, past_fault, AllEntered}
 use Rattle.acc_place.proofs.AfterClose.{tied_begun, tied_closed}
-use Rattle.acc_place.proofs.AcceptedDirective.{device_in, items_in, is_free, refused_by, entered_in, tied_after, tied_beside}
+use Rattle.acc_place.proofs.AcceptedDirective.{items_counted, counted_is, device_in, items_in, is_free, refused_by, entered_in, tied_after, tied_beside}
 use Rattle.acc_place.proofs.EnteredRanges.{is_held, open_has, without_all}
 use Rattle.acc_place.proofs.FaultIn.{inside_item}
 use Rattle.acc_place.proofs.StandingIn.{first_tied}
+use Rattle.acc_place.proofs.Visits.{counted_all, counted_few}
 
 -- ## The tables of a history
 
-record HasTable (config : Configuration) (st : Standing) (device : ℕ) : Type 0 where
-  table : TableView
-  blocks : ℕ
-  tied : IsTiedOn config st device table blocks
+pub record HasTable (config : Configuration) (st : Standing) (device : ℕ) : Type 0 where
+  pub table : TableView
+  pub blocks : ℕ
+  pub tied : IsTiedOn config st device table blocks
 
-tables : (config : Configuration) (history : List PlaceEntry) (counts : List ℕ) (device : ℕ) → AllAccepted config history counts → HasTable config (standing config history counts) device
+pub tables : (config : Configuration) (history : List PlaceEntry) (counts : List ℕ) (device : ℕ) → AllAccepted config history counts → HasTable config (standing config history counts) device
 unfolding standing
 tables config [] counts device all =
     let empty : TableView = record { presences = []; notes = []; capacity = config.capacity; room = 0 } in
@@ -87,20 +88,20 @@ none_both (Some f) b h = absurd (cc)
 all_inside : (config : Configuration) (k : Kind) (h : Holding) (items : List DataItem) → first_fault_in config k h items ≡ None → AllInside config items
 all_inside config k h [] none = All-nil (λ (i : DataItem). has_range config.arrays i.range ≡ true)
 all_inside config k h (i ∷ is) none =
-    let parts = none_both (fault_in config k h.presences i) (first_fault_in config k (holding_after (change_by k) i.range h) is) none in
-    All-cons (λ (i : DataItem). has_range config.arrays i.range ≡ true) i is (inside_item config k h.presences i parts.0) (all_inside config k (holding_after (change_by k) i.range h) is parts.1)
+    let parts = none_both (fault_in config k h.presences i) (first_fault_in config k (holding_with k i h) is) none in
+    All-cons (λ (i : DataItem). has_range config.arrays i.range ≡ true) i is (inside_item config k h.presences i parts.0) (all_inside config k (holding_with k i h) is parts.1)
 
-sound_after : (config : Configuration) (lengths : List ℕ) (host : ℕ) (d : Directive) (k : Kind) (rs : List Region) → length (subject_by lengths rs host d k).items ≤ MAX_ITEMS → AllInside config (subject_by lengths rs host d k).items
-    → All (IsSound config) rs → All (IsSound config) (regions_after host d k rs)
-sound_after config lengths host d Data rs short inside all = All-cons (IsSound config) (region_of host d) rs (short, inside) all
-sound_after config lengths host d EndData rs short inside all = without_all (IsSound config) host rs all
-sound_after config lengths host d EnterData rs short inside all = all
-sound_after config lengths host d (ExitData finalize) rs short inside all = all
-sound_after config lengths host d (Update if_present) rs short inside all = all
-sound_after config lengths host d (Loop kernel) rs short inside all = all
-sound_after config lengths host d Wait rs short inside all = all
-sound_after config lengths host d AsyncTest rs short inside all = all
-sound_after config lengths host d IsPresent rs short inside all = all
+sound_after : (config : Configuration) (host : ℕ) (d : Directive) (k : Kind) (counted : List DataItem) (rs : List Region) → length counted ≤ MAX_ITEMS → AllInside config counted
+    → All (IsSound config) rs → All (IsSound config) (regions_after host d k counted rs)
+sound_after config host d Data counted rs short inside all = All-cons (IsSound config) (region_of host d counted) rs (short, inside) all
+sound_after config host d EndData counted rs short inside all = without_all (IsSound config) host rs all
+sound_after config host d EnterData counted rs short inside all = all
+sound_after config host d (ExitData finalize) counted rs short inside all = all
+sound_after config host d (Update if_present) counted rs short inside all = all
+sound_after config host d (Loop kernel) counted rs short inside all = all
+sound_after config host d Wait counted rs short inside all = all
+sound_after config host d AsyncTest counted rs short inside all = all
+sound_after config host d IsPresent counted rs short inside all = all
 
 all_sound : (config : Configuration) (history : List PlaceEntry) (counts : List ℕ) → AllAccepted config history counts → All (IsSound config) (standing config history counts).regions
 unfolding standing
@@ -110,7 +111,11 @@ all_sound config (entry.Accepted host d ∷ before) counts all =
     let h = tables config before (drop 1 counts) (device_in st host d) all.1 in
     let free = is_free config st host d h.table h.blocks h.tied all.0 in
     let inside = all_inside config d.kind (holding h.table.presences h.blocks) (items_in st host d) free.faultless in
-    sound_after config st.lengths host d d.kind st.regions free.within.short inside
+    let ms = st.marks (device_in st host d) in
+    let is = counted_is st host d in
+    let few = counted_few d.kind ms (items_in st host d) in
+    sound_after config host d d.kind (items_counted st host d) st.regions (omega (arith, few, free.within.short, ap length is))
+    (rw is (counted_all (λ (i : DataItem). has_range config.arrays i.range ≡ true) d.kind ms (items_in st host d) inside))
     (all_sound config before (drop 1 counts) all.1)
 all_sound config (entry.Closing ∷ before) counts all = all_sound config before counts all.1
 all_sound config (entry.Closed at ∷ before) counts all = all_sound config before counts all.1
@@ -121,7 +126,7 @@ no_fault : (config : Configuration) (ps : List Presence) (i : DataItem) → has_
 unfolding fault_in
 no_fault config ps i inside entered = rw (inside, not_partly ps i.range (is_held ps i.range entered)) refl
 
-no_faults : (config : Configuration) (h : Holding) (items : List DataItem) → AllInside config items → AllEntered (Some StructuredDown) h items → first_fault_in config EndData h items ≡ None
+no_faults : (config : Configuration) (h : Holding) (items : List DataItem) → AllInside config items → AllEntered EndData h items → first_fault_in config EndData h items ≡ None
 no_faults config h [] inside entered = refl
 no_faults config h (i ∷ is) inside entered =
     let P = λ (i : DataItem). has_range config.arrays i.range ≡ true in
@@ -136,7 +141,7 @@ no_limit accepted rs host d count r few end plain nothing inside short =
     let few_test : nat_le MAX_DIRECTIVES accepted ≡ false = grind (arith, nat_tests, few) in
     rw (end, plain, nothing, inside, short_test, few_test) refl
 
-at_end : (k : Kind) (h : Holding) (items : List DataItem) → k ≡ EndData → AllEntered (change_by k) h items → AllEntered (Some StructuredDown) h items
+at_end : (k : Kind) (h : Holding) (items : List DataItem) → k ≡ EndData → AllEntered k h items → AllEntered EndData h items
 at_end k h items is entered = rw is at entered
 
 pub entered_left : EnteredCanBeLeft
@@ -148,7 +153,7 @@ entered_left config history counts host d r all early few end plain nothing here
     let items : xs ≡ r.items = ap (λ k. (subject_by st.lengths st.regions host d k).items) end ∙ ap (λ o. (left_by d o).items) inside in
     let limit = no_limit st.accepted st.regions host d (length xs) r few end plain nothing inside (rw items sound.0) in
     let held = holding h.table.presences h.blocks in
-    let entered : AllEntered (Some StructuredDown) held xs = at_end d.kind held xs end (entered_in st host d h.table h.blocks h.tied) in
+    let entered : AllEntered EndData held xs = at_end d.kind held xs end (entered_in st host d h.table h.blocks h.tied) in
     refused_by config st host d h.table h.blocks h.tied early here
     ∙ (ap (λ f. fault_or f (fault_or (first_fault_in config d.kind held xs) (past_fault (loop_of d.kind) xs))) limit
     ∙ (ap (λ k. fault_or (first_fault_in config k held xs) (past_fault (loop_of k) xs)) end

@@ -1,6 +1,6 @@
 -- What the open regions have entered: it is present, and counted, through each walk.
 use Rattle.std.proofs.Common.{◌≡◌, ℕ, zero, suc, ◌+◌, ◌<◌, Bool, true, false, cond, List, [], ◌∷◌, ◌++◌, length, map, get_or, Option, Some, None, refl, sym, ap, ◌∙◌, arith, inl, inr}
-use Rattle.std.specs.Prelude.{◌||◌, ◌==◌, not, All, filter}
+use Rattle.std.specs.Prelude.{◌&&◌, ◌||◌, ◌==◌, not, All, filter}
 use Rattle.std.proofs.lemmas.Bool.{cases_Bool, eq-eqb, or_parts, or_left, or_right, lt-ltb}
 use Rattle.std.proofs.lemmas.Bool.Decides.{nat_tests}
 use Rattle.std.proofs.lemmas.List.{length-append}
@@ -9,6 +9,7 @@ use Rattle.std.proofs.lemmas.List.Folds.{list_any-append}
 use Rattle.acc_base.specs.declared.range.Range.{Range}
 use Rattle.acc_base.specs.Configurations.{Configuration}
 use Rattle.acc_base.specs.Ranges.{range_contains, range_overlaps}
+use Rattle.acc_kernel.specs.Kernels.{Loop as Looped}
 use Rattle.acc_present.specs.Legality.{IsEntered}
 use Rattle.acc_present.specs.Lifetimes.{is_before}
 use Rattle.acc_present.specs.declared.change.Change.{Change}
@@ -31,10 +32,11 @@ use Rattle.acc_place.specs.Counters.{IsEnteredBy, count_inside, entered_ranges}
 use Rattle.acc_place.specs.inner.Places.{IsThere}
 use Rattle.acc_place.specs.Implicit.{implicit_items}
 use Rattle.acc_place.specs.Regions.{open_region, region_of, regions_after, regions_on, without_open}
-use Rattle.acc_place.specs.Standings.{change_by, exit_by, left_by, subject_by}
-use Rattle.acc_place.specs.inner.Judging.{Holding, device_by, holding, holding_after, holding_after_all, holding_between, holding_behind, ends_of, mark_by, presences_by, AllHeldFor, HasEntered, AllEntered, AllFine, IsFine}
+use Rattle.acc_place.specs.Standings.{acts_if_present, asked_by, change_by, change_where, counted_with, exit_by, left_by, subject_by}
+use Rattle.acc_place.specs.inner.Judging.{Holding, all_marked, change_in, counted_steps, device_by, holding, holding_after, holding_with, holding_after_all, holding_between, holding_behind, ends_of, mark_by, presences_by, AllHeldFor, HasEntered, AllEntered, AllFine, IsFine}
 use Rattle.acc_place.proofs.OpenRegion.{none_without}
 use Rattle.acc_place.proofs.RegionsOn.{open_on, without_on}
+use Rattle.acc_place.proofs.Visits.{counted_first}
 
 abbrev IsHeld : List Presence → Range → Type 0
 IsHeld ps r = (0 < r.len) × (is_present ps r ≡ true)
@@ -47,14 +49,14 @@ ranges_of items = map (λ (i : DataItem). i.range) items
 
 -- ## Counts
 
-count-append : (whole : Range) (rs qs : List Range) → count_inside whole (rs ++ qs) ≡ count_inside whole rs + count_inside whole qs
+pub count-append : (whole : Range) (rs qs : List Range) → count_inside whole (rs ++ qs) ≡ count_inside whole rs + count_inside whole qs
 count-append whole rs qs =
     ap length (filter-append (range_contains whole) rs qs) ∙ length-append (filter (range_contains whole) rs) (filter (range_contains whole) qs)
 
-count-hit : (whole r : Range) (rs : List Range) → range_contains whole r ≡ true → count_inside whole (r ∷ rs) ≡ count_inside whole rs + 1
+pub count-hit : (whole r : Range) (rs : List Range) → range_contains whole r ≡ true → count_inside whole (r ∷ rs) ≡ count_inside whole rs + 1
 count-hit whole r rs hit = rw hit (omega arith)
 
-count-miss : (whole r : Range) (rs : List Range) → range_contains whole r ≡ false → count_inside whole (r ∷ rs) ≡ count_inside whole rs
+pub count-miss : (whole r : Range) (rs : List Range) → range_contains whole r ≡ false → count_inside whole (r ∷ rs) ≡ count_inside whole rs
 count-miss whole r rs miss = rw miss refl
 
 count_at : (whole : Range) (rs : List Range) (k : ℕ) (d : Range) → k < length rs → range_contains whole (get_or rs k d) ≡ true → 0 < count_inside whole rs
@@ -259,41 +261,88 @@ entered_exit true r b rs ps h = (let m = mark_by DynamicZero r in entered_kept m
 entered_exit false r b rs ps h = (let m = mark_by DynamicDown r in entered_kept m rs rs ps (recounts_none m rs (λ n. refl)) h h.present)
 
 -- a table stays one
-table_by : (capacity : ℕ) (change : Option Change) (ps : List Presence) (r : Range) (b : ℕ) → is_table ps ≡ true → IsFine capacity change ps r → is_table (presences_by change r b ps) ≡ true
+pub table_by : (capacity : ℕ) (change : Option Change) (ps : List Presence) (r : Range) (b : ℕ) → is_table ps ≡ true → IsFine capacity change ps r → is_table (presences_by change r b ps) ≡ true
 table_by capacity None ps r b t fine = t
 table_by capacity (Some made) ps r b t fine = is_table-after (mark_by made r) b ps t fine.cells fine.whole
 
 -- ## All items
 
-entered_data : (capacity : ℕ) (h : Holding) (items : List DataItem) (rs : List Range) → is_table h.presences ≡ true → AllFine capacity (Some StructuredUp) h items → IsEnteredBy rs h.presences
-    → IsEnteredBy (ranges_of items ++ rs) (holding_after_all (Some StructuredUp) h items).presences
+entered_loop : (capacity : ℕ) (kernel : Looped) (h : Holding) (items : List DataItem) (rs : List Range) → is_table h.presences ≡ true → AllFine capacity (Loop kernel) h items → IsEnteredBy rs h.presences
+    → IsEnteredBy (ranges_of items ++ rs) (holding_after_all (Loop kernel) h items).presences
+unfolding holding_after
+entered_loop capacity kernel h [] rs t fine in_all = in_all
+entered_loop capacity kernel h (i ∷ is) rs t fine in_all =
+    let b = h.opened + 1 in
+    let next = holding_after (Some StructuredUp) i.range h in
+    let one = entered_up i.range b rs h.presences t fine.0.cells fine.0.whole in_all in
+    let all = entered_loop capacity kernel next is (i.range ∷ rs) (table_by capacity (Some StructuredUp) h.presences i.range b t fine.0) fine.1 one in
+    entered_turned (ranges_of is) (i.range ∷ []) rs (holding_after_all (Loop kernel) next is).presences all
+
+-- an item that a region enters, or one that takes no action
+abbrev EntersOne : Option Change → Type 0
+EntersOne None = Unit {0}
+EntersOne (Some change) = change ≡ StructuredUp
+
+data_enters : (ps : List Presence) (i : DataItem) → EntersOne (change_in Data ps i)
+data_enters ps i = elim (acts_if_present Data i.clause && not (is_present ps i.range)) as (λ b. EntersOne (cond b None (Some StructuredUp))) [ true ↦ tt | false ↦ refl ]
+
+entered_one : (capacity : ℕ) (change : Option Change) (i : DataItem) (b : ℕ) (rs : List Range) (ps : List Presence) → EntersOne change → is_table ps ≡ true → IsFine capacity change ps i.range → IsEnteredBy rs ps
+    → IsEnteredBy (ranges_of (counted_with change i []) ++ rs) (presences_by change i.range b ps)
+entered_one capacity None i b rs ps enters t fine h = h
+entered_one capacity (Some StructuredUp) i b rs ps enters t fine h = entered_up i.range b rs ps t fine.cells fine.whole h
+entered_one capacity (Some StructuredDown) i b rs ps enters t fine h = absurd cc
+entered_one capacity (Some DynamicUp) i b rs ps enters t fine h = absurd cc
+entered_one capacity (Some DynamicDown) i b rs ps enters t fine h = absurd cc
+entered_one capacity (Some DynamicZero) i b rs ps enters t fine h = absurd cc
+
+counted_ranges : (change : Option Change) (i : DataItem) (items : List DataItem) (rs : List Range) → ranges_of (counted_with change i items) ++ rs ≡ ranges_of (counted_with change i []) ++ (ranges_of items ++ rs)
+counted_ranges None i items rs = refl
+counted_ranges (Some change) i items rs = refl
+
+-- a region enters the ranges of the items that it counts
+entered_data : (capacity : ℕ) (h : Holding) (items : List DataItem) (rs : List Range) → is_table h.presences ≡ true → AllFine capacity Data h items → IsEnteredBy rs h.presences
+    → IsEnteredBy (ranges_of (counted_steps (all_marked Data h items)) ++ rs) (holding_after_all Data h items).presences
 unfolding holding_after
 entered_data capacity h [] rs t fine in_all = in_all
 entered_data capacity h (i ∷ is) rs t fine in_all =
     let b = h.opened + 1 in
-    let next = holding_after (Some StructuredUp) i.range h in
-    let one = entered_up i.range b rs h.presences t fine.0.cells fine.0.whole in_all in
-    let all = entered_data capacity next is (i.range ∷ rs) (table_by capacity (Some StructuredUp) h.presences i.range b t fine.0) fine.1 one in
-    entered_turned (ranges_of is) (i.range ∷ []) rs (holding_after_all (Some StructuredUp) next is).presences all
+    let change = change_in Data h.presences i in
+    let next = holding_with Data i h in
+    let rest = counted_steps (all_marked Data next is) in
+    let first = ranges_of (counted_with change i []) in
+    let one = entered_one capacity change i b rs h.presences (data_enters h.presences i) t fine.0 in_all in
+    let all = entered_data capacity next is (first ++ rs) (table_by capacity change h.presences i.range b t fine.0) fine.1 one in
+    let turned = entered_turned (ranges_of rest) first rs (holding_after_all Data next is).presences all in
+    let is_so : ranges_of (counted_steps (all_marked Data h (i ∷ is))) ++ rs ≡ first ++ (ranges_of rest ++ rs) =
+    ap (λ xs. ranges_of xs ++ rs) (counted_first h i (all_marked Data next is)) ∙ counted_ranges change i rest rs in
+    rw is_so turned
 
-entered_left : (h : Holding) (items : List DataItem) (rs : List Range) → IsEnteredBy (ranges_of items ++ rs) h.presences → IsEnteredBy rs (holding_after_all (Some StructuredDown) h items).presences
+entered_left : (h : Holding) (items : List DataItem) (rs : List Range) → IsEnteredBy (ranges_of items ++ rs) h.presences → IsEnteredBy rs (holding_after_all EndData h items).presences
 unfolding holding_after
 entered_left h [] rs in_all = in_all
 entered_left h (i ∷ is) rs in_all =
     entered_left (holding_after (Some StructuredDown) i.range h) is rs (entered_end i.range (h.opened + 1) (ranges_of is ++ rs) h.presences in_all)
 
--- a change whose items each keep what the regions have entered
-abbrev Keeps : ℕ → Option Change → List Range → Type 0
-Keeps capacity change rs = (ps : List Presence) (r : Range) (b : ℕ) → is_table ps ≡ true → IsFine capacity change ps r → IsEnteredBy rs ps → IsEnteredBy rs (presences_by change r b ps)
+-- a directive whose items each keep what the regions have entered
+abbrev Keeps : ℕ → Kind → List Range → Type 0
+Keeps capacity k rs =
+    (ps : List Presence) (i : DataItem) (b : ℕ) → is_table ps ≡ true → IsFine capacity (change_in k ps i) ps i.range → IsEnteredBy rs ps
+    → IsEnteredBy rs (presences_by (change_in k ps i) i.range b ps)
 
-entered_same : (capacity : ℕ) (change : Option Change) (h : Holding) (items : List DataItem) (rs : List Range) → Keeps capacity change rs → is_table h.presences ≡ true → AllFine capacity change h items → IsEnteredBy rs h.presences
-    → IsEnteredBy rs (holding_after_all change h items).presences
+entered_same : (capacity : ℕ) (k : Kind) (h : Holding) (items : List DataItem) (rs : List Range) → Keeps capacity k rs → is_table h.presences ≡ true → AllFine capacity k h items → IsEnteredBy rs h.presences
+    → IsEnteredBy rs (holding_after_all k h items).presences
 unfolding holding_after
-entered_same capacity change h [] rs keeps t fine in_all = in_all
-entered_same capacity change h (i ∷ is) rs keeps t fine in_all =
+entered_same capacity k h [] rs keeps t fine in_all = in_all
+entered_same capacity k h (i ∷ is) rs keeps t fine in_all =
     let b = h.opened + 1 in
-    entered_same capacity change (holding_after change i.range h) is rs keeps (table_by capacity change h.presences i.range b t fine.0) fine.1
-    (keeps h.presences i.range b t fine.0 in_all)
+    entered_same capacity k (holding_with k i h) is rs keeps (table_by capacity (change_in k h.presences i) h.presences i.range b t fine.0) fine.1
+    (keeps h.presences i b t fine.0 in_all)
+
+-- an exit keeps it, whether its range is present or not
+exit_keeps : (capacity : ℕ) (finalize : Bool) (rs : List Range) → Keeps capacity (ExitData finalize) rs
+exit_keeps capacity finalize rs ps i b t fine h =
+    elim (is_present ps i.range) as (λ p. IsEnteredBy rs (presences_by (change_where (asked_by (ExitData finalize) i) p) i.range b ps))
+    [ true ↦ entered_exit finalize i.range b rs ps h | false ↦ h ]
 
 -- ## At a region's end
 
@@ -315,7 +364,7 @@ has_entered r rs ps h = by_holder (holder ps r) refl
     by_holder None none = absurd (let absent = is_present-none ps r none in let held = (All-head (IsHeld ps) r rs h.present).1 in cc)
     by_holder (Some x) some = at_holder ps x h.counted some
 
-all_entered : (h : Holding) (items : List DataItem) (others : List Range) → IsEnteredBy (ranges_of items ++ others) h.presences → AllEntered (Some StructuredDown) h items
+all_entered : (h : Holding) (items : List DataItem) (others : List Range) → IsEnteredBy (ranges_of items ++ others) h.presences → AllEntered EndData h items
 unfolding holding_after
 all_entered h [] others in_all = tt
 all_entered h (i ∷ is) others in_all =
@@ -325,14 +374,17 @@ all_entered h (i ∷ is) others in_all =
     )
 
 -- each item is inside a present range that a region has entered, in its turn
-pub entered_items : (ps : List Presence) (n : ℕ) (items : List DataItem) (others : List Range) → is_table ps ≡ true → IsEnteredBy (map (λ (i : DataItem). i.range) items ++ others) ps → AllEntered (Some StructuredDown) (holding ps n) items
+pub entered_items : (ps : List Presence) (n : ℕ) (items : List DataItem) (others : List Range) → is_table ps ≡ true → IsEnteredBy (map (λ (i : DataItem). i.range) items ++ others) ps → AllEntered EndData (holding ps n) items
 entered_items ps n items others t h = all_entered (holding ps n) items others h
 
 -- ## The open region, and the others
 
-no_entry_needed : (change : Option Change) (h : Holding) (items : List DataItem) → ((r : Range) (ps : List Presence) → HasEntered change r ps) → AllEntered change h items
-no_entry_needed change h [] free = tt
-no_entry_needed change h (i ∷ is) free = (free i.range h.presences, no_entry_needed change (holding_after change i.range h) is free)
+no_entry_needed : (k : Kind) (h : Holding) (items : List DataItem) → ((r : Range) (ps : List Presence) → HasEntered (change_by k) r ps) → AllEntered k h items
+no_entry_needed k h [] free = tt
+no_entry_needed k h (i ∷ is) free = (
+  elim (acts_if_present k i.clause && not (is_present h.presences i.range)) as (λ b. HasEntered (cond b None (change_by k)) i.range h.presences) [ true ↦ tt | false ↦ free i.range h.presences ],
+  no_entry_needed k (holding_with k i h) is free,
+)
 
 open_all : (P : Range → Type 0) (host : ℕ) (rs : List Region) (x : Region) → open_region host rs ≡ Some x → All P (entered_ranges rs) → All P (ranges_of x.items ++ entered_ranges (without_open host rs))
 open_all P host [] x some all = absurd cc
@@ -349,7 +401,7 @@ open_all P host (r ∷ rs) x some all = elim (cases_Bool (r.host == host)) [
       (All-append P (ranges_of r.items) (entered_ranges (without_open host rs)) first (All-last P (ranges_of x.items) (entered_ranges (without_open host rs)) rest)))
 ]
 
-open_counts : (whole : Range) (host : ℕ) (rs : List Region) (x : Region) → open_region host rs ≡ Some x
+pub open_counts : (whole : Range) (host : ℕ) (rs : List Region) (x : Region) → open_region host rs ≡ Some x
     → count_inside whole (entered_ranges rs) ≡ count_inside whole (ranges_of x.items ++ entered_ranges (without_open host rs))
 open_counts whole host [] x some = absurd cc
 open_counts whole host (r ∷ rs) x some = elim (cases_Bool (r.host == host)) [
@@ -383,30 +435,30 @@ entered_open host rs x ps some h =
 
 -- a region's end is about what the region has entered
 pub entered_subject : (lengths : List ℕ) (rs : List Region) (host : ℕ) (d : Directive) (k : Kind) (ps : List Presence) (n : ℕ) → is_table ps ≡ true → IsEnteredBy (entered_ranges (regions_on (device_by rs host d k) rs)) ps
-    → AllEntered (change_by k) (holding ps n) (subject_by lengths rs host d k).items
-entered_subject lengths rs host d Data ps n t h = no_entry_needed (Some StructuredUp) (holding ps n) d.items (λ r qs. tt)
+    → AllEntered k (holding ps n) (subject_by lengths rs host d k).items
+entered_subject lengths rs host d Data ps n t h = no_entry_needed Data (holding ps n) d.items (λ r qs. tt)
 entered_subject lengths rs host d EndData ps n t h = by_open (open_region host rs) refl h
   where
-    by_open : (o : Option Region) → open_region host rs ≡ o → IsEnteredBy (entered_ranges (regions_on (left_by d o).device rs)) ps → AllEntered (Some StructuredDown) (holding ps n) (left_by d o).items
+    by_open : (o : Option Region) → open_region host rs ≡ o → IsEnteredBy (entered_ranges (regions_on (left_by d o).device rs)) ps → AllEntered EndData (holding ps n) (left_by d o).items
     by_open None none h = tt
     by_open (Some x) some h =
         let on = regions_on x.device rs in
         entered_items ps n x.items (entered_ranges (without_open host on)) t (entered_open host on x ps (open_on x.device host rs x some (eq-eqb x.device x.device refl)) h)
-entered_subject lengths rs host d EnterData ps n t h = no_entry_needed (Some DynamicUp) (holding ps n) d.items (λ r qs. tt)
-entered_subject lengths rs host d (ExitData true) ps n t h = no_entry_needed (Some DynamicZero) (holding ps n) d.items (λ r qs. tt)
-entered_subject lengths rs host d (ExitData false) ps n t h = no_entry_needed (Some DynamicDown) (holding ps n) d.items (λ r qs. tt)
-entered_subject lengths rs host d (Update if_present) ps n t h = no_entry_needed None (holding ps n) d.items (λ r qs. tt)
+entered_subject lengths rs host d EnterData ps n t h = no_entry_needed EnterData (holding ps n) d.items (λ r qs. tt)
+entered_subject lengths rs host d (ExitData true) ps n t h = no_entry_needed (ExitData true) (holding ps n) d.items (λ r qs. tt)
+entered_subject lengths rs host d (ExitData false) ps n t h = no_entry_needed (ExitData false) (holding ps n) d.items (λ r qs. tt)
+entered_subject lengths rs host d (Update if_present) ps n t h = no_entry_needed (Update if_present) (holding ps n) d.items (λ r qs. tt)
 entered_subject lengths rs host d (Loop kernel) ps n t h =
-    no_entry_needed (Some StructuredUp) (holding ps n) (d.items ++ implicit_items lengths rs host d kernel) (λ r qs. tt)
-entered_subject lengths rs host d Wait ps n t h = no_entry_needed None (holding ps n) d.items (λ r qs. tt)
-entered_subject lengths rs host d AsyncTest ps n t h = no_entry_needed None (holding ps n) d.items (λ r qs. tt)
-entered_subject lengths rs host d IsPresent ps n t h = no_entry_needed None (holding ps n) d.items (λ r qs. tt)
+    no_entry_needed (Loop kernel) (holding ps n) (d.items ++ implicit_items lengths rs host d kernel) (λ r qs. tt)
+entered_subject lengths rs host d Wait ps n t h = no_entry_needed Wait (holding ps n) d.items (λ r qs. tt)
+entered_subject lengths rs host d AsyncTest ps n t h = no_entry_needed AsyncTest (holding ps n) d.items (λ r qs. tt)
+entered_subject lengths rs host d IsPresent ps n t h = no_entry_needed IsPresent (holding ps n) d.items (λ r qs. tt)
 
 -- a loop leaves at its end what it entered
-pub entered_ends : (capacity : ℕ) (k : Kind) (h : Holding) (items : List DataItem) (rs : List Range) → is_table h.presences ≡ true → AllFine capacity (change_by k) h items → IsEnteredBy rs h.presences
-    → AllEntered (Some StructuredDown) (holding_between k h items) (ends_of k items)
+pub entered_ends : (capacity : ℕ) (k : Kind) (h : Holding) (items : List DataItem) (rs : List Range) → is_table h.presences ≡ true → AllFine capacity k h items → IsEnteredBy rs h.presences
+    → AllEntered EndData (holding_between k h items) (ends_of k items)
 entered_ends capacity (Loop kernel) h items rs t fine in_all =
-    all_entered (holding_after_all (Some StructuredUp) h items) items rs (entered_data capacity h items rs t fine in_all)
+    all_entered (holding_after_all (Loop kernel) h items) items rs (entered_loop capacity kernel h items rs t fine in_all)
 entered_ends capacity Data h items rs t fine in_all = tt
 entered_ends capacity EndData h items rs t fine in_all = tt
 entered_ends capacity EnterData h items rs t fine in_all = tt
@@ -417,11 +469,11 @@ entered_ends capacity AsyncTest h items rs t fine in_all = tt
 entered_ends capacity IsPresent h items rs t fine in_all = tt
 
 -- and meanwhile it is present
-pub held_between : (capacity : ℕ) (k : Kind) (h : Holding) (items : List DataItem) (rs : List Range) → is_table h.presences ≡ true → AllFine capacity (change_by k) h items → IsEnteredBy rs h.presences
+pub held_between : (capacity : ℕ) (k : Kind) (h : Holding) (items : List DataItem) (rs : List Range) → is_table h.presences ≡ true → AllFine capacity k h items → IsEnteredBy rs h.presences
     → AllHeldFor k (holding_between k h items).presences items
 held_between capacity (Loop kernel) h items rs t fine in_all =
-    let ps = (holding_after_all (Some StructuredUp) h items).presences in
-    all_held ps items (All-first (IsHeld ps) (ranges_of items) rs (entered_data capacity h items rs t fine in_all).present)
+    let ps = (holding_after_all (Loop kernel) h items).presences in
+    all_held ps items (All-first (IsHeld ps) (ranges_of items) rs (entered_loop capacity kernel h items rs t fine in_all).present)
   where
     all_held : (ps : List Presence) (items : List DataItem) → All (IsHeld ps) (ranges_of items) → All (λ (i : DataItem). is_present ps i.range ≡ true) items
     all_held ps [] held = All-nil _
@@ -445,7 +497,7 @@ is_held ps r entered = by_holder (holder ps r) refl entered
     by_holder (Some p) some entered = is_present-some ps r p some
 
 -- so what leaves is fine
-pub fine_left : (capacity : ℕ) (h : Holding) (items : List DataItem) → All (λ (i : DataItem). 0 < i.range.len) items → AllEntered (Some StructuredDown) h items → AllFine capacity (Some StructuredDown) h items
+pub fine_left : (capacity : ℕ) (h : Holding) (items : List DataItem) → All (λ (i : DataItem). 0 < i.range.len) items → AllEntered EndData h items → AllFine capacity EndData h items
 fine_left capacity h [] cells entered = tt
 fine_left capacity h (i ∷ is) cells entered = (
   record {
@@ -457,33 +509,34 @@ fine_left capacity h (i ∷ is) cells entered = (
 )
 
 -- the open regions after a directive have entered what is present then
-pub entered_after : (capacity : ℕ) (lengths : List ℕ) (rs : List Region) (host : ℕ) (d : Directive) (k : Kind) (ps : List Presence) (n : ℕ) → is_table ps ≡ true → AllFine capacity (change_by k) (holding ps n) (subject_by lengths rs host d k).items
+pub entered_after : (capacity : ℕ) (lengths : List ℕ) (rs : List Region) (host : ℕ) (d : Directive) (k : Kind) (counted : List DataItem) (ps : List Presence) (n : ℕ) → is_table ps ≡ true → AllFine capacity k (holding ps n) (subject_by lengths rs host d k).items
+    → (k ≡ Data → counted ≡ counted_steps (all_marked k (holding ps n) (subject_by lengths rs host d k).items))
     → IsEnteredBy (entered_ranges (regions_on (device_by rs host d k) rs)) ps
-    → IsEnteredBy (entered_ranges (regions_on (device_by rs host d k) (regions_after host d k rs))) (holding_behind k (holding ps n) (subject_by lengths rs host d k).items).presences
-entered_after capacity lengths rs host d Data ps n t fine h =
-    rw (eq-eqb d.device d.device refl) (entered_data capacity (holding ps n) d.items (entered_ranges (regions_on d.device rs)) t fine h)
-entered_after capacity lengths rs host d EndData ps n t fine h = by_open (open_region host rs) refl h
+    → IsEnteredBy (entered_ranges (regions_on (device_by rs host d k) (regions_after host d k counted rs))) (holding_behind k (holding ps n) (subject_by lengths rs host d k).items).presences
+entered_after capacity lengths rs host d Data counted ps n t fine counts h =
+    rw (eq-eqb d.device d.device refl, counts refl) (entered_data capacity (holding ps n) d.items (entered_ranges (regions_on d.device rs)) t fine h)
+entered_after capacity lengths rs host d EndData counted ps n t fine counts h = by_open (open_region host rs) refl h
   where
     by_open : (o : Option Region) → open_region host rs ≡ o → IsEnteredBy (entered_ranges (regions_on (left_by d o).device rs)) ps
-        → IsEnteredBy (entered_ranges (regions_on (left_by d o).device (without_open host rs))) (holding_after_all (Some StructuredDown) (holding ps n) (left_by d o).items).presences
+        → IsEnteredBy (entered_ranges (regions_on (left_by d o).device (without_open host rs))) (holding_after_all EndData (holding ps n) (left_by d o).items).presences
     by_open None none h = rw (none_without host rs none) h
     by_open (Some x) some h =
         let on = regions_on x.device rs in
         let here = eq-eqb x.device x.device refl in
         rw (← without_on x.device host rs x some here)
         (entered_left (holding ps n) x.items (entered_ranges (without_open host on)) (entered_open host on x ps (open_on x.device host rs x some here) h))
-entered_after capacity lengths rs host d EnterData ps n t fine h =
-    entered_same capacity (Some DynamicUp) (holding ps n) d.items (entered_ranges (regions_on d.device rs)) (λ qs r b u f g. entered_enter r b (entered_ranges (regions_on d.device rs)) qs u f.cells f.whole g) t fine h
-entered_after capacity lengths rs host d (ExitData finalize) ps n t fine h =
-    entered_same capacity (Some (exit_by finalize)) (holding ps n) d.items (entered_ranges (regions_on d.device rs)) (λ qs r b u f g. entered_exit finalize r b (entered_ranges (regions_on d.device rs)) qs g) t fine h
-entered_after capacity lengths rs host d (Update if_present) ps n t fine h =
-    entered_same capacity None (holding ps n) d.items (entered_ranges (regions_on d.device rs)) (λ qs r b u f g. g) t fine h
-entered_after capacity lengths rs host d (Loop kernel) ps n t fine h =
+entered_after capacity lengths rs host d EnterData counted ps n t fine counts h =
+    entered_same capacity EnterData (holding ps n) d.items (entered_ranges (regions_on d.device rs)) (λ qs i b u f g. entered_enter i.range b (entered_ranges (regions_on d.device rs)) qs u f.cells f.whole g) t fine h
+entered_after capacity lengths rs host d (ExitData finalize) counted ps n t fine counts h =
+    entered_same capacity (ExitData finalize) (holding ps n) d.items (entered_ranges (regions_on d.device rs)) (exit_keeps capacity finalize (entered_ranges (regions_on d.device rs))) t fine h
+entered_after capacity lengths rs host d (Update if_present) counted ps n t fine counts h =
+    entered_same capacity (Update if_present) (holding ps n) d.items (entered_ranges (regions_on d.device rs)) (λ qs i b u f g. g) t fine h
+entered_after capacity lengths rs host d (Loop kernel) counted ps n t fine counts h =
     let items = d.items ++ implicit_items lengths rs host d kernel in
-    entered_left (holding_after_all (Some StructuredUp) (holding ps n) items) items (entered_ranges (regions_on d.device rs)) (entered_data capacity (holding ps n) items (entered_ranges (regions_on d.device rs)) t fine h)
-entered_after capacity lengths rs host d Wait ps n t fine h = entered_same capacity None (holding ps n) d.items (entered_ranges (regions_on d.device rs)) (λ qs r b u f g. g) t fine h
-entered_after capacity lengths rs host d AsyncTest ps n t fine h = entered_same capacity None (holding ps n) d.items (entered_ranges (regions_on d.device rs)) (λ qs r b u f g. g) t fine h
-entered_after capacity lengths rs host d IsPresent ps n t fine h = entered_same capacity None (holding ps n) d.items (entered_ranges (regions_on d.device rs)) (λ qs r b u f g. g) t fine h
+    entered_left (holding_after_all (Loop kernel) (holding ps n) items) items (entered_ranges (regions_on d.device rs)) (entered_loop capacity kernel (holding ps n) items (entered_ranges (regions_on d.device rs)) t fine h)
+entered_after capacity lengths rs host d Wait counted ps n t fine counts h = entered_same capacity Wait (holding ps n) d.items (entered_ranges (regions_on d.device rs)) (λ qs i b u f g. g) t fine h
+entered_after capacity lengths rs host d AsyncTest counted ps n t fine counts h = entered_same capacity AsyncTest (holding ps n) d.items (entered_ranges (regions_on d.device rs)) (λ qs i b u f g. g) t fine h
+entered_after capacity lengths rs host d IsPresent counted ps n t fine counts h = entered_same capacity IsPresent (holding ps n) d.items (entered_ranges (regions_on d.device rs)) (λ qs i b u f g. g) t fine h
 
 -- ## The open region is one of them, and the others stay
 
@@ -508,16 +561,16 @@ without_all P host (r ∷ rs) all =
     ]
 
 -- every region is on a device that is there, after a directive on such a one
-pub there_after : (config : Configuration) (host : ℕ) (d : Directive) (k : Kind) (rs : List Region) → d.device < config.devices → All (IsThere config) rs → All (IsThere config) (regions_after host d k rs)
-there_after config host d Data rs low all = All-cons (IsThere config) (region_of host d) rs low all
-there_after config host d EndData rs low all = without_all (IsThere config) host rs all
-there_after config host d EnterData rs low all = all
-there_after config host d (ExitData finalize) rs low all = all
-there_after config host d (Update if_present) rs low all = all
-there_after config host d (Loop kernel) rs low all = all
-there_after config host d Wait rs low all = all
-there_after config host d AsyncTest rs low all = all
-there_after config host d IsPresent rs low all = all
+pub there_after : (config : Configuration) (host : ℕ) (d : Directive) (k : Kind) (counted : List DataItem) (rs : List Region) → d.device < config.devices → All (IsThere config) rs → All (IsThere config) (regions_after host d k counted rs)
+there_after config host d Data counted rs low all = All-cons (IsThere config) (region_of host d counted) rs low all
+there_after config host d EndData counted rs low all = without_all (IsThere config) host rs all
+there_after config host d EnterData counted rs low all = all
+there_after config host d (ExitData finalize) counted rs low all = all
+there_after config host d (Update if_present) counted rs low all = all
+there_after config host d (Loop kernel) counted rs low all = all
+there_after config host d Wait counted rs low all = all
+there_after config host d AsyncTest counted rs low all = all
+there_after config host d IsPresent counted rs low all = all
 
 -- and so is the device where the directive acts
 pub there_device : (config : Configuration) (host : ℕ) (d : Directive) (k : Kind) (rs : List Region) → d.device < config.devices → All (IsThere config) rs → device_by rs host d k < config.devices

@@ -1,6 +1,6 @@
 -- Entries to ranges end no lifetime.
-use Rattle.std.proofs.Common.{inl, inr, ◌≡◌, ℕ, suc, ◌+◌, ◌-◌, ◌<◌, Bool, true, false, cond, List, [], ◌∷◌, length, refl, sym, ap, ◌∙◌, arith, Option, Some, None}
-use Rattle.std.specs.Prelude.{Contains, filter, not}
+use Rattle.std.proofs.Common.{inl, inr, ◌≡◌, ℕ, suc, ◌+◌, ◌-◌, ◌<◌, true, false, cond, List, [], ◌∷◌, length, refl, sym, ap, ◌∙◌, arith, Option, Some, None}
+use Rattle.std.specs.Prelude.{◌&&◌, Contains, filter, not}
 use Rattle.std.proofs.lemmas.Bool.{cases_Bool, and_parts, and_from, lt-ltb, ltb-true}
 use Rattle.std.proofs.lemmas.List.{length-take}
 use Rattle.std.proofs.lemmas.List.Elements.{Contains-append_left, Contains-append_right}
@@ -14,13 +14,13 @@ use Rattle.acc_present.specs.Marks.{Mark, structured_count, dynamic_count, regio
 use Rattle.acc_present.specs.Lifetimes.{Lifetime, opened_lifetimes, lives, marks_since, stays_counted, is_counted, can_open, opens, lifetime_inserted, is_before}
 use Rattle.acc_present.proofs.Presences.{marks_since-more, no_marks_yet, range_contains_itself}
 use Rattle.acc_present.proofs.LifetimeNumbers.{opening, numbered, opened_more, length-lifetime_inserted}
-use Rattle.acc_place.specs.Standings.{Asked, leaves_mark, one_mark, marks_with, marks_after}
+use Rattle.acc_place.specs.Standings.{Asked, change_at, marks_with, marks_after, marked_by}
 use Rattle.acc_present.specs.Legality.{AllLegal}
-use Rattle.acc_present.specs.Presences.{Presence, presences, holder}
+use Rattle.acc_present.specs.Presences.{Presence, presences, holder, is_present}
 use Rattle.acc_place.specs.Batches.{opened_blocks, holding_blocks}
 use Rattle.acc_place.proofs.HeldAndMade.{look_finds}
 use Rattle.acc_place.proofs.GroupLives.{opened_is}
-use Rattle.acc_place.proofs.VisitLives.{IsHeld, marked_by, visit, held_block_is}
+use Rattle.acc_place.proofs.VisitLives.{IsHeld, visit, held_block_is}
 
 -- an entry leaves what is counted counted
 up_counted : (change : Change) (r range : Range) (ms : List Mark) → can_open change ≡ true → is_counted r ms ≡ true → is_counted r (record { change = change; range = range } ∷ ms) ≡ true
@@ -88,10 +88,9 @@ placed_new l ls =
     Contains-append_right (filter (λ k. not (is_before l.range k.range)) ls) (l ∷ filter (λ k. is_before l.range k.range) ls) l
     (member_first l (filter (λ k. is_before l.range k.range) ls))
 
-opened_by_mark : (made : Bool) (change : Change) (r : Range) (ms : List Mark) (b : ℕ) → can_open change ≡ true → length (opened_lifetimes ms) < length (opened_lifetimes (one_mark made change r ms)) → b ≡ length (opened_lifetimes (one_mark made change r ms))
-    → IsHeld (one_mark made change r ms) r b
-opened_by_mark false change r ms b can longer is = absurd (omega (arith, longer))
-opened_by_mark true change r ms b can longer is =
+opened_by_mark : (change : Change) (r : Range) (ms : List Mark) (b : ℕ) → can_open change ≡ true → length (opened_lifetimes ms) < length (opened_lifetimes (marks_with ms r (Some change))) → b ≡ length (opened_lifetimes (marks_with ms r (Some change)))
+    → IsHeld (marks_with ms r (Some change)) r b
+opened_by_mark change r ms b can longer is =
     let m : Mark = record { change = change; range = r } in
     elim (opened_more m ms) [
       | inl same ↦ absurd (omega (arith, longer, ap (λ (ls : List Lifetime). length ls) same))
@@ -115,8 +114,12 @@ abbrev pub AllEnter : List Asked → Type 0
 AllEnter [] = Unit {0}
 AllEnter (a ∷ asks) = Enters a.change × AllEnter asks
 
-by_mark : (made : Bool) (change : Change) (range : Range) (ms : List Mark) (r : Range) (b : ℕ) → can_open change ≡ true → IsHeld ms r b → IsHeld (one_mark made change range ms) r b
-by_mark true change range ms r b can h =
+-- whether its range has to be present or not
+enters_at : (ms : List Mark) (a : Asked) → Enters a.change → Enters (change_at ms a)
+enters_at ms a can = elim (a.if_present && not (is_present (presences ms) a.item.range)) as (λ b. Enters (cond b None a.change)) [ true ↦ tt | false ↦ can ]
+
+by_mark : (change : Change) (range : Range) (ms : List Mark) (r : Range) (b : ℕ) → can_open change ≡ true → IsHeld ms r b → IsHeld (marks_with ms range (Some change)) r b
+by_mark change range ms r b can h =
     let m : Mark = record { change = change; range = range } in
     record {
       lifetime = h.lifetime;
@@ -125,24 +128,23 @@ by_mark true change range ms r b can h =
       named = h.named;
       around = h.around;
     }
-by_mark false change range ms r b can h = h
 
 opened_by_change : (change : Option Change) (r : Range) (ms : List Mark) (b : ℕ) → Enters change → length (opened_lifetimes ms) < length (opened_lifetimes (marks_with ms r change)) → b ≡ length (opened_lifetimes (marks_with ms r change)) → IsHeld (marks_with ms r change) r b
 opened_by_change None r ms b can longer is = absurd (omega (arith, longer))
-opened_by_change (Some change) r ms b can longer is = opened_by_mark (leaves_mark change r ms) change r ms b can longer is
+opened_by_change (Some change) r ms b can longer is = opened_by_mark change r ms b can longer is
 
 -- A block that a visit opened holds the item's range behind it.
 pub opened_held : (ms : List Mark) (a : Asked) (b : ℕ) → Enters a.change → Contains (opened_blocks (visit ms a)) b → IsHeld (marked_by ms a) a.item.range b
-opened_held ms a b can c = (let n = opened_is ms a b c in opened_by_change a.change a.item.range ms b can n.1 n.0)
+opened_held ms a b can c = (let n = opened_is ms a b c in opened_by_change (change_at ms a) a.item.range ms b (enters_at ms a can) n.1 n.0)
 
 by_change : (change : Option Change) (range : Range) (ms : List Mark) (r : Range) (b : ℕ) → Enters change → IsHeld ms r b → IsHeld (marks_with ms range change) r b
 by_change None range ms r b can h = h
-by_change (Some change) range ms r b can h = by_mark (leaves_mark change range ms) change range ms r b can h
+by_change (Some change) range ms r b can h = by_mark change range ms r b can h
 
 -- A range that a block holds before entries it holds behind them.
 pub held_after : (asks : List Asked) (ms : List Mark) (r : Range) (b : ℕ) → AllEnter asks → IsHeld ms r b → IsHeld (marks_after ms asks) r b
 held_after [] ms r b can h = h
-held_after (a ∷ asks) ms r b can h = held_after asks (marked_by ms a) r b can.1 (by_change a.change a.item.range ms r b can.0 h)
+held_after (a ∷ asks) ms r b can h = held_after asks (marked_by ms a) r b can.1 (by_change (change_at ms a) a.item.range ms r b (enters_at ms a can.0) h)
 
 -- What a block that a walk of entries opened holds, nothing held before it.
 pub opened_absent : (asks : List Asked) (ms : List Mark) (r : Range) (b : ℕ) → AllEnter asks → AllLegal (marks_after ms asks) → 0 < r.len → IsHeld (marks_after ms asks) r b → length (opened_lifetimes ms) < b → holder (presences ms) r ≡ None

@@ -1,5 +1,5 @@
 -- The fault of one item, and what there is where it has none.
-use Rattle.std.proofs.Common.{◌≡◌, ℕ, ◌+◌, ◌-◌, ◌<◌, ◌≤◌, Bool, true, false, List, [], ◌∷◌, Option, Some, None, refl, sym, ◌∙◌, arith, inl, inr}
+use Rattle.std.proofs.Common.{◌≡◌, ℕ, ◌+◌, ◌-◌, ◌<◌, ◌≤◌, Bool, true, false, cond, List, [], ◌∷◌, Option, Some, None, refl, sym, ap, ◌∙◌, arith, inl, inr}
 use Rattle.std.specs.Prelude.{◌&&◌, not, nat_lt, slice_get, IfSome}
 use Rattle.std.proofs.lemmas.Bool.{cases_Bool, and_parts, ltb-true, ltb-false, lt-ltb, le-ltb}
 use Rattle.acc_base.specs.declared.range.Range.{Range}
@@ -19,8 +19,8 @@ use Rattle.acc_place.specs.declared.directive.DataItem.{DataItem}
 use Rattle.acc_place.specs.declared.directive.Kind.{Kind}
 use Rattle.acc_place.specs.declared.directive.Kind.TheVariants as kind
 use Rattle.acc_place.specs.Accepting.{fault_where, first_fault, wants_whole, wants_presence}
-use Rattle.acc_place.specs.Standings.{change_by}
-use Rattle.acc_place.specs.inner.Judging.{fault_in, found_fault, can_open_by, opens_one, block_found, block_held, IsFine}
+use Rattle.acc_place.specs.Standings.{acts_if_present, asked_by, change_by, change_where}
+use Rattle.acc_place.specs.inner.Judging.{change_in, is_found, fault_in, found_fault, can_open_by, opens_one, block_found, block_held, IsFine}
 
 and_false : (b : Bool) → (b && false) ≡ false
 and_false true = refl
@@ -32,6 +32,11 @@ and_true false = refl
 
 -- ## What was found
 
+absent_where_partly : (a b : Bool) → (a && not b) ≡ true → b ≡ false
+absent_where_partly true false h = refl
+absent_where_partly true true h = absurd cc
+absent_where_partly false b h = absurd cc
+
 opens_none : (change : Option Change) (ps : List Presence) (r : Range) → is_present ps r ≡ true → opens_one change ps r ≡ false
 opens_none None ps r held = refl
 opens_none (Some change) ps r held = rw held (and_false (can_open change))
@@ -39,6 +44,12 @@ opens_none (Some change) ps r held = rw held (and_false (can_open change))
 opens_absent : (change : Option Change) (ps : List Presence) (r : Range) → is_present ps r ≡ false → opens_one change ps r ≡ can_open_by change
 opens_absent None ps r absent = refl
 opens_absent (Some change) ps r absent = rw absent (and_true (can_open change))
+
+-- whether the range that was found so is present
+pub found_present : (found : Look) (ps : List Presence) (r : Range) → IsLook ps r found → is_found found ≡ is_present ps r
+found_present look.Absent ps r looks = sym (is_present-none ps r looks.0)
+found_present look.Partly ps r looks = sym (absent_where_partly (overlaps_any ps r) (is_present ps r) looks)
+found_present (look.Present e) ps r looks = sym (is_present-some ps r (entry_presence e) looks.0)
 
 -- the free cells are too few where the used ones would be too many
 full_is : (free capacity used len : ℕ) → used ≤ capacity → free ≡ capacity - used → nat_lt capacity (used + len) ≡ nat_lt free len
@@ -64,18 +75,20 @@ fault-present : (config : Configuration) (k : Kind) (ps : List Presence) (i : Da
     → is_present ps i.range ≡ true → None ≡ fault_in config k ps i
 unfolding fault_in
 fault-present config k ps i inside whole held =
-    rw (inside, whole, and_false (wants_whole k), opens_none (change_by k) ps i.range held, held, and_false (wants_presence k i.clause)) refl
+    rw (inside, whole, and_false (wants_whole k), opens_none (change_in k ps i) ps i.range held, held, and_false (wants_presence k i.clause)) refl
 
 fault-absent : (config : Configuration) (k : Kind) (ps : List Presence) (i : DataItem) (free : ℕ) → has_range config.arrays i.range ≡ true
     → is_partly_present ps i.range ≡ false → is_present ps i.range ≡ false
     → used_cells ps ≤ config.capacity → free ≡ config.capacity - used_cells ps → found_fault k i look.Absent free ≡ fault_in config k ps i
 unfolding fault_in
 fault-absent config k ps i free inside whole absent within is =
+    let opens : opens_one (change_in k ps i) ps i.range ≡ can_open_by (change_where (asked_by k i) false) =
+    opens_absent (change_in k ps i) ps i.range absent ∙ ap (λ p. can_open_by (change_where (asked_by k i) p)) absent in
     rw (
       inside,
       whole,
       and_false (wants_whole k),
-      opens_absent (change_by k) ps i.range absent,
+      opens,
       absent,
       and_true (wants_presence k i.clause),
       full_is free config.capacity (used_cells ps) i.range.len within is,
@@ -96,11 +109,6 @@ found_is config k t d i found capacity used fault inside looks draft same all so
     let within : used_cells (drafted t d) ≤ config.capacity = omega (arith, draft.within, same) in
     let free : capacity - used ≡ config.capacity - used_cells (drafted t d) = omega (arith, all, some, draft.counted) in
     sym (is ∙ found_alike config k (drafted t d) i found (capacity - used) inside looks within free)
-
-absent_where_partly : (a b : Bool) → (a && not b) ≡ true → b ≡ false
-absent_where_partly true false h = refl
-absent_where_partly true true h = absurd cc
-absent_where_partly false b h = absurd cc
 
 -- the block that was found is the one that holds the range
 pub block_is : (ps : List Presence) (r : Range) (found : Look) → IsLook ps r found → block_found found ≡ block_held (holder ps r)
@@ -137,7 +145,7 @@ pub inside_item : (config : Configuration) (k : Kind) (ps : List Presence) (i : 
 unfolding fault_in
 inside_item config k ps i none =
     let full = nat_lt config.capacity (used_cells ps + i.range.len) in
-    (none_of_four (has_range config.arrays i.range) (wants_whole k && is_partly_present ps i.range) (wants_presence k i.clause && not (is_present ps i.range)) (opens_one (change_by k) ps i.range && full) none).0
+    (none_of_four (has_range config.arrays i.range) (wants_whole k && is_partly_present ps i.range) (wants_presence k i.clause && not (is_present ps i.range)) (opens_one (change_in k ps i) ps i.range && full) none).0
 
 -- a kind that changes something isn't about what is partly present
 whole_by : (k : Kind) (partly : Bool) → (wants_whole k && partly) ≡ false → IfSome (change_by k) (λ made. partly ≡ false)
@@ -151,16 +159,21 @@ whole_by kind.Wait partly h = tt
 whole_by kind.AsyncTest partly h = tt
 whole_by kind.IsPresent partly h = tt
 
+-- so does an item of it, where it changes something
+whole_where : (k : Kind) (i : DataItem) (partly present : Bool) → (wants_whole k && partly) ≡ false → IfSome (change_where (asked_by k i) present) (λ made. partly ≡ false)
+whole_where k i partly present h =
+    elim (acts_if_present k i.clause && not present) as (λ b. IfSome (cond b None (change_by k)) (λ made. partly ≡ false)) [ true ↦ tt | false ↦ whole_by k partly h ]
+
 -- such an item is fine
-pub fine_item : (config : Configuration) (k : Kind) (ps : List Presence) (i : DataItem) → fault_in config k ps i ≡ None → IsFine config.capacity (change_by k) ps i.range
+pub fine_item : (config : Configuration) (k : Kind) (ps : List Presence) (i : DataItem) → fault_in config k ps i ≡ None → IsFine config.capacity (change_in k ps i) ps i.range
 unfolding fault_in
 fine_item config k ps i none =
     let full = nat_lt config.capacity (used_cells ps + i.range.len) in
-    let opens = opens_one (change_by k) ps i.range in
+    let opens = opens_one (change_in k ps i) ps i.range in
     let parts =
     none_of_four (has_range config.arrays i.range) (wants_whole k && is_partly_present ps i.range) (wants_presence k i.clause && not (is_present ps i.range)) (opens && full) none in
     record {
       cells = cells_inside config i.range parts.0;
-      whole = whole_by k (is_partly_present ps i.range) parts.1;
+      whole = whole_where k i (is_partly_present ps i.range) (is_present ps i.range) parts.1;
       fits = λ is_opened. ltb-false config.capacity (used_cells ps + i.range.len) (not_both opens full parts.2 is_opened);
     }

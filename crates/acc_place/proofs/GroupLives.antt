@@ -20,14 +20,14 @@ use Rattle.acc_kernel.specs.Jobs.{Use}
 use Rattle.acc_kernel.specs.Kernels.{Loop, arrays_of}
 use Rattle.acc_place.specs.Implicit.{item_of}
 use Rattle.acc_place.specs.declared.directive.DataItem.{DataItem}
-use Rattle.acc_place.specs.Standings.{Asked, Visit, visits}
+use Rattle.acc_place.specs.Standings.{Asked, Visit, visits, marked_by}
 use Rattle.acc_place.specs.declared.directive.Clause.{Clause}
-use Rattle.acc_place.specs.declared.directive.Clause.TheVariants.{Copy, Copyin, Copyout, Create, Present, Delete, UpdateSelf, UpdateDevice}
+use Rattle.acc_place.specs.declared.directive.Clause.TheVariants.{Copy, Copyin, Copyout, Create, Present, NoCreate, Delete, UpdateSelf, UpdateDevice}
 use Rattle.acc_place.specs.Batches.{opened_blocks, ended_blocks, holding_blocks, makes, copy_ins, updates, updates_by, use_by, uses_by, runs_by, copy_outs, releases, copies_in, copies_out}
 use Rattle.acc_base.specs.Configurations.{has_range}
 use Rattle.acc_batch.specs.Lives.{blocks_made, blocks_released, HoldsBlock, AllUse, Made}
 use Rattle.acc_batch.proofs.Lives.{made-append, released-append}
-use Rattle.acc_place.proofs.VisitLives.{AllUse-append, marked_by, visit_is, visit, made_of, Booked, booked_more, ended_is, held_block_is, is_opened, new_made, new_is_made, live_member}
+use Rattle.acc_place.proofs.VisitLives.{AllUse-append, visit_is, visit, made_of, Booked, booked_more, ended_is, held_block_is, is_opened, new_made, new_is_made, live_member}
 
 -- A block of these was made with a range that has this one, and is none of the released ones.
 pub record HoldsIn (makings : List Made) (gone : List ℕ) (range : Range) (block : ℕ) : Type 0 where
@@ -135,6 +135,7 @@ updates_held Copyin r blocks makings gone h = All-nil (Copies makings gone)
 updates_held Copyout r blocks makings gone h = All-nil (Copies makings gone)
 updates_held Create r blocks makings gone h = All-nil (Copies makings gone)
 updates_held Present r blocks makings gone h = All-nil (Copies makings gone)
+updates_held NoCreate r blocks makings gone h = All-nil (Copies makings gone)
 updates_held Delete r blocks makings gone h = All-nil (Copies makings gone)
 
 -- a visit's updates are such copies

@@ -24,9 +24,9 @@ use Rattle.acc_batch.specs.Labels.{ops_of, made_blocks, used_blocks, has_number,
 use Rattle.acc_batch.specs.Lives.{Made, blocks_made, HoldsBlock, UsesLive, AllUse, on_device}
 use Rattle.acc_batch.proofs.OrderedBatches.{filter_member}
 use Rattle.acc_place.specs.inner.Noting.{HasOneMaker}
-use Rattle.acc_place.specs.Standings.{Asked, marks_after}
+use Rattle.acc_place.specs.Standings.{Asked, marks_after, marked_by}
 use Rattle.acc_batch.proofs.Lives.{made-append}
-use Rattle.acc_place.proofs.VisitLives.{IsHeld, marked_by, visit_is}
+use Rattle.acc_place.proofs.VisitLives.{IsHeld, visit_is}
 
 -- a block that holds a range after a visit held it before, or was opened by the visit
 pub held_before : (ms : List Mark) (a : Asked) (r : Range) (b : ℕ) → IsHeld (marked_by ms a) r b → IsHeld ms r b ⊎ (length (opened_lifetimes ms) < b)

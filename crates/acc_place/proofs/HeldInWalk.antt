@@ -10,12 +10,10 @@ use Rattle.acc_batch.specs.declared.label.OpLabel.{OpLabel}
 use Rattle.acc_batch.specs.declared.label.OpLabel.TheVariants.{Make, CopyIn, CopyOut, Release, Run}
 use Rattle.acc_kernel.specs.Jobs.{Use}
 use Rattle.acc_kernel.specs.Kernels.{Loop, arrays_of}
-use Rattle.acc_present.specs.declared.change.Change.{Change}
-use Rattle.acc_present.specs.declared.change.Change.TheVariants.{StructuredUp, StructuredDown, DynamicUp}
 use Rattle.acc_present.specs.Lifetimes.{Lifetime, can_open}
 use Rattle.acc_present.specs.Marks.{Mark}
 use Rattle.acc_place.specs.declared.directive.Clause.{Clause}
-use Rattle.acc_place.specs.declared.directive.Clause.TheVariants.{Copy, Copyin, Copyout, Create, Present, Delete, UpdateSelf, UpdateDevice}
+use Rattle.acc_place.specs.declared.directive.Clause.TheVariants.{Copy, Copyin, Copyout, Create, Present, NoCreate, Delete, UpdateSelf, UpdateDevice}
 use Rattle.acc_place.specs.Directives.{Directive}
 use Rattle.acc_place.specs.declared.directive.DataItem.{DataItem}
 use Rattle.acc_place.specs.declared.directive.Kind.{Kind}
@@ -23,11 +21,11 @@ use Rattle.acc_place.specs.declared.directive.Kind.TheVariants as kind
 use Rattle.acc_place.specs.Batches.{opened_blocks, ended_blocks, holding_blocks, makes, copy_ins, updates, updates_by, use_by, uses_by, runs_by, copy_outs, releases, copies_in, copies_out, grouped}
 use Rattle.acc_place.specs.Implicit.{item_of}
 use Rattle.acc_place.specs.inner.Noting.{noted_ranges}
-use Rattle.acc_place.specs.Standings.{Standing, Asked, Walk, Visit, visits, all_visits, marks_after, marks_between, all_asked, change_by, exit_by, ends_by, subject_by, walk_of}
+use Rattle.acc_place.specs.Standings.{Standing, Asked, Walk, Visit, visits, all_visits, marks_after, marks_between, all_asked, change_by, exit_by, ends_by, subject_by, walk_of, marked_by}
 use Rattle.acc_place.proofs.EntryWalks.{Enters, AllEnter, held_after, opened_held}
 use Rattle.acc_place.proofs.ExitWalks.{Leaves, AllLeave, none_opened, held_from, ended_held}
 use Rattle.acc_place.proofs.GroupLives.{all_from_members, opened_is}
-use Rattle.acc_place.proofs.VisitLives.{IsHeld, marked_by, visit, held_block_is}
+use Rattle.acc_place.proofs.VisitLives.{IsHeld, visit, held_block_is}
 
 -- ## From visits to operations
 
@@ -79,6 +77,7 @@ updates_so P v h = by_clause v.item.clause
     by_clause Copyout = All-nil (NotesSo P)
     by_clause Create = All-nil (NotesSo P)
     by_clause Present = All-nil (NotesSo P)
+    by_clause NoCreate = All-nil (NotesSo P)
     by_clause Delete = All-nil (NotesSo P)
 
 group_so : (P : Use → Type 0) (f : Visit → List OpLabel) (vs : List Visit) → ((v : Visit) → IsSoAt P v → All (NotesSo P) (f v)) → All (IsSoAt P) vs → All (NotesSo P) (flat_map f vs)
@@ -176,13 +175,13 @@ visits_within walk (leaves i e) ms =
 
 -- ## The walk of a directive
 
-enter_asked : (change : Option Change) (items : List DataItem) → Enters change → AllEnter (all_asked change items)
-enter_asked change [] h = tt
-enter_asked change (i ∷ items) h = (h, enter_asked change items h)
+enter_asked : (k : Kind) (items : List DataItem) → Enters (change_by k) → AllEnter (all_asked k items)
+enter_asked k [] h = tt
+enter_asked k (i ∷ items) h = (h, enter_asked k items h)
 
-leave_asked : (change : Option Change) (items : List DataItem) → Leaves change → AllLeave (all_asked change items)
-leave_asked change [] h = tt
-leave_asked change (i ∷ items) h = (h, leave_asked change items h)
+leave_asked : (k : Kind) (items : List DataItem) → Leaves (change_by k) → AllLeave (all_asked k items)
+leave_asked k [] h = tt
+leave_asked k (i ∷ items) h = (h, leave_asked k items h)
 
 -- an exit opens nothing
 exit_leaves : (finalize : Bool) → can_open (exit_by finalize) ≡ false
@@ -190,21 +189,21 @@ exit_leaves true = refl
 exit_leaves false = refl
 
 abbrev EntersBy : Kind → List DataItem → Type 0
-EntersBy k items = AllEnter (all_asked (change_by k) items) × AllLeave (ends_by k items)
+EntersBy k items = AllEnter (all_asked k items) × AllLeave (ends_by k items)
 
 abbrev LeavesBy : Kind → List DataItem → Type 0
-LeavesBy k items = AllLeave (all_asked (change_by k) items) × AllLeave (ends_by k items)
+LeavesBy k items = AllLeave (all_asked k items) × AllLeave (ends_by k items)
 
 by_kind : (k : Kind) (items : List DataItem) → EntersBy k items ⊎ LeavesBy k items
-by_kind kind.Data items = inl (enter_asked (Some StructuredUp) items refl, tt)
-by_kind kind.EndData items = inr (leave_asked (Some StructuredDown) items refl, tt)
-by_kind kind.EnterData items = inl (enter_asked (Some DynamicUp) items refl, tt)
-by_kind (kind.ExitData finalize) items = inr (leave_asked (Some (exit_by finalize)) items (exit_leaves finalize), tt)
-by_kind (kind.Update if_present) items = inl (enter_asked None items tt, tt)
-by_kind (kind.Loop k) items = inl (enter_asked (Some StructuredUp) items refl, leave_asked (Some StructuredDown) items refl)
-by_kind kind.Wait items = inl (enter_asked None items tt, tt)
-by_kind kind.AsyncTest items = inl (enter_asked None items tt, tt)
-by_kind kind.IsPresent items = inl (enter_asked None items tt, tt)
+by_kind kind.Data items = inl (enter_asked kind.Data items refl, tt)
+by_kind kind.EndData items = inr (leave_asked kind.EndData items refl, tt)
+by_kind kind.EnterData items = inl (enter_asked kind.EnterData items refl, tt)
+by_kind (kind.ExitData finalize) items = inr (leave_asked (kind.ExitData finalize) items (exit_leaves finalize), tt)
+by_kind (kind.Update if_present) items = inl (enter_asked (kind.Update if_present) items tt, tt)
+by_kind (kind.Loop k) items = inl (enter_asked (kind.Loop k) items refl, leave_asked kind.EndData items refl)
+by_kind kind.Wait items = inl (enter_asked kind.Wait items tt, tt)
+by_kind kind.AsyncTest items = inl (enter_asked kind.AsyncTest items tt, tt)
+by_kind kind.IsPresent items = inl (enter_asked kind.IsPresent items tt, tt)
 
 -- Each directive's walk is of one of the two sorts.
 pub walk_turns : (st : Standing) (host : ℕ) (d : Directive) → Turns (walk_of st host d)

@@ -26,7 +26,7 @@ use Rattle.acc_batch.proofs.Labels.{ops_of-append}
 use Rattle.acc_batch.proofs.OrderedBatches.{behind_is, close_ordered, label_ordered, ordered_push}
 use Rattle.acc_kernel.specs.Kernels.{Loop}
 use Rattle.acc_place.specs.declared.directive.Clause.{Clause}
-use Rattle.acc_place.specs.declared.directive.Clause.TheVariants.{Copy, Copyin, Copyout, Create, Present, Delete, UpdateSelf, UpdateDevice}
+use Rattle.acc_place.specs.declared.directive.Clause.TheVariants.{Copy, Copyin, Copyout, Create, Present, NoCreate, Delete, UpdateSelf, UpdateDevice}
 use Rattle.acc_place.specs.Directives.{Directive}
 use Rattle.acc_place.specs.declared.directive.DataItem.{DataItem}
 use Rattle.acc_place.specs.declared.directive.Kind.{Kind}
@@ -89,6 +89,7 @@ update_each Copyin r bs = All-nil NoAwait
 update_each Copyout r bs = All-nil NoAwait
 update_each Create r bs = All-nil NoAwait
 update_each Present r bs = All-nil NoAwait
+update_each NoCreate r bs = All-nil NoAwait
 update_each Delete r bs = All-nil NoAwait
 
 each_visit : (f : Visit → List OpLabel) (vs : List Visit) → ((v : Visit) → All NoAwait (f v)) → All NoAwait (flat_map f vs)

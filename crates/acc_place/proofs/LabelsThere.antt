@@ -10,6 +10,7 @@ use Rattle.acc_batch.specs.declared.label.Label.{Label}
 use Rattle.acc_batch.specs.declared.label.OpLabel.{OpLabel}
 use Rattle.acc_batch.specs.declared.label.OpLabel.TheVariants.{Close}
 use Rattle.acc_place.specs.Directives.{Directive}
+use Rattle.acc_place.specs.declared.directive.DataItem.{DataItem}
 use Rattle.acc_place.specs.declared.directive.Kind.{Kind}
 use Rattle.acc_place.specs.declared.directive.Kind.TheVariants as kind
 use Rattle.acc_place.specs.declared.directive.PlaceEntry.{PlaceEntry}
@@ -18,7 +19,7 @@ use Rattle.acc_place.specs.declared.directive.Region.{Region}
 use Rattle.acc_place.specs.Batches.{walk_at, batch_of, labels_with}
 use Rattle.acc_place.specs.Histories.{AllAccepted, standing}
 use Rattle.acc_place.specs.Regions.{regions_of, first_region, without_open, region_of, regions_after}
-use Rattle.acc_place.specs.Standings.{Standing, walk_of, subject_by, left_by}
+use Rattle.acc_place.specs.Standings.{Standing, walk_of, subject_by, left_by, counted_items}
 use Rattle.acc_place.specs.Sound.{AcceptedAreThere}
 use Rattle.acc_place.proofs.InArrays.{accepted_fits}
 use Rattle.acc_place.proofs.LabelsSound.{walk_low}
@@ -60,16 +61,16 @@ without_in devices host (r ∷ rs) h = elim (cases_Bool (r.host == host)) [
   | inr other ↦ rw other (All-cons (IsIn devices) r (without_open host rs) (All-head (IsIn devices) r rs h) (without_in devices host rs (All-tail (IsIn devices) r rs h)))
 ]
 
-regions_in : (devices host : ℕ) (d : Directive) (k : Kind) (rs : List Region) → All (IsIn devices) rs → d.device < devices → All (IsIn devices) (regions_after host d k rs)
-regions_in devices host d kind.Data rs h low = All-cons (IsIn devices) (region_of host d) rs low h
-regions_in devices host d kind.EndData rs h low = without_in devices host rs h
-regions_in devices host d (kind.Loop k) rs h low = h
-regions_in devices host d kind.EnterData rs h low = h
-regions_in devices host d (kind.ExitData finalize) rs h low = h
-regions_in devices host d (kind.Update if_present) rs h low = h
-regions_in devices host d kind.Wait rs h low = h
-regions_in devices host d kind.AsyncTest rs h low = h
-regions_in devices host d kind.IsPresent rs h low = h
+regions_in : (devices host : ℕ) (d : Directive) (k : Kind) (counted : List DataItem) (rs : List Region) → All (IsIn devices) rs → d.device < devices → All (IsIn devices) (regions_after host d k counted rs)
+regions_in devices host d kind.Data counted rs h low = All-cons (IsIn devices) (region_of host d counted) rs low h
+regions_in devices host d kind.EndData counted rs h low = without_in devices host rs h
+regions_in devices host d (kind.Loop k) counted rs h low = h
+regions_in devices host d kind.EnterData counted rs h low = h
+regions_in devices host d (kind.ExitData finalize) counted rs h low = h
+regions_in devices host d (kind.Update if_present) counted rs h low = h
+regions_in devices host d kind.Wait counted rs h low = h
+regions_in devices host d kind.AsyncTest counted rs h low = h
+regions_in devices host d kind.IsPresent counted rs h low = h
 
 labels_in : (devices : ℕ) (at : QueueAt) (host items_done : ℕ) (labels : List Label) (ops : List OpLabel) → All (IsThere devices) labels → at.device < devices → at.queue < QUEUES → All (IsThere devices) (labels_with at host items_done labels ops)
 labels_in devices at host items_done labels [] h device queue = h
@@ -85,7 +86,7 @@ all_there config (noted.Accepted host d ∷ before) counts h =
     let walk = walk_of st host d in
     record {
       labels = labels_in config.devices (walk_at walk) host (slice_index_or counts 0 0) st.labels (batch_of st walk) t.labels (walk_in config.devices st host d t.regions fit.device) (walk_low st host d);
-      regions = regions_in config.devices host d d.kind st.regions t.regions fit.device;
+      regions = regions_in config.devices host d d.kind (counted_items (st.marks walk.device) walk) st.regions t.regions fit.device;
     }
 all_there config (noted.Closing ∷ before) counts h =
     let t = all_there config before counts h.1 in

@@ -20,7 +20,7 @@ use Rattle.acc_batch.proofs.OrderedBatches.{behind_is}
 use Rattle.acc_kernel.specs.Kernels.{Loop}
 use Rattle.acc_present.specs.Marks.{Mark}
 use Rattle.acc_place.specs.declared.directive.Clause.{Clause}
-use Rattle.acc_place.specs.declared.directive.Clause.TheVariants.{Copy, Copyin, Copyout, Create, Present, Delete, UpdateSelf, UpdateDevice}
+use Rattle.acc_place.specs.declared.directive.Clause.TheVariants.{Copy, Copyin, Copyout, Create, Present, NoCreate, Delete, UpdateSelf, UpdateDevice}
 use Rattle.acc_place.specs.declared.directive.DataItem.{DataItem}
 use Rattle.acc_place.specs.declared.directive.PlaceEntry.{PlaceEntry}
 use Rattle.acc_place.specs.declared.directive.PlaceEntry.TheVariants.{Accepted, Closing, Closed}
@@ -51,6 +51,7 @@ update_each Copyin r bs = All-nil Goes
 update_each Copyout r bs = All-nil Goes
 update_each Create r bs = All-nil Goes
 update_each Present r bs = All-nil Goes
+update_each NoCreate r bs = All-nil Goes
 update_each Delete r bs = All-nil Goes
 
 each_visit : (f : Visit → List OpLabel) (vs : List Visit) → ((v : Visit) → All Goes (f v)) → All Goes (flat_map f vs)

@@ -8,6 +8,7 @@ pub mod CloseOut
 mod DeviceNotes
 mod DirectivesCounted
 mod EnteredRanges
+mod EntriesAndEnds
 mod EntryWalks
 mod ExitWalks
 mod FaultIn

@@ -19,7 +19,7 @@ use Rattle.acc_present.specs.Marks.{Mark}
 use Rattle.acc_present.specs.Notes.{Note}
 use Rattle.acc_present.specs.Presences.{presences}
 use Rattle.acc_place.specs.declared.directive.Clause.{Clause}
-use Rattle.acc_place.specs.declared.directive.Clause.TheVariants.{Copy, Copyin, Copyout, Create, Present, Delete, UpdateSelf, UpdateDevice}
+use Rattle.acc_place.specs.declared.directive.Clause.TheVariants.{Copy, Copyin, Copyout, Create, Present, NoCreate, Delete, UpdateSelf, UpdateDevice}
 use Rattle.acc_place.specs.declared.directive.DataItem.{DataItem}
 use Rattle.acc_place.specs.declared.directive.PlaceEntry.{PlaceEntry}
 use Rattle.acc_place.specs.Directives.{Directive}
@@ -27,7 +27,7 @@ use Rattle.acc_place.specs.Accepting.{refusal}
 use Rattle.acc_place.specs.Batches.{opened_blocks, ended_blocks, holding_blocks, makes, copy_ins, updates, updates_by, runs, runs_by, copy_outs, releases, copies_in, copies_out, grouped, operations_of}
 use Rattle.acc_place.specs.Histories.{AllAccepted, standing}
 use Rattle.acc_place.specs.inner.Noting.{note_of, notes_on, noted_ranges, made_ranges, used_ranges, note_found}
-use Rattle.acc_place.specs.Standings.{Standing, Asked, Walk, Visit, visits, all_visits, marks_between, walk_of}
+use Rattle.acc_place.specs.Standings.{Standing, Asked, Walk, Visit, visits, all_visits, marks_between, walk_of, marked_by}
 use Rattle.acc_place.proofs.HeldAndMade.{held_first, look_finds}
 use Rattle.acc_place.proofs.AllVisits.{asks_of, all_visits_are}
 use Rattle.acc_place.proofs.EntryWalks.{opened_absent}
@@ -35,7 +35,7 @@ use Rattle.acc_place.proofs.GroupLives.{AllInArrays, all_from_members}
 use Rattle.acc_place.proofs.InArrays.{accepted_fits}
 use Rattle.acc_place.proofs.NoteOf.{note_fresh}
 use Rattle.acc_place.proofs.LabelsSound.{Sound, all_sound, touched_low, walk_low}
-use Rattle.acc_place.proofs.VisitLives.{IsHeld, ended_uses, marked_by, visit, held_block_is}
+use Rattle.acc_place.proofs.VisitLives.{IsHeld, ended_uses, visit, held_block_is}
 use Rattle.acc_place.proofs.HeldInWalk.{NotesSo, IsSoAt, run_so, grouped_so, Turns, enters, leaves, middle, IsHeldAt, held_middle, visits_within, walk_turns}
 
 -- The walk of a directive that is accepted behind others.
@@ -202,6 +202,7 @@ none_updates Copyin r bs = refl
 none_updates Copyout r bs = refl
 none_updates Create r bs = refl
 none_updates Present r bs = refl
+none_updates NoCreate r bs = refl
 none_updates Delete r bs = refl
 
 none_runs : (k : Option Loop) (items : List DataItem) (ms : List Mark) → flat_map released_blocks (runs_by k items ms) ≡ []

@@ -3,6 +3,7 @@ use Rattle.std.proofs.Common.{inl, inr, ◌≡◌, ℕ, true, false, cond, List,
 use Rattle.std.specs.Prelude.{◌==◌}
 use Rattle.std.proofs.lemmas.Bool.{cases_Bool}
 use Rattle.acc_place.specs.Directives.{Directive}
+use Rattle.acc_place.specs.declared.directive.DataItem.{DataItem}
 use Rattle.acc_place.specs.declared.directive.Kind.{Kind}
 use Rattle.acc_place.specs.declared.directive.Kind.TheVariants as kind
 use Rattle.acc_place.specs.declared.directive.Region.{Region}
@@ -52,20 +53,20 @@ without_away device host (r ∷ rs) x e away = elim (cases_Bool (r.host == host)
 ]
 
 -- a directive leaves the constructs of every other device
-pub regions_beside : (rs : List Region) (host : ℕ) (d : Directive) (k : Kind) (device : ℕ) → (device_by rs host d k == device) ≡ false → regions_on device (regions_after host d k rs) ≡ regions_on device rs
-regions_beside rs host d kind.Data device away = rw away refl
-regions_beside rs host d kind.EndData device away = by_open (open_region host rs) refl away
+pub regions_beside : (rs : List Region) (host : ℕ) (d : Directive) (k : Kind) (counted : List DataItem) (device : ℕ) → (device_by rs host d k == device) ≡ false → regions_on device (regions_after host d k counted rs) ≡ regions_on device rs
+regions_beside rs host d kind.Data counted device away = rw away refl
+regions_beside rs host d kind.EndData counted device away = by_open (open_region host rs) refl away
   where
     by_open : (o : Option Region) → open_region host rs ≡ o → ((left_by d o).device == device) ≡ false → regions_on device (without_open host rs) ≡ regions_on device rs
     by_open None none away = ap (regions_on device) (none_without host rs none)
     by_open (Some x) some away = without_away device host rs x some away
-regions_beside rs host d kind.EnterData device away = refl
-regions_beside rs host d (kind.ExitData finalize) device away = refl
-regions_beside rs host d (kind.Update if_present) device away = refl
-regions_beside rs host d (kind.Loop kernel) device away = refl
-regions_beside rs host d kind.Wait device away = refl
-regions_beside rs host d kind.AsyncTest device away = refl
-regions_beside rs host d kind.IsPresent device away = refl
+regions_beside rs host d kind.EnterData counted device away = refl
+regions_beside rs host d (kind.ExitData finalize) counted device away = refl
+regions_beside rs host d (kind.Update if_present) counted device away = refl
+regions_beside rs host d (kind.Loop kernel) counted device away = refl
+regions_beside rs host d kind.Wait counted device away = refl
+regions_beside rs host d kind.AsyncTest counted device away = refl
+regions_beside rs host d kind.IsPresent counted device away = refl
 
 -- what it acts on is there
 pub subject_device : (lengths : List ℕ) (rs : List Region) (host : ℕ) (d : Directive) (k : Kind) → (subject_by lengths rs host d k).device ≡ device_by rs host d k

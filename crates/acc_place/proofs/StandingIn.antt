@@ -1,6 +1,6 @@
 -- What a place knows of its standing, as a plan and an accepted directive need it.
 use Rattle.std.proofs.Common.{inl, inr, subst, ◌≡◌, ℕ, zero, suc, ◌+◌, ◌-◌, ◌*◌, ◌<◌, ◌≤◌, Bool, true, false, cond, List, [], ◌∷◌, ◌++◌, length, map, get_or, Option, Some, None, refl, sym, ap, ◌∙◌, arith}
-use Rattle.std.specs.Prelude.{All, IfSome, max, if◌then◌else◌, reverse, drop, take, is_some, slice_get, slice_index_or, slice_set, ◌||◌}
+use Rattle.std.specs.Prelude.{All, IfSome, max, if◌then◌else◌, reverse, drop, take, slice_get, slice_index_or, slice_set}
 use Rattle.std.specs.List.{flat_map}
 use Rattle.std.specs.Option.{option_map, option_to_list}
 use Rattle.std.proofs.lemmas.Bool.Decides.{eqb_tells}
@@ -10,11 +10,9 @@ use Rattle.std.proofs.lemmas.Option.{slice_get-get_or, slice_get_read, slice_get
 use Rattle.acc_base.specs.declared.fault.Fault.{Fault}
 use Rattle.acc_base.specs.declared.fault.Fault.TheVariants.{Memory}
 use Rattle.acc_base.specs.declared.ids.QueueAt.{QueueAt}
-use Rattle.acc_base.specs.declared.range.Range.{Range}
 use Rattle.acc_base.specs.Configurations.{IsRefusal, Configuration, lengths_of}
 use Rattle.acc_base.specs.declared.ids.TheConstants.{QUEUES}
 use Rattle.acc_base.specs.Queues.{every_queue, queue_count, seat}
-use Rattle.acc_base.specs.Ranges.{range_contains}
 use Rattle.acc_batch.specs.declared.label.Label.{Label}
 use Rattle.acc_batch.specs.declared.label.OpLabel.{OpLabel}
 use Rattle.acc_batch.specs.Awaits.{with_awaits}
@@ -22,7 +20,7 @@ use Rattle.acc_batch.specs.Labels.{has_number, on_queue}
 use Rattle.acc_batch.proofs.Seats.{set_here, set_there}
 use Rattle.acc_present.specs.Notes.{HasNotes}
 use Rattle.acc_present.specs.Lifetimes.{opened_lifetimes, live_lifetimes}
-use Rattle.acc_present.specs.Presences.{Presence, presences, holder, is_present}
+use Rattle.acc_present.specs.Presences.{Presence, presences}
 use Rattle.acc_present.specs.Tables.{TableView}
 use Rattle.acc_place.specs.declared.device.Device.{Device}
 use Rattle.acc_place.specs.inner.Devices.{held_on, IsEmpty}
@@ -42,14 +40,14 @@ use Rattle.acc_place.specs.Answers.{answer_to}
 use Rattle.acc_place.specs.Batches.{answer_of, batch_of, count_of, counts_by, counts_queues, is_answered, next_number, operations_of, placed_batch, walk_at}
 use Rattle.acc_place.specs.Histories.{at_first, standing, after_directive, AllAccepted, IsQueue}
 use Rattle.acc_place.specs.inner.Places.{IsPlace, IsThere, IsTied, IsTiedOn, queue_in, queues_after}
-use Rattle.acc_place.specs.Plans.{KeptByAccepting, KeptByPlanning, KeptByTaking, PlaceView, PlanView, Room, nth_batch, standing_in, IsRoomy, IsPlanOf, Fits, label_for, label_in, opened_region, place_after, queue_for}
-use Rattle.acc_place.specs.Regions.{regions_after}
+use Rattle.acc_place.specs.Plans.{KeptByAccepting, KeptByPlanning, KeptByTaking, PlaceView, PlanView, Room, nth_batch, standing_in, IsRoomy, IsPlanOf, Fits, label_for, label_in, opened_region, region_in, place_after, queue_for}
+use Rattle.acc_place.specs.Regions.{region_of, regions_after}
 use Rattle.acc_place.specs.Standings.{Standing, Walk, all_visits, loop_of, subject_by, walk_of}
 use Rattle.acc_place.specs.inner.Noting.{awaits_from, ended_range, last_made, last_used, note_found, notes_on, used_ranges}
 use Rattle.acc_place.specs.Targets.{is_alone, queue_by, queues_named}
 use Rattle.acc_place.specs.inner.Trials.{behind_noted, counts_in, fault_by, held_by, items_by, named_count, next_in, number_in, ops_by, placed_by, steps_by, IsKnown}
-use Rattle.acc_place.specs.inner.Judging.{Holding, device_by, holding, holding_between, holding_behind, limit_fault, fault_or, first_fault_in, past_fault, run_in, marked_ops, all_steps}
-use Rattle.acc_place.proofs.AcceptedDirective.{IsFree, IsTiedAt, accepted_device, device_in, few_for, items_in, label_at, labels_after, low_for, refused_by, is_free, tied_after, tied_beside, batch_is, ended_is, walk_known}
+use Rattle.acc_place.specs.inner.Judging.{Holding, counted_steps, device_by, holding, holding_between, holding_behind, limit_fault, fault_or, first_fault_in, past_fault, run_in, marked_ops, all_steps}
+use Rattle.acc_place.proofs.AcceptedDirective.{IsFree, IsTiedAt, accepted_device, counted_stepped, items_counted, device_in, few_for, items_in, label_at, labels_after, low_for, refused_by, is_free, tied_after, tied_beside, batch_is, ended_is, walk_known}
 use Rattle.acc_place.proofs.NotesOn.{batch_planned}
 use Rattle.acc_place.proofs.AwaitedNumbers.{same_for}
 use Rattle.acc_place.proofs.LabelsSound.{by_kind_low}
@@ -273,7 +271,7 @@ tied_all : (p : PlaceView) (q : PlanView) (devices : List Device) (regions : Lis
     → slice_get devices (device_in (standing_in p) q.host q.directive) ≡ Some v
     → holding after.table.presences after.opened ≡ holding_behind q.directive.kind (holding v.table.presences v.opened) (items_in (standing_in p) q.host q.directive) → after.table.capacity ≡ v.table.capacity
     → HasNotes (notes_on (device_in (standing_in p) q.host q.directive) (after_directive (standing_in p) q.host q.items_done q.directive).labels) after.table.notes
-    → IsTied p.config (after_directive (standing_in p) q.host q.items_done q.directive) (slice_set devices (device_in (standing_in p) q.host q.directive) after) (regions_after q.host q.directive q.directive.kind regions) (queues_after queues q.label)
+    → IsTied p.config (after_directive (standing_in p) q.host q.items_done q.directive) (slice_set devices (device_in (standing_in p) q.host q.directive) after) (regions_after q.host q.directive q.directive.kind (items_counted (standing_in p) q.host q.directive) regions) (queues_after queues q.label)
 unfolding walk_of
 tied_all p q devices regions queues v after tied fits at_device is same noted =
     let st = standing_in p in
@@ -294,8 +292,8 @@ tied_all p q devices regions queues v after tied fits at_device is same noted =
           devices_after p.config st (after_directive st q.host q.items_done d) devices device after tied.on_devices
           (tied_after p.config st d q.host q.items_done v.table after.table v.opened after.opened own free is same noted)
           (λ n w away on. tied_beside p.config st d q.host q.items_done n w.table w.opened away free.within.few on);
-      inside = ap (regions_after q.host d d.kind) tied.inside;
-      there = there_after p.config q.host d d.kind regions free.here tied.there;
+      inside = ap (regions_after q.host d d.kind (items_counted st q.host d)) tied.inside;
+      there = there_after p.config q.host d d.kind (items_counted st q.host d) regions free.here tied.there;
       all_queues = queues_count queues q.label ∙ tied.all_queues;
       labelled = λ at_queue. one_more p.config queues st.labels q.label at_queue tied.all_queues queued (tied.labelled at_queue) ∙ ap (on_queue at_queue) (sym labels);
     }
@@ -308,7 +306,7 @@ accepted_place : (p : PlaceView) (q : PlanView) (answers : List Placed) (devices
     → slice_get devices (device_in (standing_in p) q.host q.directive) ≡ Some v
     → holding after.table.presences after.opened ≡ holding_behind q.directive.kind (holding v.table.presences v.opened) (items_in (standing_in p) q.host q.directive) → after.table.capacity ≡ v.table.capacity
     → HasNotes (notes_on (device_in (standing_in p) q.host q.directive) (after_directive (standing_in p) q.host q.items_done q.directive).labels) after.table.notes
-    → IsPlace p.config (Accepted q.host q.directive ∷ p.history) (q.items_done ∷ p.counts) (q.answer ∷ answers) (slice_set devices (device_in (standing_in p) q.host q.directive) after) (regions_after q.host q.directive q.directive.kind regions) (queues_after queues q.label)
+    → IsPlace p.config (Accepted q.host q.directive ∷ p.history) (q.items_done ∷ p.counts) (q.answer ∷ answers) (slice_set devices (device_in (standing_in p) q.host q.directive) after) (regions_after q.host q.directive q.directive.kind (items_counted (standing_in p) q.host q.directive) regions) (queues_after queues q.label)
 accepted_place p q answers devices regions queues v after h fits at_device is same noted =
     let st = standing_after p q in
     record {
@@ -330,7 +328,7 @@ pushed_view config history history2 counts counts2 closes room q more_history mo
     rw (e, f) refl
 
 pub place_pushed : (config : Configuration) (history history2 : List PlaceEntry) (counts counts2 : List ℕ) (answers answers2 : List Placed) (closes : List Bool) (room : Room) (q : PlanView) (devices devices2 : List Device) (regions regions2 : List Region) (queues queues2 : List (List Label)) (v after : Device)
-    → history2 ≡ history ++ Accepted q.host q.directive ∷ [] → counts2 ≡ counts ++ q.items_done ∷ [] → answers2 ≡ answers ++ q.answer ∷ [] → regions2 ≡ regions_after q.host q.directive q.directive.kind regions → queues2 ≡ queues_after queues q.label
+    → history2 ≡ history ++ Accepted q.host q.directive ∷ [] → counts2 ≡ counts ++ q.items_done ∷ [] → answers2 ≡ answers ++ q.answer ∷ [] → regions2 ≡ regions_after q.host q.directive q.directive.kind (items_counted (standing_in (viewed config history counts closes room)) q.host q.directive) regions → queues2 ≡ queues_after queues q.label
     → devices2 ≡ slice_set devices (device_in (standing_in (viewed config history counts closes room)) q.host q.directive) after
     → IsPlace config (reverse history) (reverse counts) (reverse answers) devices regions queues → Fits (viewed config history counts closes room) q
     → slice_get devices (device_in (standing_in (viewed config history counts closes room)) q.host q.directive) ≡ Some v
@@ -551,8 +549,20 @@ batch_known p host d k h all none =
     ∙ (ap (λ os. with_awaits (is_alone d) (awaits_from walk.queue 0 (map numbers every_queue)) os) ops
     ∙ batch_planned p.config st walk (walk_known p.config p.history p.counts host d k.table.now k.opened all h.tied none) numbers each)
 
+-- the region of a directive that opens none has no items
+opened_alike : (host : ℕ) (d : Directive) (k : Kind) (xs ys : List DataItem) → (k ≡ Data → xs ≡ ys) → opened_region host d k xs ≡ opened_region host d k ys
+opened_alike host d Data xs ys same = ap (λ is. Some (region_of host d is)) (same refl)
+opened_alike host d EndData xs ys same = refl
+opened_alike host d EnterData xs ys same = refl
+opened_alike host d (ExitData finalize) xs ys same = refl
+opened_alike host d (Update if_present) xs ys same = refl
+opened_alike host d (Loop kernel) xs ys same = refl
+opened_alike host d Wait xs ys same = refl
+opened_alike host d AsyncTest xs ys same = refl
+opened_alike host d IsPresent xs ys same = refl
+
 pub fits_known : (p : PlaceView) (host : ℕ) (d : Directive) (k : Known) (q : PlanView) → IsKnownOf p host d k → AllAccepted p.config p.history p.counts → fault_by k host d ≡ None
-    → q.host ≡ host → q.directive ≡ d → q.region ≡ opened_region host d d.kind
+    → q.host ≡ host → q.directive ≡ d → q.region ≡ opened_region host d d.kind (counted_steps (steps_by k host d))
     → q.label ≡ label_for k.at (next_in k) host q.items_done (behind_noted k (notes_on (device_in (standing_in p) host d) (standing_in p).labels) d (ops_by k host d) (steps_by k host d))
     → q.answer ≡ placed_by k d q.label (is_answered d.kind k.table.now.presences (items_by k host d)) → IsRoomy p (queue_for p host d) → Fits p q
 fits_known p host d k q h all none by is inside named told roomy =
@@ -567,10 +577,13 @@ fits_known p host d k q h all none by is inside named told roomy =
     let device : k.at.device ≡ device_in st host d = ap (λ (a : QueueAt). a.device) h.at_queue ∙ device_at p host d in
     let counted = ap (λ n. counts_in (counts_queues d.kind (queue_by d.kind d)) k.labels.now.queues n (queues_named d)) device in
     let found = ap (is_answered d.kind k.table.now.presences) (items_known p host d k h) in
+    let free = is_free p.config st host d k.table.now k.opened h.tied refused in
+    let counts = λ (enters : d.kind ≡ Data).
+    ap (λ items. counted_steps (all_steps d.kind (held_by k) items)) (items_known p host d k h) ∙ sym (counted_stepped p.config st host d k.table.now k.opened free enters) in
     rw (by, is)
     (record {
       accepted = refused;
-      region = inside;
+      region = inside ∙ opened_alike host d d.kind (counted_steps (steps_by k host d)) (items_counted st host d) counts;
       labelled = labelled;
       answered = told ∙ answer_is p host q.items_done d k.table.now k.opened k.labels.now.queues q.label _ _ h.tied labelled h.labelled counted found;
       roomy = roomy;
@@ -615,7 +628,7 @@ still_fits p q h same =
     let st : standing_in p ≡ standing p.config h.history_then h.counts_then = ap (λ xs. standing p.config xs p.counts) is_history ∙ ap (standing p.config h.history_then) is_counts in
     record {
       accepted = ap (λ s. refusal p.config s q.host q.directive) st ∙ h.fitted.accepted;
-      region = h.fitted.region;
+      region = h.fitted.region ∙ ap (λ s. region_in s q.host q.directive (walk_of s q.host q.directive)) (sym st);
       labelled = h.fitted.labelled ∙ ap (λ s. label_in s q.host q.items_done (walk_of s q.host q.directive)) (sym st);
       answered = h.fitted.answered ∙ ap (λ s. answer_to s q.host q.directive) (sym st);
       roomy = h.roomy none;
@@ -708,11 +721,6 @@ pub plan_without : KeptByTaking
 plan_without p q = plan_with p q None
 
 -- ## What is asked of a place
-
-pub held_is_present : {X : Type 0} (f : Presence → X) (ps : List Presence) (r : Range) → is_some (option_map f (holder ps r)) ≡ is_present ps r
-held_is_present f [] r = refl
-held_is_present f (p ∷ ps) r =
-    elim (range_contains p.range r) as (λ v. is_some (option_map f (cond v (Some p) (holder ps r))) ≡ (v || is_present ps r)) [ true ↦ refl | false ↦ held_is_present f ps r ]
 
 pub nth_is : (labels : List Label) (n : ℕ) → 0 < n → nth_batch labels n ≡ slice_get labels (n - 1)
 nth_is labels zero some = absurd (omega arith)

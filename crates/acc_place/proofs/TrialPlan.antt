@@ -7,18 +7,16 @@ use Rattle.std.proofs.lemmas.List.{append-nil}
 use Rattle.std.proofs.lemmas.List.Elements.{All-nil, All-cons, All-head, All-tail, All-append}
 use Rattle.acc_base.specs.declared.range.Range.{Range}
 use Rattle.acc_kernel.specs.Kernels.{Loop, arrays_of}
-use Rattle.acc_present.specs.declared.change.Change.{Change}
-use Rattle.acc_present.specs.declared.change.Change.TheVariants.{StructuredDown}
 use Rattle.acc_present.specs.Presences.{Presence, holder}
 use Rattle.acc_place.specs.declared.directive.DataItem.{DataItem}
 use Rattle.acc_place.specs.declared.directive.Kind.{Kind}
+use Rattle.acc_place.specs.declared.directive.Kind.TheVariants as kind
 use Rattle.acc_place.specs.declared.judge.Marked.{Marked}
 use Rattle.acc_place.specs.Batches.{found_block}
 use Rattle.acc_place.specs.Implicit.{item_of}
 use Rattle.acc_place.specs.Loops.{use_in, uses_among}
 use Rattle.acc_place.specs.inner.Noting.{used_ranges}
-use Rattle.acc_place.specs.Standings.{change_by}
-use Rattle.acc_place.specs.inner.Judging.{Holding, holding_after, holding_between, all_marked, all_steps, ends_of, marked_in, run_in}
+use Rattle.acc_place.specs.inner.Judging.{Holding, holding_with, holding_between, all_marked, all_steps, ends_of, marked_in, run_in}
 use Rattle.acc_place.proofs.AwaitedNumbers.{HasCells}
 
 abbrev pub ItemHasCells : DataItem → Type 0
@@ -27,16 +25,16 @@ ItemHasCells i = 0 < i.range.len
 abbrev pub StepHasCells : Marked → Type 0
 StepHasCells t = 0 < t.item.range.len
 
-marked_cells : (change : Option Change) (h : Holding) (items : List DataItem) → All ItemHasCells items → All StepHasCells (all_marked change h items)
+marked_cells : (k : Kind) (h : Holding) (items : List DataItem) → All ItemHasCells items → All StepHasCells (all_marked k h items)
 unfolding marked_in
-marked_cells change h [] all = All-nil StepHasCells
-marked_cells change h (i ∷ is) all =
-    All-cons StepHasCells _ (all_marked change (holding_after change i.range h) is) (All-head ItemHasCells i is all) (marked_cells change (holding_after change i.range h) is (All-tail ItemHasCells i is all))
+marked_cells k h [] all = All-nil StepHasCells
+marked_cells k h (i ∷ is) all =
+    All-cons StepHasCells _ (all_marked k (holding_with k i h) is) (All-head ItemHasCells i is all) (marked_cells k (holding_with k i h) is (All-tail ItemHasCells i is all))
 
 pub steps_cells : (k : Kind) (h : Holding) (items : List DataItem) → All ItemHasCells items → All ItemHasCells (ends_of k items) → All StepHasCells (all_steps k h items)
 steps_cells k h items all ends =
-    All-append StepHasCells (all_marked (change_by k) h items) (all_marked (Some StructuredDown) (holding_between k h items) (ends_of k items)) (marked_cells (change_by k) h items all)
-    (marked_cells (Some StructuredDown) (holding_between k h items) (ends_of k items) ends)
+    All-append StepHasCells (all_marked k h items) (all_marked kind.EndData (holding_between k h items) (ends_of k items)) (marked_cells k h items all)
+    (marked_cells kind.EndData (holding_between k h items) (ends_of k items) ends)
 
 -- the item of an array is one of the items
 blocks_cells : (r : Range) (bs : List ℕ) → 0 < r.len → All HasCells (map (λ b. (b, r)) bs)

@@ -5,12 +5,12 @@ use Rattle.std.proofs.lemmas.List.{take_all}
 use Rattle.acc_base.specs.declared.fault.Fault.{Fault}
 use Rattle.acc_base.specs.declared.fault.Fault.TheVariants.{BadAsync, NoRegion, TooMany}
 use Rattle.acc_batch.specs.declared.label.OpLabel.{OpLabel}
-use Rattle.acc_present.specs.declared.change.Change.TheVariants.{StructuredDown}
 use Rattle.acc_present.specs.Presences.{Presence}
 use Rattle.acc_present.specs.Tables.{is_table}
 use Rattle.acc_place.specs.Directives.{Directive}
 use Rattle.acc_place.specs.declared.directive.DataItem.{DataItem}
 use Rattle.acc_place.specs.declared.directive.Kind.{Kind}
+use Rattle.acc_place.specs.declared.directive.Kind.TheVariants as kind
 use Rattle.acc_place.specs.declared.directive.Region.{Region}
 use Rattle.acc_place.specs.declared.directive.TheConstants.{MAX_DIRECTIVES, MAX_ITEMS}
 use Rattle.acc_place.specs.declared.judge.Known.{Known}
@@ -19,7 +19,7 @@ use Rattle.acc_place.specs.Targets.{has_bad_queue, waits_on_too_many}
 use Rattle.acc_place.specs.Accepting.{first_fault, fault_where, is_deep, is_outside}
 use Rattle.acc_place.specs.Counters.{entered_ranges}
 use Rattle.acc_place.specs.Regions.{open_region, regions_on}
-use Rattle.acc_place.specs.Standings.{change_by, loop_of}
+use Rattle.acc_place.specs.Standings.{loop_of}
 use Rattle.acc_place.specs.inner.Trials.{fault_by, held_by, items_by, items_fault, IsKnown}
 use Rattle.acc_place.specs.inner.Judging.{Holding, holding, holding_between, ends_of, all_marked, all_steps, limit_fault, fault_or, first_fault_in, past_fault, run_in, AllEntered, AllHeldFor}
 use Rattle.acc_place.proofs.AcceptedDirective.{all_cells, ends_all, is_within}
@@ -90,7 +90,7 @@ pub record IsClean (k : Known) (host : ℕ) (d : Directive) : Type 0 where
   pub cells : All (λ (i : DataItem). 0 < i.range.len) (items_by k host d)
   pub held : AllHeldFor d.kind (holding_between d.kind (held_by k) (items_by k host d)).presences (items_by k host d)
   pub ends_cells : All (λ (i : DataItem). 0 < i.range.len) (ends_of d.kind (items_by k host d))
-  pub ends_entered : AllEntered (Some StructuredDown) (holding_between d.kind (held_by k) (items_by k host d)) (ends_of d.kind (items_by k host d))
+  pub ends_entered : AllEntered kind.EndData (holding_between d.kind (held_by k) (items_by k host d)) (ends_of d.kind (items_by k host d))
 
 pub is_clean : (k : Known) (host : ℕ) (d : Directive) → IsKnown k → is_table k.table.now.presences ≡ true → fault_by k host d ≡ None → IsClean k host d
 is_clean k host d known table faultless =
@@ -98,7 +98,7 @@ is_clean k host d known table faultless =
     let capacity = k.config.now.capacity in
     let none = none_or (limit_by k host d items) (items_fault k host d) faultless in
     let fine = all_fine k.config.now d.kind (held_by k) items (none_or (first_fault_in k.config.now d.kind (held_by k) items) (past_fault (loop_of d.kind) items) none.1).0 in
-    let cells = all_cells capacity (change_by d.kind) (held_by k) items fine in
+    let cells = all_cells capacity d.kind (held_by k) items fine in
     record {
       short = (is_within k.accepted k.regions.now host d (length items) none.0).short;
       cells = cells;
@@ -108,16 +108,16 @@ is_clean k host d known table faultless =
     }
 
 -- the steps of its two walks
-pub steps_made : (k : Kind) (h : Holding) (ps : List Presence) (xs items ends : List DataItem) (first all : List Marked) → first ≡ all_marked (change_by k) h xs → ps ≡ (holding_between k h xs).presences
+pub steps_made : (k : Kind) (h : Holding) (ps : List Presence) (xs items ends : List DataItem) (first all : List Marked) → first ≡ all_marked k h xs → ps ≡ (holding_between k h xs).presences
     → ends ≡ ends_of k xs → xs ≡ items
-    → all ≡ first ++ all_marked (Some StructuredDown) (holding ps 0) ends → all ≡ all_steps k h items
+    → all ≡ first ++ all_marked kind.EndData (holding ps 0) ends → all ≡ all_steps k h items
 steps_made k h ps xs items ends first all done drafted left own is =
-    let down = Some StructuredDown in
+    let down = kind.EndData in
     is
     ∙ (ap (λ ts. ts ++ all_marked down (holding ps 0) ends) done
-    ∙ (ap (λ qs. all_marked (change_by k) h xs ++ all_marked down (holding qs 0) ends) drafted
-    ∙ (ap (λ es. all_marked (change_by k) h xs ++ all_marked down (holding (holding_between k h xs).presences 0) es) left
-    ∙ (ap (λ ts. all_marked (change_by k) h xs ++ ts) (left_alike (holding_between k h xs) 0 (ends_of k xs))
+    ∙ (ap (λ qs. all_marked k h xs ++ all_marked down (holding qs 0) ends) drafted
+    ∙ (ap (λ es. all_marked k h xs ++ all_marked down (holding (holding_between k h xs).presences 0) es) left
+    ∙ (ap (λ ts. all_marked k h xs ++ ts) (left_alike (holding_between k h xs) 0 (ends_of k xs))
     ∙ ap (all_steps k h) own))))
 
 -- and the loop that runs between them

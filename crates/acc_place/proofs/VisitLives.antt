@@ -16,7 +16,7 @@ use Rattle.acc_present.proofs.Lives.{lives_before, ended_inside}
 use Rattle.acc_present.proofs.LifetimeNumbers.{numbered, opened_one}
 use Rattle.acc_batch.specs.declared.label.OpLabel.{OpLabel}
 use Rattle.acc_kernel.specs.Jobs.{Use}
-use Rattle.acc_place.specs.Standings.{Asked, Visit, leaves_mark, one_mark, marks_with}
+use Rattle.acc_place.specs.Standings.{Asked, Visit, change_at, marked_by, marks_with}
 use Rattle.acc_place.specs.Batches.{ended_blocks, found_block, holding_blocks, makes}
 use Rattle.acc_batch.specs.Lives.{blocks_made, AllUse, Made}
 
@@ -59,22 +59,13 @@ visit_of_none ms r =
     }
 
 -- so does a visit whether it leaves a mark or none
-visit_of_one : (b : Bool) (change : Change) (r : Range) (ms : List Mark) → IsVisit ms (one_mark b change r ms) r
-visit_of_one true change r ms = visit_of_mark (record { change = change; range = r }) ms
-visit_of_one false change r ms = visit_of_none ms r
-
--- so does a visit whether it asks for a change or for none
 visit_of_change : (ms : List Mark) (r : Range) (change : Option Change) → IsVisit ms (marks_with ms r change) r
 visit_of_change ms r None = visit_of_none ms r
-visit_of_change ms r (Some change) = visit_of_one (leaves_mark change r ms) change r ms
-
--- the marks after an item in its turn
-abbrev pub marked_by : List Mark → Asked → List Mark
-marked_by ms a = marks_with ms a.item.range a.change
+visit_of_change ms r (Some change) = visit_of_mark (record { change = change; range = r }) ms
 
 -- the visit of an item in its turn does so
 pub visit_is : (ms : List Mark) (a : Asked) → IsVisit ms (marked_by ms a) a.item.range
-visit_is ms a = visit_of_change ms a.item.range a.change
+visit_is ms a = visit_of_change ms a.item.range (change_at ms a)
 
 -- the visit of an item in its turn
 abbrev pub visit : List Mark → Asked → Visit

@@ -1,7 +1,9 @@
 -- One item of a walk: it can be marked, and the counters stay low for the others.
-use Rattle.std.proofs.Common.{◌≡◌, ℕ, suc, ◌+◌, ◌-◌, ◌<◌, ◌≤◌, Bool, true, false, cond, List, [], ◌∷◌, ◌++◌, length, map, get_or, drop, take, Option, Some, None, refl, ap, ◌∙◌, arith}
-use Rattle.std.specs.Prelude.{All, ◌&&◌, not, filter, IfSome, is_some}
+use Rattle.std.proofs.Common.{inl, inr, ◌≡◌, ℕ, suc, ◌+◌, ◌-◌, ◌<◌, ◌≤◌, Bool, true, false, cond, List, [], ◌∷◌, ◌++◌, length, map, get_or, drop, take, Option, Some, None, refl, sym, ap, ◌∙◌, arith}
+use Rattle.std.specs.Prelude.{All, ◌&&◌, ◌||◌, not, filter, IfSome, is_some}
+use Rattle.std.specs.Option.{option_map}
 use Rattle.std.proofs.Math.Seq.{take-length}
+use Rattle.std.proofs.lemmas.Bool.{cases_Bool}
 use Rattle.std.proofs.lemmas.List.Elements.{All-tail}
 use Rattle.acc_base.specs.declared.range.Range.{Range}
 use Rattle.acc_base.specs.Ranges.{range_contains}
@@ -14,52 +16,54 @@ use Rattle.acc_present.specs.declared.change.Change.TheVariants.{StructuredUp, S
 use Rattle.acc_present.specs.Marks.{Mark}
 use Rattle.acc_present.specs.Lifetimes.{can_open, is_before}
 use Rattle.acc_present.specs.Presences.{Presence, holder, is_present, is_partly_present, used_cells}
-use Rattle.acc_present.specs.Tables.{TableView, counter_of, entry_change, presence_after, stepped, opening, has_count, kept_after, presences_after, presence_inserted}
+use Rattle.acc_present.specs.Tables.{TableView, is_table, counter_of, entry_change, presence_after, stepped, opening, has_count, kept_after, presences_after, presence_inserted}
+use Rattle.acc_present.proofs.KeptAfter.{kept_none}
 use Rattle.acc_present.proofs.PresencesAfter.{length-after}
 use Rattle.acc_present.proofs.Holder.{is_present-none}
 use Rattle.acc_place.specs.declared.directive.DataItem.{DataItem}
 use Rattle.acc_place.specs.declared.directive.Kind.{Kind}
+use Rattle.acc_place.specs.declared.directive.Kind.TheVariants.{Data, EndData, EnterData, ExitData, Update, Loop, Wait, AsyncTest, IsPresent}
 use Rattle.acc_place.specs.declared.judge.Marked.{Marked}
-use Rattle.acc_place.specs.Standings.{change_by}
-use Rattle.acc_place.specs.inner.Judging.{Holding, holding, mark_by, opens_one, opened_after, presences_by, holding_after, holding_after_all, fault_in, fault_or, first_fault_in, block_opened, marked_in, all_marked, AllLow, HasRoomFor, CanEnter, CanMark, HasEntered, AllEntered, IsFine, AllFine}
+use Rattle.acc_place.specs.Standings.{asked_by, change_by, change_where, exit_by}
+use Rattle.acc_place.specs.inner.Judging.{Holding, change_in, wants_look, holding_with, holding, mark_by, opens_one, opened_after, presences_by, holding_after, holding_after_all, fault_in, fault_or, first_fault_in, block_opened, marked_in, all_marked, AllLow, HasRoomFor, CanEnter, CanMark, HasEntered, AllEntered, IsFine, AllFine}
 
 -- ## The first item, and the others
 
 pub first_fault-next : (config : Configuration) (k : Kind) (h : Holding) (items : List DataItem) (d : DataItem) → 1 ≤ length items
     → fault_in config k h.presences (get_or items 0 d) ≡ None
-    → first_fault_in config k h items ≡ first_fault_in config k (holding_after (change_by k) (get_or items 0 d).range h) (drop 1 items)
+    → first_fault_in config k h items ≡ first_fault_in config k (holding_with k (get_or items 0 d) h) (drop 1 items)
 first_fault-next config k h [] d some none = absurd (omega arith)
-first_fault-next config k h (i ∷ is) d some none = ap (λ f. fault_or f (first_fault_in config k (holding_after (change_by k) i.range h) is)) none
+first_fault-next config k h (i ∷ is) d some none = ap (λ f. fault_or f (first_fault_in config k (holding_with k i h) is)) none
 
-pub all_marked-next : (change : Option Change) (h : Holding) (items : List DataItem) (d : DataItem) → 1 ≤ length items
-    → all_marked change h items ≡ marked_in change h (get_or items 0 d) ∷ all_marked change (holding_after change (get_or items 0 d).range h) (drop 1 items)
-all_marked-next change h [] d some = absurd (omega arith)
-all_marked-next change h (i ∷ is) d some = refl
+pub all_marked-next : (k : Kind) (h : Holding) (items : List DataItem) (d : DataItem) → 1 ≤ length items
+    → all_marked k h items ≡ marked_in (change_in k h.presences (get_or items 0 d)) h (get_or items 0 d) ∷ all_marked k (holding_with k (get_or items 0 d) h) (drop 1 items)
+all_marked-next k h [] d some = absurd (omega arith)
+all_marked-next k h (i ∷ is) d some = refl
 
-pub holding-next : (change : Option Change) (h : Holding) (items : List DataItem) (d : DataItem) → 1 ≤ length items
-    → holding_after_all change h items ≡ holding_after_all change (holding_after change (get_or items 0 d).range h) (drop 1 items)
-holding-next change h [] d some = absurd (omega arith)
-holding-next change h (i ∷ is) d some = refl
+pub holding-next : (k : Kind) (h : Holding) (items : List DataItem) (d : DataItem) → 1 ≤ length items
+    → holding_after_all k h items ≡ holding_after_all k (holding_with k (get_or items 0 d) h) (drop 1 items)
+holding-next k h [] d some = absurd (omega arith)
+holding-next k h (i ∷ is) d some = refl
 
-pub fine-first : (capacity : ℕ) (change : Option Change) (h : Holding) (items : List DataItem) (d : DataItem) → 1 ≤ length items → AllFine capacity change h items
-    → IsFine capacity change h.presences (get_or items 0 d).range
-fine-first capacity change h [] d some fine = absurd (omega arith)
-fine-first capacity change h (i ∷ is) d some fine = fine.0
+pub fine-first : (capacity : ℕ) (k : Kind) (h : Holding) (items : List DataItem) (d : DataItem) → 1 ≤ length items → AllFine capacity k h items
+    → IsFine capacity (change_in k h.presences (get_or items 0 d)) h.presences (get_or items 0 d).range
+fine-first capacity k h [] d some fine = absurd (omega arith)
+fine-first capacity k h (i ∷ is) d some fine = fine.0
 
-pub fine-next : (capacity : ℕ) (change : Option Change) (h : Holding) (items : List DataItem) (d : DataItem) → 1 ≤ length items → AllFine capacity change h items
-    → AllFine capacity change (holding_after change (get_or items 0 d).range h) (drop 1 items)
-fine-next capacity change h [] d some fine = absurd (omega arith)
-fine-next capacity change h (i ∷ is) d some fine = fine.1
+pub fine-next : (capacity : ℕ) (k : Kind) (h : Holding) (items : List DataItem) (d : DataItem) → 1 ≤ length items → AllFine capacity k h items
+    → AllFine capacity k (holding_with k (get_or items 0 d) h) (drop 1 items)
+fine-next capacity k h [] d some fine = absurd (omega arith)
+fine-next capacity k h (i ∷ is) d some fine = fine.1
 
-pub entered-first : (change : Option Change) (h : Holding) (items : List DataItem) (d : DataItem) → 1 ≤ length items → AllEntered change h items
-    → HasEntered change (get_or items 0 d).range h.presences
-entered-first change h [] d some entered = absurd (omega arith)
-entered-first change h (i ∷ is) d some entered = entered.0
+pub entered-first : (k : Kind) (h : Holding) (items : List DataItem) (d : DataItem) → 1 ≤ length items → AllEntered k h items
+    → HasEntered (change_in k h.presences (get_or items 0 d)) (get_or items 0 d).range h.presences
+entered-first k h [] d some entered = absurd (omega arith)
+entered-first k h (i ∷ is) d some entered = entered.0
 
-pub entered-next : (change : Option Change) (h : Holding) (items : List DataItem) (d : DataItem) → 1 ≤ length items → AllEntered change h items
-    → AllEntered change (holding_after change (get_or items 0 d).range h) (drop 1 items)
-entered-next change h [] d some entered = absurd (omega arith)
-entered-next change h (i ∷ is) d some entered = entered.1
+pub entered-next : (k : Kind) (h : Holding) (items : List DataItem) (d : DataItem) → 1 ≤ length items → AllEntered k h items
+    → AllEntered k (holding_with k (get_or items 0 d) h) (drop 1 items)
+entered-next k h [] d some entered = absurd (omega arith)
+entered-next k h (i ∷ is) d some entered = entered.1
 
 is_some-opened : (b : Bool) (n : ℕ) → is_some (block_opened b n) ≡ b
 is_some-opened true n = refl
@@ -166,6 +170,50 @@ can_mark (Some DynamicUp) ps r capacity n fine entered low some = can_enter Dyna
 can_mark (Some DynamicDown) ps r capacity n fine entered low some = fine.cells
 can_mark (Some DynamicZero) ps r capacity n fine entered low some = fine.cells
 
+-- whether something holds a range tells whether it is present
+pub held_is_present : {X : Type 0} (f : Presence → X) (ps : List Presence) (r : Range) → is_some (option_map f (holder ps r)) ≡ is_present ps r
+held_is_present f [] r = refl
+held_is_present f (p ∷ ps) r =
+    elim (range_contains p.range r) as (λ v. is_some (option_map f (cond v (Some p) (holder ps r))) ≡ (v || is_present ps r)) [ true ↦ refl | false ↦ held_is_present f ps r ]
+
+-- an exit changes nothing where its range is absent
+same_exit : (finalize : Bool) (ps : List Presence) (i : DataItem) (n : ℕ) → is_table ps ≡ true → holding_after (Some (exit_by finalize)) i.range (holding ps n) ≡ holding_with (ExitData finalize) i (holding ps n)
+unfolding holding_after
+same_exit finalize ps i n t = elim (cases_Bool (is_present ps i.range)) [
+  | inl held ↦ ap (λ b. holding_after (change_where (asked_by (ExitData finalize) i) b) i.range (holding ps n)) (sym held)
+  | inr absent ↦ kept finalize absent ∙ ap (λ b. holding_after (change_where (asked_by (ExitData finalize) i) b) i.range (holding ps n)) (sym absent)
+]
+  where
+    kept : (f : Bool) → is_present ps i.range ≡ false → holding_after (Some (exit_by f)) i.range (holding ps n) ≡ holding ps n
+    kept true absent = ap (λ qs. holding qs n) (kept_none (mark_by DynamicZero i.range) ps t absent)
+    kept false absent = ap (λ qs. holding qs n) (kept_none (mark_by DynamicDown i.range) ps t absent)
+
+-- so an item that needs no look is marked without one
+pub without_look : (k : Kind) (ps : List Presence) (i : DataItem) (n : ℕ) → is_table ps ≡ true → wants_look k i.clause ≡ false → holding_after (change_by k) i.range (holding ps n) ≡ holding_with k i (holding ps n)
+without_look Data ps i n t free = rw free refl
+without_look EndData ps i n t free = refl
+without_look EnterData ps i n t free = refl
+without_look (ExitData finalize) ps i n t free = same_exit finalize ps i n t
+without_look (Update if_present) ps i n t free = refl
+without_look (Loop kernel) ps i n t free = refl
+without_look Wait ps i n t free = refl
+without_look AsyncTest ps i n t free = refl
+without_look IsPresent ps i n t free = refl
+
+-- and can be
+pub can_without_look : (k : Kind) (ps : List Presence) (i : DataItem) (capacity n : ℕ) → wants_look k i.clause ≡ false → IsFine capacity (change_in k ps i) ps i.range → HasEntered (change_in k ps i) i.range ps
+    → AllLow COUNTER_LIMIT n ps → 1 ≤ n → CanMark (change_by k) i.range ps capacity
+can_without_look Data ps i capacity n free fine entered low some = can_mark (Some StructuredUp) ps i.range capacity n (rw free at fine) tt low some
+can_without_look EndData ps i capacity n free fine entered low some = can_mark (Some StructuredDown) ps i.range capacity n fine entered low some
+can_without_look EnterData ps i capacity n free fine entered low some = can_mark (Some DynamicUp) ps i.range capacity n fine entered low some
+can_without_look (ExitData true) ps i capacity n free fine entered low some = fine.cells
+can_without_look (ExitData false) ps i capacity n free fine entered low some = fine.cells
+can_without_look (Update if_present) ps i capacity n free fine entered low some = fine.cells
+can_without_look (Loop kernel) ps i capacity n free fine entered low some = can_mark (Some StructuredUp) ps i.range capacity n fine entered low some
+can_without_look Wait ps i capacity n free fine entered low some = fine.cells
+can_without_look AsyncTest ps i capacity n free fine entered low some = fine.cells
+can_without_look IsPresent ps i capacity n free fine entered low some = fine.cells
+
 pub opened-least : (opens : Bool) (n : ℕ) → n ≤ opened_after opens n
 opened-least true n = omega arith
 opened-least false n = omega arith
@@ -206,18 +254,18 @@ room_fewer t n m opened fewer room =
     record { room = omega (arith, room.room); low = AllLow-fewer COUNTER_LIMIT COUNTER_LIMIT n m t.presences (omega arith) room.low; few = omega (arith, room.few) }
 
 -- and once all are marked, for as many more
-pub room_all : (change : Option Change) (t after : TableView) (items : List DataItem) (n opened next : ℕ) → HasRoomFor (length items + n) t opened
-    → holding after.presences next ≡ holding_after_all change (holding t.presences opened) items → after.room ≡ t.room → HasRoomFor n after next
+pub room_all : (k : Kind) (t after : TableView) (items : List DataItem) (n opened next : ℕ) → HasRoomFor (length items + n) t opened
+    → holding after.presences next ≡ holding_after_all k (holding t.presences opened) items → after.room ≡ t.room → HasRoomFor n after next
 unfolding holding_after
-room_all change t after [] n opened next room is same =
+room_all k t after [] n opened next room is same =
     let ps : after.presences ≡ t.presences = ap (λ (h : Holding). h.presences) is in
     let count : next ≡ opened = ap (λ (h : Holding). h.opened) is in
     let rest = room_fewer t (length {A = DataItem} [] + n) n opened (omega arith) room in
     record { room = omega (arith, ap length ps, same, rest.room); low = rw ps rest.low; few = omega (arith, count, rest.few) }
-room_all change t after (i ∷ is) n opened next room at_all same =
-    let h = holding_after change i.range (holding t.presences opened) in
+room_all k t after (i ∷ is) n opened next room at_all same =
+    let h = holding_with k i (holding t.presences opened) in
     let between : TableView = record { presences = h.presences; notes = []; capacity = t.capacity; room = t.room } in
-    room_all change between after is n h.opened next (room_after change t between i.range (length is + n) opened h.opened (room_fewer t (length (i ∷ is) + n) (suc (length is + n)) opened (omega arith) room) refl refl) at_all same
+    room_all k between after is n h.opened next (room_after (change_in k t.presences i) t between i.range (length is + n) opened h.opened (room_fewer t (length (i ∷ is) + n) (suc (length is + n)) opened (omega arith) room) refl refl) at_all same
 
 -- ## Items that leave
 
@@ -232,7 +280,7 @@ low_down limit n r (p ∷ ps) h = (
   low_down limit n r ps h.1,
 )
 
-pub low_left : (limit n : ℕ) (h : Holding) (items : List DataItem) → AllLow limit n h.presences → AllLow limit n (holding_after_all (Some StructuredDown) h items).presences
+pub low_left : (limit n : ℕ) (h : Holding) (items : List DataItem) → AllLow limit n h.presences → AllLow limit n (holding_after_all EndData h items).presences
 unfolding holding_after
 low_left limit n h [] low = low
 low_left limit n h (i ∷ is) low =
@@ -240,7 +288,7 @@ low_left limit n h (i ∷ is) low =
     (AllLow-filter limit n has_count (map (presence_after (mark_by StructuredDown i.range)) h.presences) (low_down limit n i.range h.presences low))
 
 -- and opens nothing
-pub opened_left : (h : Holding) (items : List DataItem) → (holding_after_all (Some StructuredDown) h items).opened ≡ h.opened
+pub opened_left : (h : Holding) (items : List DataItem) → (holding_after_all EndData h items).opened ≡ h.opened
 unfolding holding_after
 opened_left h [] = refl
 opened_left h (i ∷ is) = opened_left (holding_after (Some StructuredDown) i.range h) is
@@ -250,19 +298,19 @@ unfolding holding_after
 left_is ps after n r is = ap (λ qs. holding qs n) is
 
 -- so how many lifetimes were opened doesn't matter
-pub left_alike : (h : Holding) (m : ℕ) (items : List DataItem) → all_marked (Some StructuredDown) (holding h.presences m) items ≡ all_marked (Some StructuredDown) h items
+pub left_alike : (h : Holding) (m : ℕ) (items : List DataItem) → all_marked EndData (holding h.presences m) items ≡ all_marked EndData h items
 unfolding holding_after marked_in
 left_alike h m [] = refl
 left_alike h m (i ∷ is) = ap (λ ts. marked_in (Some StructuredDown) h i ∷ ts) (left_alike (holding_after (Some StructuredDown) i.range h) m is)
 
-pub entered_alike : (h : Holding) (m : ℕ) (items : List DataItem) → AllEntered (Some StructuredDown) h items → AllEntered (Some StructuredDown) (holding h.presences m) items
+pub entered_alike : (h : Holding) (m : ℕ) (items : List DataItem) → AllEntered EndData h items → AllEntered EndData (holding h.presences m) items
 unfolding holding_after
 entered_alike h m [] entered = tt
 entered_alike h m (i ∷ is) entered = (entered.0, entered_alike (holding_after (Some StructuredDown) i.range h) m is entered.1)
 
-pub length-marked : (change : Option Change) (h : Holding) (items : List DataItem) → length (all_marked change h items) ≡ length items
-length-marked change h [] = refl
-length-marked change h (i ∷ is) = ap suc (length-marked change (holding_after change i.range h) is)
+pub length-marked : (k : Kind) (h : Holding) (items : List DataItem) → length (all_marked k h items) ≡ length items
+length-marked k h [] = refl
+length-marked k h (i ∷ is) = ap suc (length-marked k (holding_with k i h) is)
 
 -- ## The items behind the first, as a slice pattern gives them
 

@@ -10,12 +10,12 @@ use Rattle.acc_present.specs.Marks.{Mark}
 use Rattle.acc_present.specs.Lifetimes.{Lifetime, opened_lifetimes}
 use Rattle.acc_batch.specs.declared.label.OpLabel.{OpLabel}
 use Rattle.acc_batch.specs.declared.label.OpLabel.TheVariants.{Make}
-use Rattle.acc_place.specs.Standings.{Asked, Walk, Visit, visits, all_visits, marks_after, marks_between, marks_behind}
+use Rattle.acc_place.specs.Standings.{Asked, Walk, Visit, visits, all_visits, marks_after, marks_between, marks_behind, marked_by}
 use Rattle.acc_place.specs.Batches.{opened_blocks, ended_blocks, makes, copy_ins, runs, updates, copy_outs, releases, grouped}
 use Rattle.acc_batch.specs.Lives.{blocks_made, blocks_released, AllUse, Made}
 use Rattle.acc_base.proofs.Members.{no_member}
 use Rattle.acc_batch.proofs.Lives.{made-append, released-append}
-use Rattle.acc_place.proofs.VisitLives.{AllUse-append, marked_by, visit, Booked, booked_more}
+use Rattle.acc_place.proofs.VisitLives.{AllUse-append, visit, Booked, booked_more}
 use Rattle.acc_place.proofs.AllVisits.{asks_of, all_visits_are, marks_behind_are}
 use Rattle.acc_place.proofs.GroupLives.{Copies, copies_use, no_copy_makes, copies_of, copy_ins_of, run_of, updates_of, copy_outs_of, makings_of, holding_held, visits_hold, AllInArrays, makes_use, made_releases, released_releases, releases_use}
 

@@ -24,6 +24,7 @@ is_of_region c = false
 
 -- The data clauses of a directive; the end of a data construct, a wait and a question about queues have none.
 abbrev pub allows_clause : Kind → Clause → Bool
+allows_clause kind.Data clause.NoCreate = true
 allows_clause kind.Data c = is_of_region c
 allows_clause (kind.Loop k) c = is_of_region c
 allows_clause kind.EnterData clause.Copyin = true

@@ -11,7 +11,7 @@ use Rattle.acc_batch.specs.Awaits.{close_label}
 use Rattle.acc_place.specs.Directives.{Directive}
 use Rattle.acc_place.specs.declared.directive.PlaceEntry.{PlaceEntry}
 use Rattle.acc_place.specs.declared.directive.PlaceEntry.TheVariants as entry
-use Rattle.acc_place.specs.Standings.{Standing, Walk, walk_of, marks_behind, with_marks}
+use Rattle.acc_place.specs.Standings.{Standing, Walk, walk_of, counted_items, marks_behind, with_marks}
 use Rattle.acc_place.specs.Accepting.{refusal}
 use Rattle.acc_place.specs.Batches.{batch_of, labels_with, walk_at}
 use Rattle.acc_place.specs.Regions.{regions_after}
@@ -25,7 +25,7 @@ after_walk st host items_done d walk =
     record {
       lengths = st.lengths;
       marks = with_marks walk.device (marks_behind (st.marks walk.device) walk) st.marks;
-      regions = regions_after host d d.kind st.regions;
+      regions = regions_after host d d.kind (counted_items (st.marks walk.device) walk) st.regions;
       labels = labels_with (walk_at walk) host items_done st.labels (batch_of st walk);
       accepted = st.accepted + 1;
       closing = st.closing;

@@ -8,6 +8,7 @@ use Rattle.acc_batch.specs.declared.label.OpLabel.{OpLabel}
 use Rattle.acc_batch.specs.Labels.{on_queue}
 use Rattle.acc_present.specs.Presences.{presences}
 use Rattle.acc_place.specs.Directives.{Directive}
+use Rattle.acc_place.specs.declared.directive.DataItem.{DataItem}
 use Rattle.acc_place.specs.declared.directive.Kind.{Kind}
 use Rattle.acc_place.specs.declared.directive.Kind.TheVariants as kind
 use Rattle.acc_place.specs.declared.directive.Placed.{Placed}
@@ -20,7 +21,7 @@ use Rattle.acc_place.specs.Answers.{answer_to}
 use Rattle.acc_place.specs.Batches.{batch_of, next_number, walk_at}
 use Rattle.acc_place.specs.Histories.{standing}
 use Rattle.acc_place.specs.Regions.{region_of}
-use Rattle.acc_place.specs.Standings.{Standing, Walk, walk_of}
+use Rattle.acc_place.specs.Standings.{Standing, Walk, counted_items, walk_of}
 
 -- For how many entries of the place history, but for those of closing, counts, answers, open data constructs, batches of each
 -- queue, but for its close, by device, then in queue order, and present ranges of each device there is room, those that are
@@ -86,15 +87,18 @@ abbrev pub label_in : Standing → ℕ → ℕ → Walk → Option Label
 label_in st host items_done walk =
     label_for (walk_at walk) (next_number (walk_at walk) st.labels) host items_done (batch_of st walk)
 
--- the region that a directive opens
-abbrev pub opened_region : ℕ → Directive → Kind → Option Region
-opened_region host d kind.Data = Some (region_of host d)
-opened_region host d k = None
+-- the region that a directive opens, with the items that it counts
+abbrev pub opened_region : ℕ → Directive → Kind → List DataItem → Option Region
+opened_region host d kind.Data counted = Some (region_of host d counted)
+opened_region host d k counted = None
+
+abbrev pub region_in : Standing → ℕ → Directive → Walk → Option Region
+region_in st host d walk = opened_region host d d.kind (counted_items (st.marks walk.device) walk)
 
 -- The place would accept the directive now, with that region, that label and that answer, and has the room for it.
 pub record Fits (p : PlaceView) (q : PlanView) : Type 0 where
   pub accepted : refusal p.config (standing_in p) q.host q.directive ≡ None
-  pub region : q.region ≡ opened_region q.host q.directive q.directive.kind
+  pub region : q.region ≡ region_in (standing_in p) q.host q.directive (walk_of (standing_in p) q.host q.directive)
   pub labelled : q.label ≡ label_in (standing_in p) q.host q.items_done (walk_of (standing_in p) q.host q.directive)
   pub answered : q.answer ≡ answer_to (standing_in p) q.host q.directive
   pub roomy : IsRoomy p (queue_for p q.host q.directive)

@@ -2,6 +2,7 @@
 -- first.
 use Rattle.std.specs.Prelude.{ℕ, List, [], ◌∷◌, filter, Option, Some, None, ◌==◌, if◌then◌else◌}
 use Rattle.acc_place.specs.Directives.{Directive}
+use Rattle.acc_place.specs.declared.directive.DataItem.{DataItem}
 use Rattle.acc_place.specs.declared.directive.Kind.{Kind}
 use Rattle.acc_place.specs.declared.directive.Kind.TheVariants as kind
 use Rattle.acc_place.specs.declared.directive.Region.{Region}
@@ -27,10 +28,11 @@ abbrev pub without_open : ℕ → List Region → List Region
 without_open host [] = []
 without_open host (r ∷ rs) = if r.host == host then rs else r ∷ without_open host rs
 
-abbrev pub region_of : ℕ → Directive → Region
-region_of host d = record { host = host; device = d.device; items = d.items }
+-- it has the items that its entry counted
+abbrev pub region_of : ℕ → Directive → List DataItem → Region
+region_of host d counted = record { host = host; device = d.device; items = counted }
 
-abbrev pub regions_after : ℕ → Directive → Kind → List Region → List Region
-regions_after host d kind.Data rs = region_of host d ∷ rs
-regions_after host d kind.EndData rs = without_open host rs
-regions_after host d k rs = rs
+abbrev pub regions_after : ℕ → Directive → Kind → List DataItem → List Region → List Region
+regions_after host d kind.Data counted rs = region_of host d counted ∷ rs
+regions_after host d kind.EndData counted rs = without_open host rs
+regions_after host d k counted rs = rs

@@ -1,10 +1,12 @@
 -- What a history leaves, and what a directive marks after it, item by item (OpenACC API 3.0, 2.6.5, Data Construct,
 -- 2.6.6, Enter Data and Exit Data Directives, 2.6.7, Reference Counters, 2.7, Data Clauses, and 2.11, Combined Constructs).
-use Rattle.std.specs.Prelude.{ℕ, Bool, true, false, List, [], ◌∷◌, ◌++◌, map, Option, Some, None, ◌==◌, if◌then◌else◌}
+use Rattle.std.specs.Prelude.{ℕ, Bool, true, false, ◌&&◌, not, List, [], ◌∷◌, ◌++◌, map, Option, Some, None, ◌==◌, if◌then◌else◌}
 use Rattle.acc_base.specs.declared.ids.QueueAt.{QueueAt}
 use Rattle.acc_base.specs.declared.range.Range.{Range}
 use Rattle.acc_batch.specs.declared.label.Label.{Label}
 use Rattle.acc_place.specs.Directives.{Directive}
+use Rattle.acc_place.specs.declared.directive.Clause.{Clause}
+use Rattle.acc_place.specs.declared.directive.Clause.TheVariants.{NoCreate}
 use Rattle.acc_place.specs.declared.directive.DataItem.{DataItem}
 use Rattle.acc_place.specs.declared.directive.Kind.{Kind}
 use Rattle.acc_place.specs.declared.directive.Kind.TheVariants as kind
@@ -30,10 +32,11 @@ pub record Standing : Type 0 where
   pub closing : Bool
   pub closed : List QueueAt
 
--- An item in its turn, and the change that is asked for, if any.
+-- An item in its turn; the change that is asked for, if any; and whether it is asked for only where the item's range is present.
 pub record Asked : Type 0 where
   pub item : DataItem
   pub change : Option Change
+  pub if_present : Bool
 
 -- Where a directive acts, and on what: the queue of its batch; the queues that it waits for, and whether it is for these
 -- awaits alone; its items; the loop that it runs then, if it is one; and its items once more, as they leave at the loop's end.
@@ -62,8 +65,17 @@ change_by kind.Wait = None
 change_by kind.AsyncTest = None
 change_by kind.IsPresent = None
 
-abbrev pub all_asked : Option Change → List DataItem → List Asked
-all_asked change items = map (λ i. record { item = i; change = change }) items
+-- `exit data` and the clause `no_create` are about what is present, and take no action elsewhere
+abbrev pub acts_if_present : Kind → Clause → Bool
+acts_if_present kind.Data NoCreate = true
+acts_if_present (kind.ExitData finalize) c = true
+acts_if_present k c = false
+
+abbrev pub asked_by : Kind → DataItem → Asked
+asked_by k i = record { item = i; change = change_by k; if_present = acts_if_present k i.clause }
+
+abbrev pub all_asked : Kind → List DataItem → List Asked
+all_asked k items = map (asked_by k) items
 
 -- What a directive acts on.
 pub record Subject : Type 0 where
@@ -85,9 +97,9 @@ abbrev pub loop_of : Kind → Option Loop
 loop_of (kind.Loop k) = Some k
 loop_of k = None
 
--- all items of a loop leave at its end
+-- all items of a loop leave at its end, as those of a data construct do
 abbrev pub ends_by : Kind → List DataItem → List Asked
-ends_by (kind.Loop k) items = all_asked (Some StructuredDown) items
+ends_by (kind.Loop k) items = all_asked kind.EndData items
 ends_by k items = []
 
 abbrev pub walk_on : Subject → Directive → Walk
@@ -97,7 +109,7 @@ walk_on s d =
       queue = queue_by d.kind d;
       waits = queues_named d;
       alone = is_alone d;
-      items = all_asked (change_by d.kind) s.items;
+      items = all_asked d.kind s.items;
       runs = loop_of d.kind;
       ends = ends_by d.kind s.items;
     }
@@ -105,21 +117,21 @@ walk_on s d =
 unfoldable pub walk_of : Standing → ℕ → Directive → Walk
 walk_of st host d = walk_on (subject_by st.lengths st.regions host d d.kind) d
 
--- a dynamic exit of a range that is absent takes no action
-abbrev pub leaves_mark : Change → Range → List Mark → Bool
-leaves_mark StructuredUp r before = true
-leaves_mark StructuredDown r before = true
-leaves_mark DynamicUp r before = true
-leaves_mark DynamicDown r before = is_present (presences before) r
-leaves_mark DynamicZero r before = is_present (presences before) r
+-- the change of an item in its turn, where its range is present or not
+abbrev pub change_where : Asked → Bool → Option Change
+change_where a present = if a.if_present && not present then None else a.change
 
-abbrev pub one_mark : Bool → Change → Range → List Mark → List Mark
-one_mark true change r before = record { change = change; range = r } ∷ before
-one_mark false change r before = before
+abbrev pub change_at : List Mark → Asked → Option Change
+change_at before a = change_where a (is_present (presences before) a.item.range)
 
+-- it leaves a mark
 abbrev pub marks_with : List Mark → Range → Option Change → List Mark
 marks_with before r None = before
-marks_with before r (Some change) = one_mark (leaves_mark change r before) change r before
+marks_with before r (Some change) = record { change = change; range = r } ∷ before
+
+-- the marks after an item in its turn
+abbrev pub marked_by : List Mark → Asked → List Mark
+marked_by before a = marks_with before a.item.range (change_at before a)
 
 -- A visit of an item: all marks of the device before it and after it.
 pub record Visit : Type 0 where
@@ -131,16 +143,28 @@ pub record Visit : Type 0 where
 abbrev pub visits : List Mark → List Asked → List Visit
 visits before [] = []
 visits before (a ∷ rest) =
-    record { item = a.item; before = before; after = marks_with before a.item.range a.change }
-    ∷ visits (marks_with before a.item.range a.change) rest
+    record { item = a.item; before = before; after = marked_by before a } ∷ visits (marked_by before a) rest
 
 abbrev pub marks_after : List Mark → List Asked → List Mark
 marks_after before [] = before
-marks_after before (a ∷ rest) = marks_after (marks_with before a.item.range a.change) rest
+marks_after before (a ∷ rest) = marks_after (marked_by before a) rest
+
+-- The items that leave a mark: those that a data construct has counted are the items of its end.
+abbrev pub counted_with : Option Change → DataItem → List DataItem → List DataItem
+counted_with None i items = items
+counted_with (Some change) i items = i ∷ items
+
+abbrev pub counted_among : List Mark → List Asked → List DataItem
+counted_among before [] = []
+counted_among before (a ∷ rest) = counted_with (change_at before a) a.item (counted_among (marked_by before a) rest)
 
 -- the marks between a walk's items and their ends, and behind both
 abbrev pub marks_between : List Mark → Walk → List Mark
 marks_between before walk = marks_after before walk.items
+
+-- those of its items that are counted
+abbrev pub counted_items : List Mark → Walk → List DataItem
+counted_items before walk = counted_among before walk.items
 
 abbrev pub marks_behind : List Mark → Walk → List Mark
 marks_behind before walk = marks_after (marks_between before walk) walk.ends

@@ -4,5 +4,6 @@ pub mod Clauses
 pub mod Closes
 pub mod Directives
 pub mod Loops
+pub mod NoCreate
 pub mod Refusals
 pub mod Regions

@@ -13,7 +13,8 @@ impl Kind {
         ensures { result ≡ allows_clause self.now clause }
     {
         match self {
-            Kind::Data | Kind::Loop { .. } => is_of_region(clause),
+            Kind::Data => is_of_region(clause) || clause == Clause::NoCreate,
+            Kind::Loop { .. } => is_of_region(clause),
             Kind::EnterData => matches!(clause, Clause::Copyin | Clause::Create),
             Kind::ExitData { .. } => matches!(clause, Clause::Copyout | Clause::Delete),
             Kind::Update { .. } => matches!(clause, Clause::UpdateSelf | Clause::UpdateDevice),

@@ -11,9 +11,9 @@ ghost use Rattle.acc_present.specs.declared.table.TheConstants.{COUNTER_LIMIT};
 ghost use Rattle.acc_place.specs.declared.directive.TheConstants.{MAX_ITEMS};
 ghost use Rattle.acc_place.specs.inner.Devices.{held_on, AreFresh, IsEmpty};
 ghost use Rattle.acc_place.specs.inner.Noting.{changed_all, noted_by, noted_ranges};
-ghost use Rattle.acc_place.specs.inner.Judging.{holding_after, holding_after_all, opened_after, CanEnter, CanMark, HasRoomFor, AllEntered, AllFine};
+ghost use Rattle.acc_place.specs.inner.Judging.{change_in, holding_after, holding_after_all, holding_with, opened_after, AllLow, CanEnter, CanMark, HasEntered, HasRoomFor, wants_look, IsFine, AllEntered, AllFine};
 
-use crate::directive::{DataItem, MAX_ITEMS};
+use crate::directive::{Clause, DataItem, Kind, MAX_ITEMS};
 use acc_base::{BlockId, Config, Fault, QueueId, Range};
 use acc_batch::OpLabel;
 use acc_present::{Change, Counter, Entered, Table};
@@ -96,12 +96,12 @@ impl Device {
         }
     }
 
-    /// Leaves the items' marks.
-    pub(crate) fn mark_all(&mut self, change: Option<Change>, items: &[DataItem])
-        requires fine { AllFine self.old.table.capacity change (held_on self.old) items.now }
-        requires entered { AllEntered change (held_on self.old) items.now }
+    /// Leaves the marks of the items of a directive of this kind.
+    pub(crate) fn mark_all(&mut self, kind: &Kind, items: &[DataItem])
+        requires fine { AllFine self.old.table.capacity kind.now (held_on self.old) items.now }
+        requires entered { AllEntered kind.now (held_on self.old) items.now }
         requires room { HasRoomFor (length items.now) self.old.table self.old.opened }
-        ensures holding { held_on self.new ≡ holding_after_all change (held_on self.old) items.now }
+        ensures holding { held_on self.new ≡ holding_after_all kind.now (held_on self.old) items.now }
         ensures notes { (notes : Range → ℕ → Note) → AreFresh notes self.old.opened → HasNotes notes self.old.table.notes → HasNotes notes self.new.table.notes }
         ensures capacity { self.new.table.capacity ≡ self.old.table.capacity }
         ensures room { self.new.table.room ≡ self.old.table.room }
@@ -109,9 +109,30 @@ impl Device {
         match items {
             [] => {}
             [first, rest @ ..] => {
-                self.mark(change, first.range);
-                self.mark_all(change, rest);
+                self.mark_item(kind, first);
+                self.mark_all(kind, rest);
             }
+        }
+    }
+
+    // Leaves the mark of an item, if it leaves one.
+    fn mark_item(&mut self, kind: &Kind, item: &DataItem)
+        requires fine { IsFine self.old.table.capacity (change_in kind.now self.old.table.presences item.now) self.old.table.presences item.now.range }
+        requires entered { HasEntered (change_in kind.now self.old.table.presences item.now) item.now.range self.old.table.presences }
+        requires low { AllLow COUNTER_LIMIT 1 self.old.table.presences }
+        requires room { length self.old.table.presences < self.old.table.room }
+        requires few { self.old.opened < COUNTER_LIMIT }
+        ensures holding { held_on self.new ≡ holding_with kind.now item.now (held_on self.old) }
+        ensures notes { (notes : Range → ℕ → Note) → AreFresh notes self.old.opened → HasNotes notes self.old.table.notes → HasNotes notes self.new.table.notes }
+        ensures capacity { self.new.table.capacity ≡ self.old.table.capacity }
+        ensures room { self.new.table.room ≡ self.old.table.room }
+    {
+        self.table.keeps();
+        if wants_look(kind, item.clause) {
+            let present = self.table.counters(item.range).is_some();
+            self.mark(kind.change_where(item, present), item.range);
+        } else {
+            self.mark(kind.change(), item.range);
         }
     }
 
@@ -159,6 +180,13 @@ impl Device {
             Entered::Opened => self.opened = next,
         }
     }
+}
+
+// Whether an item is looked for before it is marked. An exit isn't, as it changes nothing where its range is absent.
+fn wants_look(kind: &Kind, clause: Clause) -> bool
+    ensures { result ≡ wants_look kind.now clause }
+{
+    matches!(kind, Kind::Data) && kind.acts_if_present(clause)
 }
 
 /// Devices without directives, for a configuration.

@@ -36,6 +36,8 @@ pub enum Clause {
     Create,
     /// Also the clause of the range that `acc_is_present` asks about.
     Present,
+    /// As `Present` where the range is present, and no action where it is absent.
+    NoCreate,
     Delete,
     /// `self` of an update, also named `host`: from the device to the host.
     UpdateSelf,
@@ -55,7 +57,8 @@ pub struct DataItem {
 pub enum Kind {
     /// A data construct is entered (OpenACC API 3.0, 2.6.5, Data Construct).
     Data,
-    /// The innermost data construct that the host is inside is left. The device and the items are those of its entry.
+    /// The innermost data construct that the host is inside is left. The device is that of its entry, and the items are those
+    /// that this counted.
     EndData,
     /// `enter data` (2.6.6, Enter Data and Exit Data Directives); also `acc_copyin` and `acc_create` (3.2, Runtime
     /// Library Routines).
@@ -125,7 +128,7 @@ impl Model for Directive {
 }
 
 impl Kind {
-    ghost use Rattle.acc_place.specs.Standings.{change_by};
+    ghost use Rattle.acc_place.specs.Standings.{acts_if_present, asked_by, change_by, change_where};
 
     // The change that it asks for at each of its items, if any; a loop's items leave again at its end.
     pub(crate) fn change(&self) -> Option<Change>
@@ -138,6 +141,29 @@ impl Kind {
             Kind::ExitData { finalize: false } => Some(Change::DynamicDown),
             Kind::ExitData { finalize: true } => Some(Change::DynamicZero),
             Kind::Update { .. } | Kind::Wait | Kind::AsyncTest | Kind::IsPresent => None,
+        }
+    }
+
+    // Whether an item of this clause takes no action where its range is absent.
+    pub(crate) fn acts_if_present(&self, clause: Clause) -> bool
+        ensures { result ≡ acts_if_present self.now clause }
+    {
+        match self {
+            Kind::Data => clause == Clause::NoCreate,
+            Kind::ExitData { .. } => true,
+            Kind::EndData | Kind::EnterData | Kind::Update { .. } | Kind::Loop { .. } => false,
+            Kind::Wait | Kind::AsyncTest | Kind::IsPresent => false,
+        }
+    }
+
+    // The change that it makes at an item whose range is present or not, if any.
+    pub(crate) fn change_where(&self, item: &DataItem, present: bool) -> Option<Change>
+        ensures { result ≡ change_where (asked_by self.now item.now) present }
+    {
+        if !present && self.acts_if_present(item.clause) {
+            None
+        } else {
+            self.change()
         }
     }
 }
@@ -233,7 +259,7 @@ impl Directive {
     }
 }
 
-/// A data construct that a host is inside: the device and the items of its entry.
+/// A data construct that a host is inside: the device of its entry, and the items that this counted.
 #[derive(Drop)]
 pub struct Region {
     pub host: HostId,

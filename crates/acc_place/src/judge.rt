@@ -3,14 +3,13 @@
 ghost use Rattle.std.specs.Prelude.{All, ◌≡◌, ◌+◌, ◌<◌, ◌≤◌, ◌++◌, not, true, length, Some, None, IfNone, IfOk, IfErr, OnOk, vec_len, vec_capacity, is_some};
 ghost use Rattle.acc_present.specs.Drafts.{drafted, IsDraft};
 ghost use Rattle.acc_present.specs.Presences.{holder, is_present};
-ghost use Rattle.acc_present.specs.declared.change.Change.TheVariants.{StructuredDown};
 ghost use Rattle.acc_present.specs.declared.table.TheConstants.{COUNTER_LIMIT};
 ghost use Rattle.acc_present.specs.Tables.{IsLook, entry_mark, presences_after};
 ghost use Rattle.acc_place.specs.Accepting.{is_deep, is_outside, wants_presence};
 ghost use Rattle.acc_base.specs.Configurations.{has_range};
 ghost use Rattle.acc_place.specs.Regions.{open_region};
-ghost use Rattle.acc_place.specs.Standings.{change_by};
-ghost use Rattle.acc_place.specs.inner.Judging.{holding, holding_after_all, presences_by, can_open_by, fault_in, found_fault, limit_fault, first_fault_in, block_found, block_held, block_opened, block_ended, marked_in, all_marked, opened_after, AllLow, HasEntered, AllEntered, CanEnter, CanMark};
+ghost use Rattle.acc_place.specs.declared.directive.Kind.TheVariants.{EndData};
+ghost use Rattle.acc_place.specs.inner.Judging.{change_in, is_found, holding, holding_after_all, presences_by, can_open_by, fault_in, found_fault, limit_fault, first_fault_in, block_found, block_held, block_opened, block_ended, marked_in, all_marked, opened_after, AllLow, HasEntered, AllEntered, CanEnter, CanMark};
 
 use crate::directive::{
     Clause, DataItem, Directive, Kind, MAX_DIRECTIVES, MAX_ITEMS, MAX_REGIONS, Region,
@@ -43,6 +42,17 @@ pub struct Marked {
     pub held: Option<u64>,
     pub opened: Option<u64>,
     pub ended: Option<u64>,
+}
+
+impl Marked {
+    ghost use Rattle.acc_place.specs.inner.Judging.{has_counted};
+
+    /// Whether the item was counted: its range was present, or is opened.
+    pub(crate) fn has_counted(&self) -> bool
+        ensures { result ≡ has_counted self.now }
+    {
+        self.held.is_some() || self.opened.is_some()
+    }
 }
 
 /// The first fault of a host's directive on so many items, on a device that is there, that does not depend on their
@@ -103,14 +113,14 @@ pub(crate) fn judge_all(
     requires draft_room { length draft.old.changed + length items.now ≤ draft.old.room }
     requires low { AllLow COUNTER_LIMIT (length items.now) (drafted known.now.table.now draft.old) }
     requires few { opened + length items.now ≤ COUNTER_LIMIT }
-    requires entered { AllEntered (change_by kind.now) (holding (drafted known.now.table.now draft.old) opened) items.now }
+    requires entered { AllEntered kind.now (holding (drafted known.now.table.now draft.old) opened) items.now }
     requires step_room { vec_len steps.old + length items.now ≤ vec_capacity steps.old }
     ensures draft_room { draft.new.room ≡ draft.old.room }
     ensures fault { result ≡ first_fault_in known.now.config.now kind.now (holding (drafted known.now.table.now draft.old) opened) items.now }
     ensures draft { IfNone result (IsDraft known.now.table.now draft.new) }
-    ensures drafted { IfNone result (drafted known.now.table.now draft.new ≡ (holding_after_all (change_by kind.now) (holding (drafted known.now.table.now draft.old) opened) items.now).presences) }
+    ensures drafted { IfNone result (drafted known.now.table.now draft.new ≡ (holding_after_all kind.now (holding (drafted known.now.table.now draft.old) opened) items.now).presences) }
     ensures changed { IfNone result (length draft.new.changed ≤ length draft.old.changed + length items.now) }
-    ensures steps { IfNone result (steps.new.items ≡ steps.old.items ++ all_marked (change_by kind.now) (holding (drafted known.now.table.now draft.old) opened) items.now) }
+    ensures steps { IfNone result (steps.new.items ≡ steps.old.items ++ all_marked kind.now (holding (drafted known.now.table.now draft.old) opened) items.now) }
     ensures step_room { vec_capacity steps.new ≡ vec_capacity steps.old }
 {
     match items {
@@ -139,12 +149,12 @@ fn visit(
     requires draft_room { length draft.old.changed < draft.old.room }
     requires low { AllLow COUNTER_LIMIT 1 (drafted known.now.table.now draft.old) }
     requires few { opened < COUNTER_LIMIT }
-    requires entered { HasEntered (change_by kind.now) item.now.range (drafted known.now.table.now draft.old) }
+    requires entered { HasEntered (change_in kind.now (drafted known.now.table.now draft.old) item.now) item.now.range (drafted known.now.table.now draft.old) }
     ensures refused { IfErr result (λ fault. fault_in known.now.config.now kind.now (drafted known.now.table.now draft.old) item.now ≡ Some fault) }
     ensures fine { OnOk result (fault_in known.now.config.now kind.now (drafted known.now.table.now draft.old) item.now ≡ None) }
-    ensures marked { IfOk result (λ m. m ≡ marked_in (change_by kind.now) (holding (drafted known.now.table.now draft.old) opened) item.now) }
+    ensures marked { IfOk result (λ m. m ≡ marked_in (change_in kind.now (drafted known.now.table.now draft.old) item.now) (holding (drafted known.now.table.now draft.old) opened) item.now) }
     ensures draft { OnOk result (IsDraft known.now.table.now draft.new) }
-    ensures drafted { OnOk result (drafted known.now.table.now draft.new ≡ presences_by (change_by kind.now) item.now.range (opened + 1) (drafted known.now.table.now draft.old)) }
+    ensures drafted { OnOk result (drafted known.now.table.now draft.new ≡ presences_by (change_in kind.now (drafted known.now.table.now draft.old) item.now) item.now.range (opened + 1) (drafted known.now.table.now draft.old)) }
     ensures changed { OnOk result (length draft.new.changed ≤ length draft.old.changed + 1) }
     ensures draft_room { draft.new.room ≡ draft.old.room }
 {
@@ -155,7 +165,10 @@ fn visit(
     let free = known.config.capacity() - draft.used_cells();
     match found_fault(kind, item, &found, free) {
         Some(fault) => Err(fault),
-        None => Ok(mark(known.table, draft, kind.change(), item, &found, opened)),
+        None => {
+            let change = kind.change_where(item, is_found(&found));
+            Ok(mark(known.table, draft, change, item, &found, opened))
+        }
     }
 }
 
@@ -170,10 +183,10 @@ pub(crate) fn leave_all(
     requires draft { IsDraft table.now draft.old }
     requires draft_room { length draft.old.changed + length items.now ≤ draft.old.room }
     requires cells { All (λ i. 0 < i.range.len) items.now }
-    requires entered { AllEntered (Some StructuredDown) (holding (drafted table.now draft.old) 0) items.now }
+    requires entered { AllEntered EndData (holding (drafted table.now draft.old) 0) items.now }
     requires step_room { vec_len steps.old + length items.now ≤ vec_capacity steps.old }
     ensures draft_room { draft.new.room ≡ draft.old.room }
-    ensures steps { steps.new.items ≡ steps.old.items ++ all_marked (Some StructuredDown) (holding (drafted table.now draft.old) 0) items.now }
+    ensures steps { steps.new.items ≡ steps.old.items ++ all_marked EndData (holding (drafted table.now draft.old) 0) items.now }
     ensures step_room { vec_capacity steps.new ≡ vec_capacity steps.old }
 {
     match items {
@@ -203,7 +216,9 @@ fn found_fault(kind: &Kind, item: &DataItem, found: &Look, free: u64) -> Option<
         Look::Absent => {
             if wants_presence(kind, item.clause) {
                 Some(Fault::NotPresent)
-            } else if can_open_by(kind.change()) && free < u64::from(item.range.len) {
+            } else if can_open_by(kind.change_where(item, false))
+                && free < u64::from(item.range.len)
+            {
                 Some(Fault::DeviceFull)
             } else {
                 None
@@ -232,6 +247,13 @@ fn can_open_by(change: Option<Change>) -> bool
         Some(Change::StructuredUp | Change::DynamicUp) => true,
         Some(Change::StructuredDown | Change::DynamicDown | Change::DynamicZero) | None => false,
     }
+}
+
+// Whether a range that was found so is present.
+fn is_found(found: &Look) -> bool
+    ensures { result ≡ is_found found.now }
+{
+    matches!(found, Look::Present(_))
 }
 
 // The block that holds a range that was found so.

@@ -4,10 +4,11 @@ ghost use Rattle.acc_place.specs.worked.Awaits.{ReleaseAwaitsTheLoop, UsesAwaitT
 ghost use Rattle.acc_place.specs.worked.Batches.{GroupByGroup, PartIsCopiedOut, LeavesOnce, EntersAgain, EmptyBatch};
 ghost use Rattle.acc_place.specs.worked.Clauses.{DataClauses, ItemCounts, AsyncClauses, WaitClauses};
 ghost use Rattle.acc_place.specs.worked.Loops.{RunsOnPresent, CopiesImplicitly, TakesClauses, UsesConstructs, UsesOwnConstructs, StaysInRange, TakesNoTurn, LimitsItems, JudgesItems};
+ghost use Rattle.acc_place.specs.worked.NoCreate.{AbsentWithoutAction, PresentIsCounted, TakesBackItsOwn, InItsTurn, NamesWhatItCounted};
 ghost use Rattle.acc_place.specs.worked.Refusals.{EarlierItemFirst, ItemBeforeCounts, LimitsFirst, LastDirective, RangesOutside, CapacityReached};
 ghost use Rattle.acc_place.specs.worked.Regions.{AbsentAtEntry, PresentAtEntry, LastExit, NotTheLastExit, Nested, OwnRegion, Depth, Entries, ExitsInside, Updates, Questions, ItemsInTurn};
 ghost use Rattle.acc_place.specs.Sound.{AcceptedAreSound, AcceptedAreThere, AcceptedCloseLast};
-ghost use Rattle.acc_place.specs.Counters.{AcceptedAreCounted, EnteredCanBeLeft};
+ghost use Rattle.acc_place.specs.Counters.{AcceptedAreCounted, EndsTakeBack, EnteredCanBeLeft, EntriesAdd, OthersAreKept};
 ghost use Rattle.acc_place.specs.Loops.{ReachIsJudged};
 ghost use Rattle.acc_place.specs.worked.Closes.{LastBatches, RefusedForClosing, RegionsStay, ClosedOnce};
 ghost use Rattle.acc_place.specs.Closing.{KeptByClosing};
@@ -18,6 +19,13 @@ ghost use Rattle.acc_place.specs.Plans.{KeptByAccepting, KeptByPlanning, KeptByT
 pub fn accepted_directives_are_counted()
     ensures counted { AcceptedAreCounted }
     ensures left { EnteredCanBeLeft }
+{}
+
+/// The end of a data construct takes back what its entry counted, no more and no less, whatever came between.
+pub fn ends_take_back_their_entries()
+    ensures entries { EntriesAdd }
+    ensures ends { EndsTakeBack }
+    ensures others { OthersAreKept }
 {}
 
 /// A loop is refused for its reach exactly where it reaches a cell outside the range that it uses of the cell's array.
@@ -47,6 +55,16 @@ pub fn worked_regions()
     ensures nested { Nested }
     ensures own { OwnRegion }
     ensures depth { Depth }
+{}
+
+/// What the clause `no_create` means, computed likewise: where its range is absent and where it is present, what the end takes
+/// back, its turn among other items, and what a loop inside finds.
+pub fn worked_no_create()
+    ensures absent { AbsentWithoutAction }
+    ensures present { PresentIsCounted }
+    ensures back { TakesBackItsOwn }
+    ensures turn { InItsTurn }
+    ensures names { NamesWhatItCounted }
 {}
 
 /// What `enter data`, `exit data`, `update` and `acc_is_present` mean, computed likewise, and the first fault of

@@ -28,7 +28,7 @@ ghost use Rattle.acc_place.specs.Standings.{walk_of};
 use crate::answer::Answer;
 use crate::closes::{Close, closes_of};
 use crate::device::{Device, devices_of};
-use crate::directive::{Directive, PlaceEntry, Placed, Region};
+use crate::directive::{Directive, Kind, PlaceEntry, Placed, Region};
 use crate::judge::Known;
 use crate::labels::Labels;
 use crate::plan::Plan;
@@ -38,7 +38,7 @@ use crate::targets::queue_by;
 use crate::trial::Trial;
 use acc_base::{Config, DeviceId, Fault, HostId, QueueAt, Range};
 use acc_batch::{Batch, Label};
-use acc_present::{Change, Entry};
+use acc_present::Entry;
 use std::alloc::Global;
 use std::marker::Model;
 
@@ -309,10 +309,10 @@ impl Place {
         let items = self.trial.items();
         let device = device_by(self.regions.as_slice(), host, &directive);
         let there = &mut self.devices[usize::from(device.number())];
-        there.mark_all(kind.change(), items);
+        there.mark_all(kind, items);
         note_label(there, &label);
         there.table.keeps();
-        there.mark_all(Some(Change::StructuredDown), ends_of(kind, items));
+        there.mark_all(&Kind::EndData, ends_of(kind, items));
         enter_or_leave(&mut self.regions, host, &directive, region);
         self.history
             .push_reserved(PlaceEntry::Accepted { host, directive });
@@ -394,7 +394,7 @@ impl Place {
     }
 
     /// Whether a range with a cell is present on a device, one that `Config::has_device` knows.
-    #[tactic(auto, using(crate::proofs::StandingIn::held_is_present))]
+    #[tactic(auto, using(crate::proofs::WalkItem::held_is_present))]
     pub fn is_present(&self, device: DeviceId, range: Range) -> bool
         requires device { device < self.now.config.devices }
         requires cells { 0 < range.len }

@@ -14,7 +14,7 @@ ghost use Rattle.acc_place.specs.inner.Trials.{behind_noted, next_in, placed_by,
 ghost use Rattle.acc_place.specs.Plans.{Fits, IsPlanOf, label_for, opened_region};
 ghost use Rattle.acc_place.specs.declared.plan.Group.{Group};
 ghost use Rattle.acc_place.specs.Targets.{is_alone};
-ghost use Rattle.acc_place.specs.inner.Judging.{block_of, op_of, op_for, update_for, group_ops, marked_ops};
+ghost use Rattle.acc_place.specs.inner.Judging.{block_of, counted_steps, op_of, op_for, update_for, group_ops, marked_ops};
 
 use crate::answer::{Answer, answer_by};
 use crate::awaits::{add_all_awaits, awaited_numbers};
@@ -106,14 +106,14 @@ pub(crate) fn plan_of(
     requires cells { All (λ t. 0 < t.item.range.len) steps.now }
     ensures host { IfOk result (λ q. (q.host ≡ host) × (q.items_done ≡ items_done) × (q.stamp ≡ known.now.accepted)) }
     ensures directive { IfOk result (λ q. q.directive ≡ directive.now) }
-    ensures region { IfOk result (λ q. q.region ≡ opened_region host directive.now directive.now.kind) }
+    ensures region { IfOk result (λ q. q.region ≡ opened_region host directive.now directive.now.kind (counted_steps steps.now)) }
     ensures label { (notes : Range → ℕ → Note) → HasNotes notes known.now.table.now.notes → IfOk result (λ q. q.label ≡ label_for known.now.at (next_in known.now) host items_done (behind_noted known.now notes directive.now (marked_ops (option_to_list run) steps.now) steps.now)) }
     ensures batch { IfOk result (λ q. q.batch ≡ (if with_batch then q.label else None)) }
     ensures answer { IfOk result (λ q. q.answer ≡ placed_by known.now directive.now q.label present) }
     ensures fault { IfErr result (λ fault. fault ≡ Fault.Memory) }
 {
     let ops = batch_ops(alloc, known, directive, steps, run)?;
-    let region = opened_region(host, directive)?;
+    let region = opened_region(alloc, host, directive, steps)?;
     let label = label_of(alloc, known, host, items_done, ops)?;
     let batch = batch_of(alloc, &label, with_batch)?;
     let answer = answer_by(alloc, known, directive, &label, present)?;
@@ -351,8 +351,8 @@ fn copy_in_for(clause: Clause, block: BlockId, range: Range) -> Option<OpLabel>
 {
     match clause {
         Clause::Copy | Clause::Copyin => Some(OpLabel::CopyIn { block, range }),
-        Clause::Copyout | Clause::Create | Clause::Present | Clause::Delete => None,
-        Clause::UpdateSelf | Clause::UpdateDevice => None,
+        Clause::Copyout | Clause::Create | Clause::Present | Clause::NoCreate => None,
+        Clause::Delete | Clause::UpdateSelf | Clause::UpdateDevice => None,
     }
 }
 
@@ -362,8 +362,8 @@ fn copy_out_for(clause: Clause, block: BlockId, range: Range) -> Option<OpLabel>
 {
     match clause {
         Clause::Copy | Clause::Copyout => Some(OpLabel::CopyOut { block, range }),
-        Clause::Copyin | Clause::Create | Clause::Present | Clause::Delete => None,
-        Clause::UpdateSelf | Clause::UpdateDevice => None,
+        Clause::Copyin | Clause::Create | Clause::Present | Clause::NoCreate => None,
+        Clause::Delete | Clause::UpdateSelf | Clause::UpdateDevice => None,
     }
 }
 
@@ -375,6 +375,6 @@ fn update_for(clause: Clause, block: BlockId, range: Range) -> Option<OpLabel>
         Clause::UpdateSelf => Some(OpLabel::CopyOut { block, range }),
         Clause::UpdateDevice => Some(OpLabel::CopyIn { block, range }),
         Clause::Copy | Clause::Copyin | Clause::Copyout | Clause::Create => None,
-        Clause::Present | Clause::Delete => None,
+        Clause::Present | Clause::NoCreate | Clause::Delete => None,
     }
 }

@@ -1,13 +1,16 @@
 //! The data constructs that the hosts are inside.
 
-ghost use Rattle.std.specs.Prelude.{◌≡◌, ◌<◌, [], length, remove, slice_get, vec_len, vec_capacity, IfSome, IfOk, IfErr};
+ghost use Rattle.std.specs.Prelude.{List, ◌≡◌, ◌<◌, [], length, remove, slice_get, vec_len, vec_capacity, IfSome, IfOk, IfErr};
 ghost use Rattle.std.specs.Option.{option_and_then};
 ghost use Rattle.acc_place.specs.Plans.{opened_region};
 ghost use Rattle.acc_place.specs.Regions.{regions_of, open_region, without_open, regions_after};
-ghost use Rattle.acc_place.specs.inner.Judging.{device_by, written_by};
+ghost use Rattle.acc_place.specs.declared.directive.DataItem.{DataItem};
+ghost use Rattle.acc_place.specs.inner.Judging.{counted_steps, device_by, written_by};
 
 use crate::directive::{DataItem, Directive, Kind, Region};
-use acc_base::{DeviceId, Fault, HostId};
+use crate::judge::Marked;
+use acc_base::{DeviceId, Fault, Few, HostId};
+use std::alloc::Global;
 
 /// How many data constructs a host is inside.
 pub(crate) fn depth(regions: &[Region], host: HostId) -> usize
@@ -55,20 +58,40 @@ pub(crate) fn written_by<'a>(
     }
 }
 
-/// The data construct that a host's directive enters, if it enters one.
-pub(crate) fn opened_region(host: HostId, directive: &Directive) -> Result<Option<Region>, Fault>
-    ensures region { IfOk result (λ region. region ≡ opened_region host directive.now directive.now.kind) }
+/// The data construct that a host's directive with these steps enters, if it enters one: with the items that it counts.
+pub(crate) fn opened_region(
+    alloc: Global,
+    host: HostId,
+    directive: &Directive,
+    steps: &[Marked],
+) -> Result<Option<Region>, Fault>
+    ensures region { IfOk result (λ region. region ≡ opened_region host directive.now directive.now.kind (counted_steps steps.now)) }
     ensures fault { IfErr result (λ fault. fault ≡ Fault.Memory) }
 {
     if !matches!(directive.kind(), Kind::Data) {
         return Ok(None);
     }
-    let items = directive.items().try_clone()?;
+    let items = counted_steps(alloc, steps)?;
     Ok(Some(Region {
         host,
         device: directive.device(),
         items,
     }))
+}
+
+// The items that were counted.
+fn counted_steps(alloc: Global, steps: &[Marked]) -> Result<Few<DataItem>, Fault>
+    ensures items { IfOk result (λ items. items ≡ counted_steps steps.now) }
+    ensures fault { IfErr result (λ fault. fault ≡ Fault.Memory) }
+{
+    let mut items = Few::new(alloc);
+    for step in steps {
+        if step.has_counted() {
+            items.push(step.item)?;
+        }
+    }
+    items.shrink_to_fit();
+    Ok(items)
 }
 
 /// The host enters a data construct, or leaves its innermost one, or neither.
@@ -78,9 +101,8 @@ pub(crate) fn enter_or_leave(
     directive: &Directive,
     opened: Option<Region>,
 )
-    requires opened { opened ≡ opened_region host directive.now directive.now.kind }
     requires room { vec_len regions.old < vec_capacity regions.old }
-    ensures regions { regions.new.items ≡ regions_after host directive.now directive.now.kind regions.old.items }
+    ensures regions { (counted : List DataItem) → opened ≡ opened_region host directive.now directive.now.kind counted → regions.new.items ≡ regions_after host directive.now directive.now.kind counted regions.old.items }
     ensures room { vec_capacity regions.new ≡ vec_capacity regions.old }
 {
     if let Some(region) = opened {

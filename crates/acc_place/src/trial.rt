@@ -10,7 +10,7 @@ ghost use Rattle.acc_place.specs.Batches.{is_answered};
 ghost use Rattle.acc_place.specs.Plans.{label_for, opened_region};
 ghost use Rattle.acc_place.specs.Standings.{subject_by};
 ghost use Rattle.acc_place.specs.inner.Trials.{behind_noted, fault_by, items_by, next_in, ops_by, placed_by, steps_by, IsKnown, IsTried};
-ghost use Rattle.acc_place.specs.inner.Judging.{device_by};
+ghost use Rattle.acc_place.specs.inner.Judging.{counted_steps, device_by};
 
 use crate::answer::is_answered;
 use crate::directive::{DataItem, Directive, MAX_ITEMS, Region};
@@ -143,7 +143,7 @@ impl Trial {
         requires tried { IsTried known.now host directive.now self.old }
         ensures host { IfOk result (λ q. (q.host ≡ host) × (q.items_done ≡ items_done) × (q.stamp ≡ known.now.accepted)) }
         ensures directive { IfOk result (λ q. q.directive ≡ directive.now) }
-        ensures region { IfOk result (λ q. q.region ≡ opened_region host directive.now directive.now.kind) }
+        ensures region { IfOk result (λ q. q.region ≡ opened_region host directive.now directive.now.kind (counted_steps (steps_by known.now host directive.now))) }
         ensures label { (notes : Range → ℕ → Note) → HasNotes notes known.now.table.now.notes → IfOk result (λ q. q.label ≡ label_for known.now.at (next_in known.now) host items_done (behind_noted known.now notes directive.now (ops_by known.now host directive.now) (steps_by known.now host directive.now))) }
         ensures batch { IfOk result (λ q. q.batch ≡ (if with_batch then q.label else None)) }
         ensures answer { IfOk result (λ q. q.answer ≡ placed_by known.now directive.now q.label (is_answered directive.now.kind known.now.table.now.presences (items_by known.now host directive.now))) }

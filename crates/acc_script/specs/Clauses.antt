@@ -3,7 +3,7 @@ use Rattle.std.specs.Prelude.{ℕ, Bool, true, false, not, ◌&&◌, ◌||◌, �
 use Rattle.std.specs.List.{list_any}
 use Rattle.acc_place.specs.Clauses.{is_of_region, allows_clause}
 use Rattle.acc_place.specs.declared.directive.Clause.{Clause}
-use Rattle.acc_place.specs.declared.directive.Clause.TheVariants.{Copy, Copyin, Copyout, Create, Present, Delete, UpdateSelf, UpdateDevice}
+use Rattle.acc_place.specs.declared.directive.Clause.TheVariants.{Copy, Copyin, Copyout, Create, Present, NoCreate, Delete, UpdateSelf, UpdateDevice}
 use Rattle.acc_place.specs.declared.directive.Kind.TheVariants as kind
 use Rattle.acc_place.specs.declared.directive.Target.{Target}
 use Rattle.acc_place.specs.declared.directive.Target.TheVariants.{Plain, Unvalued, Value}
@@ -33,10 +33,11 @@ clause_named word =
     else (if is_one_of word (codes "copyout" ∷ codes "pcopyout" ∷ codes "present_or_copyout" ∷ []) then Some Copyout
     else (if is_one_of word (codes "create" ∷ codes "pcreate" ∷ codes "present_or_create" ∷ []) then Some Create
     else (if is_one_of word (codes "present" ∷ []) then Some Present
+    else (if is_one_of word (codes "no_create" ∷ []) then Some NoCreate
     else (if is_one_of word (codes "delete" ∷ []) then Some Delete
     else (if is_one_of word (codes "self" ∷ codes "host" ∷ []) then Some UpdateSelf
     else (if is_one_of word (codes "device" ∷ []) then Some UpdateDevice
-    else None)))))))
+    else None))))))))
 
 -- ## What a directive may have
 
@@ -46,7 +47,7 @@ allows head.EnterData c = allows_clause kind.EnterData c
 allows head.ExitData c = allows_clause (kind.ExitData false) c
 allows head.Update c = allows_clause (kind.Update false) c
 allows head.Wait c = false
-allows head.Data c = is_of_region c
+allows head.Data c = allows_clause kind.Data c
 allows head.Loop c = is_of_region c
 
 -- Whether it needs one of them.

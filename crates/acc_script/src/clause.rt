@@ -58,6 +58,8 @@ fn clause_named(word: &[u8]) -> Option<Clause>
         Some(Clause::Create)
     } else if is(word, b"present") {
         Some(Clause::Present)
+    } else if is(word, b"no_create") {
+        Some(Clause::NoCreate)
     } else if is(word, b"delete") {
         Some(Clause::Delete)
     } else if is(word, b"self") || is(word, b"host") {
@@ -79,7 +81,8 @@ impl Head {
             Head::ExitData => Kind::ExitData { finalize: false }.allows_clause(clause),
             Head::Update => Kind::Update { if_present: false }.allows_clause(clause),
             Head::Wait => false,
-            Head::Data | Head::Loop => Kind::Data.allows_clause(clause),
+            Head::Data => Kind::Data.allows_clause(clause),
+            Head::Loop => clause != Clause::NoCreate && Kind::Data.allows_clause(clause),
         }
     }
 

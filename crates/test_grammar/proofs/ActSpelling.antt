@@ -10,7 +10,7 @@ use Rattle.acc_place.specs.Clauses.{allows_clause, allows_items, allows_count, a
 use Rattle.acc_kernel.specs.Kernels.{Loop}
 use Rattle.acc_place.specs.Directives.{Directive}
 use Rattle.acc_place.specs.declared.directive.Clause.{Clause}
-use Rattle.acc_place.specs.declared.directive.Clause.TheVariants.{Copy, Copyin, Copyout, Create, Present, Delete, UpdateSelf, UpdateDevice}
+use Rattle.acc_place.specs.declared.directive.Clause.TheVariants.{Copy, Copyin, Copyout, Create, Present, NoCreate, Delete, UpdateSelf, UpdateDevice}
 use Rattle.acc_place.specs.declared.directive.DataItem.{DataItem}
 use Rattle.acc_place.specs.declared.directive.Kind.{Kind}
 use Rattle.acc_place.specs.declared.directive.Kind.TheVariants as kind
@@ -542,6 +542,7 @@ is_present i may = by i.clause (and_parts (allows_clause kind.IsPresent i.clause
     by Copyout may = absurd (false≢true may)
     by Create may = absurd (false≢true may)
     by Present may = refl
+    by NoCreate may = absurd (false≢true may)
     by Delete may = absurd (false≢true may)
     by UpdateSelf may = absurd (false≢true may)
     by UpdateDevice may = absurd (false≢true may)

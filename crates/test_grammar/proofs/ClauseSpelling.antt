@@ -8,7 +8,7 @@ use Rattle.std.proofs.lemmas.List.{append-nil}
 use Rattle.std.proofs.lemmas.List.Elements.{All-tail}
 use Rattle.acc_base.specs.declared.range.Range.{Range}
 use Rattle.acc_place.specs.declared.directive.Clause.{Clause}
-use Rattle.acc_place.specs.declared.directive.Clause.TheVariants.{Copy, Copyin, Copyout, Create, Present, Delete, UpdateSelf, UpdateDevice}
+use Rattle.acc_place.specs.declared.directive.Clause.TheVariants.{Copy, Copyin, Copyout, Create, Present, NoCreate, Delete, UpdateSelf, UpdateDevice}
 use Rattle.acc_place.specs.declared.directive.DataItem.{DataItem}
 use Rattle.acc_place.specs.declared.directive.Target.{Target}
 use Rattle.acc_place.specs.declared.directive.Target.TheVariants.{Plain, Unvalued, Value}
@@ -262,6 +262,7 @@ clause_token Copyin line rest = refl
 clause_token Copyout line rest = refl
 clause_token Create line rest = refl
 clause_token Present line rest = refl
+clause_token NoCreate line rest = refl
 clause_token Delete line rest = refl
 clause_token UpdateSelf line rest = refl
 clause_token UpdateDevice line rest = refl
@@ -272,6 +273,7 @@ no_end Copyin = refl
 no_end Copyout = refl
 no_end Create = refl
 no_end Present = refl
+no_end NoCreate = refl
 no_end Delete = refl
 no_end UpdateSelf = refl
 no_end UpdateDevice = refl
@@ -282,6 +284,7 @@ no_comma Copyin = refl
 no_comma Copyout = refl
 no_comma Create = refl
 no_comma Present = refl
+no_comma NoCreate = refl
 no_comma Delete = refl
 no_comma UpdateSelf = refl
 no_comma UpdateDevice = refl
@@ -292,6 +295,7 @@ no_finalize Copyin = refl
 no_finalize Copyout = refl
 no_finalize Create = refl
 no_finalize Present = refl
+no_finalize NoCreate = refl
 no_finalize Delete = refl
 no_finalize UpdateSelf = refl
 no_finalize UpdateDevice = refl
@@ -302,6 +306,7 @@ no_if_present Copyin = refl
 no_if_present Copyout = refl
 no_if_present Create = refl
 no_if_present Present = refl
+no_if_present NoCreate = refl
 no_if_present Delete = refl
 no_if_present UpdateSelf = refl
 no_if_present UpdateDevice = refl
@@ -323,6 +328,7 @@ named arrays h c line after Copyin = rw (no_mark h Copyin) refl
 named arrays h c line after Copyout = rw (no_mark h Copyout) refl
 named arrays h c line after Create = rw (no_mark h Create) refl
 named arrays h c line after Present = rw (no_mark h Present) refl
+named arrays h c line after NoCreate = rw (no_mark h NoCreate) refl
 named arrays h c line after Delete = rw (no_mark h Delete) refl
 named arrays h c line after UpdateSelf = rw (no_mark h UpdateSelf) refl
 named arrays h c line after UpdateDevice = rw (no_mark h UpdateDevice) refl

@@ -5,7 +5,7 @@ use Rattle.acc_base.specs.declared.range.Range.{Range}
 use Rattle.acc_place.specs.Clauses.{is_well_formed}
 use Rattle.acc_place.specs.Directives.{Directive}
 use Rattle.acc_place.specs.declared.directive.Clause.{Clause}
-use Rattle.acc_place.specs.declared.directive.Clause.TheVariants.{Copy, Copyin, Copyout, Create, Present, Delete, UpdateSelf, UpdateDevice}
+use Rattle.acc_place.specs.declared.directive.Clause.TheVariants.{Copy, Copyin, Copyout, Create, Present, NoCreate, Delete, UpdateSelf, UpdateDevice}
 use Rattle.acc_place.specs.declared.directive.DataItem.{DataItem}
 use Rattle.acc_place.specs.declared.directive.Kind.{Kind}
 use Rattle.acc_place.specs.declared.directive.Kind.TheVariants as kind
@@ -63,6 +63,7 @@ word_of Copyin = codes "copyin"
 word_of Copyout = codes "copyout"
 word_of Create = codes "create"
 word_of Present = codes "present"
+word_of NoCreate = codes "no_create"
 word_of Delete = codes "delete"
 word_of UpdateSelf = codes "self"
 word_of UpdateDevice = codes "device"

@@ -73,6 +73,23 @@ const ENTRIES: &[Case] = &[
         report: b"host 0\n1 2 3 4\nrefused 9 F7 NotPresent\nqueue 0 sync batches 2 operations 2 of 2\nend\n",
         refused: true,
     },
+    // no_create counts what is present, and its construct's end passes over what it found absent
+    Case {
+        options: Options::DEFAULT,
+        input: b"long a[2] = {1,2};\nlong b[2];\nhost {\n#pragma acc enter data create(a)\n#pragma acc data no_create(a, b)\n{\nprint(acc_is_present(a));\nprint(acc_is_present(b));\n#pragma acc exit data delete(a)\nprint(acc_is_present(a));\n#pragma acc enter data create(b)\n}\n}\n%%\nround 20\n",
+        report: b"host 0\n1\n0\n1\ndone\npresent 0 b[0:2] s 0 d 1\nqueue 0 sync batches 3 operations 3 of 3\nend\n",
+        refused: false,
+    },
+    // no_create behind what opened its range counts too; it wants no cells, and an overlap is refused
+    Case {
+        options: Options {
+            cells: 4,
+            ..Options::DEFAULT
+        },
+        input: b"long a[4];\nlong b[4];\nhost {\n#pragma acc data no_create(b) create(a) no_create(a[1:2])\n{\n#pragma acc data no_create(b, a[0:1])\n{\n#pragma acc exit data delete(a)\n}\n}\n#pragma acc enter data create(a[0:2])\n#pragma acc data no_create(a[2:2], a[1:2])\n{\n}\n}\n%%\nround 20\n",
+        report: b"host 0\nrefused 12 F6 PartlyPresent\npresent 0 a[0:2] s 0 d 1\nqueue 0 sync batches 3 operations 3 of 3\nend\n",
+        refused: true,
+    },
     // an overlap is refused
     Case {
         options: Options::DEFAULT,
@@ -169,6 +186,13 @@ const LOOPS: &[Case] = &[
         options: Options::DEFAULT,
         input: b"long a[4] = {1,2,3,4};\nhost {\n#pragma acc data copy(a)\n{\n#pragma acc data copyin(a[2:1])\n{\n#pragma acc parallel loop\nfor (i = 2; i < 3; i++) a[i] = a[i] * 2;\n}\n#pragma acc parallel loop\nfor (i = 0; i < 4; i++) a[i] = a[i] + 1;\n#pragma acc update self(a)\nprint(a);\n#pragma acc data copyin(a[2:1])\n{\n#pragma acc parallel loop\nfor (i = 2; i < 4; i++) a[i] = a[i] * 2;\n}\n}\n}\n%%\nround 20\n",
         report: b"host 0\n2 3 7 5\nrefused 16 F9 OutsideRange\npresent 0 a[0:4] s 2 d 0\nqueue 0 sync batches 4 operations 5 of 5\nend\n",
+        refused: true,
+    },
+    // a no_create that took no action names nothing for a loop inside
+    Case {
+        options: Options::DEFAULT,
+        input: b"long a[4] = {1,2,3,4};\nhost {\n#pragma acc data copy(a[0:2])\n{\n#pragma acc data no_create(a[2:2])\n{\n#pragma acc parallel loop\nfor (i = 0; i < 2; i++) a[i] = a[i] * 10;\n}\n}\n#pragma acc data no_create(a)\n{\n#pragma acc parallel loop\nfor (i = 0; i < 4; i++) a[i] = a[i] + 1;\nprint(a);\n}\n#pragma acc data no_create(a) create(a[0:2])\n{\n#pragma acc parallel loop\nfor (i = 0; i < 3; i++) a[i] = 7;\n}\n}\n%%\nround 40\n",
+        report: b"host 0\n11 21 4 5\nrefused 19 F9 OutsideRange\npresent 0 a[0:2] s 1 d 0\nqueue 0 sync batches 5 operations 11 of 11\nend\n",
         refused: true,
     },
     // a loop stays in the range of its array's first item, though more is present
@@ -652,6 +676,13 @@ const FAULTY: &[Faulty] = &[
         input: b"long a[2];\nhost {\n#pragma acc parallel loop\nfor (i = 0; i < 1; i++) a[i] = a[i + 1];\n}\n",
         in_schedule: false,
         line: 4,
+        kind: ReadKind::Form,
+    },
+    // a clause of data constructs on a loop
+    Faulty {
+        input: b"long a[2];\nhost {\n#pragma acc parallel loop no_create(a)\nfor (i = 0; i < 2; i++) a[i] = i;\n}\n",
+        in_schedule: false,
+        line: 3,
         kind: ReadKind::Form,
     },
     // a directive in the middle

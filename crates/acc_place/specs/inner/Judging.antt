@@ -1,6 +1,6 @@
 -- What the items of a directive make of a device's table, item by item, in the table's own words. Only private contracts
 -- and proofs cite it: what a public call promises is said by the definitions, which proofs tie to these.
-use Rattle.std.specs.Prelude.{All, ◌≡◌, ℕ, ◌+◌, ◌<◌, ◌≤◌, ⊤, Bool, true, false, ◌&&◌, ◌||◌, not, nat_lt, nat_le, List, [], ◌∷◌, ◌++◌, length, Option, Some, None, IfSome, if◌then◌else◌}
+use Rattle.std.specs.Prelude.{All, ◌≡◌, ℕ, ◌+◌, ◌<◌, ◌≤◌, ⊤, Bool, true, false, ◌&&◌, ◌||◌, not, nat_lt, nat_le, List, [], ◌∷◌, ◌++◌, length, map, filter, is_some, Option, Some, None, IfSome, if◌then◌else◌}
 use Rattle.std.specs.List.{flat_map}
 use Rattle.std.specs.Option.{option_and_then, option_to_list}
 use Rattle.acc_base.specs.declared.range.Range.{Range}
@@ -39,7 +39,7 @@ use Rattle.acc_place.specs.Accepting.{fault_where, first_fault, item_faults, wan
 use Rattle.acc_place.specs.Batches.{copies_in, copies_out}
 use Rattle.acc_place.specs.Loops.{StaysInside, uses_in}
 use Rattle.acc_place.specs.Regions.{open_region}
-use Rattle.acc_place.specs.Standings.{change_by, left_by}
+use Rattle.acc_place.specs.Standings.{acts_if_present, asked_by, change_where, left_by}
 use Rattle.acc_place.specs.Targets.{has_bad_queue, waits_on_too_many}
 
 -- What a device has: what is present there, and how many lifetimes were opened.
@@ -73,9 +73,22 @@ holding_after change r h =
       opened = opened_after (opens_one change h.presences r) h.opened;
     }
 
-abbrev pub holding_after_all : Option Change → Holding → List DataItem → Holding
-holding_after_all change h [] = h
-holding_after_all change h (i ∷ is) = holding_after_all change (holding_after change i.range h) is
+-- the change of an item in its turn, where these are present
+abbrev pub change_in : Kind → List Presence → DataItem → Option Change
+change_in k ps i = change_where (asked_by k i) (is_present ps i.range)
+
+abbrev pub holding_with : Kind → DataItem → Holding → Holding
+holding_with k i h = holding_after (change_in k h.presences i) i.range h
+
+-- an item is looked for before it is marked; an exit changes nothing where its range is absent
+abbrev pub wants_look : Kind → Clause → Bool
+wants_look kind.Data c = acts_if_present kind.Data c
+wants_look k c = false
+
+-- after items of a directive of this kind
+abbrev pub holding_after_all : Kind → Holding → List DataItem → Holding
+holding_after_all k h [] = h
+holding_after_all k h (i ∷ is) = holding_after_all k (holding_with k i h) is
 
 -- ## Items
 
@@ -96,17 +109,17 @@ ends_of k items = []
 
 -- what a device has once a directive's items have left their marks, and once its ends have
 abbrev pub holding_between : Kind → Holding → List DataItem → Holding
-holding_between k h items = holding_after_all (change_by k) h items
+holding_between k h items = holding_after_all k h items
 
 abbrev pub holding_behind : Kind → Holding → List DataItem → Holding
-holding_behind k h items = holding_after_all (Some StructuredDown) (holding_between k h items) (ends_of k items)
+holding_behind k h items = holding_after_all kind.EndData (holding_between k h items) (ends_of k items)
 
 -- ## Faults
 
 -- The fault of an item, where those before it have left their marks.
 unfoldable pub fault_in : Configuration → Kind → List Presence → DataItem → Option Fault
 fault_in config k ps i =
-    first_fault (item_faults config k i ps (opens_one (change_by k) ps i.range) (used_cells ps + i.range.len))
+    first_fault (item_faults config k i ps (opens_one (change_in k ps i) ps i.range) (used_cells ps + i.range.len))
 
 abbrev pub can_open_by : Option Change → Bool
 can_open_by None = false
@@ -119,7 +132,7 @@ found_fault k i (look.Present e) free = None
 found_fault k i look.Absent free =
     first_fault (
     fault_where (wants_presence k i.clause) NotPresent
-    ∷ fault_where (can_open_by (change_by k) && nat_lt free i.range.len) DeviceFull
+    ∷ fault_where (can_open_by (change_where (asked_by k i) false) && nat_lt free i.range.len) DeviceFull
     ∷ []
     )
 
@@ -140,7 +153,7 @@ fault_or None other = other
 abbrev pub first_fault_in : Configuration → Kind → Holding → List DataItem → Option Fault
 first_fault_in config k h [] = None
 first_fault_in config k h (i ∷ is) =
-    fault_or (fault_in config k h.presences i) (first_fault_in config k (holding_after (change_by k) i.range h) is)
+    fault_or (fault_in config k h.presences i) (first_fault_in config k (holding_with k i h) is)
 
 -- a loop that reaches past the ranges of its items
 abbrev pub past_fault : Option Loop → List DataItem → Option Fault
@@ -161,6 +174,11 @@ AllHeldFor k ps items = ⊤
 abbrev pub block_held : Option Presence → Option ℕ
 block_held None = None
 block_held (Some p) = Some p.block
+
+abbrev pub is_found : Look → Bool
+is_found look.Absent = false
+is_found look.Partly = false
+is_found (look.Present e) = true
 
 abbrev pub block_found : Look → Option ℕ
 block_found look.Absent = None
@@ -189,14 +207,21 @@ marked_in change h i =
       ended = ended_by change h.presences i.range;
     }
 
-abbrev pub all_marked : Option Change → Holding → List DataItem → List Marked
-all_marked change h [] = []
-all_marked change h (i ∷ is) = marked_in change h i ∷ all_marked change (holding_after change i.range h) is
+abbrev pub all_marked : Kind → Holding → List DataItem → List Marked
+all_marked k h [] = []
+all_marked k h (i ∷ is) = marked_in (change_in k h.presences i) h i ∷ all_marked k (holding_with k i h) is
 
 -- and of those that leave at the directive's end, behind them
 abbrev pub all_steps : Kind → Holding → List DataItem → List Marked
 all_steps k h items =
-    all_marked (change_by k) h items ++ all_marked (Some StructuredDown) (holding_between k h items) (ends_of k items)
+    all_marked k h items ++ all_marked kind.EndData (holding_between k h items) (ends_of k items)
+
+-- the items that were counted: each was present, or was opened
+abbrev pub has_counted : Marked → Bool
+has_counted t = is_some t.held || is_some t.opened
+
+abbrev pub counted_steps : List Marked → List DataItem
+counted_steps ts = map (λ (t : Marked). t.item) (filter has_counted ts)
 
 -- ## The operations
 
@@ -280,9 +305,9 @@ HasEntered (Some DynamicDown) r ps = ⊤
 HasEntered (Some DynamicZero) r ps = ⊤
 
 -- so does each item in its turn
-abbrev pub AllEntered : Option Change → Holding → List DataItem → Type 0
-AllEntered change h [] = ⊤
-AllEntered change h (i ∷ is) = HasEntered change i.range h.presences × AllEntered change (holding_after change i.range h) is
+abbrev pub AllEntered : Kind → Holding → List DataItem → Type 0
+AllEntered k h [] = ⊤
+AllEntered k h (i ∷ is) = HasEntered (change_in k h.presences i) i.range h.presences × AllEntered k (holding_with k i h) is
 
 -- The range has cells; where a change is asked for, it isn't partly present; and it fits, where that opens a lifetime, on a
 -- device of this capacity.
@@ -292,7 +317,7 @@ pub record IsFine (capacity : ℕ) (change : Option Change) (ps : List Presence)
   pub fits : opens_one change ps r ≡ true → used_cells ps + r.len ≤ capacity
 
 -- so is each item in its turn
-abbrev pub AllFine : ℕ → Option Change → Holding → List DataItem → Type 0
-AllFine capacity change h [] = ⊤
-AllFine capacity change h (i ∷ is) =
-    IsFine capacity change h.presences i.range × AllFine capacity change (holding_after change i.range h) is
+abbrev pub AllFine : ℕ → Kind → Holding → List DataItem → Type 0
+AllFine capacity k h [] = ⊤
+AllFine capacity k h (i ∷ is) =
+    IsFine capacity (change_in k h.presences i) h.presences i.range × AllFine capacity k (holding_with k i h) is

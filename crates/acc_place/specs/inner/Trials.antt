@@ -27,7 +27,7 @@ use Rattle.acc_base.specs.Configurations.{lengths_of}
 use Rattle.acc_place.specs.inner.Noting.{awaits_from, ended_range, last_made, last_used, note_found, used_ranges}
 use Rattle.acc_place.specs.inner.Places.{queue_in}
 use Rattle.acc_place.specs.Regions.{regions_on}
-use Rattle.acc_place.specs.Standings.{change_by, loop_of, subject_by}
+use Rattle.acc_place.specs.Standings.{loop_of, subject_by}
 use Rattle.acc_place.specs.Targets.{is_alone, queue_by, queues_named}
 use Rattle.acc_place.specs.inner.Judging.{Holding, holding, holding_between, limit_fault, fault_or, first_fault_in, past_fault, all_marked, all_steps, run_in, marked_ops, AllLow, StaysBy}
 
@@ -118,4 +118,4 @@ pub record IsTried (k : Known) (host : ℕ) (d : Directive) (w : TrialView) : Ty
   pub draft : IsDraft k.table.now w.draft
   pub marks : drafted k.table.now w.draft ≡ (holding_between d.kind (held_by k) w.items).presences
   pub changed : length w.draft.changed ≤ length w.items
-  pub became : w.steps ≡ all_marked (change_by d.kind) (held_by k) w.items
+  pub became : w.steps ≡ all_marked d.kind (held_by k) w.items

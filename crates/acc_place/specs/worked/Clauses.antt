@@ -1,7 +1,7 @@
 -- Which clauses a directive may have, computed.
 use Rattle.std.specs.Prelude.{◌≡◌, true, false, Bool, pos, [], ◌∷◌, List, map}
 use Rattle.acc_place.specs.declared.directive.Clause.{Clause}
-use Rattle.acc_place.specs.declared.directive.Clause.TheVariants.{Copy, Copyin, Copyout, Create, Present, Delete, UpdateSelf, UpdateDevice}
+use Rattle.acc_place.specs.declared.directive.Clause.TheVariants.{Copy, Copyin, Copyout, Create, Present, NoCreate, Delete, UpdateSelf, UpdateDevice}
 use Rattle.acc_place.specs.declared.directive.Kind.{Kind}
 use Rattle.acc_place.specs.declared.directive.Kind.TheVariants as kind
 use Rattle.acc_place.specs.declared.directive.Target.{Target}
@@ -22,13 +22,14 @@ is_plain k cs = is_written k cs Plain waits.Nothing
 -- Each data clause stands where the standard has it, and alone there.
 abbrev pub DataClauses : Type 0
 DataClauses =
-    (is_plain kind.Data (Copy ∷ Copyin ∷ Copyout ∷ Create ∷ Present ∷ []) ≡ true)
+    (is_plain kind.Data (Copy ∷ Copyin ∷ Copyout ∷ Create ∷ Present ∷ NoCreate ∷ []) ≡ true)
     × (is_plain kind.Data (Copy ∷ Delete ∷ []) ≡ false)
     × (is_plain kind.EnterData (Copyin ∷ Create ∷ []) ≡ true)
     × (is_plain kind.EnterData (Copyin ∷ Copyout ∷ []) ≡ false)
     × (is_plain (kind.ExitData true) (Copyout ∷ Delete ∷ []) ≡ true)
     × (is_plain (kind.ExitData false) (Create ∷ []) ≡ false)
     × (is_plain (kind.Update false) (UpdateSelf ∷ UpdateDevice ∷ []) ≡ true)
+    × (is_plain kind.EnterData (NoCreate ∷ []) ≡ false)
     × (is_plain (kind.Update true) (Present ∷ []) ≡ false)
     × (is_plain kind.IsPresent (Copy ∷ []) ≡ false)
 

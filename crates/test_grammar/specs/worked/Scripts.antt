@@ -2,7 +2,7 @@
 use Rattle.std.specs.Prelude.{◌≡◌, ℕ, true, false, List, [], ◌∷◌, ◌++◌, Ok, ℤ, pos, negsuc, codes}
 use Rattle.acc_base.specs.declared.range.Range.{Range}
 use Rattle.acc_place.specs.declared.directive.Clause.{Clause}
-use Rattle.acc_place.specs.declared.directive.Clause.TheVariants.{Copy, Copyin, Copyout, Create, Present, Delete, UpdateSelf, UpdateDevice}
+use Rattle.acc_place.specs.declared.directive.Clause.TheVariants.{Copy, Copyin, Copyout, Create, Present, NoCreate, Delete, UpdateSelf, UpdateDevice}
 use Rattle.acc_place.specs.declared.directive.DataItem.{DataItem}
 use Rattle.acc_place.specs.declared.directive.Kind.{Kind}
 use Rattle.acc_place.specs.declared.directive.Kind.TheVariants as kind
@@ -97,6 +97,8 @@ pub record ClauseNames : Type 0 where
   pub region : does (codes "#pragma acc data copyin(a) copyout(a) create(a) present(a)\n\n{\n}\n")
       (at_line 3 (data_of kind.Data (of_clause Copyin whole ∷ of_clause Copyout whole ∷ of_clause Create whole ∷ of_clause Present whole ∷ []))
       ∷ at_line 6 end_of_construct ∷ [])
+  pub no_create : does (codes "#pragma acc data no_create(a) create(a), no_create(a[0:1])\n{ }\n")
+      (at_line 3 (data_of kind.Data (of_clause NoCreate whole ∷ of_clause Create whole ∷ of_clause NoCreate whole ∷ [])) ∷ at_line 4 end_of_construct ∷ [])
   pub delete : does_one (codes "# pragma acc exit data finalize delete(a)\n") (data_of (kind.ExitData true) (of_clause Delete whole ∷ []))
   pub update : does_one (codes "#pragma acc update self(a) host(a), device(a) if_present // all\n")
       (data_of (kind.Update true) (of_clause UpdateSelf whole ∷ of_clause UpdateSelf whole ∷ of_clause UpdateDevice whole ∷ []))
@@ -185,6 +187,8 @@ pub record DirectiveFaults : Type 0 where
   pub no_clause : is_refused (one_cell (codes "#pragma acc enter data // nothing\n")) 3 Form
   pub no_data_clause : is_refused (one_cell (codes "#pragma acc update async wait\n")) 3 Form
   pub foreign_clause : is_refused (one_cell (codes "#pragma acc enter data copyout(a)\n")) 3 Form
+  pub no_create_of_an_entry : is_refused (one_cell (codes "#pragma acc enter data no_create(a)\n")) 3 Form
+  pub no_create_of_a_loop : is_refused (one_cell (codes "#pragma acc parallel loop no_create(a)\nfor (i = 0; i < 1; i++) a[i] = i;\n")) 3 Form
   pub foreign_mark : is_refused (one_cell (codes "#pragma acc enter data create(a) finalize\n")) 3 Form
   pub async_construct : is_refused (one_cell (codes "#pragma acc data create(a) async\n{ }\n")) 3 Form
   pub async_twice : is_refused (one_cell (codes "#pragma acc enter data create(a) async(1) async(2)\n")) 3 Form

@@ -7,7 +7,7 @@ use Rattle.std.proofs.lemmas.Iterator.Search.{all_from_yields_List}
 use Rattle.acc_present.specs.Presences.{Presence, holder, is_present}
 use Rattle.acc_place.specs.declared.directive.DataItem.{DataItem}
 use Rattle.acc_place.specs.declared.directive.Kind.TheVariants as kind
-use Rattle.acc_place.proofs.StandingIn.{held_is_present}
+use Rattle.acc_place.proofs.WalkItem.{held_is_present}
 use Rattle.acc_place.proofs.answer.is_answered.Goals as goal
 
 abbrev has_counters : List Presence → DataItem → Bool

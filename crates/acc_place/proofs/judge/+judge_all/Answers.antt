@@ -5,9 +5,8 @@ use Rattle.acc_present.specs.declared.table.TheConstants.{COUNTER_LIMIT}
 use Rattle.acc_place.specs.declared.directive.Clause.TheVariants.{Copy}
 use Rattle.acc_place.specs.declared.directive.DataItem.{DataItem}
 use Rattle.acc_place.specs.declared.judge.Marked.{Marked}
-use Rattle.acc_place.specs.Standings.{change_by}
 use Rattle.acc_present.specs.Presences.{Presence}
-use Rattle.acc_place.specs.inner.Judging.{Holding, holding, holding_after, holding_after_all, first_fault_in, marked_in, all_marked, AllEntered, AllLow}
+use Rattle.acc_place.specs.inner.Judging.{Holding, change_in, holding, holding_with, holding_after_all, first_fault_in, marked_in, all_marked, AllEntered, AllLow}
 use Rattle.acc_place.proofs.WalkItem.{rest_of, rest_is, length-rest, holding_is, holding-next, first_fault-next, all_marked-next, entered-next, AllLow-fewer, low_rest, opened-most}
 use Rattle.acc_place.proofs.judge.+judge_all.Goals as goal
 
@@ -21,10 +20,11 @@ visit-requires-clause-low t c =
 
 pub judge_all-requires : goal.judge_all-requires
 judge_all-requires t c =
-    let change = change_by c.args.kind.now in
+    let k = c.args.kind.now in
     let items = c.args.items.now in
     let item = get_or items 0 no_item in
     let ps = drafted c.args.known.now.table.now c.args.draft.now in
+    let change = change_in k ps item in
     let qs = drafted c.args.known.now.table.now c.visit.new.draft in
     let h = holding ps c.args.opened in
     let next = c.opened_after-next.result in
@@ -32,7 +32,7 @@ judge_all-requires t c =
     let made = c.in-Ok.ensures.drafted in
     let low : AllLow COUNTER_LIMIT (length (rest_of items)) qs = rw (rest_is items) (low_rest change ps qs item.range items c.args.opened c.requires.low some c.requires.few made) in
     let after = holding_is change ps qs c.args.opened next item c.in-Ok.marked made c.in-Ok.ensures.marked c.opened_after-next.ensures in
-    let entered : AllEntered change (holding qs next) (rest_of items) = rw (after, rest_is items) (entered-next change h items no_item some c.requires.entered) in
+    let entered : AllEntered k (holding qs next) (rest_of items) = rw (after, rest_is items) (entered-next k h items no_item some c.requires.entered) in
     let fewer = length-rest items some in
     let most = opened-most (is_some c.in-Ok.marked.opened) c.args.opened in (
       search rules,
@@ -60,33 +60,34 @@ drafted_on (Some x) ps h g same is = tt
 
 pub returns-in-Ok-clause-drafted : goal.returns-in-Ok-clause-drafted
 returns-in-Ok-clause-drafted t c =
-    let change = change_by c.args.kind.now in
+    let k = c.args.kind.now in
     let items = c.args.items.now in
     let item = get_or items 0 no_item in
     let ps = drafted c.args.known.now.table.now c.args.draft.now in
+    let change = change_in k ps item in
     let qs = drafted c.args.known.now.table.now c.visit.new.draft in
     let h = holding ps c.args.opened in
     let next = c.opened_after-next.result in
     let after = holding_is change ps qs c.args.opened next item c.in-Ok.marked c.in-Ok.ensures.drafted c.in-Ok.ensures.marked c.opened_after-next.ensures in
-    let same : holding_after_all change (holding qs next) (rest_of items) ≡ holding_after_all change h items =
-    ap (λ g. holding_after_all change g (rest_of items)) after
-    ∙ (ap (holding_after_all change (holding_after change item.range h)) (rest_is items) ∙ sym (holding-next change h items no_item c.in-len1-up.len_at_least)) in
-    drafted_on c.judge_all.result (drafted c.args.known.now.table.now c.judge_all.new.draft) (holding_after_all change (holding qs next) (rest_of items)) (holding_after_all change h items) same c.judge_all.ensures.drafted
+    let same : holding_after_all k (holding qs next) (rest_of items) ≡ holding_after_all k h items =
+    ap (λ g. holding_after_all k g (rest_of items)) after
+    ∙ (ap (holding_after_all k (holding_with k item h)) (rest_is items) ∙ sym (holding-next k h items no_item c.in-len1-up.len_at_least)) in
+    drafted_on c.judge_all.result (drafted c.args.known.now.table.now c.judge_all.new.draft) (holding_after_all k (holding qs next) (rest_of items)) (holding_after_all k h items) same c.judge_all.ensures.drafted
 
 pub returns-in-Ok-clause-fault : goal.returns-in-Ok-clause-fault
 returns-in-Ok-clause-fault t c =
     let k = c.args.kind.now in
-    let change = change_by k in
     let config = c.args.known.now.config.now in
     let items = c.args.items.now in
     let item = get_or items 0 no_item in
     let ps = drafted c.args.known.now.table.now c.args.draft.now in
+    let change = change_in k ps item in
     let qs = drafted c.args.known.now.table.now c.visit.new.draft in
     let h = holding ps c.args.opened in
     let after = holding_is change ps qs c.args.opened c.opened_after-next.result item c.in-Ok.marked c.in-Ok.ensures.drafted c.in-Ok.ensures.marked c.opened_after-next.ensures in
     c.judge_all.ensures.fault
     ∙ (ap (λ g. first_fault_in config k g (rest_of items)) after
-    ∙ (ap (first_fault_in config k (holding_after change item.range h)) (rest_is items)
+    ∙ (ap (first_fault_in config k (holding_with k item h)) (rest_is items)
     ∙ sym (first_fault-next config k h items no_item c.in-len1-up.len_at_least c.in-Ok.ensures.fine)))
 
 -- where the others have no fault, their steps stand behind the first item's
@@ -96,19 +97,20 @@ steps_on (Some x) had pushed made rest all first push is split = tt
 
 pub returns-in-Ok-clause-steps : goal.returns-in-Ok-clause-steps
 returns-in-Ok-clause-steps t c =
-    let change = change_by c.args.kind.now in
+    let k = c.args.kind.now in
     let items = c.args.items.now in
     let item = get_or items 0 no_item in
     let ps = drafted c.args.known.now.table.now c.args.draft.now in
+    let change = change_in k ps item in
     let qs = drafted c.args.known.now.table.now c.visit.new.draft in
     let h = holding ps c.args.opened in
     let next = c.opened_after-next.result in
     let after = holding_is change ps qs c.args.opened next item c.in-Ok.marked c.in-Ok.ensures.drafted c.in-Ok.ensures.marked c.opened_after-next.ensures in
-    let rest = all_marked change (holding qs next) (rest_of items) in
-    let same : rest ≡ all_marked change (holding_after change item.range h) (drop 1 items) =
-    ap (λ g. all_marked change g (rest_of items)) after ∙ ap (all_marked change (holding_after change item.range h)) (rest_is items) in
-    let split : all_marked change h items ≡ c.in-Ok.marked ∷ rest =
-    all_marked-next change h items no_item c.in-len1-up.len_at_least
+    let rest = all_marked k (holding qs next) (rest_of items) in
+    let same : rest ≡ all_marked k (holding_with k item h) (drop 1 items) =
+    ap (λ g. all_marked k g (rest_of items)) after ∙ ap (all_marked k (holding_with k item h)) (rest_is items) in
+    let split : all_marked k h items ≡ c.in-Ok.marked ∷ rest =
+    all_marked-next k h items no_item c.in-len1-up.len_at_least
     ∙ (ap (λ xs. marked_in change h item ∷ xs) (sym same) ∙ ap (λ x. x ∷ rest) (sym c.in-Ok.ensures.marked)) in
-    steps_on c.judge_all.result c.args.steps.now.items c.push_reserved.new.self.items c.judge_all.new.steps.items rest (all_marked change h items) c.in-Ok.marked
+    steps_on c.judge_all.result c.args.steps.now.items c.push_reserved.new.self.items c.judge_all.new.steps.items rest (all_marked k h items) c.in-Ok.marked
     c.push_reserved.ensures.items c.judge_all.ensures.steps split

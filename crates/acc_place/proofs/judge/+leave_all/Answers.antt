@@ -3,8 +3,9 @@ use Rattle.acc_present.specs.Drafts.{drafted}
 use Rattle.acc_present.specs.declared.change.Change.TheVariants.{StructuredDown}
 use Rattle.acc_place.specs.declared.directive.Clause.TheVariants.{Copy}
 use Rattle.acc_place.specs.declared.directive.DataItem.{DataItem}
+use Rattle.acc_place.specs.declared.directive.Kind.TheVariants.{EndData}
 use Rattle.acc_place.specs.declared.judge.Marked.{Marked}
-use Rattle.acc_place.specs.inner.Judging.{holding, holding_after, marked_in, all_marked, AllEntered}
+use Rattle.acc_place.specs.inner.Judging.{holding, holding_with, marked_in, all_marked, AllEntered}
 use Rattle.acc_place.proofs.WalkItem.{rest_of, rest_is, length-rest, left_is, all_rest, all_marked-next, entered-next}
 use Rattle.acc_place.proofs.judge.+leave_all.Goals as goal
 
@@ -13,7 +14,7 @@ no_item = record { clause = Copy; range = record { array = 0; lo = 0; len = 0 } 
 
 pub leave_all-requires : goal.leave_all-requires
 leave_all-requires t c =
-    let down = Some StructuredDown in
+    let down = EndData in
     let items = c.args.items.now in
     let item = get_or items 0 no_item in
     let ps = drafted c.args.table.now c.args.draft.now in
@@ -41,7 +42,7 @@ steps_on had pushed made rest all first push is split = is ∙ (ap (λ xs. xs ++
 
 pub returns-in-len1-up-clause-steps : goal.returns-in-len1-up-clause-steps
 returns-in-len1-up-clause-steps t c =
-    let down = Some StructuredDown in
+    let down = EndData in
     let items = c.args.items.now in
     let item = get_or items 0 no_item in
     let ps = drafted c.args.table.now c.args.draft.now in
@@ -49,10 +50,10 @@ returns-in-len1-up-clause-steps t c =
     let h = holding ps 0 in
     let after = left_is ps qs 0 item.range c.mark.ensures.drafted in
     let rest = all_marked down (holding qs 0) (rest_of items) in
-    let same : rest ≡ all_marked down (holding_after down item.range h) (drop 1 items) =
-    ap (λ g. all_marked down g (rest_of items)) after ∙ ap (all_marked down (holding_after down item.range h)) (rest_is items) in
+    let same : rest ≡ all_marked down (holding_with down item h) (drop 1 items) =
+    ap (λ g. all_marked down g (rest_of items)) after ∙ ap (all_marked down (holding_with down item h)) (rest_is items) in
     let split : all_marked down h items ≡ c.mark.result ∷ rest =
     all_marked-next down h items no_item c.in-len1-up.len_at_least
-    ∙ (ap (λ xs. marked_in down h item ∷ xs) (sym same) ∙ ap (λ x. x ∷ rest) (sym c.mark.ensures.result)) in
+    ∙ (ap (λ xs. marked_in (Some StructuredDown) h item ∷ xs) (sym same) ∙ ap (λ x. x ∷ rest) (sym c.mark.ensures.result)) in
     steps_on c.args.steps.now.items c.push_reserved.new.self.items c.leave_all.new.steps.items rest (all_marked down h items) c.mark.result
     c.push_reserved.ensures.items c.leave_all.ensures.steps split

@@ -8,7 +8,7 @@ use Rattle.acc_place.proofs.regions.enter_or_leave.Goals as goal
 
 pub returns-in_default-open_index-clause-regions :
     goal.returns-in_default-open_index-clause-regions
-returns-in_default-open_index-clause-regions c =
+returns-in_default-open_index-clause-regions c = λ counted is_opened.
     let rs = c.args.regions.now.items in
     let is : c.args.directive.now.kind ≡ kind.EndData = search rules in
     let none : open_region c.args.host rs ≡ None =

@@ -26,6 +26,7 @@ returns-clause-clause_names c = record {
   copyout = refl;
   create = refl;
   region = refl;
+  no_create = refl;
   delete = refl;
   update = refl;
 }

@@ -3,7 +3,7 @@ use Rattle.std.specs.Prelude.{is_some}
 use Rattle.acc_present.specs.declared.table.TheConstants.{COUNTER_LIMIT}
 use Rattle.acc_present.specs.Drafts.{drafted, IsDraft}
 use Rattle.acc_base.specs.Configurations.{lengths_of}
-use Rattle.acc_place.specs.Standings.{change_by, loop_of}
+use Rattle.acc_place.specs.Standings.{loop_of}
 use Rattle.acc_place.specs.inner.Trials.{held_by, items_by, items_fault, IsTried}
 use Rattle.acc_place.specs.inner.Judging.{holding, holding_after_all, limit_fault, first_fault_in, past_fault, StaysBy}
 use Rattle.acc_place.proofs.AcceptedDirective.{is_within}
@@ -104,7 +104,7 @@ returns-clause-tried c =
     let walked = c.judge_all-found.ensures in
     let after = c.judge_all-found.new.draft in
     let before = holding (drafted t c.begin.new.self) k.opened in
-    let marks = given_none (drafted t after ≡ (holding_after_all (change_by d.kind) before xs).presences) c.judge_all-found.result found (rw c.kind-kind.ensures at walked.drafted) in
+    let marks = given_none (drafted t after ≡ (holding_after_all d.kind before xs).presences) c.judge_all-found.result found (rw c.kind-kind.ensures at walked.drafted) in
     let changed = given_none _ c.judge_all-found.result found walked.changed in
     let became = given_none _ c.judge_all-found.result found (rw c.kind-kind.ensures at walked.steps) in
     if_none (IsTried k host d (record { draft = after; steps = c.judge_all-found.new.steps.items; items = c.put_items.new.into.items })) c.past_fault.result

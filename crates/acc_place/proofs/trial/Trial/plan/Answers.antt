@@ -5,11 +5,11 @@ use Rattle.acc_batch.specs.declared.label.OpLabel.{OpLabel}
 use Rattle.acc_present.specs.Drafts.{drafted}
 use Rattle.acc_place.specs.declared.trial.Trial.TheInside.{Inside}
 use Rattle.acc_place.specs.Batches.{is_answered}
-use Rattle.acc_place.specs.Plans.{label_for}
-use Rattle.acc_place.specs.Standings.{change_by, loop_of}
+use Rattle.acc_place.specs.Plans.{label_for, opened_region}
+use Rattle.acc_place.specs.Standings.{loop_of}
 use Rattle.acc_place.specs.declared.judge.Marked.{Marked}
 use Rattle.acc_place.specs.inner.Trials.{behind_noted, held_by, items_by, next_in, placed_by, IsTried, TrialView}
-use Rattle.acc_place.specs.inner.Judging.{holding_between, ends_of, marked_ops, all_steps, run_in}
+use Rattle.acc_place.specs.inner.Judging.{counted_steps, holding_between, ends_of, marked_ops, all_steps, run_in}
 use Rattle.acc_place.proofs.AcceptedDirective.{length-ends}
 use Rattle.acc_place.proofs.TrialPlan.{run_cells, steps_cells}
 use Rattle.acc_place.proofs.TriedDirective.{is_clean, run_made, steps_made}
@@ -66,7 +66,7 @@ leave_all-requires-clause-step_room c =
     let tried : IsTried k host d (seen w) = rw (← c.self.view_is) at c.requires.tried in
     let clean = is_clean k host d c.requires.known tried.draft.table tried.faultless in
     let ends : c.ends_of-ends.result.now ≡ ends_of d.kind xs = (rw c.kind-kind.ensures at c.ends_of-ends.ensures) in
-    let made = length-marked (change_by d.kind) (held_by k) w.items.items in
+    let made = length-marked d.kind (held_by k) w.items.items in
     omega (arith, w.steps.ok.0, ap length tried.became, made, ap length tried.whole, ap length c.as_slice-items.ensures.value, clean.short, ap length ends, length-ends d.kind xs, c.self.invariant.1)
 
 pub leave_all-requires-clause-cells : goal.leave_all-requires-clause-cells
@@ -151,3 +151,19 @@ returns-clause-answer c =
     let present : c.is_answered-present.result ≡ is_answered d.kind k.table.now.presences (items_by k host d) =
     (rw c.kind-kind.ensures at c.is_answered-present.ensures) ∙ ap (is_answered d.kind k.table.now.presences) own in
     subst (λ (b : Bool). IfOk c.plan_of.result (λ q. q.answer ≡ placed_by k d q.label b)) present c.plan_of.ensures.answer
+
+pub returns-clause-region : goal.returns-clause-region
+returns-clause-region c =
+    let k = c.args.known.now in
+    let host = c.args.host in
+    let d = c.args.directive.now in
+    let w = c.self.inside in
+    let items = items_by k host d in
+    let h = held_by k in
+    let tried : IsTried k host d (seen w) = rw (← c.self.view_is) at c.requires.tried in
+    let ps = drafted k.table.now w.draft in
+    let ends : c.ends_of-ends.result.now ≡ ends_of d.kind w.items.items = (rw c.kind-kind.ensures at c.ends_of-ends.ensures) ∙ ap (ends_of d.kind) c.as_slice-items.ensures.value in
+    let steps : c.as_slice.result.now ≡ all_steps d.kind h items =
+    steps_made d.kind h ps w.items.items items c.ends_of-ends.result.now w.steps.items c.as_slice.result.now
+    tried.became tried.marks ends tried.whole (c.as_slice.ensures.value ∙ c.leave_all.ensures.steps) in
+    subst (λ (ts : List Marked). IfOk c.plan_of.result (λ q. q.region ≡ opened_region host d d.kind (counted_steps ts))) steps c.plan_of.ensures.region
