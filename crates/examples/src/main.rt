@@ -29,7 +29,7 @@ const ROOM_FOR_TWO: Options = Options {
 };
 
 // Each example by its name, in teaching order. One with options has its schedule in a file of its own.
-const EXAMPLES: [(&str, Option<Options>); 32] = [
+const EXAMPLES: [(&str, Option<Options>); 33] = [
     ("ranges", None),
     ("stale", None),
     ("unfinished", None),
@@ -41,6 +41,7 @@ const EXAMPLES: [(&str, Option<Options>); 32] = [
     ("counters", None),
     ("updates", None),
     ("implicit", None),
+    ("no-create", None),
     ("shifted", None),
     ("async", None),
     ("queues", None),
@@ -65,7 +66,7 @@ const EXAMPLES: [(&str, Option<Options>); 32] = [
 ];
 
 // Each example whose report no schedule changes that lets all end: threads give it, too. The last has no schedule at all.
-const RUNS: [(&str, Options); 23] = [
+const RUNS: [(&str, Options); 24] = [
     ("ranges", Options::DEFAULT),
     ("stale", Options::DEFAULT),
     ("counting", Options::DEFAULT),
@@ -74,6 +75,7 @@ const RUNS: [(&str, Options); 23] = [
     ("nested", Options::DEFAULT),
     ("updates", Options::DEFAULT),
     ("implicit", Options::DEFAULT),
+    ("no-create", Options::DEFAULT),
     ("shifted", Options::DEFAULT),
     ("async", Options::DEFAULT),
     ("queues", Options::DEFAULT),
