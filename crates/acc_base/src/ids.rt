@@ -7,7 +7,7 @@ use std::marker::Model;
 
 /// How many activity queues each device has: `sync`, `noval`, and those of the async values, in this order (OpenACC API 3.0, 2.16,
 /// Asynchronous Behavior).
-pub const QUEUES: u8 = 8;
+pub const QUEUES: u8 = 16;
 
 /// The number of the queue of the async value 0.
 pub const FIRST_VALUE: u8 = 2;

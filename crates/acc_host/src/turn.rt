@@ -37,6 +37,8 @@ fn owed_batch(placed: Placed) -> After
 }
 
 /// What a host owes after a directive that was answered so: nothing more, or that it waits, or asks.
+// Inlined, so that the counts are not moved.
+#[inline(always)]
 pub fn owed_by(directive: &Directive, placed: Placed) -> After
     ensures { result ≡ owing (owed_by directive.now placed) }
 {

@@ -1,6 +1,7 @@
 -- A schedule with as many events as there can be, and what follows it.
 use Rattle.std.proofs.Common.{◌≡◌, ℕ, ◌+◌, ◌*◌, false, List, [], ◌∷◌, length, Ok, Err, refl, ap, ◌∙◌, lit<, lit≤, arith}
 use Rattle.std.specs.Prelude.{nat_lt, codes}
+use Rattle.acc_base.specs.declared.ids.TheConstants.{QUEUES}
 use Rattle.acc_host.specs.declared.event.Event.{Event}
 use Rattle.acc_host.specs.declared.event.Event.TheVariants.{Close}
 use Rattle.acc_token.specs.declared.read_fault.ReadKind.{ReadKind}
@@ -41,7 +42,7 @@ absent_line : (hosts devices : ℕ) → nat_lt 100 hosts ≡ false → line_even
 unfolding host_events events_of line_events
 absent_line hosts devices e = rw e refl
 
-module _ (hosts devices n : ℕ) (times : times_of (codes "10000") ≡ Ok n) (full : n * (hosts + 16 * devices) ≡ 1000000) where
+module _ (hosts devices n : ℕ) (times : times_of (codes "10000") ≡ Ok n) (full : n * (hosts + 2 * QUEUES * devices) ≡ 1000000) where
   size : length (repeated n (turn_of hosts devices)) ≡ 1000000
   size = repeated_length (turn_of hosts devices) n ∙ ap (λ k. n * k) (round_length hosts devices) ∙ full
 

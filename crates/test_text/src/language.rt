@@ -330,8 +330,14 @@ const QUEUES: &[Case] = &[
     // async values
     Case {
         options: Options::DEFAULT,
-        input: b"long a[1];\nhost {\n#pragma acc enter data create(a) async(7)\n#pragma acc update self(a) async(1)\n#pragma acc update self(a) async(-5)\n}\n%%\nround 20\n",
+        input: b"long a[1];\nhost {\n#pragma acc enter data create(a) async(15)\n#pragma acc update self(a) async(1)\n#pragma acc update self(a) async(-5)\n}\n%%\nround 20\n",
         report: b"host 0\nrefused 5 F3 BadAsync\npresent 0 a[0:1] s 0 d 1\nqueue 0 1 batches 2 operations 2 of 2\nend\n",
+        refused: true,
+    },
+    Case {
+        options: Options::DEFAULT,
+        input: b"long a[1];\nhost {\n#pragma acc enter data create(a) async(7)\n#pragma acc update self(a) async(1)\n#pragma acc update self(a) async(-5)\n}\n%%\nround 20\n",
+        report: b"host 0\nrefused 5 F3 BadAsync\npresent 0 a[0:1] s 0 d 1\nqueue 0 1 batches 1 operations 2 of 2\nqueue 0 7 batches 1 operations 1 of 1\nend\n",
         refused: true,
     },
     // waits that place batches
@@ -406,7 +412,7 @@ const HOSTS: &[Case] = &[
     // one of eight hosts is refused, and the others go on
     Case {
         options: Options::DEFAULT,
-        input: b"long a[8] = {1,2,3,4,5,6,7,8};\nhost {\n#pragma acc enter data create(a[0:1]) async(0)\n#pragma acc wait\nprint(a[0:1]);\n}\nhost {\n#pragma acc enter data create(a[1:1]) async(1)\n#pragma acc wait\nprint(a[1:1]);\n}\nhost {\n#pragma acc enter data create(a[2:1]) async(2)\n#pragma acc wait\nprint(a[2:1]);\n}\nhost {\n#pragma acc enter data create(a[3:1]) async(-5)\n#pragma acc wait\nprint(a[3:1]);\n}\nhost {\n#pragma acc enter data create(a[4:1]) async(3)\n#pragma acc wait\nprint(a[4:1]);\n}\nhost {\n#pragma acc enter data create(a[5:1]) async(4)\n#pragma acc wait\nprint(a[5:1]);\n}\nhost {\n#pragma acc enter data create(a[6:1]) async(5)\n#pragma acc wait\nprint(a[6:1]);\n}\nhost {\n#pragma acc enter data create(a[7:1]) async(6)\n#pragma acc wait\nprint(a[7:1]);\n}\n%%\nround 20\n",
+        input: b"long a[8] = {1,2,3,4,5,6,7,8};\nhost {\n#pragma acc enter data create(a[0:1]) async(0)\n#pragma acc wait\nprint(a[0:1]);\n}\nhost {\n#pragma acc enter data create(a[1:1]) async(1)\n#pragma acc wait\nprint(a[1:1]);\n}\nhost {\n#pragma acc enter data create(a[2:1]) async(2)\n#pragma acc wait\nprint(a[2:1]);\n}\nhost {\n#pragma acc enter data create(a[3:1]) async(-5)\n#pragma acc wait\nprint(a[3:1]);\n}\nhost {\n#pragma acc enter data create(a[4:1]) async(3)\n#pragma acc wait\nprint(a[4:1]);\n}\nhost {\n#pragma acc enter data create(a[5:1]) async(4)\n#pragma acc wait\nprint(a[5:1]);\n}\nhost {\n#pragma acc enter data create(a[6:1]) async(5)\n#pragma acc wait\nprint(a[6:1]);\n}\nhost {\n#pragma acc enter data create(a[7:1]) async(14)\n#pragma acc wait\nprint(a[7:1]);\n}\n%%\nround 20\n",
         report: b"host 0\n1\ndone\nhost 1\n2\ndone\nhost 2\n3\ndone\nhost 3\nrefused 18 F3 BadAsync\nhost 4\n5\ndone\nhost 5\n6\ndone\nhost 6\n7\ndone\nhost 7\n8\ndone\npresent 0 a[0:1] s 0 d 1\npresent 0 a[1:1] s 0 d 1\npresent 0 a[2:1] s 0 d 1\npresent 0 a[4:1] s 0 d 1\npresent 0 a[5:1] s 0 d 1\npresent 0 a[6:1] s 0 d 1\npresent 0 a[7:1] s 0 d 1\nqueue 0 0 batches 2 operations 2 of 2\nqueue 0 1 batches 1 operations 1 of 1\nqueue 0 2 batches 1 operations 1 of 1\nqueue 0 3 batches 1 operations 1 of 1\nqueue 0 4 batches 1 operations 1 of 1\nqueue 0 5 batches 1 operations 1 of 1\nend\n",
         refused: true,
     },
@@ -708,7 +714,7 @@ const FAULTY: &[Faulty] = &[
     },
     // a queue that is not there
     Faulty {
-        input: b"host { }\n%%\ntake 0 9\n",
+        input: b"host { }\n%%\ntake 0 14\n",
         in_schedule: true,
         line: 1,
         kind: ReadKind::Name,

@@ -201,30 +201,44 @@ fn limits_of_constructs(rt: HostRuntime) -> Result<(), Fail> {
     Ok(())
 }
 
-/// A turn has sixteen events, and one more where there is a host. A million are the most.
+/// A turn has thirty-two events, and one more where there is a host. A million are the most.
 #[test]
 fn limits_of_schedules(rt: HostRuntime) -> Result<(), Fail> {
     let alloc = rt.alloc();
     let host: &'static [u8] = b"host { }\n";
     let cases: [Told; 4] = [
-        (rounds(alloc, b"", 6, b"round 2500\n")?, ENDED, b"end\n"),
+        (rounds(alloc, b"", 3, b"round 1250\n")?, ENDED, b"end\n"),
         (
-            rounds(alloc, b"", 6, b"round 2500\nround 1\n")?,
-            schedule_fault(8, ReadKind::Limit),
+            rounds(alloc, b"", 3, b"round 1250\nround 1\n")?,
+            schedule_fault(5, ReadKind::Limit),
             b"",
         ),
         (
-            rounds(alloc, host, 5, b"round 8823\n")?,
+            rounds(alloc, host, 3, b"round 303\n")?,
             ENDED,
             b"host 0\ndone\nend\n",
         ),
         (
-            rounds(alloc, host, 5, b"round 8824\n")?,
-            schedule_fault(6, ReadKind::Limit),
+            rounds(alloc, host, 3, b"round 304\n")?,
+            schedule_fault(4, ReadKind::Limit),
             b"",
         ),
     ];
     check(&rt, alloc, &cases);
+    Ok(())
+}
+
+/// A turn of four devices has 128 events.
+#[test]
+fn limits_of_schedules_on_four_devices(rt: HostRuntime) -> Result<(), Fail> {
+    let four = Options {
+        devices: 4,
+        ..Options::DEFAULT
+    };
+    let limit = schedule_fault(1, ReadKind::Limit);
+    check_input(&rt, rt.alloc(), b"%%\nround 7812\n", four, ENDED, b"end\n");
+    check_input(&rt, rt.alloc(), b"%%\nround 7813\n", four, limit, b"");
+    check_input(&rt, rt.alloc(), b"%%\nround 10000\n", four, limit, b"");
     Ok(())
 }
 

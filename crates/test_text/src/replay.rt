@@ -63,7 +63,7 @@ fn faults_of_scripts_are_told(rt: HostRuntime) -> Result<(), Fail> {
             ReadKind::End,
         ),
         (b"long a[4];\nhost {\n%%\nround 0\n", 3, ReadKind::End),
-        (b"long a[4];\n\n$\n%%\ntake 0 9\n", 3, ReadKind::Text),
+        (b"long a[4];\n\n$\n%%\ntake 0 14\n", 3, ReadKind::Text),
         (
             b"long a[4];\nhost { b[0] = 1; }\n%%\nround 0",
             2,

@@ -9,9 +9,9 @@ use Rattle.acc_schedule.specs.declared.schedule.TheConstants.{MAX_EVENTS, MAX_TI
 use Rattle.acc_token.specs.Faults.{fails, ◌>>=◌}
 use Rattle.acc_schedule.specs.Schedules.{schedule_of}
 
--- without hosts a turn of the one device has 16 events
+-- without hosts a turn of the one device has 32 events
 abbrev pub TwentyRounds : Type 0
-TwentyRounds = (schedule_of 0 1 (codes "round 20") >>= λ events. Ok (length events)) ≡ Ok 320
+TwentyRounds = (schedule_of 0 1 (codes "round 20") >>= λ events. Ok (length events)) ≡ Ok 640
 
 abbrev queue_on : ℕ → ℕ → QueueAt
 queue_on d q = record { device = d; queue = q }
@@ -27,13 +27,17 @@ OneRound =
     ∷ Take (queue 0) ∷ Perform (queue 0) ∷ Take (queue 1) ∷ Perform (queue 1)
     ∷ Take (queue 2) ∷ Perform (queue 2) ∷ Take (queue 3) ∷ Perform (queue 3)
     ∷ Take (queue 4) ∷ Perform (queue 4) ∷ Take (queue 5) ∷ Perform (queue 5)
-    ∷ Take (queue 6) ∷ Perform (queue 6) ∷ Take (queue 7) ∷ Perform (queue 7) ∷ [])
+    ∷ Take (queue 6) ∷ Perform (queue 6) ∷ Take (queue 7) ∷ Perform (queue 7)
+    ∷ Take (queue 8) ∷ Perform (queue 8) ∷ Take (queue 9) ∷ Perform (queue 9)
+    ∷ Take (queue 10) ∷ Perform (queue 10) ∷ Take (queue 11) ∷ Perform (queue 11)
+    ∷ Take (queue 12) ∷ Perform (queue 12) ∷ Take (queue 13) ∷ Perform (queue 13)
+    ∷ Take (queue 14) ∷ Perform (queue 14) ∷ Take (queue 15) ∷ Perform (queue 15) ∷ [])
 
 -- hosts and devices in order; blanks may stand before, between and behind words
 abbrev pub WiderRound : Type 0
 WiderRound =
     (schedule_of 2 0 (codes " \tround  2\t") ≡ Ok (Host 0 ∷ Host 1 ∷ Host 0 ∷ Host 1 ∷ []))
-    × ((schedule_of 3 4 (codes "round 1\nround 2") >>= λ events. Ok (length events)) ≡ Ok 201)
+    × ((schedule_of 3 4 (codes "round 1\nround 2") >>= λ events. Ok (length events)) ≡ Ok 393)
 
 -- with two hosts and two devices
 abbrev gives : List ℕ → List Event → Type 0
@@ -47,7 +51,7 @@ pub record EachLine : Type 0 where
   pub take : gives (codes "take 1 sync") (Take (queue_on 1 0) ∷ [])
   pub take_twice : gives (codes "take 0 noval 2") (Take (queue_on 0 1) ∷ Take (queue_on 0 1) ∷ [])
   pub perform : gives (codes "do 1 0") (Perform (queue_on 1 2) ∷ [])
-  pub perform_twice : gives (codes "do 0 5 2") (Perform (queue_on 0 7) ∷ Perform (queue_on 0 7) ∷ [])
+  pub perform_twice : gives (codes "do 0 13 2") (Perform (queue_on 0 15) ∷ Perform (queue_on 0 15) ∷ [])
   pub close : gives (codes "close") (Close ∷ [])
   pub blanks : gives (codes "\thost\t1\t \t2 \n close\t") (Host 1 ∷ Host 1 ∷ Close ∷ [])
   pub in_order : gives (codes "take 0 1\nhost 0\n# do 9\n\ndo 0 1\nclose\n") (Take (queue_on 0 3) ∷ Host 0 ∷ Perform (queue_on 0 3) ∷ Close ∷ [])
@@ -55,9 +59,11 @@ pub record EachLine : Type 0 where
 -- each word of a queue
 abbrev pub EachQueue : Type 0
 EachQueue =
-    gives (codes "take 1 sync\ntake 1 noval\ntake 1 0\ntake 1 1\ntake 1 2\ntake 1 3\ntake 1 4\ntake 1 5")
+    gives (codes "take 1 sync\ntake 1 noval\ntake 1 0\ntake 1 1\ntake 1 2\ntake 1 3\ntake 1 4\ntake 1 5\ntake 1 6\ntake 1 7\ntake 1 8\ntake 1 9\ntake 1 10\ntake 1 11\ntake 1 12\ntake 1 13")
     (Take (queue_on 1 0) ∷ Take (queue_on 1 1) ∷ Take (queue_on 1 2) ∷ Take (queue_on 1 3)
-    ∷ Take (queue_on 1 4) ∷ Take (queue_on 1 5) ∷ Take (queue_on 1 6) ∷ Take (queue_on 1 7) ∷ [])
+    ∷ Take (queue_on 1 4) ∷ Take (queue_on 1 5) ∷ Take (queue_on 1 6) ∷ Take (queue_on 1 7)
+    ∷ Take (queue_on 1 8) ∷ Take (queue_on 1 9) ∷ Take (queue_on 1 10) ∷ Take (queue_on 1 11)
+    ∷ Take (queue_on 1 12) ∷ Take (queue_on 1 13) ∷ Take (queue_on 1 14) ∷ Take (queue_on 1 15) ∷ [])
 
 abbrev refused : List ℕ → ℕ → ReadKind → Type 0
 refused text line kind = schedule_of 1 1 text ≡ fails line kind
@@ -106,8 +112,8 @@ pub record FaultyQueues : Type 0 where
   pub leading_zero : refused (codes "do 00 1") 1 Form
   pub times_not_a_number : refused (codes "take 0 1 -1") 1 Form
   pub absent_device : refused (codes "take 1 0") 1 Name
-  pub absent_queue : refused (codes "take 0 9") 1 Name
-  pub first_absent_queue : refused (codes "do 0 6") 1 Name
+  pub absent_queue : refused (codes "take 0 20") 1 Name
+  pub first_absent_queue : refused (codes "do 0 14") 1 Name
   pub longer_queue : refused (codes "do 0 synch") 1 Name
   pub queue_with_leading_zero : refused (codes "do 0 01") 1 Name
   pub queue_below_zero : refused (codes "take 0 -1") 1 Name
