@@ -12,6 +12,7 @@ mod HavingItems
 mod HostCalls
 mod HostLaws
 mod HostSteps
+mod IdleSteps
 mod ItemAnswer
 mod KeptPrograms
 mod Lanes

@@ -122,15 +122,22 @@ impl World {
         Ok(replies)
     }
 
-    /// One step for each event, in order, whose replies are dropped. It takes no memory but what the steps take.
-    pub fn advance(&mut self, events: &[Event])
+    /// One step for each event, in order, whose replies are dropped, and whether one of them was possible. Where none was, all
+    /// is as it was. It takes no memory but what the steps take.
+    pub fn advance(&mut self, events: &[Event]) -> bool
         ensures ran { (replies : List Reply) × Ran self.old events.now replies self.new }
+        ensures idle { result ≡ false → self.new ≡ self.old }
     {
         hosts_follow();
         let _ = &self.hosts;
+        let mut moves = false;
         for event in events {
-            let _ = self.step(*event);
+            match self.step(*event) {
+                Reply::Idle => {}
+                _ => moves = true,
+            }
         }
+        moves
     }
 
     /// What a cell of a host array holds, if the array has it: what the log last wrote there, or its initial value.

@@ -224,13 +224,15 @@ fn run_schedule(schedule: &Schedule, world: &mut World)
     }
 }
 
-// The same for the events of one line.
+// The same for the events of one line. A turn in which nothing was possible isn't made again: the next would be the same.
 fn run_line(round: &[Event], line: &ScheduleLine, world: &mut World)
     ensures { (replies : List Reply) × Runs world.old (kept_events round.now line.now) replies world.new }
 {
     let turn = line.turn.events(round);
     for _ in 0..line.times {
-        world.advance(turn);
+        if !world.advance(turn) {
+            return;
+        }
     }
 }
 

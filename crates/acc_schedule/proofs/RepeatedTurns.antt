@@ -28,7 +28,7 @@ flat_map-more f old n =
     ∙ sym (flat_map_more f old (range_with_len 0 n) n)
 
 -- so many turns, and so many more
-repeated-more : (turn : List Event) (n m : ℕ) → repeated (n + m) turn ≡ repeated n turn ++ repeated m turn
+pub repeated-more : (turn : List Event) (n m : ℕ) → repeated (n + m) turn ≡ repeated n turn ++ repeated m turn
 repeated-more turn zero m =
     let none : zero + m ≡ m = omega arith in
     ap (λ k. repeated k turn) none
