@@ -229,7 +229,8 @@ impl Work {
                     device,
                     queue: QueueId::new(queue),
                 };
-                self.reached(at, *count) && self.reached_from(device, queue + 1, rest)
+                (*count == 0 || self.reached(at, *count))
+                    && self.reached_from(device, queue + 1, rest)
             }
         }
     }
