@@ -1,12 +1,17 @@
 -- The numbers that a batch awaits, as they are raised range by range.
-use Rattle.std.proofs.Common.{◌≡◌, ℕ, suc, ◌-◌, ◌<◌, ◌≤◌, List, [], ◌∷◌, ◌++◌, length, map, get_or, drop, take, refl, sym, ap, ◌∙◌, arith, Option, Some, None}
-use Rattle.std.specs.Prelude.{All, max}
+use Rattle.std.proofs.Common.{inl, inr, ◌≡◌, ℕ, zero, suc, ◌+◌, Bool, true, false, cond, subst, ◌-◌, ◌<◌, ◌≤◌, List, [], ◌∷◌, ◌++◌, length, map, get_or, drop, take, refl, sym, ap, ◌∙◌, arith, Option, Some, None}
+use Rattle.std.specs.Prelude.{All, max, ◌==◌, ◌||◌}
 use Rattle.std.specs.List.{flat_map}
+use Rattle.std.specs.Option.{option_to_list}
+use Rattle.std.proofs.lemmas.Bool.{cases_Bool, eq-eqb, eqb-true}
 use Rattle.std.proofs.Math.Seq.{take-length}
 use Rattle.std.proofs.lemmas.List.Elements.{All-head}
 use Rattle.std.proofs.lemmas.Grind.{flat_map-append}
 use Rattle.acc_base.specs.declared.range.Range.{Range}
-use Rattle.acc_base.specs.Queues.{every_queue}
+use Rattle.acc_base.specs.declared.ids.TheConstants.{QUEUES}
+use Rattle.acc_base.specs.Queues.{every_queue, numbers_from}
+use Rattle.acc_batch.specs.declared.label.Label.{Label}
+use Rattle.acc_batch.specs.Labels.{has_number}
 use Rattle.acc_batch.specs.declared.label.OpLabel.{OpLabel}
 use Rattle.acc_batch.specs.declared.label.OpLabel.TheVariants.{CopyIn, CopyOut}
 use Rattle.acc_kernel.specs.Jobs.{Use}
@@ -14,6 +19,8 @@ use Rattle.acc_present.specs.Notes.{Note}
 use Rattle.acc_place.specs.declared.judge.Marked.{Marked}
 use Rattle.acc_place.specs.declared.plan.Group.{Group}
 use Rattle.acc_place.specs.declared.plan.Group.TheVariants.{Makes, CopyIns, Updates, CopyOuts, Releases}
+use Rattle.acc_place.specs.inner.Places.{queue_in}
+use Rattle.acc_place.specs.inner.Trials.{named_count}
 use Rattle.acc_place.specs.inner.Noting.{last_made, last_used, made_at, used_ranges}
 use Rattle.acc_place.specs.inner.Judging.{group_ops, marked_ops}
 
@@ -29,6 +36,54 @@ same_for f g (q ∷ qs) h = rw (h q, same_for f g qs h) refl
 -- nothing raises no number
 pub none_raised : (f : ℕ → ℕ) → map f every_queue ≡ map (λ q. max (f q) 0) every_queue
 none_raised f = same_for f (λ q. max (f q) 0) every_queue (λ q. omega arith)
+
+-- ## The queues that a wait names
+
+-- each of so many numbers is named where all are
+has_each : (first count k : ℕ) → k < count → has_number (flat_map option_to_list (map Some (numbers_from first count))) (first + k) ≡ true
+has_each first zero k low = absurd (omega (arith, low))
+has_each first (suc count) zero low = (let here : first ≡ first + zero = omega arith in rw (eq-eqb first (first + zero) here) refl)
+has_each first (suc count) (suc k) low =
+    let next : (first + 1) + k ≡ first + suc k = omega arith in
+    let rest = flat_map option_to_list (map Some (numbers_from (first + 1) count)) in
+    or_true (first == first + suc k) (has_number rest (first + suc k)) (subst (λ n. has_number rest n ≡ true) next (has_each (first + 1) count k (omega (arith, low))))
+  where
+    or_true : (a b : Bool) → b ≡ true → (a || b) ≡ true
+    or_true true b h = refl
+    or_true false b h = h
+
+-- a wait without arguments names each queue
+pub all_named : (queue : ℕ) → queue < QUEUES → has_number (flat_map option_to_list (map Some every_queue)) queue ≡ true
+all_named queue low =
+    let none : 0 + queue ≡ queue = omega arith in
+    subst (λ q. has_number (flat_map option_to_list (map Some every_queue)) q ≡ true) none (has_each 0 QUEUES queue low)
+
+-- one queue's count, where it alone is named
+pub named_alone : (queues : List (List Label)) (device queue q : ℕ) → cond (queue == q) (length (queue_in queues (record { device = device; queue = queue }))) 0 ≡ named_count queues device (queue ∷ []) q
+named_alone queues device queue q = elim (cases_Bool (queue == q)) [
+  | inl same ↦ rw (same, eqb-true queue q same) refl
+  | inr other ↦ rw other refl
+]
+
+-- and those of more
+pub named_both : (queues : List (List Label)) (device : ℕ) (here others : List ℕ) (q : ℕ) → named_count queues device (here ++ others) q ≡ max (named_count queues device here q) (named_count queues device others q)
+named_both queues device here others q =
+    let n = length (queue_in queues (record { device = device; queue = q })) in
+    ap (λ b. cond b n 0) (has_both here) ∙ either (has_number here q) (has_number others q) n
+  where
+    or_assoc : (a b d : Bool) → ((a || b) || d) ≡ (a || (b || d))
+    or_assoc true b d = refl
+    or_assoc false b d = refl
+
+    has_both : (ns : List ℕ) → has_number (ns ++ others) q ≡ (has_number ns q || has_number others q)
+    has_both [] = refl
+    has_both (n ∷ ns) = ap (λ b. (n == q) || b) (has_both ns) ∙ sym (or_assoc (n == q) (has_number ns q) (has_number others q))
+
+    either : (a b : Bool) (n : ℕ) → cond (a || b) n 0 ≡ max (cond a n 0) (cond b n 0)
+    either true true n = omega arith
+    either true false n = omega arith
+    either false true n = omega arith
+    either false false n = omega arith
 
 -- ## Two lists, one behind the other
 

@@ -10,7 +10,8 @@ ghost use Rattle.acc_base.specs.Queues.{every_queue};
 ghost use Rattle.acc_batch.specs.Awaits.{await_of};
 ghost use Rattle.acc_present.specs.Notes.{Note, HasNotes};
 ghost use Rattle.acc_place.specs.inner.Noting.{awaits_from, ended_range, last_made, last_used, made_at, note_found, used_at, used_ranges, Raises};
-ghost use Rattle.acc_place.specs.Targets.{queues_named};
+ghost use Rattle.acc_place.specs.inner.Places.{queue_in};
+ghost use Rattle.acc_place.specs.Targets.{queue_of, queues_named};
 ghost use Rattle.acc_place.specs.inner.Trials.{named_count, number_in};
 ghost use Rattle.acc_place.specs.inner.Judging.{group_ops, marked_ops};
 
@@ -18,7 +19,7 @@ use crate::directive::{Directive, Waits};
 use crate::judge::{Known, Marked};
 use crate::labels::Labels;
 use crate::plan::{Group, op_of};
-use crate::targets::names_queue;
+use crate::targets::queue_of;
 use acc_base::{BlockId, DeviceId, Fault, Few, QUEUES, QueueAt, QueueCounts, QueueId, Range};
 use acc_batch::OpLabel;
 use acc_present::Table;
@@ -27,25 +28,72 @@ use acc_present::Table;
 pub(crate) fn named_counts(labels: &Labels, device: DeviceId, directive: &Directive) -> QueueCounts
     ensures { result ≡ map (named_count labels.now.queues device (queues_named directive.now)) every_queue }
 {
-    let mut counts = [0; QUEUES as usize];
-    if matches!(directive.waits(), Waits::Nothing) {
-        return counts;
+    match directive.waits() {
+        Waits::Nothing => [0; QUEUES as usize],
+        Waits::All => all_counts(labels, device),
+        Waits::Listed { values } => {
+            listed_counts(labels, device, directive.default(), values.as_slice())
+        }
     }
+}
+
+// How many batches were placed on each queue of a device.
+fn all_counts(labels: &Labels, device: DeviceId) -> QueueCounts
+    ensures { result ≡ map (λ q. length (queue_in labels.now.queues (record { device = device; queue = q }))) every_queue }
+{
+    let mut counts = [0; QUEUES as usize];
     for queue in 0..QUEUES {
-        counts[usize::from(queue)] = named_count(labels, device, directive, queue);
+        counts[usize::from(queue)] = placed_on(labels, device, QueueId::new(queue));
     }
     counts
 }
 
-fn named_count(labels: &Labels, device: DeviceId, directive: &Directive, queue: u8) -> u64
-    requires { queue < QUEUES }
-    ensures { result ≡ named_count labels.now.queues device (queues_named directive.now) queue }
+fn placed_on(labels: &Labels, device: DeviceId, queue: QueueId) -> u64
+    ensures { result ≡ length (queue_in labels.now.queues (record { device = device; queue = queue })) }
 {
-    let queue = QueueId::new(queue);
-    if names_queue(directive, queue) {
-        labels.on(QueueAt { device, queue }).len() as u64
-    } else {
-        0
+    labels.on(QueueAt { device, queue }).len() as u64
+}
+
+// How many batches were placed on each queue that these values name, for a host with this default.
+fn listed_counts(labels: &Labels, device: DeviceId, default: i64, values: &[i64]) -> QueueCounts
+    ensures { result ≡ map (named_count labels.now.queues device (flat_map option_to_list (map (queue_of default) values.now))) every_queue }
+{
+    let mut counts = [0; QUEUES as usize];
+    raise_named(labels, device, default, values, &mut counts);
+    counts
+}
+
+// Raises the numbers of the queues that these values name, for a host with this default, to how many batches were placed there.
+fn raise_named(
+    labels: &Labels,
+    device: DeviceId,
+    default: i64,
+    values: &[i64],
+    numbers: &mut QueueCounts,
+)
+    ensures { Raises numbers.old (named_count labels.now.queues device (flat_map option_to_list (map (queue_of default) values.now))) numbers.new }
+{
+    match values {
+        [] => {}
+        [first, rest @ ..] => {
+            raise_placed(labels, device, queue_of(default, *first), numbers);
+            raise_named(labels, device, default, rest, numbers);
+        }
+    }
+}
+
+// Raises the number of a queue, if there is one, to how many batches were placed there.
+fn raise_placed(
+    labels: &Labels,
+    device: DeviceId,
+    queue: Option<QueueId>,
+    numbers: &mut QueueCounts,
+)
+    ensures { Raises numbers.old (named_count labels.now.queues device (option_to_list queue)) numbers.new }
+{
+    match queue {
+        None => {}
+        Some(queue) => raise(numbers, queue, placed_on(labels, device, queue)),
     }
 }
 

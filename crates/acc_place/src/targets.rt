@@ -1,11 +1,8 @@
 //! The queues that `async` and `wait` clauses name.
 
-ghost use Rattle.std.specs.Prelude.{◌≡◌, ◌<◌, negsuc, map};
-ghost use Rattle.std.specs.List.{flat_map, list_any};
-ghost use Rattle.std.specs.Option.{option_to_list};
-ghost use Rattle.acc_base.specs.declared.ids.TheConstants.{QUEUES};
-ghost use Rattle.acc_batch.specs.Labels.{has_number};
-ghost use Rattle.acc_place.specs.Targets.{queue_of_own, queue_of, target_queue, queue_by, queues_named, queues_written, has_bad_queue, is_alone, is_bad, waits_on_too_many};
+ghost use Rattle.std.specs.Prelude.{◌≡◌, negsuc, map};
+ghost use Rattle.std.specs.List.{list_any};
+ghost use Rattle.acc_place.specs.Targets.{queue_of_own, queue_of, target_queue, queue_by, queues_written, has_bad_queue, is_alone, is_bad, waits_on_too_many};
 
 use crate::directive::{ASYNC_NOVAL, ASYNC_SYNC, Directive, Kind, MAX_WAITS, Target, Waits};
 use acc_base::QueueId;
@@ -68,31 +65,6 @@ pub(crate) fn waits_on_too_many(waits: &Waits) -> bool
     }
 }
 
-/// Whether a directive waits for this queue, one that each device has (2.16.2, wait clause).
-pub(crate) fn names_queue(directive: &Directive, queue: QueueId) -> bool
-    requires { queue < QUEUES }
-    ensures { result ≡ has_number (queues_named directive.now) queue }
-{
-    match directive.waits() {
-        Waits::Nothing => false,
-        Waits::All => true,
-        Waits::Listed { values } => one_names(directive.default(), values.as_slice(), queue),
-    }
-}
-
-// Whether one of these values names this queue.
-fn one_names(default: i64, values: &[i64], queue: QueueId) -> bool
-    ensures { result ≡ has_number (flat_map option_to_list (map (queue_of default) values.now)) queue }
-{
-    match values {
-        [] => false,
-        [first, rest @ ..] => match queue_of(default, *first) {
-            None => one_names(default, rest, queue),
-            Some(named) => named == queue || one_names(default, rest, queue),
-        },
-    }
-}
-
 // The queue that an async clause names.
 fn target_queue(default: i64, target: Target) -> Option<QueueId>
     ensures { result ≡ target_queue default target }
@@ -104,8 +76,8 @@ fn target_queue(default: i64, target: Target) -> Option<QueueId>
     }
 }
 
-// The queue that a value of a clause names, for a host with this default.
-fn queue_of(default: i64, value: i64) -> Option<QueueId>
+/// The queue that a value of a clause names, for a host with this default.
+pub(crate) fn queue_of(default: i64, value: i64) -> Option<QueueId>
     ensures { result ≡ queue_of default value }
 {
     match value {
