@@ -18,7 +18,7 @@ use Rattle.acc_work.specs.Logs.{all_items, all_done, value}
 use Rattle.acc_core.specs.Machine.{State, labels_of, unless, told_of, can_tell, item_answer, with_item}
 use Rattle.acc_core.specs.inner.Answers.{Makes}
 use Rattle.acc_core.specs.inner.Queues.{QueueView, queue_in}
-use Rattle.acc_core.specs.inner.Ties.{IsAccelerator, QueueIs}
+use Rattle.acc_core.specs.inner.Ties.{IsAccelerator, QueueIs, all_batches_left}
 use Rattle.acc_work.specs.Lanes.{LaneView, lane_in}
 use Rattle.acc_work.specs.Works.{WorkView, CanTell, HasRecorded, HasTold, Tells, item_fault, taken_counts, taken_labels}
 use Rattle.acc_work.specs.declared.item.ItemLabel.TheVariants as to_record
@@ -109,6 +109,7 @@ pub record IsRecorded (w : State) (v v' : WorkView) (queues : List QueueView) (h
   pub taken : taken_counts v' ≡ taken_counts v
   pub work : v'.work ≡ entry.Item h (told_of w item) ∷ w.work
   pub keeps : IsAccelerator (with_work w v') v' queues
+  pub left : all_batches_left v'.lanes queues ≡ all_batches_left v.lanes queues
 
 pub is_recorded : (w : State) (v v' : WorkView) (queues : List QueueView) (h : ℕ) (item : ItemLabel) (got : Shown) → IsAccelerator w v queues → KeepsWork v → v.work ≡ w.work → all_items w.work < MAX_HOST_ITEMS → can_tell w item ≡ true
     → HasRecorded v v' h item got → IsRecorded w v v' queues h item got
@@ -120,6 +121,7 @@ is_recorded w v v' queues h item got a k same few can r =
       taken = taken_kept v v' h r.0 r.3;
       work = r.3.work ∙ (ap (λ log. entry.Item h r.0 ∷ log) same ∙ ap (λ what. entry.Item h what ∷ w.work) told);
       keeps = told_item w v v' queues h r.0 a same r.3 few (rw told (tells_truth w item can));
+      left = ap (λ lanes. all_batches_left lanes queues) r.3.lanes;
     }
 
 -- What is made of a call where its item was recorded, or refused for want of memory.

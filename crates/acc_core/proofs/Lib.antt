@@ -2,6 +2,7 @@ mod AcceleratorNew
 mod Accept
 mod AddedLabels
 mod BatchesDone
+mod BatchesLeft
 mod CloseQueue
 mod CloseStep
 mod ClosedState

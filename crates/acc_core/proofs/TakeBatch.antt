@@ -1,8 +1,8 @@
 -- A queue takes a batch.
-use Rattle.std.proofs.Common.{◌≡◌, true, false, cond, refl, ◌+◌, ◌<◌, List, [], ◌∷◌, ◌++◌, length, take, drop, sym, ap, ◌∙◌, arith}
+use Rattle.std.proofs.Common.{inl, inr, ◌≡◌, true, false, cond, refl, ◌+◌, ◌<◌, List, [], ◌∷◌, ◌++◌, length, take, drop, sym, ap, ◌∙◌, arith}
 use Rattle.std.specs.Prelude.{Contains, nat_lt, slice_set, ◌==◌}
-use Rattle.std.proofs.lemmas.Bool.{lt-ltb, le-ltb}
-use Rattle.std.proofs.lemmas.List.{append_assoc, get_or-map, length-append, length-set, map-set}
+use Rattle.std.proofs.lemmas.Bool.{cases_Bool, eqb-true, lt-ltb, le-ltb, ltb-false, ltb-true}
+use Rattle.std.proofs.lemmas.List.{append_assoc, get_or-map, get_or_past, length-append, length-set, map-set}
 use Rattle.std.proofs.lemmas.List.Elements.{All-contains, Contains-append_right}
 use Rattle.acc_base.proofs.Members.{member_first, member_filter}
 use Rattle.acc_base.proofs.SameQueue.{same_queue_is}
@@ -16,13 +16,13 @@ use Rattle.acc_batch.specs.Labels.{on_queue, ops_of}
 use Rattle.acc_batch.proofs.Seats.{seat_there}
 use Rattle.acc_host.specs.declared.event.Event.TheVariants as event
 use Rattle.acc_core.specs.Machine.{State, did, idle, is_there, taken_on, batches_held, ops_left, queue_step, step, take_step, labels_of}
-use Rattle.acc_core.specs.inner.Queues.{QueueView, queue_in, queues_with}
+use Rattle.acc_core.specs.inner.Queues.{QueueView, no_queue, queue_in, queues_with}
 use Rattle.acc_core.specs.inner.Ties.{QueueIs, Queued}
 use Rattle.acc_work.specs.Lanes.{LaneView, no_lane, lane_with_batch, lanes_with}
 use Rattle.acc_work.specs.Logs.{performed}
 use Rattle.acc_work.specs.Works.{WorkView, KeepsOrder, lane_at, taken_counts}
 use Rattle.acc_core.proofs.Lanes.{left_is}
-use Rattle.acc_core.proofs.Seats.{IsSeated, both_changed, room_changed}
+use Rattle.acc_core.proofs.Seats.{IsSeated, both_changed, room_changed, seated_there}
 
 -- the state where the queues took what their lanes say
 abbrev pub with_taken : State → WorkView → State
@@ -93,6 +93,29 @@ takes_did w v queues at b more s q k same there none first =
     ∙ (ap (λ x. cond x (did (record w { taken = slice_set (taken_counts v) (seat at) (taken_on now at + 1) })) (idle now)) some
     ∙ ap (λ taken. did (record w { taken = taken })) (taken_with w v at b s.queue s.lane)))
 
+pub no_element : {X : Type 0} (xs : List X) → (length xs == 0) ≡ true → xs ≡ []
+no_element [] h = refl
+no_element (x ∷ xs) h = absurd (omega (arith, eqb-true (length (x ∷ xs)) 0 h))
+
+-- a queue that holds a batch is there
+pub held_there : (w : State) (v : WorkView) (queues : List QueueView) (at : QueueAt) → Queued w v queues → (length (queue_in queues at).held == 0) ≡ false → is_there w at ≡ true
+held_there w v queues at q some = elim (cases_Bool (nat_lt at.queue QUEUES)) [
+  | inl low ↦ elim (cases_Bool (nat_lt (seat at) (length queues))) [
+    | inl seated ↦
+        let device : at.device < w.config.devices = omega (arith, ltb-true (seat at) (length queues) seated, ltb-true at.queue QUEUES low, q.count) in
+        rw (lt-ltb at.device w.config.devices device, low) refl
+    | inr past ↦
+        let none : queue_in queues at ≡ no_queue = seat_there no_queue queues at (ltb-true at.queue QUEUES low) ∙ get_or_past queues (seat at) no_queue (ltb-false (seat at) (length queues) past) in
+        absurd (holds none)
+  ]
+  | inr high ↦
+      let none : queue_in queues at ≡ no_queue = rw high refl in
+      absurd (holds none)
+]
+  where
+    holds : queue_in queues at ≡ no_queue → ⊥
+    holds none = let no : true ≡ false = sym (ap (λ (queue : QueueView). length queue.held == 0) none) ∙ some in cc
+
 -- a queue that isn't there takes none
 pub takes_absent : (w : State) (at : QueueAt) → is_there w at ≡ false → step false w (event.Take at) ≡ idle w
 takes_absent w at e = ap (λ there. queue_step there w (take_step w (labels_of w) at (ops_left w (labels_of w) at))) e
@@ -119,6 +142,18 @@ takes_none w v queues at s q k same there none empty =
     ap (λ x. queue_step x now (take_step now (labels_of w) at (ops_left now (labels_of w) at))) there
     ∙ (ap (take_step now (labels_of w) at) left
     ∙ ap (λ x. cond x (did (record w { taken = slice_set (taken_counts v) (seat at) (taken_on now at + 1) })) (idle now)) no_batch)
+
+-- whatever is left in its lane, and whether it is there or not
+pub takes_no_batch : (w : State) (v : WorkView) (queues : List QueueView) (at : QueueAt) → Queued w v queues → KeepsOrder v → v.work ≡ w.work → (length (queue_in queues at).held == 0) ≡ true → step false (with_taken w v) (event.Take at) ≡ idle (with_taken w v)
+takes_no_batch w v queues at q k same none = elim (cases_Bool (is_there w at)) [
+  | inl there ↦
+      let s = seated_there w v queues at q k there in
+      elim (cases_Bool (length (lane_at v at).left == 0)) [
+        | inl empty ↦ takes_none w v queues at s q k same there (no_element (lane_at v at).left empty) (no_element (queue_in queues at).held none)
+        | inr some ↦ takes_idle w v queues at s q k same there some
+      ]
+  | inr absent ↦ takes_absent (with_taken w v) at absent
+]
 
 -- The queue's first batch can be taken.
 pub record CanTake (v : WorkView) (queue : QueueAt) (b : Label) : Type 0 where

@@ -21,7 +21,7 @@ ghost use Rattle.std.specs.Option.{option_map};
 ghost use Rattle.acc_present.specs.Presences.{presences, holder};
 ghost use Rattle.acc_present.specs.Tables.{entry_presence};
 
-use crate::queue::{Queue, queues_of};
+use crate::queue::{Queue, holds_none, queues_of};
 use acc_base::{BlockId, Config, DeviceId, Fault, HostId, QueueAt, QueueCounts, Range};
 use acc_batch::Page;
 use acc_host::{Engine, Reply};
@@ -39,12 +39,15 @@ pub struct Accelerator {
     work: Work,
     // by device, then in queue order
     queues: Vec<Queue>,
+    // how many batches are placed and not performed to their end
+    unfinished: u64,
 }
 
 impl Model for Accelerator {
     ghost use Rattle.std.specs.Coded.{codes};
+    ghost use Rattle.std.specs.Prelude.{◌≡◌};
     ghost use Rattle.acc_core.specs.Machine.{State};
-    ghost use Rattle.acc_core.specs.inner.Ties.{state_of_parts, HasCloses, IsAccelerator};
+    ghost use Rattle.acc_core.specs.inner.Ties.{all_batches_left, state_of_parts, HasCloses, IsAccelerator};
     ghost use Rattle.acc_kernel.specs.contracts.expr.Expr as expr;
 
     ghost Value = { State };
@@ -53,7 +56,7 @@ impl Model for Accelerator {
 
     ghost view = { λ a. state_of_parts a.place a.work };
 
-    ghost invariant = { λ a. IsAccelerator (state_of_parts a.place a.work) a.work a.queues.items × HasCloses a.place };
+    ghost invariant = { λ a. IsAccelerator (state_of_parts a.place a.work) a.work a.queues.items × HasCloses a.place × (a.unfinished ≡ all_batches_left a.work.lanes a.queues.items) };
 }
 
 impl Accelerator {
@@ -77,6 +80,7 @@ impl Accelerator {
             place: Place::new(alloc, config)?,
             work,
             queues,
+            unfinished: 0,
         })
     }
 
@@ -91,12 +95,15 @@ impl Accelerator {
         match plan.take_batch() {
             None => Ok(self.place.accept(plan)),
             Some(batch) => {
+                let config = self.place.config();
+                config.keeps();
                 let seat = batch.label().at.seat();
-                if self.place.config().room() as usize <= self.queues[seat].len() {
+                if config.room() as usize <= self.queues[seat].len() {
                     return Err(Fault::QueueFull);
                 }
                 let placed = self.place.accept(plan);
                 self.queues[seat].push(batch);
+                self.unfinished += 1;
                 Ok(placed)
             }
         }
@@ -226,11 +233,14 @@ impl Accelerator {
     pub(crate) fn take(&mut self, at: QueueAt) -> Reply
         ensures { step false self.old (event.Take at) ≡ record { reply = result; state = self.new } }
     {
-        let QueueAt { device, queue } = at;
-        if !self.place.config().has_queue(QueueAt { device, queue }) {
+        self.work.keeps();
+        if self.unfinished == 0 {
             return Reply::Idle;
         }
-        self.work.keeps();
+        let QueueAt { device, queue } = at;
+        if holds_none(self.queues.as_slice(), QueueAt { device, queue }) {
+            return Reply::Idle;
+        }
         if !self.work.lane_empty(QueueAt { device, queue }) {
             return Reply::Idle;
         }
@@ -248,14 +258,19 @@ impl Accelerator {
     pub(crate) fn perform(&mut self, at: QueueAt) -> Reply
         ensures { step false self.old (event.Perform at) ≡ record { reply = result; state = self.new } }
     {
-        let QueueAt { device, queue } = at;
-        if !self.place.config().has_queue(QueueAt { device, queue }) {
+        self.work.keeps();
+        if self.unfinished == 0 {
             return Reply::Idle;
         }
-        self.work.keeps();
+        let QueueAt { device, queue } = at;
         match self.work.perform(QueueAt { device, queue }) {
-            Done::Op => Reply::Did,
             Done::Idle => Reply::Idle,
+            Done::Op => {
+                if self.work.lane_empty(QueueAt { device, queue }) {
+                    self.unfinished -= 1;
+                }
+                Reply::Did
+            }
         }
     }
 
@@ -293,13 +308,16 @@ impl Accelerator {
         match self.place.close_batch(QueueAt { device, queue }) {
             None => true,
             Some(batch) => {
+                let config = self.place.config();
+                config.keeps();
                 let seat = QueueAt { device, queue }.seat();
-                if self.place.config().room() as usize <= self.queues[seat].len() {
+                if config.room() as usize <= self.queues[seat].len() {
                     self.place.close_back(QueueAt { device, queue }, batch);
                     return false;
                 }
                 self.place.close_done(QueueAt { device, queue });
                 self.queues[seat].push(batch);
+                self.unfinished += 1;
                 true
             }
         }
@@ -325,27 +343,8 @@ impl Accelerator {
         ensures left { result ≡ is_left self.now }
         ensures enabled { IsTrue result → SomeEnabled self.now }
     {
-        let _ = &self.work;
-        for index in 0..self.config().queue_count() {
-            if self.is_left(QueueAt::at_seat(index)) {
-                return true;
-            }
-        }
-        false
-    }
-
-    // Whether an operation of a queue was placed and isn't performed: in its lane, or in a batch that it holds.
-    fn is_left(&self, at: QueueAt) -> bool
-        requires { IsQueue self.now.config at }
-        ensures { result ≡ has_left (labels_of self.now) self.now.work at }
-    {
         self.work.keeps();
-        let QueueAt { device, queue } = at;
-        let seat = QueueAt { device, queue }.seat();
-        if self.work.ops_left(QueueAt { device, queue }) > 0 {
-            return true;
-        }
-        self.queues[seat].len() > 0
+        self.unfinished > 0
     }
 
     /// The place, and the work log with the latest entry last.

@@ -1,11 +1,11 @@
 //! The batches that a queue holds.
 
-ghost use Rattle.std.specs.Prelude.{◌≡◌, ◌<◌, [], ◌∷◌, List, All, length, IfOk, IfErr, IfSome, IfNone};
+ghost use Rattle.std.specs.Prelude.{◌≡◌, ◌==◌, ◌<◌, [], ◌∷◌, List, All, length, IfOk, IfErr, IfSome, IfNone};
 ghost use Rattle.acc_base.specs.Queues.{queue_count};
 ghost use Rattle.acc_batch.specs.declared.label.Label.{Label};
 ghost use Rattle.acc_core.specs.inner.Queues.{IsEmptyQueue, queue_pushed, queue_in};
 
-use acc_base::{Config, DeviceId, Fault, QueueAt, QueueId};
+use acc_base::{Config, DeviceId, Fault, QUEUES, QueueAt, QueueId};
 use acc_batch::Batch;
 use std::alloc::Global;
 use std::collections::VecDeque;
@@ -68,6 +68,19 @@ impl Queue {
         ensures none { IfNone result ((self.old.held ≡ []) × (self.new ≡ self.old)) }
     {
         self.batches.pop_front()
+    }
+}
+
+/// Whether a queue holds no batch. One that isn't there holds none.
+pub(crate) fn holds_none(queues: &[Queue], at: QueueAt) -> bool
+    ensures { result ≡ (length (queue_in queues.now at).held == 0) }
+{
+    if at.queue.number() >= QUEUES {
+        return true;
+    }
+    match queues.get(at.seat()) {
+        None => true,
+        Some(queue) => queue.len() == 0,
     }
 }
 

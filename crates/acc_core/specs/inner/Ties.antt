@@ -1,5 +1,5 @@
 -- How the running parts of the core stand to its histories. Only private contracts and proofs cite it.
-use Rattle.std.specs.Prelude.{◌≡◌, ◌<◌, ◌≤◌, false, not, List, [], ◌++◌, length, All}
+use Rattle.std.specs.Prelude.{◌≡◌, ℕ, ◌+◌, ◌<◌, ◌≤◌, false, not, List, [], ◌∷◌, ◌++◌, length, All, if◌then◌else◌}
 use Rattle.acc_base.specs.declared.config.TheConstants.{MAX_HOSTS}
 use Rattle.acc_base.specs.declared.ids.QueueAt.{QueueAt}
 use Rattle.acc_base.specs.Configurations.{Configuration}
@@ -7,7 +7,7 @@ use Rattle.acc_base.specs.Queues.{queue_count}
 use Rattle.acc_batch.specs.declared.label.Label.{Label}
 use Rattle.acc_batch.specs.Labels.{on_queue}
 use Rattle.acc_core.specs.Legality.{Legal}
-use Rattle.acc_core.specs.Machine.{State, labels_of}
+use Rattle.acc_core.specs.Machine.{State, is_empty, labels_of}
 use Rattle.acc_core.specs.inner.Queues.{QueueView, queue_in}
 use Rattle.acc_place.specs.Closing.{is_at_hand}
 use Rattle.acc_place.specs.Histories.{is_closed, IsQueue}
@@ -36,6 +36,17 @@ pub record Queued (w : State) (v : WorkView) (queues : List QueueView) : Type 0 
   pub roomy : All (λ (queue : QueueView). w.config.room ≤ queue.room) queues
   pub filled : All (λ (l : Label). 0 < length l.ops) (labels_of w)
   pub hosts : All (λ (l : Label). l.host < MAX_HOSTS) (labels_of w)
+
+-- How many batches of a queue are placed and not performed to their end: the one of which something is left in its lane, if there
+-- is one, and those that it holds.
+abbrev pub batches_left : LaneView → QueueView → ℕ
+batches_left lane queue = (if is_empty lane.left then 0 else 1) + length queue.held
+
+-- and how many of all queues, by device, then in queue order
+abbrev pub all_batches_left : List LaneView → List QueueView → ℕ
+all_batches_left [] queues = 0
+all_batches_left (lane ∷ lanes) [] = 0
+all_batches_left (lane ∷ lanes) (queue ∷ queues) = batches_left lane queue + all_batches_left lanes queues
 
 -- The place has the close of each queue that isn't closed.
 abbrev pub HasCloses : PlaceView → Type 0

@@ -6,4 +6,4 @@ pub invariant_of-self : goal.invariant_of-self
 invariant_of-self c =
     let i = c.self.inside in
     let w = state_of_parts i.place i.work in
-    rw c.close_begin.ensures.place (keeps_begun w i.work i.queues.items c.self.invariant.0, has_begun i.place c.self.invariant.1)
+    rw c.close_begin.ensures.place (keeps_begun w i.work i.queues.items c.self.invariant.0, has_begun i.place c.self.invariant.1, c.self.invariant.2)

@@ -1,10 +1,12 @@
-use Rattle.std.proofs.Common.{◌≡◌, ◌<◌, length, sym, ap, ◌∙◌, arith}
+use Rattle.std.proofs.Common.{◌≡◌, ◌+◌, ◌<◌, length, sym, ap, ◌∙◌, arith}
+use Rattle.acc_base.specs.Configurations.{IsWithinLimits}
 use Rattle.acc_batch.proofs.Seats.{seat_found}
 use Rattle.acc_place.specs.Closing.{handed_out, IsOut}
 use Rattle.acc_place.specs.Histories.{CanClose, IsQueue}
 use Rattle.acc_core.specs.Machine.{standing_of}
 use Rattle.acc_core.specs.inner.Queues.{QueueView, no_queue, queue_pushed, queue_in}
 use Rattle.acc_core.specs.inner.Ties.{state_of_parts}
+use Rattle.acc_core.proofs.BatchesLeft.{few_left, one_placed}
 use Rattle.acc_core.proofs.ClosesOne.{closes_did, is_closed_then}
 use Rattle.acc_core.proofs.CloseQueue.{can_now, has_closed, keeps_closed}
 use Rattle.acc_place.proofs.CloseOut.{close_some}
@@ -25,13 +27,16 @@ invariant_of-self-in-Some c =
     let given = close_some i.place at b (sym c.in-Some.is ∙ c.close_batch.ensures.batch) in
     let queue = seat_found no_queue i.queues.items at c.index.result.now s.queue s.held (rw c.seat-seat.ensures at c.index.ensures) in
     let held : c.len.result ≡ length (queue_in i.queues.items at).held = c.len.ensures ∙ ap (λ (x : QueueView). length x.held) queue in
-    let room : c.room.result ≡ w.config.room = c.room.ensures ∙ (ap (λ x. x.room) c.config.ensures ∙ ap (λ x. x.config.room) c.close_batch.ensures.place) in
+    let room : c.room.result ≡ w.config.room = c.room.ensures ∙ (ap (λ x. x.room) c.config-config.ensures ∙ ap (λ x. x.config.room) c.close_batch.ensures.place) in
     let fits : length (queue_in i.queues.items at).held < w.config.room = omega (arith, held, room, c.if-room-len.false) in
     let entry = seat_found no_queue i.queues.items at c.index_mut.result.now s.queue s.held (rw c.seat-seat.ensures at c.index_mut.ensures.value) in
     let can : CanClose w.config (standing_of w) at = record { there = there; begun = rw (← c.self.view_is) at c.requires.begun; unplaced = out.unplaced } in
     let new = c.push.ensures ∙ ap (λ (x : QueueView). queue_pushed x b) entry in
-    rw (c.close_done.ensures, c.close_batch.ensures.place, c.seat-seat.ensures, new)
-    (keeps_closed w i.work i.queues.items at b c.self.invariant.0 s can given.1 fits, has_closed i.place at there given.0 out c.self.invariant.1)
+    rw (c.close_done.ensures, c.close_batch.ensures.place, c.seat-seat.ensures, new) (
+      keeps_closed w i.work i.queues.items at b c.self.invariant.0 s can given.1 fits,
+      has_closed i.place at there given.0 out c.self.invariant.1,
+      ap (λ n. n + 1) c.self.invariant.2 ∙ sym (one_placed w.config.devices i.work i.queues.items at b s),
+    )
 
 pub returns-else-room-len-clause-state : goal.returns-else-room-len-clause-state
 returns-else-room-len-clause-state c =
@@ -47,7 +52,7 @@ returns-else-room-len-clause-state c =
     let given = close_some i.place at b (sym c.in-Some.is ∙ c.close_batch.ensures.batch) in
     let queue = seat_found no_queue i.queues.items at c.index.result.now s.queue s.held (rw c.seat-seat.ensures at c.index.ensures) in
     let held : c.len.result ≡ length (queue_in i.queues.items at).held = c.len.ensures ∙ ap (λ (x : QueueView). length x.held) queue in
-    let room : c.room.result ≡ w.config.room = c.room.ensures ∙ (ap (λ x. x.room) c.config.ensures ∙ ap (λ x. x.config.room) c.close_batch.ensures.place) in
+    let room : c.room.result ≡ w.config.room = c.room.ensures ∙ (ap (λ x. x.room) c.config-config.ensures ∙ ap (λ x. x.config.room) c.close_batch.ensures.place) in
     let fits : length (queue_in i.queues.items at).held < w.config.room = omega (arith, held, room, c.if-room-len.false) in
     rw (← c.self.view_is, c.close_done.ensures, c.close_batch.ensures.place) (sym (closes_did w at (can_now w i.work i.queues.items at s q out.unplaced fits)))
 
@@ -56,3 +61,11 @@ returns-else-room-len-clause-closed c =
     let i = c.self.inside in
     let w = state_of_parts i.place i.work in
     rw (c.close_done.ensures, c.close_batch.ensures.place) (sym (is_closed_then w c.args.at))
+
+-- there are always few batches
+pub overflow_add-self : goal.overflow_add-self
+overflow_add-self c =
+    let i = c.self.inside in
+    let w = state_of_parts i.place i.work in
+    let limits : IsWithinLimits w.config = rw (c.config-config.ensures, c.close_batch.ensures.place) at c.keeps-in-Some.ensures.limits in
+    omega (arith, c.self.invariant.2, few_left w i.work i.queues.items c.self.invariant.0.parts limits.devices.1 limits.room.1)

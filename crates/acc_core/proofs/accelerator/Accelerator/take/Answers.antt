@@ -1,26 +1,20 @@
-use Rattle.std.proofs.Common.{◌≡◌, true, List, length, [], ◌∷◌, refl, sym, ap, ◌∙◌, arith}
-use Rattle.std.specs.Prelude.{◌==◌}
-use Rattle.std.proofs.lemmas.Bool.{eqb-true}
-use Rattle.acc_batch.specs.declared.label.OpLabel.{OpLabel}
+use Rattle.std.proofs.Common.{refl, sym, ap, ◌∙◌}
 use Rattle.acc_batch.proofs.Seats.{seat_found}
-use Rattle.acc_core.specs.Machine.{is_there}
 use Rattle.acc_core.specs.inner.Queues.{no_queue}
 use Rattle.acc_core.specs.inner.Ties.{state_of_parts}
-use Rattle.acc_work.specs.Works.{taken_counts}
+use Rattle.acc_work.specs.Lanes.{lane_with_batch}
+use Rattle.acc_work.specs.Works.{lane_at, taken_counts}
+use Rattle.acc_core.proofs.BatchesLeft.{none_goes, one_taken}
 use Rattle.acc_core.proofs.LegalSteps.{legal_taken}
 use Rattle.acc_core.proofs.Seats.{seated_there}
-use Rattle.acc_core.proofs.TakeBatch.{can_take, filled_with, taken_more, takes_did}
+use Rattle.acc_core.proofs.TakeBatch.{can_take, filled_with, held_there, no_element, taken_more, takes_did, takes_no_batch}
 use Rattle.acc_core.proofs.accelerator.Accelerator.take.Goals as goal
-
-no_op : (ops : List OpLabel) → (length ops == 0) ≡ true → ops ≡ []
-no_op [] h = refl
-no_op (op ∷ ops) h = absurd (omega (arith, eqb-true (length (op ∷ ops)) 0 h))
 
 pub offer-requires-clause-place : goal.offer-requires-clause-place
 offer-requires-clause-place c =
     let i = c.self.inside in
     let w = state_of_parts i.place i.work in
-    let there : is_there w c.args.at ≡ true = rw c.config.ensures at (sym c.has_queue.ensures ∙ c.if-not-has_queue.false) in
+    let there = held_there w i.work i.queues.items c.args.at c.self.invariant.0.parts (sym (rw c.as_slice.ensures.value at c.holds_none.ensures) ∙ c.if-holds_none.false) in
     let s = seated_there w i.work i.queues.items c.args.at c.self.invariant.0.parts c.keeps.ensures.order there in
     let queue = seat_found no_queue i.queues.items c.args.at c.index_mut.result.now s.queue s.held (rw c.seat-seat.ensures at c.index_mut.ensures.value) in
     let next = c.in-Some.ensures.next in
@@ -30,7 +24,7 @@ pub offer-requires-clause-host : goal.offer-requires-clause-host
 offer-requires-clause-host c =
     let i = c.self.inside in
     let w = state_of_parts i.place i.work in
-    let there : is_there w c.args.at ≡ true = rw c.config.ensures at (sym c.has_queue.ensures ∙ c.if-not-has_queue.false) in
+    let there = held_there w i.work i.queues.items c.args.at c.self.invariant.0.parts (sym (rw c.as_slice.ensures.value at c.holds_none.ensures) ∙ c.if-holds_none.false) in
     let s = seated_there w i.work i.queues.items c.args.at c.self.invariant.0.parts c.keeps.ensures.order there in
     let queue = seat_found no_queue i.queues.items c.args.at c.index_mut.result.now s.queue s.held (rw c.seat-seat.ensures at c.index_mut.ensures.value) in
     let next = c.in-Some.ensures.next in
@@ -40,7 +34,7 @@ pub offer-requires-clause-filled : goal.offer-requires-clause-filled
 offer-requires-clause-filled c =
     let i = c.self.inside in
     let w = state_of_parts i.place i.work in
-    let there : is_there w c.args.at ≡ true = rw c.config.ensures at (sym c.has_queue.ensures ∙ c.if-not-has_queue.false) in
+    let there = held_there w i.work i.queues.items c.args.at c.self.invariant.0.parts (sym (rw c.as_slice.ensures.value at c.holds_none.ensures) ∙ c.if-holds_none.false) in
     let s = seated_there w i.work i.queues.items c.args.at c.self.invariant.0.parts c.keeps.ensures.order there in
     let queue = seat_found no_queue i.queues.items c.args.at c.index_mut.result.now s.queue s.held (rw c.seat-seat.ensures at c.index_mut.ensures.value) in
     let next = c.in-Some.ensures.next in
@@ -52,11 +46,13 @@ invariant_of-self-in-Some c =
     let a = c.self.invariant.0 in
     let w = state_of_parts i.place i.work in
     let at = c.args.at in
-    let there : is_there w at ≡ true = rw c.config.ensures at (sym c.has_queue.ensures ∙ c.if-not-has_queue.false) in
+    let there = held_there w i.work i.queues.items at a.parts (sym (rw c.as_slice.ensures.value at c.holds_none.ensures) ∙ c.if-holds_none.false) in
     let s = seated_there w i.work i.queues.items at a.parts c.keeps.ensures.order there in
     let queue = seat_found no_queue i.queues.items at c.index_mut.result.now s.queue s.held (rw c.seat-seat.ensures at c.index_mut.ensures.value) in
     let next = c.in-Some.ensures.next in
     let more = filled_with i.work at c.in-Some.batch in
+    let none = no_element (lane_at i.work at).left (sym c.lane_empty.ensures ∙ c.if-not-lane_empty.false) in
+    let can = can_take w i.work i.queues.items at c.in-Some.batch next.0 a.parts (ap (λ q. q.held) (sym queue) ∙ next.1) in
     rw (c.offer.ensures, c.seat-seat.ensures, next.2, queue) (
       record {
         legal = legal_taken w (taken_counts more) a.legal;
@@ -65,6 +61,7 @@ invariant_of-self-in-Some c =
         opening = a.opening;
       },
       c.self.invariant.1,
+      c.self.invariant.2 ∙ sym (one_taken w.config.devices i.work i.queues.items at (lane_with_batch (lane_at i.work at) c.in-Some.batch) c.in-Some.batch next.0 s none can.some (ap (λ q. q.held) (sym queue) ∙ next.1)),
     )
 
 pub returns-in-Some : goal.returns-in-Some
@@ -73,10 +70,24 @@ returns-in-Some c =
     let a = c.self.invariant.0 in
     let w = state_of_parts i.place i.work in
     let at = c.args.at in
-    let there : is_there w at ≡ true = rw c.config.ensures at (sym c.has_queue.ensures ∙ c.if-not-has_queue.false) in
+    let there = held_there w i.work i.queues.items at a.parts (sym (rw c.as_slice.ensures.value at c.holds_none.ensures) ∙ c.if-holds_none.false) in
     let s = seated_there w i.work i.queues.items at a.parts c.keeps.ensures.order there in
     let queue = seat_found no_queue i.queues.items at c.index_mut.result.now s.queue s.held (rw c.seat-seat.ensures at c.index_mut.ensures.value) in
     let next = c.in-Some.ensures.next in
-    let none = no_op _ (sym c.lane_empty.ensures ∙ c.if-not-lane_empty.false) in
+    let none = no_element (lane_at i.work at).left (sym c.lane_empty.ensures ∙ c.if-not-lane_empty.false) in
     rw (← c.self.view_is, c.offer.ensures)
     (takes_did w i.work i.queues.items at c.in-Some.batch next.0 s a.parts c.keeps.ensures.order refl there none (ap (λ q. q.held) (sym queue) ∙ next.1))
+
+-- while nothing is left
+pub returns-then-self-eq0 : goal.returns-then-self-eq0
+returns-then-self-eq0 c =
+    let i = c.self.inside in
+    let w = state_of_parts i.place i.work in
+    rw (← c.self.view_is) (none_goes w i.work i.queues.items c.args.at c.self.invariant.0.parts c.keeps.ensures.order refl (sym c.self.invariant.2 ∙ c.if-self-eq0.true)).0
+
+-- where the queue holds no batch
+pub returns-then-holds_none : goal.returns-then-holds_none
+returns-then-holds_none c =
+    let i = c.self.inside in
+    let w = state_of_parts i.place i.work in
+    rw (← c.self.view_is) (takes_no_batch w i.work i.queues.items c.args.at c.self.invariant.0.parts c.keeps.ensures.order refl (sym (rw c.as_slice.ensures.value at c.holds_none.ensures) ∙ c.if-holds_none.true))
