@@ -1,1 +1,2 @@
 mod ForQueue
+mod ProgressSteps

@@ -9,3 +9,5 @@ mod ends;
 mod memory;
 #[cfg(test)]
 mod threads;
+#[cfg(test)]
+mod words;
