@@ -51,6 +51,8 @@ use Rattle.acc_memory.specs.contracts.memory.Memory as memory
 use Rattle.acc_work.specs.contracts.work.Work as work
 use Rattle.acc_queue.specs.contracts.activity.Sender as sender
 use Rattle.acc_queue.specs.contracts.activity.Taker as taker
+use Rattle.acc_queue.specs.contracts.progress.Publisher as publisher
+use Rattle.acc_queue.specs.contracts.progress.Reader as reader
 use Rattle.acc_run.specs.contracts.place_side.PlaceSide as place_side
 use Rattle.acc_run.specs.contracts.work_side.WorkSide as work_side
 use Rattle.acc_run.specs.contracts.runtime.Runtime as runtime
@@ -236,14 +238,20 @@ taker_sends = search (sendable, crosses, shared.the_send, shared.the_sync, lease
 place_side_sends : IsSend place_side.the_row
 place_side_sends = search (sendable, crosses, place_sends, sender_sends) depth 60 fits 9000
 
+publisher_sends : IsSend publisher.the_row
+publisher_sends = search (sendable, crosses, shared.the_send, shared.the_sync, lease.the_send, lease.the_sync, seat.the_send) depth 60 fits 9000
+
+pub reader_sends : IsSend reader.the_row
+reader_sends = search (sendable, crosses, shared.the_send, shared.the_sync, lease.the_send, lease.the_sync, seat.the_send) depth 60 fits 9000
+
 work_side_sends : IsSend work_side.the_row
-work_side_sends = search (sendable, crosses, work_sends, taker_sends) depth 60 fits 9000
+work_side_sends = search (sendable, crosses, work_sends, taker_sends, config_sends, publisher_sends) depth 60 fits 9000
 
 config_syncs : IsSync config.the_row
 config_syncs = search (sendable, crosses) depth 60 fits 9000
 
 pub runtime_syncs : IsSync runtime.the_row
-runtime_syncs = search (sendable, crosses, place_side_sends, work_side_sends, config_syncs) depth 60 fits 9000
+runtime_syncs = search (sendable, crosses, place_side_sends, work_side_sends, config_syncs, reader_sends) depth 60 fits 9000
 
 pub runtime_shares : (ℓ : Lifetime) (κ : Lft) → IsSend (ShrRef ℓ κ runtime.the_row)
 runtime_shares ℓ κ = shr_send ℓ κ runtime.the_row runtime_syncs
@@ -269,7 +277,7 @@ token_entry_sends : IsSend token_entry.the_row
 token_entry_sends = search (sendable, crosses, token_entry_form_sends) depth 60 fits 9000
 
 pub token_sends : IsSend token.the_row
-token_sends = search (sendable, crosses, token_entry_sends) depth 60 fits 9000
+token_sends = search (sendable, crosses, token_entry_sends, reader_sends) depth 60 fits 9000
 
 -- ## What the threads of a run share
 

@@ -14,6 +14,7 @@ mod MoreTokens
 mod NoOthers
 mod PairedHosts
 mod PlaceSideSteps
+mod Publishing
 mod ReadTokens
 mod Refusals
 mod ReturnedHosts

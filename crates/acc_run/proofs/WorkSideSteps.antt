@@ -1,6 +1,6 @@
 -- What the work lock holds, after each change.
-use Rattle.std.proofs.Common.{◌≡◌, ℕ, zero, suc, ◌*◌, ◌<◌, ◌≤◌, true, false, List, [], ◌∷◌, ◌++◌, length, refl, sym, ap, ◌∙◌, arith, inl, inr}
-use Rattle.std.specs.Prelude.{All, IfErr, OnOk, Result, Ok, Err, ℤ, slice_index_or, slice_set}
+use Rattle.std.proofs.Common.{Option, Some, None, ◌≡◌, ℕ, zero, suc, ◌*◌, ◌<◌, ◌≤◌, true, false, List, [], ◌∷◌, ◌++◌, length, refl, sym, ap, ◌∙◌, arith, inl, inr}
+use Rattle.std.specs.Prelude.{All, IfErr, IfNone, IfSome, OnOk, Result, Ok, Err, ℤ, slice_index_or, slice_set}
 use Rattle.std.proofs.lemmas.Bool.{cases_lt}
 use Rattle.std.proofs.lemmas.List.{length-set}
 use Rattle.acc_base.specs.declared.ids.QueueAt.{QueueAt}
@@ -13,10 +13,11 @@ use Rattle.acc_batch.specs.declared.label.OpLabel.{OpLabel}
 use Rattle.acc_batch.specs.declared.label.OpLabel.TheVariants as op_label
 use Rattle.acc_batch.proofs.Seats.{each_seat, seat_absent, seat_kept, seat_set, seat_there}
 use Rattle.acc_queue.specs.Tied.{Line}
-use Rattle.acc_run.specs.WorkSides.{AreEnds, Goes, IsWorkSide, IsLine, WorkSideView, no_line, line_in}
+use Rattle.acc_queue.specs.Seen.{Raised}
+use Rattle.acc_run.specs.WorkSides.{AreEnds, Goes, IsWorkSide, IsLine, WorkSideView, no_line, line_in, published_by, raised_by}
 use Rattle.acc_work.specs.declared.work.Done.{Done}
 use Rattle.acc_work.specs.declared.work.Done.TheVariants as done
-use Rattle.acc_work.specs.Jobs.{JobView, Commits, HasStarted, given_back, performed_now}
+use Rattle.acc_work.specs.Jobs.{JobView, Commits, HasStarted, StartsLoop, given_back, performed_now}
 use Rattle.acc_work.specs.Lanes.{LaneView, IsFresh, lane_in, lanes_with, lane_with_batch, lane_with_left, lane_with_out, no_lane}
 use Rattle.acc_work.specs.Works.{WorkView, HasPerformed, HasQueue, KeepsOrder, Performs, lane_at}
 use Rattle.acc_work.proofs.KeptSteps.{has_advanced, has_waited}
@@ -91,13 +92,15 @@ after_perform config w w' ends at done.Op s k h p = (let a = has_advanced w w' a
 after_perform config w w' ends at done.Idle s k h p = rw (has_waited w w' at p).same s
 
 -- what it did
-pub goes_after : (old : WorkSideView) (w' : WorkView) (at : QueueAt) (answer : Done) → Performs old.work at answer w' → Goes old at answer (record old { work = w' })
-goes_after old w' at done.Op p =
+pub goes_after : (old : WorkSideView) (w' : WorkView) (progress : Raised) (at : QueueAt) (answer : Done) → KeepsOrder old.work → HasQueue old.work at → Performs old.work at answer w'
+    → progress ≡ published_by answer (lane_at w' at).left old.progress at → Goes old at answer (record old { work = w'; progress = progress })
+goes_after old w' progress at done.Op k h p is =
     let a = has_advanced old.work w' at p in
-    record { config = refl; op = a.op; ops = a.ops; left = a.left; can = a.can; performed = a.performed; lines = refl }
-goes_after old w' at done.Idle p =
+    let now : (lane_at w' at).left ≡ a.ops = ap (λ ls. (lane_in ls at).left) a.performed.lanes ∙ ap (λ (x : LaneView). x.left) (seat_set no_lane old.work.lanes at (lane_with_left (lane_at old.work at) a.ops) h.1 (seat_lane old.work at k h)) in
+    record { config = refl; op = a.op; ops = a.ops; left = a.left; can = a.can; performed = a.performed; lines = refl; progress = is ∙ ap (λ ops. raised_by ops old.progress at) now }
+goes_after old w' progress at done.Idle k h p is =
     let x = has_waited old.work w' at p in
-    record { same = ap (λ (w : WorkView). record old { work = w }) x.same; why = x.cannot }
+    record { same = ap (λ (w : WorkView). record old { work = w; progress = progress }) x.same ∙ ap (λ (r : Raised). record old { progress = r }) is; why = x.cannot }
 
 -- ## A loop goes out, and comes back
 
@@ -106,20 +109,25 @@ after_start config w w' ends at job s k h started =
     let out = lane_with_out (lane_at w at) true in
     rw started.new_is (lane_changed config w (record w { lanes = lanes_with w.lanes at out }) ends at out s k h refl refl refl refl)
 
+pub after_going_out : (r : Option JobView) (config : Configuration) (w w' : WorkView) (ends : List Line) (at : QueueAt) → IsWorkSide config w ends → KeepsOrder w → HasQueue w at
+    → IfSome r (λ job. HasStarted w w' at job) → IfNone r ((w' ≡ w) × (StartsLoop w at → ⊥)) → IsWorkSide config w' ends
+after_going_out None config w w' ends at s k h started none = rw none.0 s
+after_going_out (Some job) config w w' ends at s k h started none = after_start config w w' ends at job s k h started
+
 pub after_commit : (config : Configuration) (w w' : WorkView) (ends : List Line) (at : QueueAt) → IsWorkSide config w ends → KeepsOrder w → HasQueue w at → Commits w w' at → IsWorkSide config w' ends
 after_commit config w w' ends at s k h (performed_now kernel uses ops left live p) = has_gone config w w' ends at (op_label.Run kernel uses) ops s k h p
 after_commit config w w' ends at s k h (given_back gone same) =
     let back = lane_with_out (lane_at w at) false in
     rw same (lane_changed config w (record w { lanes = lanes_with w.lanes at back }) ends at back s k h refl refl refl refl)
 
-pub after_job : {A B : Type 0} (r : Result A B) (Out : Type 0) (Same Stray : B → Type 0) (config : Configuration) (w w' : WorkView) (ends : List Line) (at : QueueAt) → IsWorkSide config w ends → KeepsOrder w → HasQueue w at
-    → OnOk r (Out × Commits w w' at) → IfErr r (λ b. Same b × (w' ≡ w) × Stray b) → IsWorkSide config w' ends
-after_job (Ok a) Out Same Stray config w w' ends at s k h committed back = after_commit config w w' ends at s k h committed.1
-after_job (Err b) Out Same Stray config w w' ends at s k h committed back = rw back.1 s
+pub after_job : {A B : Type 0} (r : Result A B) (Out : Type 0) (Same Kept Stray : B → Type 0) (config : Configuration) (w w' : WorkView) (ends : List Line) (at : QueueAt) → IsWorkSide config w ends → KeepsOrder w → HasQueue w at
+    → OnOk r (Out × Commits w w' at) → IfErr r (λ b. Same b × (w' ≡ w) × Kept b × Stray b) → IsWorkSide config w' ends
+after_job (Ok a) Out Same Kept Stray config w w' ends at s k h committed back = after_commit config w w' ends at s k h committed.1
+after_job (Err b) Out Same Kept Stray config w w' ends at s k h committed back = rw back.1 s
 
-pub on_ok : {A B : Type 0} (r : Result A B) (P Q : Type 0) → (P → Q) → OnOk r P → OnOk r Q
-on_ok (Ok a) P Q f h = f h
-on_ok (Err b) P Q f h = tt
+pub on_both : {A B : Type 0} (r : Result A B) (P S Q : Type 0) → (P → S → Q) → OnOk r P → OnOk r S → OnOk r Q
+on_both (Ok a) P S Q f h k = f h k
+on_both (Err b) P S Q f h k = tt
 
 -- ## The first of all
 

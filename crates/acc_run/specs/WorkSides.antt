@@ -1,5 +1,5 @@
 -- What the work lock holds: a work side, and the end of each queue that takes.
-use Rattle.std.specs.Prelude.{◌≡◌, ℕ, ℤ, ◌<◌, ◌≤◌, All, Bool, true, false, ◌&&◌, ◌==◌, Option, Some, None, List, [], ◌∷◌, ◌++◌, length, slice_index_or, slice_set, nat_lt, if◌then◌else◌}
+use Rattle.std.specs.Prelude.{◌≡◌, ℕ, ℤ, ◌^◌, ◌<◌, ◌≤◌, All, Bool, true, false, ◌&&◌, ◌==◌, Option, Some, None, List, [], ◌∷◌, ◌++◌, length, slice_index_or, slice_set, nat_lt, if◌then◌else◌}
 use Rattle.std.specs.Option.{option_map}
 use Rattle.atomic_table.specs.Seated.{TableId}
 use Rattle.acc_base.specs.declared.ids.QueueAt.{QueueAt}
@@ -15,18 +15,22 @@ use Rattle.acc_batch.specs.declared.entry.Told.{Told}
 use Rattle.acc_work.specs.Items.{shown_by}
 use Rattle.acc_batch.specs.declared.label.Label.{Label}
 use Rattle.acc_batch.specs.declared.label.OpLabel.{OpLabel}
+use Rattle.acc_queue.specs.Seen.{Raised, raised_at}
 use Rattle.acc_queue.specs.Tied.{Line, IsFor}
 use Rattle.acc_work.specs.Jobs.{JobView, Commits, HasStarted, IsOut}
 use Rattle.acc_work.specs.Lanes.{LaneView, last_of, lane_with_batch, lanes_with}
+use Rattle.acc_work.specs.Logs.{batches_done}
 use Rattle.acc_work.specs.declared.work.Done.{Done}
 use Rattle.acc_work.specs.declared.work.Done.TheVariants as done
-use Rattle.acc_work.specs.Works.{WorkView, HasPerformed, HasTold, Tells, can_go, lane_at}
+use Rattle.acc_work.specs.Works.{WorkView, HasPerformed, HasTold, Tells, can_go, lane_at, taken_labels}
 
--- The configuration, the work side, and of each queue what its end has taken, by device, then in queue order.
+-- The configuration, the work side, of each queue what its end has taken, by device, then in queue order, and the numbers that are
+-- published of the queues.
 pub record WorkSideView : Type 0 where
   pub config : Configuration
   pub work : WorkView
   pub lines : List Line
+  pub progress : Raised
 
 abbrev pub no_id : TableId
 no_id = record { words = 0; slots = 0; views_name = 0; atom = 0; block = 0; offset = 0; slot_names = [] }
@@ -52,6 +56,27 @@ pub record IsWorkSide (config : Configuration) (w : WorkView) (ends : List Line)
   pub arrays : w.arrays ≡ config.arrays
   pub devices : length w.memory.devices ≡ config.devices
 
+-- the number of a queue; a queue that isn't there has none
+abbrev pub number_in : List ℕ → QueueAt → ℕ
+number_in numbers at = if nat_lt at.queue QUEUES then slice_index_or numbers (seat at) 0 else 0
+
+-- What is published whenever the lock is free: of each queue how many batches it has performed, its close among them. It took fewer
+-- than 2^62.
+pub record IsPublished (w : WorkView) (numbers : List ℕ) : Type 0 where
+  pub each : (at : QueueAt) → number_in numbers at ≡ batches_done (taken_labels w) w.work at
+  pub few : (at : QueueAt) → length (lane_at w at).taken < 2 ^ 62
+  pub count : length numbers ≡ length w.lanes
+
+-- the numbers, where an operation of a queue was performed that left these of its batch
+abbrev pub raised_by : List OpLabel → Raised → QueueAt → Raised
+raised_by [] p at = raised_at p at
+raised_by (op ∷ ops) p at = p
+
+-- and where none was performed they stay
+abbrev pub published_by : Done → List OpLabel → Raised → QueueAt → Raised
+published_by done.Op left p at = raised_by left p at
+published_by done.Idle left p at = p
+
 -- The ends of all queues of a configuration, before anything was sent or taken.
 pub record AreEnds (config : Configuration) (ends : List Line) : Type 0 where
   pub count : length ends ≡ queue_count config
@@ -71,8 +96,10 @@ pub record HasTaken (old new : WorkSideView) (at : QueueAt) (number : ℕ) : Typ
   pub empty : (lane_at old.work at).left ≡ []
   pub work : new.work ≡ record old.work { lanes = lanes_with old.work.lanes at (lane_with_batch (lane_at old.work at) label) }
   pub lines : new.lines ≡ lines_taken old.lines at label
+  pub progress : new.progress ≡ old.progress
 
--- A queue performed an operation: the lane's next operation, which could be performed, joined the log.
+-- A queue performed an operation: the lane's next operation, which could be performed, joined the log; and where it was the last of
+-- its batch, the queue's number was raised.
 pub record HasGone (old new : WorkSideView) (at : QueueAt) : Type 0 where
   pub config : new.config ≡ old.config
   pub op : OpLabel
@@ -81,6 +108,7 @@ pub record HasGone (old new : WorkSideView) (at : QueueAt) : Type 0 where
   pub can : can_go old.work at (op ∷ ops) ≡ true
   pub performed : HasPerformed old.work new.work at op ops
   pub lines : new.lines ≡ old.lines
+  pub progress : new.progress ≡ raised_by ops old.progress at
 
 -- A queue performed none: its next operation can't be performed, and nothing changed.
 pub record HasStayed (old new : WorkSideView) (at : QueueAt) : Type 0 where
@@ -96,13 +124,15 @@ pub record HasGoneOut (old new : WorkSideView) (at : QueueAt) (job : JobView) : 
   pub config : new.config ≡ old.config
   pub started : HasStarted old.work new.work at job
   pub lines : new.lines ≡ old.lines
+  pub progress : new.progress ≡ old.progress
 
--- It has come back, and is performed, or its lane has it back.
+-- It has come back, and is performed, or its lane has it back. Where nothing is left of the batch, the queue's number was raised.
 pub record HasComeBack (old new : WorkSideView) (job : JobView) : Type 0 where
   pub config : new.config ≡ old.config
   pub out : IsOut old.work job
   pub commits : Commits old.work new.work job.at
   pub lines : new.lines ≡ old.lines
+  pub progress : new.progress ≡ raised_by (lane_at new.work job.at).left old.progress job.at
 
 -- A job that isn't the one that is out changes nothing.
 pub record IsStray (old new : WorkSideView) (job : JobView) : Type 0 where
@@ -117,6 +147,7 @@ pub record HasRecorded (old new : WorkSideView) (host : ℕ) (item : ItemLabel) 
   pub answered : answer ≡ shown_by what
   pub told : HasTold old.work new.work host what
   pub lines : new.lines ≡ old.lines
+  pub progress : new.progress ≡ old.progress
 
 -- the number of the batch of which something is left in a lane
 abbrev pub number_left : LaneView → Option ℕ

@@ -14,6 +14,8 @@ mod place_side;
 mod run;
 mod runtime;
 mod token;
+mod turn;
+mod watch;
 mod work_side;
 mod workers;
 

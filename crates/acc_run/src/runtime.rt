@@ -2,7 +2,7 @@
 
 ghost use Rattle.acc_base.specs.declared.config.TheConstants.{MAX_DEVICES, MAX_HOSTS};
 ghost use Rattle.acc_base.specs.declared.ids.TheConstants.{QUEUES};
-ghost use Rattle.std.specs.Prelude.{◌<◌, ◌≤◌, ◌≡◌, ◌*◌, ◌⊎◌, ◌++◌, ◌∷◌, [], IfOk, IfErr, OnErr, false, length};
+ghost use Rattle.std.specs.Prelude.{◌<◌, ◌≤◌, ◌≡◌, ◌*◌, ◌⊎◌, ◌++◌, ◌∷◌, [], IfOk, IfErr, OnErr, false, true, is_some, length};
 ghost use Rattle.acc_base.specs.declared.fault.Fault.TheVariants.{BadRange, HostsDiffer, Memory, TooMany, Unfinished};
 ghost use Rattle.acc_host.specs.Engines.{MayRecord};
 ghost use Rattle.acc_run.specs.Calling.{IsAnswerTo};
@@ -10,7 +10,6 @@ ghost use Rattle.acc_run.specs.Finishing.{Abandoned, Finished, HasCounts, histor
 ghost use Rattle.acc_run.specs.PlaceSides.{is_of_ending};
 ghost use Rattle.acc_run.specs.Tokens.{AreTokens};
 ghost use Rattle.acc_run.specs.declared.token.TokenEntry.TheVariants as listed;
-ghost use Rattle.acc_work.specs.Works.{HasQueue};
 ghost use Rattle.acc_work.specs.declared.item.ItemLabel.TheVariants as to_record;
 ghost use Rattle.acc_work.specs.declared.item.Shown.TheVariants as shown;
 
@@ -20,13 +19,16 @@ use crate::finish::{Sides, SidesRefused, finish_sides};
 use crate::pause::Pause;
 use crate::place_side::PlaceSide;
 use crate::token::HostToken;
+use crate::turn::{Turn, take_turn};
+use crate::watch::Watch;
 use crate::work_side::WorkSide;
 use crate::workers::Crew;
 use acc_base::{Config, DeviceId, Fault, HostId, QueueAt, QueueCounts};
 use acc_host::Outcome;
 use acc_kernel::Job;
 use acc_place::{Directive, Placed};
-use acc_work::{Ahead, Done, Item, ItemLabel, JobOut, Shown};
+use acc_queue::{Progress, Reader};
+use acc_work::{Item, ItemLabel, JobOut, Shown};
 use std::alloc::Global;
 use std::marker::Model;
 use std::sync::{Mutex, Wait};
@@ -41,6 +43,10 @@ pub struct Runtime {
     work: Mutex<WorkSide>,
     // where the worker of each queue sleeps that finds it empty, by device, then in queue order
     parkers: Vec<Parker>,
+    // a reader of how many batches each queue has performed, off which workers split theirs
+    watch: Mutex<Reader>,
+    // and the first, until it is taken; behind a lock, as threads share the runtime
+    reader: Option<Mutex<Reader>>,
 }
 
 // What of a runtime stands behind no lock.
@@ -49,14 +55,17 @@ struct Frame {
     alloc: Global,
     config: Config,
     parkers: Vec<Parker>,
+    watch: Mutex<Reader>,
+    reader: Option<Mutex<Reader>>,
 }
 
 impl Model for Runtime {
+    ghost use Rattle.std.specs.Prelude.{is_some};
     ghost use Rattle.acc_run.specs.Runtimes.{RuntimeView};
 
     ghost Value = { RuntimeView };
 
-    ghost view = { λ r. record { config = r.config } };
+    ghost view = { λ r. record { config = r.config; has_reader = is_some r.reader } };
 }
 
 /// A runtime that can't be finished or abandoned, and the tokens of its hosts, as they were, and why.
@@ -80,20 +89,6 @@ pub trait Gate {
     fn work(&self, _at: QueueAt, _n: u64) {}
 }
 
-// What a worker did under the work lock.
-enum Turn {
-    Did,
-    // The next operation can't go on yet.
-    Blocked,
-    // Nothing is in the lane, and the queue gave nothing.
-    Idle,
-    // A batch with this number is in the lane, which hasn't passed the gate; and its first loop.
-    Holds { number: u64, ahead: Option<Ahead> },
-    // The next operation, a loop, is to be computed.
-    Starts { job: JobOut },
-    Ended,
-}
-
 impl Runtime {
     /// Nothing is accepted or performed yet. With it comes a token for each host.
     ///
@@ -104,20 +99,36 @@ impl Runtime {
         ensures config { IfOk result (λ r. r.0.config ≡ config.now) }
         ensures tokens { IfOk result (λ r. AreTokens 0 r.1.items) }
         ensures count { IfOk result (λ r. length r.1.items ≡ config.now.hosts) }
+        ensures reader { IfOk result (λ r. r.0.has_reader ≡ true) }
         ensures fault { IfErr result (λ f. f ≡ Memory) }
     {
         let copy = config.try_clone()?;
-        let tokens = tokens_of(alloc, config)?;
         let parkers = parkers_of(alloc, config)?;
-        let (place, work) = sides_of(alloc, config)?;
+        let (place, work, mut reader, tokens) = sides_of(alloc, config)?;
+        let Ok(watch) = reader.split() else {
+            return Err(Fault::Memory);
+        };
         let runtime = Runtime {
             alloc,
             config: copy,
             place: Mutex::new(place),
             work: Mutex::new(work),
             parkers,
+            watch: Mutex::new(watch),
+            reader: Some(Mutex::new(reader)),
         };
         Ok((runtime, tokens))
+    }
+
+    /// The first reader of how many batches each queue has performed, once. Others are split off it.
+    pub fn take_reader(&mut self) -> Option<Reader>
+        ensures given { is_some result ≡ self.old.has_reader }
+        ensures gone { self.new ≡ record self.old { has_reader = false } }
+    {
+        match self.reader.take() {
+            None => None,
+            Some(reader) => Some(reader.into_inner()),
+        }
     }
 
     /// How many devices there are.
@@ -178,29 +189,32 @@ impl Runtime {
         ensures refused { OnErr result (token.new.entries ≡ token.old.entries) }
         ensures fault { IfErr result (λ fault. (fault ≡ Memory) ⊎ (fault ≡ TooMany)) }
     {
-        let host = token.host();
         token.spare()?;
-        self.until_seen(rt, host, device, counts)?;
+        self.until_seen(rt, token, device, counts)?;
         token.note_item(ItemLabel::Seen { device, counts }, Shown::Nothing);
         Ok(())
     }
 
-    // Tries again until the item is recorded, with a pause behind each look in vain.
+    // Tries again until the item is recorded, with a pause behind each look in vain. While what is published shows that the wait isn't
+    // over, the lock isn't asked for.
     #[tactic(auto, using(crate::proofs::Refusals::seen_faults))]
     fn until_seen<R: Wait>(
         &self,
         rt: &R,
-        host: HostId,
+        token: &mut HostToken,
         device: DeviceId,
         counts: QueueCounts,
     ) -> Result<(), Fault>
-        requires { host < MAX_HOSTS }
-        ensures { IfErr result (λ fault. (fault ≡ Memory) ⊎ (fault ≡ TooMany)) }
+        ensures token { token.new ≡ token.old }
+        ensures fault { IfErr result (λ fault. (fault ≡ Memory) ⊎ (fault ≡ TooMany)) }
     {
+        let host = token.host();
         let mut pause = Pause::new();
         for _ in rt.forever() {
-            if self.work.lock(rt).see(host, device, counts)? {
-                return Ok(());
+            if token.is_due(device, &counts) {
+                if self.work.lock(rt).see(host, device, counts)? {
+                    return Ok(());
+                }
             }
             pause.wait(rt);
         }
@@ -300,9 +314,10 @@ impl Runtime {
     }
 
     /// A worker of a queue: takes its batches, passes the gate with each, and performs them, one operation for each time that the lock
-    /// is got, but for loops, which it computes with no lock held, where it has memory for what they read and assign. Where its next operation can't go on it pauses, each time longer, for a millisecond at most; where it finds nothing it
-    /// sleeps until a batch is placed, for fifty milliseconds at most. Ends behind the queue's close, where the gate answers false, or
-    /// where there is no such queue.
+    /// is got, but for loops, which it computes with no lock held, where it has memory for what they read and assign. Where its next
+    /// operation can't go on it pauses, each time longer, for a millisecond at most, and doesn't ask for the lock while it sees that
+    /// what it awaits isn't performed; where it finds nothing it sleeps until a batch is placed, for fifty milliseconds at most. Ends
+    /// behind the queue's close, where the gate answers false, or where there is no such queue.
     pub fn serve<R: Wait, G: Gate>(&self, rt: &R, at: QueueAt, gate: &G) {
         let QueueAt { device, queue } = at;
         let Some(parker) = self.parkers.get(QueueAt { device, queue }.seat()) else {
@@ -312,11 +327,19 @@ impl Runtime {
         let mut passed = 0u64;
         // where its last loop was computed
         let mut room = None;
+        let mut watch = Watch::new(self.one_more_reader(rt));
         let mut pause = Pause::new();
         for _ in rt.forever() {
+            if !watch.is_due(device) {
+                pause.wait(rt);
+                continue;
+            }
             match self.turn(rt, QueueAt { device, queue }, passed, &mut room) {
                 Turn::Did => pause.begin_anew(),
-                Turn::Blocked => pause.wait(rt),
+                Turn::Blocked { awaited } => {
+                    watch.begin(awaited);
+                    pause.wait(rt);
+                }
                 Turn::Idle => pause.rest(rt, parker),
                 Turn::Holds { number, ahead } => {
                     if !gate.pass(QueueAt { device, queue }, number) {
@@ -338,6 +361,16 @@ impl Runtime {
                 Turn::Ended => return,
             }
         }
+    }
+
+    // One turn of a worker, under the work lock.
+    fn turn<R: Wait>(&self, rt: &R, at: QueueAt, passed: u64, room: &mut Option<Box<Job>>) -> Turn {
+        take_turn(rt, &mut self.work.lock(rt), at, passed, room)
+    }
+
+    // A reader for a worker, unless memory is refused.
+    fn one_more_reader<R: Wait>(&self, rt: &R) -> Option<Reader> {
+        self.watch.lock(rt).split().ok()
     }
 
     // Computes a loop with no lock held, and gives it back under the work lock. Answers with its room, if its lane still waited for it.
@@ -402,7 +435,7 @@ impl Runtime {
 
     // Both sides out of their locks, and the rest.
     fn into_parts(self) -> (Frame, Sides)
-        ensures { result.0.config ≡ self.config }
+        ensures { (result.0.config ≡ self.config) × (is_some result.0.reader ≡ self.has_reader) }
     {
         let Runtime {
             alloc,
@@ -410,6 +443,8 @@ impl Runtime {
             place,
             work,
             parkers,
+            watch,
+            reader,
         } = self;
         let sides = Sides {
             place: place.into_inner(),
@@ -420,55 +455,18 @@ impl Runtime {
                 alloc,
                 config,
                 parkers,
+                watch,
+                reader,
             },
             sides,
         )
-    }
-
-    // One turn of a worker, under the work lock.
-    fn turn<R: Wait>(&self, rt: &R, at: QueueAt, passed: u64, room: &mut Option<Box<Job>>) -> Turn {
-        let QueueAt { device, queue } = at;
-        let mut work = self.work.lock(rt);
-        if !work.has_queue(QueueAt { device, queue }) || work.is_closed(QueueAt { device, queue }) {
-            return Turn::Ended;
-        }
-        match work.in_lane(QueueAt { device, queue }) {
-            None => match work.take(rt, QueueAt { device, queue }) {
-                None => Turn::Idle,
-                Some(number) => {
-                    let ahead = work.ahead(QueueAt { device, queue });
-                    Turn::Holds { number, ahead }
-                }
-            },
-            Some(number) => {
-                if passed < number {
-                    let ahead = work.ahead(QueueAt { device, queue });
-                    return Turn::Holds { number, ahead };
-                }
-                go_on(&mut work, QueueAt { device, queue }, room)
-            }
-        }
-    }
-}
-
-// The next operation of a queue is taken out, if it is a loop, and else performed, if it can be.
-fn go_on(work: &mut WorkSide, at: QueueAt, room: &mut Option<Box<Job>>) -> Turn
-    requires { HasQueue work.old.work at }
-{
-    let QueueAt { device, queue } = at;
-    match work.start_job(QueueAt { device, queue }, room) {
-        Some(job) => Turn::Starts { job },
-        None => match work.perform(QueueAt { device, queue }) {
-            Done::Op => Turn::Did,
-            Done::Idle => Turn::Blocked,
-        },
     }
 }
 
 // The runtime that was refused, with both sides behind their locks again.
 fn runtime_of(frame: Frame, refused: SidesRefused) -> FinishRefused
     ensures fault { result.fault ≡ refused.fault }
-    ensures runtime { result.runtime.config ≡ frame.config }
+    ensures runtime { (result.runtime.config ≡ frame.config) × (result.runtime.has_reader ≡ is_some frame.reader) }
     ensures tokens { result.tokens ≡ refused.tokens }
 {
     let SidesRefused {
@@ -484,20 +482,30 @@ fn runtime_of(frame: Frame, refused: SidesRefused) -> FinishRefused
             place: Mutex::new(sides.place),
             work: Mutex::new(sides.work),
             parkers: frame.parkers,
+            watch: frame.watch,
+            reader: frame.reader,
         },
         tokens,
     }
 }
 
-// What both locks hold at first.
-fn sides_of(alloc: Global, config: &Config) -> Result<(PlaceSide, WorkSide), Fault>
-    ensures { IfErr result (λ f. f ≡ Memory) }
+// What both locks hold at first, the reader of what the work side publishes, and a token for each host.
+fn sides_of(
+    alloc: Global,
+    config: &Config,
+) -> Result<(PlaceSide, WorkSide, Reader, Vec<HostToken>), Fault>
+    ensures tokens { IfOk result (λ r. AreTokens 0 r.3.items) }
+    ensures count { IfOk result (λ r. length r.3.items ≡ config.now.hosts) }
+    ensures fault { IfErr result (λ f. f ≡ Memory) }
 {
+    config.keeps();
     let (senders, takers) = ends_of(alloc, config)?;
     let copy = config.try_clone()?;
     let place = PlaceSide::new(alloc, copy, senders)?;
-    let work = WorkSide::new(alloc, config, takers)?;
-    Ok((place, work))
+    let (publisher, mut reader) = Progress::new(alloc, config.devices())?;
+    let tokens = tokens_of(alloc, config, &mut reader)?;
+    let work = WorkSide::new(alloc, config, takers, publisher)?;
+    Ok((place, work, reader, tokens))
 }
 
 // A parker for each queue, at which nobody sleeps.
@@ -513,7 +521,8 @@ fn parkers_of(alloc: Global, config: &Config) -> Result<Vec<Parker>, Fault>
 
 // A token for each host, that has nothing yet.
 #[tactic(auto, using(crate::proofs::MoreTokens::tokens_more))]
-fn tokens_of(alloc: Global, config: &Config) -> Result<Vec<HostToken>, Fault>
+fn tokens_of(alloc: Global, config: &Config, reader: &mut Reader) -> Result<Vec<HostToken>, Fault>
+    ensures reader { reader.new ≡ reader.old }
     ensures tokens { IfOk result (λ tokens. AreTokens 0 tokens.items) }
     ensures count { IfOk result (λ tokens. length tokens.items ≡ config.now.hosts) }
     ensures fault { IfErr result (λ f. f ≡ Memory) }
@@ -521,7 +530,8 @@ fn tokens_of(alloc: Global, config: &Config) -> Result<Vec<HostToken>, Fault>
     config.keeps();
     let mut tokens = Vec::new(alloc);
     for host in 0..config.hosts() {
-        tokens.push(HostToken::new(alloc, HostId::new(host)))?;
+        let own = reader.split()?;
+        tokens.push(HostToken::new(alloc, HostId::new(host), own))?;
     }
     Ok(tokens)
 }

@@ -6,8 +6,10 @@ ghost use Rattle.acc_base.specs.declared.fault.Fault.TheVariants.{Memory};
 ghost use Rattle.acc_run.specs.Tokens.{items_in, has_room};
 ghost use Rattle.acc_run.specs.declared.token.TokenEntry.TheVariants as listed;
 
-use acc_base::{Fault, HostId};
+use crate::watch::are_seen;
+use acc_base::{DeviceId, Fault, HostId, QueueCounts};
 use acc_place::{Directive, Placed};
+use acc_queue::Reader;
 use acc_work::{ItemLabel, Shown};
 use std::alloc::Global;
 use std::marker::Model;
@@ -32,6 +34,8 @@ pub struct HostToken {
     entries: Vec<TokenEntry>,
     // how many of them are items
     items: u64,
+    // what its host looks at before it asks whether a wait is over
+    reader: Reader,
 }
 
 impl Model for HostToken {
@@ -51,8 +55,8 @@ impl Model for HostToken {
 }
 
 impl HostToken {
-    /// Of a host that has done nothing yet.
-    pub(crate) fn new(alloc: Global, host: HostId) -> Self
+    /// Of a host that has done nothing yet, with a reader of the queues' progress.
+    pub(crate) fn new(alloc: Global, host: HostId, reader: Reader) -> Self
         requires { host < MAX_HOSTS }
         ensures host { result.host ≡ host }
         ensures entries { result.entries ≡ [] }
@@ -61,7 +65,15 @@ impl HostToken {
             host,
             entries: Vec::new(alloc),
             items: 0,
+            reader,
         }
+    }
+
+    // Whether each queue of a device has published that it has performed so many batches: no more than a reason to ask.
+    pub(crate) fn is_due(&mut self, device: DeviceId, counts: &QueueCounts) -> bool
+        ensures { self.new ≡ self.old }
+    {
+        are_seen(&mut self.reader, device, counts)
     }
 
     /// Which host it is.

@@ -6,6 +6,7 @@ use Rattle.acc_base.specs.declared.ids.QueueAt.{QueueAt}
 use Rattle.acc_base.specs.declared.ids.TheConstants.{QUEUES}
 use Rattle.acc_base.specs.Queues.{seat}
 use Rattle.acc_batch.specs.declared.label.OpLabel.{OpLabel}
+use Rattle.acc_batch.specs.declared.label.OpLabel.TheVariants.{Await}
 use Rattle.acc_batch.specs.Ops.{loop_of}
 use Rattle.acc_batch.specs.declared.label.Label.{Label}
 use Rattle.acc_kernel.specs.Jobs.{Use}
@@ -43,6 +44,11 @@ lane_with_left lane ops = record lane { left = ops; out = false }
 -- with its next operation out, or back
 abbrev pub lane_with_out : LaneView → Bool → LaneView
 lane_with_out lane out = record lane { out = out }
+
+-- what comes next awaits, if it is an await
+abbrev pub awaited_next : List OpLabel → Option (ℕ × ℕ)
+awaited_next (Await queue number ∷ ops) = Some (queue, number)
+awaited_next ops = None
 
 -- the loop that comes next
 abbrev pub next_loop : List OpLabel → Option (Loop × List Use)

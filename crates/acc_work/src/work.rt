@@ -12,7 +12,7 @@ ghost use Rattle.acc_batch.specs.declared.entry.Told.{Told};
 ghost use Rattle.acc_work.specs.Items.{HasRoom, has_cells, label_of, shown_by};
 ghost use Rattle.acc_work.specs.Jobs.{StartsLoop, HasStarted, IsOut, Commits};
 ghost use Rattle.acc_work.specs.Kept.{IsKept};
-ghost use Rattle.acc_work.specs.Lanes.{IsFresh, lane_with_batch, last_of, nth_taken, lanes_with, no_lane};
+ghost use Rattle.acc_work.specs.Lanes.{IsFresh, awaited_next, lane_with_batch, last_of, nth_taken, lanes_with, no_lane};
 ghost use Rattle.acc_work.specs.Logs.{items_of, all_items, batches_done, all_done, await_allows, host_allows, after_item, value};
 ghost use Rattle.acc_work.specs.Orders.{ShowsTruth};
 ghost use Rattle.acc_work.specs.Remembering.{Remembers, blocks_in};
@@ -320,6 +320,16 @@ impl Work {
         ensures { IfSome result (λ a. first_loop (lane_at self.now at).left ≡ Some a) }
     {
         self.lane(at)?.ahead()
+    }
+
+    /// What the next operation of a queue's lane awaits, if it is an await: a queue of its device, and the number of a batch.
+    pub fn awaited(&self, at: QueueAt) -> Option<(QueueId, u64)>
+        ensures { result ≡ awaited_next (lane_at self.now at).left }
+    {
+        match self.lane(at)?.first()? {
+            Op::Await { queue, number } => Some((*queue, *number)),
+            _ => None,
+        }
     }
 
     /// Takes the next operation of a queue out, to be computed while others have the work side, where it is a loop that `perform`

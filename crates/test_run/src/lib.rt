@@ -16,6 +16,8 @@ mod meeting;
 #[cfg(test)]
 mod memory;
 #[cfg(test)]
+mod readers;
+#[cfg(test)]
 mod runs;
 #[cfg(test)]
 mod stops;

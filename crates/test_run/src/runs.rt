@@ -116,8 +116,8 @@ fn list_all(tokens: &[HostToken]) -> bool {
         .all(|token| count_in(token) == (4 * ROUNDS, 2 * ROUNDS))
 }
 
-// A new runtime, with its hosts and their tokens.
-fn opened(
+/// A new runtime, with its hosts and their tokens.
+pub(crate) fn opened(
     alloc: Global,
     config: &Config,
     programs: Vec<HostProgram>,

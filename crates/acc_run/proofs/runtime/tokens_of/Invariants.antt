@@ -6,4 +6,5 @@ abbrev pub invariant-loop-host : goal.invariant-loop-host
 invariant-loop-host l = record {
   tokens : AreTokens 0 l.tokens.items;
   count : length l.tokens.items ≡ l.host;
+  reader : l.reader ≡ l.fn.reader;
 }

@@ -8,4 +8,4 @@ tell-requires-clause-item c =
     let i = c.self.inside in
     let there : has_cells i.work.arrays c.args.item ≡ true = rw (← c.label.ensures) (sym c.has_cells.ensures ∙ c.if-not-has_cells.false) in
     rw (← c.self.view_is)
-    (may_tell i.work c.args.item c.keeps.ensures.memory c.self.invariant.limits c.requires.item there)
+    (may_tell i.work c.args.item c.keeps.ensures.memory c.self.invariant.0.limits c.requires.item there)
