@@ -4,17 +4,20 @@
 mod fault;
 mod input;
 mod laws;
+mod monitor;
 mod options;
 mod program;
 mod remains;
 mod replays;
 mod runs;
 
+pub use acc_queue::Reader;
 pub use acc_run::Gate;
 pub use acc_script::{ReadFault, ReadKind};
 pub use fault::{DriverFault, ReplayFault};
 pub use input::split;
 pub use laws::{worked_replays, worked_splits};
+pub use monitor::{Monitor, NoMonitor};
 pub use options::{Ended, Options};
 pub use remains::Remains;
 pub use replays::{

@@ -16,6 +16,7 @@ ghost use Rattle.acc_driver.specs.Runs.{AreAbandoned, AreFinished, IsConfigured,
 
 use crate::fault::DriverFault;
 use crate::input::read_text;
+use crate::monitor::{Monitor, run_hosts};
 use crate::options::{Ended, Options};
 use crate::program::{config_of, copies_of, has_refused, read_script};
 use crate::remains::Remains;
@@ -43,7 +44,8 @@ impl Gate for OpenGate {
 
 /// Reads a script, runs its hosts and its queues, each in a thread of its own, and writes the report. What two threads do at
 /// once may come in either order, so the same script may be reported in another way the next time. Where the gate kept a queue from
-/// its batches, what it hasn't performed is discarded, and reported so. What the run left is then put into `remains`.
+/// its batches, what it hasn't performed is discarded, and reported so. A monitor, if there is one, is shown how far the run has come
+/// while it runs. What the run left is then put into `remains`.
 ///
 /// # Errors
 ///
@@ -51,12 +53,13 @@ impl Gate for OpenGate {
 /// refused, with their fault, or with `HostsDiffer` where what hosts list differs from what was done; `Output` where the writer failed or took nothing, which may have taken a beginning of the report; and `Memory` for want of
 /// memory, or of a thread for each queue. A host that gets no thread is refused `Memory`, and reported so. Nothing is written but
 /// for `Output`.
-pub fn run_script<R: Threads + Wait + Sync, S: Read, G: Gate + Sync, W: Write>(
+pub fn run_script<R: Threads + Wait + Sync, S: Read, G: Gate + Sync, M: Monitor + Sync, W: Write>(
     rt: &R,
     alloc: Global,
     script: &mut S,
     options: Options,
     gate: &G,
+    monitor: Option<&M>,
     writer: &mut W,
     remains: &mut Remains,
 ) -> Result<Ended, DriverFault>
@@ -68,18 +71,19 @@ pub fn run_script<R: Threads + Wait + Sync, S: Read, G: Gate + Sync, W: Write>(
         Err(fault) => return Err(fault.of_reader()),
     };
     match read_script(alloc, text.as_slice()) {
-        Ok(script) => run(rt, alloc, script, options, gate, writer, remains),
+        Ok(script) => run(rt, alloc, script, options, gate, monitor, writer, remains),
         Err(fault) => Err(fault.of_input()),
     }
 }
 
 // Runs what a script says by threads, writes the report, and hands out what the run left.
-fn run<R: Threads + Wait + Sync, G: Gate + Sync, W: Write>(
+fn run<R: Threads + Wait + Sync, G: Gate + Sync, M: Monitor + Sync, W: Write>(
     rt: &R,
     alloc: Global,
     script: Script,
     options: Options,
     gate: &G,
+    monitor: Option<&M>,
     writer: &mut W,
     remains: &mut Remains,
 ) -> Result<Ended, DriverFault>
@@ -102,7 +106,7 @@ fn run<R: Threads + Wait + Sync, G: Gate + Sync, W: Write>(
         Ok(config) => config,
         Err(fault) => return Err(fault.of_input()),
     };
-    let outcome = match run_threads(rt, alloc, &config, programs, gate) {
+    let outcome = match run_threads(rt, alloc, &config, programs, gate, monitor) {
         Ok(outcome) => outcome,
         Err(Fault::Memory) => return Err(DriverFault::Memory),
         Err(fault) => return Err(DriverFault::Runtime(fault)),
@@ -124,12 +128,13 @@ fn run<R: Threads + Wait + Sync, G: Gate + Sync, W: Write>(
 }
 
 // Runs programs by threads to their end, and tells what they leave.
-fn run_threads<R: Threads + Wait + Sync, G: Gate + Sync>(
+fn run_threads<R: Threads + Wait + Sync, G: Gate + Sync, M: Monitor + Sync>(
     rt: &R,
     alloc: Global,
     config: &Config,
     programs: Vec<HostProgram>,
     gate: &G,
+    monitor: Option<&M>,
 ) -> Result<Outcome, Fault>
     requires numbered { AreNumbered 0 programs.items }
     requires count { length programs.items ≡ config.now.hosts }
@@ -139,9 +144,9 @@ fn run_threads<R: Threads + Wait + Sync, G: Gate + Sync>(
 {
     new_hosts_are_paired();
     tokens_follow();
-    let (runtime, tokens) = Runtime::new(alloc, config)?;
+    let (mut runtime, tokens) = Runtime::new(alloc, config)?;
     let hosts = ready_hosts(alloc, programs)?;
-    let (hosts, tokens) = match runtime.run(rt, alloc, gate, hosts, tokens) {
+    let (hosts, tokens) = match run_hosts(rt, alloc, &mut runtime, gate, hosts, tokens, monitor) {
         Ok(back) => back,
         Err((fault, _, _)) => return Err(fault),
     };

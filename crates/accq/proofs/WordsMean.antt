@@ -5,7 +5,7 @@ use Rattle.accq.specs.worked.Words.{AreAsked, AreRefused}
 
 pub are_asked : AreAsked
 unfolding clap_on_literals
-are_asked = record { names = refl; before = refl; between = refl; behind = refl; all = refl; one_name = refl; around = refl; behind_dashes = refl }
+are_asked = record { names = refl; before = refl; between = refl; behind = refl; all = refl; one_name = refl; around = refl; told = refl; behind_dashes = refl }
 
 pub are_refused : AreRefused
 unfolding clap_on_literals
@@ -26,5 +26,7 @@ are_refused = record {
   no_subcommand = refl;
   help = refl;
   help_behind = refl;
+  progress_of_a_replay = refl;
+  a_flag_with_a_value = refl;
   version = refl;
 }

@@ -1,6 +1,6 @@
 -- What the words of a command line ask for. How a parser goes over words is told by the crate clap (`subcommand_of` gives what they say, `fault_of`
 -- what is wrong with them); which words there are, and what they mean, stands here.
-use Rattle.std.specs.Prelude.{◌&&◌, ℕ, List, [], ◌∷◌, Option, Some, None, option_and_then, option_map, bytes_eq, codes, nat_le, true, if◌then◌else◌}
+use Rattle.std.specs.Prelude.{◌&&◌, ℕ, Bool, false, List, [], ◌∷◌, Option, Some, None, option_and_then, option_map, bytes_eq, codes, nat_le, true, if◌then◌else◌}
 use Rattle.std.specs.Char.{is_ascii_digit}
 use Rattle.std.specs.List.{list_all}
 use Rattle.std.specs.Str.Parse.{digits_value}
@@ -12,7 +12,7 @@ use Rattle.accq.specs.declared.command.Run.{Run}
 use Rattle.accq.specs.declared.command.Task.{Task}
 use Rattle.accq.specs.declared.command.Task.TheVariants as task
 use Rattle.clap.specs.Simple.{on_top}
-use Rattle.clap.specs.declared.builder.ArgAction.TheVariants.{Set}
+use Rattle.clap.specs.declared.builder.ArgAction.TheVariants.{Set, SetTrue}
 use Rattle.clap.specs.declared.builder.value_parser.ValueParser.TheVariants.{Unsigned}
 
 -- ## The words that there are
@@ -26,6 +26,10 @@ abbrev pub number_rule : Text → Text → ℕ → Rule
 number_rule id default most =
     record (new_rule id) { long = Some id; value_names = 1; defaults = default ∷ []; parser = Some (Unsigned 1 most) }
 
+-- a flag
+abbrev pub flag_rule : Text → Rule
+flag_rule id = record (new_rule id) { long = Some id; action = Some SetTrue }
+
 -- [--devices N] [--cells N] [--room N]
 abbrev pub with_options : App → App
 with_options app =
@@ -36,9 +40,9 @@ with_options app =
 abbrev pub replay_app : App
 replay_app = with_options (with_rule (with_rule (new_app (codes "replay")) (name_rule (codes "SCRIPT"))) (name_rule (codes "SCHEDULE")))
 
--- accq run SCRIPT, with options
+-- accq run SCRIPT [--progress], with options
 abbrev pub run_app : App
-run_app = with_options (with_rule (new_app (codes "run")) (name_rule (codes "SCRIPT")))
+run_app = with_options (with_rule (with_rule (new_app (codes "run")) (name_rule (codes "SCRIPT"))) (flag_rule (codes "progress")))
 
 abbrev pub accq_app : App
 accq_app =
@@ -52,10 +56,11 @@ pub record AskedReplay : Type 0 where
   pub schedule : Text
   pub options : Options
 
--- The script of a file is to be run, by its name, under options.
+-- The script of a file is to be run, by its name, under options; and whether it is told how far the run has come.
 pub record AskedRun : Type 0 where
   pub script : Text
   pub options : Options
+  pub progress : Bool
 
 -- What words can ask for.
 pub data Asked : Type 0 where
@@ -81,9 +86,18 @@ replay_in rows =
     option_and_then (λ options. option_and_then (λ script. option_map (λ schedule. record { script = script; schedule = schedule; options = options })
     (first_of (codes "SCHEDULE") rows)) (first_of (codes "SCRIPT") rows)) (options_in rows)
 
+-- a flag stands there
+abbrev pub is_true : Option Text → Bool
+is_true None = false
+is_true (Some text) = bytes_eq text (codes "true")
+
+abbrev pub has_flag : List Row → Text → Bool
+has_flag rows id = is_true (first_of id rows)
+
 abbrev pub run_in : List Row → Option AskedRun
 run_in rows =
-    option_and_then (λ options. option_map (λ script. record { script = script; options = options }) (first_of (codes "SCRIPT") rows)) (options_in rows)
+    option_and_then (λ options. option_map (λ script. record { script = script; options = options; progress = has_flag rows (codes "progress") })
+    (first_of (codes "SCRIPT") rows)) (options_in rows)
 
 -- what is asked for behind the name of a subcommand
 abbrev pub asked_behind : Text → List Row → Option Asked
@@ -104,7 +118,7 @@ replay_by r = record { script = r.script.now; schedule = r.schedule.now; options
 
 -- what is run
 abbrev pub run_by : Run → AskedRun
-run_by r = record { script = r.script.now; options = r.options }
+run_by r = record { script = r.script.now; options = r.options; progress = r.progress }
 
 -- what is done
 abbrev pub asked_by : Task → Asked

@@ -6,7 +6,7 @@ ghost use Rattle.std.specs.List.{list_all};
 ghost use Rattle.clap.specs.Words.{app_of, first_of, found_of, kind_of, rows_of, rule_of, subcommand_rows_of};
 ghost use Rattle.clap.specs.declared.error.kind.ErrorKind.TheVariants.{OutOfMemory};
 ghost use Rattle.clap.specs.declared.builder.command.Command.TheViews.{out-Command as fields_of};
-ghost use Rattle.accq.specs.Words.{accq_app, asked_behind, asked_by, asked_of, name_rule, number_in, number_of, number_rule, options_in, options_of, replay_app, replay_by, replay_in, run_app, run_by, run_in, with_options};
+ghost use Rattle.accq.specs.Words.{accq_app, asked_behind, asked_by, asked_of, flag_rule, has_flag, name_rule, number_in, number_of, number_rule, options_in, options_of, replay_app, replay_by, replay_in, run_app, run_by, run_in, with_options};
 ghost use Rattle.acc_driver.specs.Replays.{AreUsable};
 
 use acc_base::{MAX_CAPACITY, MAX_DEVICES, MAX_ROOM};
@@ -23,7 +23,7 @@ const EXAMPLE: &str =
     "Example: a script in question.acc, and a schedule `round 20` in question.schedule\n    accq replay question.acc question.schedule\n    accq run question.acc\n\nWithout words accq replays standard input: a script, a line %%, and a schedule.\n\nStatus: 0; 1 where a host was refused; 2 for a fault of the script, the schedule or the words;\n3 for a fault of a file, of memory or of the run. docs/GUIDE.md tells how to ask a question and\nto read the report, docs/LANGUAGE.md all that scripts, schedules and reports can say.";
 
 const RUN_HELP: &str =
-    "A replay does what its schedule says, and so always gives the same report. In a run each host and\neach queue has a thread of its own, and the system decides who is first: what depends on that may\nbe reported in another way each time. A directive that a full queue refuses is tried again, and at\nthe end all that was placed is performed.\n\nExample: accq run question.acc --devices 2";
+    "A replay does what its schedule says, and so always gives the same report. In a run each host and\neach queue has a thread of its own, and the system decides who is first: what depends on that may\nbe reported in another way each time. A directive that a full queue refuses is tried again, and at\nthe end all that was placed is performed.\n\nWith --progress a terminal shows how far the run has come: `1/noval:3` says that queue noval of\ndevice 1 has performed three batches.\n\nExample: accq run question.acc --devices 2";
 
 /// Two files to be replayed, by their names, and under which options.
 #[derive(Clone, Copy)]
@@ -33,11 +33,12 @@ pub struct Replay<'a> {
     pub options: Options,
 }
 
-/// A file whose script is to be run by threads, by its name, and under which options.
+/// A file whose script is to be run by threads, by its name, under which options, and whether it is told how far the run has come.
 #[derive(Clone, Copy)]
 pub struct Run<'a> {
     pub script: &'a str,
     pub options: Options,
+    pub progress: bool,
 }
 
 /// What words ask for.
@@ -69,6 +70,17 @@ fn name<'a>(alloc: Global, id: &'a str, help: &'a str) -> Arg<'a>
     Arg::new(alloc, id)
         .required(true)
         .action(ArgAction::Set)
+        .help(help)
+}
+
+// A flag.
+fn flag<'a>(alloc: Global, name: &'a str, help: &'a str) -> Arg<'a>
+    ensures rule { rule_of result ≡ flag_rule name.entry.now }
+    ensures local { result.global ≡ false }
+{
+    Arg::new(alloc, name)
+        .long(name)
+        .action(ArgAction::SetTrue)
         .help(help)
 }
 
@@ -123,7 +135,12 @@ fn run_words<'a>(alloc: Global) -> Result<Command<'a>, AllocError>
     let words = Command::new(alloc, "run")
         .about("Runs a script by threads")
         .after_help(RUN_HELP)
-        .arg(name(alloc, "SCRIPT", "The file of the script"))?;
+        .arg(name(alloc, "SCRIPT", "The file of the script"))?
+        .arg(flag(
+            alloc,
+            "progress",
+            "While it runs, tells on a terminal how many batches each queue has performed",
+        ))?;
     with_options(alloc, words)
 }
 
@@ -209,6 +226,16 @@ fn replay_in<'a>(matches: &ArgMatches<'a>) -> Option<Replay<'a>>
     })
 }
 
+// Whether a flag stands there.
+fn has_flag(matches: &ArgMatches, name: &str) -> bool
+    ensures { result ≡ has_flag (rows_of (found_of matches.now)) name.now }
+{
+    match text_of(matches, name) {
+        Some(text) => text == "true",
+        None => false,
+    }
+}
+
 // The run that the words behind `run` ask for, unless a number isn't written in digits.
 fn run_in<'a>(matches: &ArgMatches<'a>) -> Option<Run<'a>>
     ensures value { option_map run_by result ≡ run_in (rows_of (found_of matches.now)) }
@@ -219,6 +246,7 @@ fn run_in<'a>(matches: &ArgMatches<'a>) -> Option<Run<'a>>
     Some(Run {
         script: file,
         options,
+        progress: has_flag(matches, "progress"),
     })
 }
 

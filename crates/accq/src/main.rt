@@ -3,12 +3,14 @@
 
 mod command;
 mod laws;
+mod meter;
 mod status;
 mod store;
 #[cfg(test)]
 mod tests;
 
 use acc_driver::{DriverFault, Remains};
+use meter::on_terminal;
 use status::{status_of, told, told_no_text};
 use std::env;
 use std::io::{self, BufWriter, ErrorKind};
@@ -42,6 +44,7 @@ fn main(rt: HostRuntime) -> ExitCode {
         &mut rt.stdin(),
         &mut output,
         &mut errors,
+        on_terminal(&rt).as_ref(),
         &mut remains,
     );
     ExitCode::from(status)

@@ -13,7 +13,9 @@ ghost use Rattle.clap.specs.declared.error.kind.ErrorKind.TheVariants.{OutOfMemo
 
 use crate::command::{Replay, Run, Task, task_of};
 use crate::store::Store;
-use acc_driver::{DriverFault, Ended, OpenGate, Options, Remains, replay, replay_one, run_script};
+use acc_driver::{
+    DriverFault, Ended, Monitor, OpenGate, Options, Remains, replay, replay_one, run_script,
+};
 use clap::Error;
 use clap::error::ErrorKind;
 use std::alloc::Global;
@@ -24,7 +26,8 @@ use std::thread::Threads;
 
 /// What the program does, for its words behind its own name. Without words it replays the input with the default
 /// options; the words `replay SCRIPT SCHEDULE`, with options, replay two files, and `run SCRIPT`, with options, runs the
-/// script of a file by threads. The report goes to the output, and the answer is 0, or 1 where a host was refused. A
+/// script of a file by threads, and shows the meter, if there is one, how far the run has come, where `--progress` is among
+/// them. The report goes to the output, and the answer is 0, or 1 where a host was refused. A
 /// fault of a text or of the words is answered by 2, all else by 3, and told to the errors: by one line, or for the words
 /// by the parser's own text. What a run left is put into `remains`.
 pub fn status_of<
@@ -35,6 +38,7 @@ pub fn status_of<
     R: Read,
     W: Write,
     E: Write,
+    M: Monitor + Sync,
 >(
     rt: &T,
     alloc: Global,
@@ -43,6 +47,7 @@ pub fn status_of<
     input: &mut R,
     output: &mut W,
     errors: &mut E,
+    meter: Option<&M>,
     remains: &mut Remains,
 ) -> u8
     ensures input { length words.now ≤ 1 → InputReplayed (R.remaining input.old) (W.contents output.old) (W.contents output.new) result }
@@ -59,7 +64,7 @@ pub fn status_of<
             status_after(answer, errors)
         }
         Ok(Task::Run(asked)) => {
-            let answer = run_file(rt, alloc, &asked, files, output, remains);
+            let answer = run_file(rt, alloc, &asked, files, output, meter, remains);
             status_after(answer, errors)
         }
         Err(error) => told_words(&error, errors),
@@ -122,13 +127,14 @@ fn replay_files<F: Read + Drop, S: Store<F>, W: Write>(
     sent(ended, output)
 }
 
-// Runs the script of a file by threads, where each batch passes.
-fn run_file<T: Threads + Wait + Sync, F: Read + Drop, S: Store<F>, W: Write>(
+// Runs the script of a file by threads, where each batch passes. The meter is shown how far the run has come, if that is asked for.
+fn run_file<T: Threads + Wait + Sync, F: Read + Drop, S: Store<F>, W: Write, M: Monitor + Sync>(
     rt: &T,
     alloc: Global,
     asked: &Run,
     files: &S,
     output: &mut W,
+    meter: Option<&M>,
     remains: &mut Remains,
 ) -> Result<Ended, DriverFault>
     requires { AreUsable asked.now.options }
@@ -145,6 +151,7 @@ fn run_file<T: Threads + Wait + Sync, F: Read + Drop, S: Store<F>, W: Write>(
         &mut file,
         asked.options,
         &OpenGate,
+        if asked.progress { meter } else { None },
         output,
         remains,
     )?;

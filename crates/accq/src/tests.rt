@@ -2,13 +2,16 @@
 
 ghost use Rattle.std.specs.Prelude.{None};
 
+use crate::meter::{MAX_SEATS, put_line};
 use crate::status::{status_of, told, told_no_text};
 use crate::store::Store;
-use acc_driver::{DriverFault, Remains};
+use acc_base::QUEUES;
+use acc_driver::{DriverFault, Monitor, NoMonitor, Reader, Remains};
 use std::alloc::Global;
 use std::io::{Error, ErrorKind, Read, Result, Write};
 use std::process::Abort;
 use std::sync::Wait;
+use std::sync::atomic::{AtomicU64, Ordering};
 use std::test::Fail;
 use std::thread::Threads;
 
@@ -66,6 +69,23 @@ impl Write for Narrow {
 
     fn flush(&mut self) -> Result<()> {
         Ok(())
+    }
+}
+
+/// No meter.
+const NOBODY: Option<&NoMonitor> = None;
+
+/// A meter that counts how often it was told that the run is over.
+#[derive(Drop)]
+struct Ends {
+    count: AtomicU64,
+}
+
+impl Monitor for Ends {
+    fn show(&self, _reader: &mut Reader) {}
+
+    fn end(&self) {
+        self.count.fetch_add(1, Ordering::SeqCst);
     }
 }
 
@@ -424,6 +444,7 @@ fn answered<T: Threads + Wait + Sync>(
         &mut input,
         &mut output,
         &mut errors,
+        NOBODY,
         &mut Remains::nothing(),
     );
     (status, output, errors)
@@ -505,6 +526,7 @@ fn check_streams<T: Abort + Threads + Wait + Sync, R: Read, W: Write>(
         input,
         output,
         &mut errors,
+        NOBODY,
         &mut Remains::nothing(),
     );
     check_told(rt, status, errors.as_slice(), 3, text);
@@ -555,6 +577,7 @@ fn errors_that_fail_change_no_status(rt: HostRuntime) -> std::result::Result<(),
             &mut Broken,
             &mut output,
             &mut Broken,
+            NOBODY,
             &mut Remains::nothing(),
         );
         assert_eq!(rt; status, *wanted);
@@ -580,5 +603,55 @@ fn what_never_came_so_far_is_told(rt: HostRuntime) -> std::result::Result<(), Fa
     let mut errors = Vec::new(rt.alloc());
     assert_eq!(rt; told_no_text(&mut errors), 2);
     check_begin(&rt, errors.as_slice(), b"error: invalid UTF-8");
+    Ok(())
+}
+
+// How often a run with these words tells a meter that it is over.
+fn ends_told<T: Abort + Threads + Wait + Sync>(rt: &T, alloc: Global, words: &[&str]) -> u64 {
+    let ends = Ends {
+        count: AtomicU64::new(0),
+    };
+    let mut output = Vec::new(alloc);
+    let mut errors = Vec::new(alloc);
+    let _ = status_of(
+        rt,
+        alloc,
+        words,
+        &Shelf,
+        &mut Broken,
+        &mut output,
+        &mut errors,
+        Some(&ends),
+        &mut Remains::nothing(),
+    );
+    assert!(rt; errors.is_empty());
+    ends.count.load(Ordering::SeqCst)
+}
+
+/// A meter is told of a run that is to be told, and of no other.
+#[test]
+fn a_run_is_told(rt: HostRuntime) -> std::result::Result<(), Fail> {
+    let alloc = rt.alloc();
+    assert_eq!(rt;
+        ends_told(&rt, alloc, &["accq", "run", "doubled", "--progress"]),
+        1
+    );
+    assert_eq!(rt; ends_told(&rt, alloc, &["accq", "run", "doubled"]), 0);
+    Ok(())
+}
+
+/// A line tells of each queue that has performed a batch.
+#[test]
+fn a_line_tells_of_queues(rt: HostRuntime) -> std::result::Result<(), Fail> {
+    let mut performed = [0u64; MAX_SEATS];
+    let mut line = Vec::new(rt.alloc());
+    put_line(&mut line, &performed)?;
+    assert!(rt; line.as_slice() == b"performed:".as_slice());
+    performed[0] = 12;
+    performed[2] = 1;
+    performed[usize::from(QUEUES) + 1] = 3;
+    put_line(&mut line, &performed)?;
+    let wanted = b"performed:performed: 0/sync:12 0/0:1 1/noval:3";
+    assert!(rt; line.as_slice() == wanted.as_slice());
     Ok(())
 }

@@ -3,12 +3,16 @@
 
 use acc_base::QueueAt;
 use acc_driver::{
-    DriverFault, Ended, Gate, OpenGate, Options, Remains, replay, replay_one, run_script, split,
+    DriverFault, Ended, Gate, NoMonitor, OpenGate, Options, Remains, replay, replay_one,
+    run_script, split,
 };
 use std::alloc::Global;
 use std::sync::Wait;
 use std::thread::Threads;
 use std::{fs, io};
+
+/// No monitor.
+const NOBODY: Option<&NoMonitor> = None;
 
 const TWO_DEVICES: Options = Options {
     devices: 2,
@@ -158,6 +162,7 @@ fn run_answer<R: Threads + Wait + Sync, G: Gate + Sync>(
         &mut script,
         options,
         gate,
+        NOBODY,
         &mut written,
         &mut Remains::nothing(),
     );

@@ -3,7 +3,7 @@
 use crate::answers::{Answer, ENDED, REFUSED, check_answer, check_bytes, script_fault};
 use crate::streams::{End, Narrow, Trickle};
 use acc_base::{Fault, HostId, QUEUES, QueueAt};
-use acc_driver::{DriverFault, Gate, OpenGate, Options, ReadKind, Remains, run_script};
+use acc_driver::{DriverFault, Gate, NoMonitor, OpenGate, Options, ReadKind, Remains, run_script};
 use std::alloc::Global;
 use std::process::Abort;
 use std::sync::Wait;
@@ -11,6 +11,9 @@ use std::sync::atomic::{AtomicU64, Ordering};
 use std::test::Fail;
 use std::thread;
 use std::thread::Threads;
+
+/// No monitor.
+const NOBODY: Option<&NoMonitor> = None;
 
 // A script is answered so with these options and this gate, and this is written.
 pub fn check_run<R: Abort + Threads + Wait + Sync, G: Gate + Sync>(
@@ -30,6 +33,7 @@ pub fn check_run<R: Abort + Threads + Wait + Sync, G: Gate + Sync>(
         &mut script,
         options,
         gate,
+        NOBODY,
         &mut written,
         &mut Remains::nothing(),
     );
@@ -343,6 +347,7 @@ fn check_narrow<R: Abort + Threads + Wait + Sync>(rt: &R, alloc: Global, room: u
         &mut script,
         Options::DEFAULT,
         &OpenGate,
+        NOBODY,
         &mut narrow,
         &mut Remains::nothing(),
     );
@@ -375,6 +380,7 @@ fn readers_fail(rt: HostRuntime) -> Result<(), Fail> {
         &mut script,
         Options::DEFAULT,
         &OpenGate,
+        NOBODY,
         &mut written,
         &mut Remains::nothing(),
     );

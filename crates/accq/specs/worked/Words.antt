@@ -1,5 +1,5 @@
 -- Words, and what they ask for.
-use Rattle.std.specs.Prelude.{◌≡◌, ℕ, List, [], ◌∷◌, Option, Some, None, codes}
+use Rattle.std.specs.Prelude.{◌≡◌, ℕ, Bool, true, false, List, [], ◌∷◌, Option, Some, None, codes}
 use Rattle.clap.specs.Words.{Text}
 use Rattle.acc_driver.specs.Replays.{defaults}
 use Rattle.accq.specs.Words.{Asked, ToReplay, ToRun, asked_of}
@@ -9,9 +9,10 @@ abbrev pub asks : ℕ → ℕ → ℕ → Option Asked
 asks devices cells room =
     Some (ToReplay (record { script = codes "a"; schedule = codes "b"; options = record { devices = devices; cells = cells; room = room } }))
 
--- a run of the file a, with these options
-abbrev pub asks_to_run : ℕ → ℕ → ℕ → Option Asked
-asks_to_run devices cells room = Some (ToRun (record { script = codes "a"; options = record { devices = devices; cells = cells; room = room } }))
+-- a run of the file a, with these options, that is told or not
+abbrev pub asks_to_run : ℕ → ℕ → ℕ → Bool → Option Asked
+asks_to_run devices cells room progress =
+    Some (ToRun (record { script = codes "a"; options = record { devices = devices; cells = cells; room = room }; progress = progress }))
 
 -- behind `accq replay`
 abbrev pub replay : List Text → Option Asked
@@ -21,15 +22,17 @@ replay words = asked_of (codes "accq" ∷ codes "replay" ∷ words)
 abbrev pub run : List Text → Option Asked
 run words = asked_of (codes "accq" ∷ codes "run" ∷ words)
 
--- Two names behind `replay` alone, or one behind `run`, ask for the default options. An option stands before, between or behind them, with `=` or without.
+-- Two names behind `replay` alone, or one behind `run`, ask for the default options. An option stands before, between or behind them, with `=`
+-- or without; a flag stands alone.
 pub record AreAsked : Type 0 where
   pub names : replay (codes "a" ∷ codes "b" ∷ []) ≡ Some (ToReplay (record { script = codes "a"; schedule = codes "b"; options = defaults }))
   pub before : replay (codes "--devices" ∷ codes "4" ∷ codes "a" ∷ codes "b" ∷ []) ≡ asks 4 4194304 64
   pub between : replay (codes "a" ∷ codes "--cells=4294967296" ∷ codes "b" ∷ []) ≡ asks 1 4294967296 64
   pub behind : replay (codes "a" ∷ codes "b" ∷ codes "--room" ∷ codes "1024" ∷ []) ≡ asks 1 4194304 1024
   pub all : replay (codes "--room=1" ∷ codes "a" ∷ codes "--cells" ∷ codes "01" ∷ codes "--devices=2" ∷ codes "b" ∷ []) ≡ asks 2 1 1
-  pub one_name : run (codes "a" ∷ []) ≡ Some (ToRun (record { script = codes "a"; options = defaults }))
-  pub around : run (codes "--room=1" ∷ codes "a" ∷ codes "--devices" ∷ codes "2" ∷ []) ≡ asks_to_run 2 4194304 1
+  pub one_name : run (codes "a" ∷ []) ≡ Some (ToRun (record { script = codes "a"; options = defaults; progress = false }))
+  pub around : run (codes "--room=1" ∷ codes "a" ∷ codes "--devices" ∷ codes "2" ∷ []) ≡ asks_to_run 2 4194304 1 false
+  pub told : run (codes "--progress" ∷ codes "a" ∷ codes "--devices=2" ∷ []) ≡ asks_to_run 2 4194304 64 true
   pub behind_dashes : replay (codes "--devices=3" ∷ codes "--" ∷ codes "a" ∷ codes "b" ∷ []) ≡ asks 3 4194304 64
 
 -- What asks for nothing: an option beyond its limits, not in digits alone or written twice, a name too few or too many, a word that there isn't, and
@@ -51,4 +54,6 @@ pub record AreRefused : Type 0 where
   pub no_subcommand : asked_of (codes "accq" ∷ codes "a" ∷ codes "b" ∷ []) ≡ None
   pub help : asked_of (codes "accq" ∷ codes "--help" ∷ []) ≡ None
   pub help_behind : replay (codes "a" ∷ codes "b" ∷ codes "-h" ∷ []) ≡ None
+  pub progress_of_a_replay : replay (codes "a" ∷ codes "b" ∷ codes "--progress" ∷ []) ≡ None
+  pub a_flag_with_a_value : run (codes "a" ∷ codes "--progress=true" ∷ []) ≡ None
   pub version : asked_of (codes "accq" ∷ codes "--version" ∷ []) ≡ None
