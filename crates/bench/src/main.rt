@@ -1,11 +1,14 @@
 //! `bench loop NAME TIMES CELLS` computes a loop so many times over so many cells: `bench/kernel` times it.
 //! `bench queue ROOM TIMES` sends batches to another thread and back, so many times: `bench/queue` times it.
+//! `bench read FILE TIMES DEVICES` runs the script of a file with threads, while another reads so many times, and again each tenth of a
+//! second, how many batches a queue has performed: `bench/threads` times it.
 //! `bench world NAME TURNS TIMES` runs a world so many times, and with one more word its opening alone: `bench/world` times it.
 //! Without words each loop and each world is run once, and batches go round.
 #![tactic(auto)]
 
 mod loops;
 mod queue;
+mod reads;
 mod script;
 mod tally;
 mod workloads;
@@ -14,11 +17,12 @@ use acc_base::Fault;
 use acc_kernel::Job;
 use loops::{CELLS, job_for, parts_of};
 use queue::{Crossings, ROOM, crossings_of};
+use reads::reads_of;
 use std::alloc::Global;
 use std::env::{self, Args};
-use std::io;
 use std::sync::Wait;
 use std::thread::Threads;
+use std::{fs, io};
 use tally::{Tally, tally_of};
 use workloads::{Failure, workload_of};
 
@@ -98,6 +102,22 @@ fn print_world(
     }
 }
 
+// How many reads there were while the script of a file ran.
+fn print_reads<R: Threads + Wait + Sync>(
+    rt: &HostRuntime,
+    threads: &R,
+    name: &str,
+    times: u32,
+    devices: u32,
+) -> io::Result<()> {
+    let script = fs::read(rt, name)?;
+    let devices = u8::try_from(devices).unwrap_or(1);
+    match reads_of(threads, rt.alloc(), script.as_slice(), devices, times) {
+        Ok(reads) => println!(rt; "reads {reads}"),
+        Err(fault) => println!(rt; "{fault}"),
+    }
+}
+
 // A line for each loop and for each world, and one for a queue.
 fn print_all<R: Threads + Wait + Sync>(rt: &HostRuntime, threads: &R) -> io::Result<()> {
     for name in &loops::NAMES {
@@ -124,6 +144,8 @@ fn print_asked<R: Threads + Wait + Sync>(
     if kind == "queue" {
         let room = name.parse::<u32>().unwrap_or(ROOM);
         print_crossings(rt, crossings_of(threads, rt.alloc(), room, first))
+    } else if kind == "read" {
+        print_reads(rt, threads, name, first, number_of(words.next(), 1))
     } else if kind == "loop" {
         print_loop(rt, name, first, number_of(words.next(), CELLS))
     } else {
