@@ -10,6 +10,8 @@ mod hosts;
 #[cfg(test)]
 mod memory;
 #[cfg(test)]
+mod others;
+#[cfg(test)]
 mod races;
 #[cfg(test)]
 mod stuck;

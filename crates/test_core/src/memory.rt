@@ -9,7 +9,7 @@ use crate::checks::{
     refused,
 };
 use crate::worlds::{ROOM, host, on, queue, reply_to, turns, world_of};
-use acc_base::{Config, Fault, HostId, QUEUES, QueueCounts, Range};
+use acc_base::{Config, DeviceId, Fault, HostId, QUEUES, QueueCounts, Range};
 use acc_core::{Counts, Event, HostState, Outcome, Reply, World};
 use std::alloc::{AllocError, Global};
 use std::process::Abort;
@@ -28,6 +28,14 @@ const DOUBLE: &[u8] =
 const DOUBLE_TWICE: &[u8] =
     b"long a[4] = {1,2,3,4};\nhost {\n#pragma acc parallel loop\nfor (i = 0; i < 4; i++) a[i] = a[i] * 2;\nprint(a);\n#pragma acc parallel loop\nfor (i = 0; i < 4; i++) a[i] = a[i] * 2;\n}\n";
 
+/// The array is entered, its cells are doubled there, and it is left and printed.
+const DOUBLE_PRESENT: &[u8] =
+    b"long a[4] = {1,2,3,4};\nhost {\n#pragma acc enter data copyin(a)\n#pragma acc parallel loop present(a)\nfor (i = 0; i < 4; i++) a[i] = a[i] * 2;\n#pragma acc exit data copyout(a)\nprint(a);\n}\n";
+
+/// Each host enters its array.
+const TWO_HOSTS: &[u8] =
+    b"long a[2];\nlong b[2];\nhost {\n#pragma acc enter data copyin(a) async(1)\n}\nhost {\n#pragma acc enter data copyin(b) async(2)\n}\n";
+
 // The array's cells.
 const ALL: Range = Range {
     array: 0,
@@ -44,7 +52,7 @@ fn perform() -> Event {
 }
 
 /// Whether there is memory for an event, the event, and its reply.
-type Tried = (bool, Event, Reply);
+pub type Tried = (bool, Event, Reply);
 
 // A step for which there is no memory, nor a piece of the size of a new log that was let go.
 fn scarce_step(alloc: Global, world: &mut World, event: Event) -> Result<Reply, AllocError> {
@@ -62,7 +70,8 @@ fn scarce_step(alloc: Global, world: &mut World, event: Event) -> Result<Reply, 
     Ok(reply)
 }
 
-fn check_replies(
+/// Steps with their replies.
+pub fn check_replies(
     rt: &impl Abort,
     alloc: Global,
     world: &mut World,
@@ -113,19 +122,17 @@ fn memory_is_refused_to_a_run(rt: HostRuntime) -> Result<(), Fail> {
     check_scarce_run(&rt, rt.alloc(), DOUBLE)
 }
 
-// So many directives were accepted, and the host was refused memory at its statement of this number, which has this line.
-fn check_outcome(
+/// So many directives were accepted, and the hosts stand so.
+pub fn check_outcome(
     rt: &impl Abort,
     alloc: Global,
     world: Box<World>,
     accepted: usize,
-    ended: usize,
-    line: u32,
+    states: &[HostState],
 ) -> Result<(), AllocError> {
     let outcome = scarce_outcome(alloc, world)?;
-    let wanted = [refused(ended, line, Fault::Memory)];
     check_same(rt, outcome.places.len(), accepted);
-    check_same(rt, outcome.hosts.as_slice(), wanted.as_slice());
+    check_same(rt, outcome.hosts.as_slice(), states);
     Ok(())
 }
 
@@ -146,7 +153,7 @@ fn memory_is_refused_to_a_step(rt: HostRuntime) -> Result<(), Fail> {
     let mut world = world_of(alloc, ENTER, ROOM)?;
     check_replies(&rt, alloc, &mut world, &events)?;
     check_present(&rt, &world, Some((ALL, 0, 1)));
-    check_outcome(&rt, alloc, world, 1, 1, 4)?;
+    check_outcome(&rt, alloc, world, 1, &[refused(1, 4, Fault::Memory)])?;
     Ok(())
 }
 
@@ -191,7 +198,7 @@ fn memory_is_refused_to_a_host_that_waited(rt: HostRuntime) -> Result<(), Fail> 
     let mut world = world_of(alloc, text, ROOM)?;
     check_replies(&rt, alloc, &mut world, &events)?;
     check_same(&rt, entries(world.log()), 2);
-    check_outcome(&rt, alloc, world, 3, 2, 5)?;
+    check_outcome(&rt, alloc, world, 3, &[refused(2, 5, Fault::Memory)])?;
     Ok(())
 }
 
@@ -217,7 +224,7 @@ fn memory_is_refused_to_a_loop(rt: HostRuntime) -> Result<(), Fail> {
     check_replies(&rt, alloc, &mut world, &events)?;
     check_last_print(&rt, world.log(), &[2, 4, 6, 8]);
     check_present(&rt, &world, None);
-    check_outcome(&rt, alloc, world, 1, 2, 6)?;
+    check_outcome(&rt, alloc, world, 1, &[refused(2, 6, Fault::Memory)])?;
     Ok(())
 }
 
@@ -263,27 +270,100 @@ fn counts_are_refused_until_there_is_memory(rt: HostRuntime) -> Result<(), Fail>
     Ok(())
 }
 
-// A world of short queues, whose host has placed its loop; the worlds that were made are counted.
-fn placed_world(alloc: Global, worlds: &mut u32) -> Result<Box<World>, Fault> {
-    let mut world = world_of(alloc, DOUBLE, 4)?;
+// Twelve turns of two hosts and of the queues that they use, as one list.
+fn long_run(alloc: Global) -> Result<Vec<Event>, AllocError> {
+    let mut events = Vec::new(alloc);
+    for _ in 0..12u8 {
+        events.extend_from_slice(&[host(0), host(1)])?;
+        // `sync`, `1` and `2`
+        for number in [0u8, 3, 4] {
+            events.push(Event::Take(queue(0, number)))?;
+            events.push(Event::Perform(queue(0, number)))?;
+        }
+    }
+    Ok(events)
+}
+
+fn refusal_in(replies: &[Reply]) -> Option<Fault> {
+    for reply in replies {
+        if let Reply::Refused(fault) = reply {
+            return Some(*fault);
+        }
+    }
+    None
+}
+
+// The fault, if the outcome says that a host stopped for it, and else another one.
+fn told_by(world: Box<World>, fault: Fault) -> Fault {
+    let outcome = Box::into_inner(world).outcome();
+    for state in outcome.hosts.as_slice() {
+        if matches!(state, HostState::Refused { fault: told, .. } if *told == fault) {
+            return fault;
+        }
+    }
+    Fault::Unfinished
+}
+
+// A world of short queues behind a run, or the fault for which a host of it was refused; the worlds that were made are counted.
+fn world_behind(
+    alloc: Global,
+    text: &[u8],
+    events: &[Event],
+    worlds: &mut u32,
+) -> Result<Box<World>, Fault> {
+    let mut world = world_of(alloc, text, 4)?;
     *worlds = worlds.wrapping_add(1);
-    match reply_to(&mut world, host(0)) {
-        Reply::Did => Ok(world),
-        Reply::Refused(fault) => Err(fault),
-        Reply::Idle | Reply::Remaining(_) => Err(Fault::Unfinished),
+    let replies = world.run(events)?;
+    match refusal_in(replies.as_slice()) {
+        None => Ok(world),
+        Some(fault) => Err(told_by(world, fault)),
     }
 }
 
-/// A world is refused until there is memory for it, and then its loop until there is memory for its batch.
-#[test]
-fn a_world_and_its_loop_are_refused_until_there_is_memory(rt: HostRuntime) -> Result<(), Fail> {
-    let alloc = rt.alloc();
+// The world of a script, and then its run, are refused until there is memory; then its hosts finish.
+fn run_at_each_amount(
+    rt: &impl Abort,
+    alloc: Global,
+    text: &[u8],
+    states: &[HostState],
+) -> Result<Box<World>, Fault> {
+    let events = long_run(alloc)?;
     let mut worlds = 0u32;
-    let (refusals, mut world) = at_each_amount(alloc, || placed_world(alloc, &mut worlds))?;
-    check_same(&rt, (1 < worlds, worlds < refusals), (true, true));
-    turns(&mut world, 20);
-    check_states(&rt, &world, &[FINISHED]);
-    check_last_print(&rt, world.log(), &[2, 4, 6, 8]);
+    let (refusals, world) = at_each_amount(alloc, || {
+        world_behind(alloc, text, events.as_slice(), &mut worlds)
+    })?;
+    check_same(rt, (1 < worlds, worlds < refusals), (true, true));
+    check_states(rt, &world, states);
+    Ok(world)
+}
+
+/// A world is refused until there is memory for it, and then its run until there is memory for its batches and its entries.
+#[test]
+fn a_world_and_its_run_are_refused_until_there_is_memory(rt: HostRuntime) -> Result<(), Fail> {
+    for text in [DOUBLE, DOUBLE_PRESENT] {
+        let world = run_at_each_amount(&rt, rt.alloc(), text, &[FINISHED])?;
+        check_present(&rt, &world, None);
+        check_last_print(&rt, world.log(), &[2, 4, 6, 8]);
+    }
+    Ok(())
+}
+
+/// The same with two hosts, each of which enters an array of its own.
+#[test]
+fn a_world_of_two_hosts_is_refused_until_there_is_memory(rt: HostRuntime) -> Result<(), Fail> {
+    let world = run_at_each_amount(&rt, rt.alloc(), TWO_HOSTS, &[FINISHED; 2])?;
+    assert!(rt; 0 < world.devices());
+    for array in 0..2u8 {
+        let counters = world.counters(
+            DeviceId::new(0),
+            Range {
+                array,
+                lo: 0,
+                len: 2,
+            },
+        );
+        check_same(&rt, counters, Some((0, 1)));
+    }
     Ok(())
 }
 

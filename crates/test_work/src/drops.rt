@@ -1,53 +1,53 @@
 //! What a dropped work side and a dropped job held is free again.
 
-use crate::jobs::{a, offer, queue, start, taken};
-use crate::runs::range;
-use acc_base::{Fault, Few};
-use acc_batch::OpLabel;
-use acc_work::{Done, Work};
+use crate::jobs::{start, taken};
+use crate::words::{A, B, Word, offer, performed, queue};
+use acc_base::Fault;
+use acc_work::{JobOut, Work};
 use std::alloc::Global;
 use std::test::Fail;
 use tool_scarce::at_each_amount;
 
-// Twenty copies of a to the device.
-fn copies(alloc: Global) -> Result<Few<OpLabel>, Fault> {
-    let mut ops = Few::new(alloc);
-    for _ in 0..20u8 {
-        ops.push(OpLabel::CopyIn {
-            block: a(),
-            range: range(0, 0, 2),
-        })?;
-    }
-    Ok(ops)
-}
+/// Twenty copies of a to the device.
+const COPIES: &[Word] = &[Word::CopyIn(1, A); 20];
 
-// How many operations of the queue with this number were performed, of so many.
-fn performed(work: &mut Work, number: u8, count: u8) -> u8 {
-    let mut done = 0u8;
-    for _ in 0..count {
-        if work.perform(queue(number)) == Done::Op {
-            done = done.wrapping_add(1);
-        }
-    }
-    done
-}
+/// A block is made again, which is never performed; another block, and a loop, stand behind that.
+const STUCK: &[Word] = &[Word::Make(1, A), Word::Make(3, B), Word::Run(1, 3)];
 
-// A work side with two blocks, full pages of its log and pages to come, a loop that is out, and operations that are left of two batches.
-fn filled(alloc: Global) -> Result<bool, Fault> {
+// A work side with two blocks, full pages of its log and pages to come, operations that are left of three batches, one of which no
+// directive leads to, and its loop that is out.
+fn filled(alloc: Global) -> Result<(Work, Option<JobOut>), Fault> {
     let mut work = taken(alloc)?;
-    offer(alloc, &mut work, queue(5), copies(alloc)?)?;
-    offer(alloc, &mut work, queue(6), copies(alloc)?)?;
+    offer(alloc, &mut work, queue(5), COPIES)?;
+    offer(alloc, &mut work, queue(6), COPIES)?;
+    offer(alloc, &mut work, queue(7), STUCK)?;
     let entered = performed(&mut work, 3, 3);
     let copied = performed(&mut work, 5, 20);
     let halfway = performed(&mut work, 6, 12);
+    let stuck = performed(&mut work, 7, 3);
     let job = start(alloc, &mut work)?;
-    Ok((entered, copied, halfway) == (3, 20, 12) && job.is_some())
+    if (entered, copied, halfway, stuck) == (3, 20, 12, 0) {
+        Ok((work, job))
+    } else {
+        Ok((work, None))
+    }
+}
+
+// Two are filled; of one the job is dropped before its work side, and of the other behind it.
+fn fill_two(alloc: Global) -> Result<bool, Fault> {
+    let (first, before) = filled(alloc)?;
+    let is_out = before.is_some();
+    drop(before);
+    drop(first);
+    let (second, behind) = filled(alloc)?;
+    drop(second);
+    Ok(is_out && behind.is_some())
 }
 
 // Many are filled and dropped, one after the other.
 fn fill_many(alloc: Global) -> Result<bool, Fault> {
-    for _ in 0..300u32 {
-        if !filled(alloc)? {
+    for _ in 0..150u32 {
+        if !fill_two(alloc)? {
             return Ok(false);
         }
     }

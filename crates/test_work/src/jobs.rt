@@ -1,20 +1,16 @@
 //! A loop that is out comes back: to its lane, where a block that it uses was released meanwhile, which no directive leads to, and to a
 //! lane that doesn't wait for it.
 
-ghost use Rattle.std.specs.Prelude.{◌≡◌, ◌<◌, IfOk, length};
-ghost use Rattle.acc_base.specs.declared.config.TheConstants.{MAX_HOSTS};
-ghost use Rattle.acc_work.specs.Works.{HasQueue};
+ghost use Rattle.std.specs.Prelude.{◌≡◌, IfOk, length};
 
-use crate::runs::range;
-use acc_base::{BlockId, Config, DeviceId, Fault, Few, HostId, Listed, QueueAt, QueueId, Shared};
-use acc_batch::{Batch, Label, OpLabel};
+use crate::words::{A, B, Word, entries, offer, performed, queue, work_side};
+use acc_base::{BlockId, DeviceId, Fault};
 use acc_kernel::Job;
-use acc_work::{Done, JobOut, Work, WorkLog};
+use acc_work::{Done, JobOut, Work};
 use std::alloc::Global;
 use std::process::Abort;
 use std::test::Fail;
-use tool_loops::{Body, Loop, kernel_of};
-use tool_scarce::at_each_amount;
+use tool_scarce::{Hoard, at_each_amount};
 
 /// Where a work side stands: how many entries its log has; of queue `1`, how many operations are left, whether the next one goes on, and
 /// whether its blocks are live; and the first cell of b on the device.
@@ -26,126 +22,29 @@ const BEFORE: Stand = (3, 1, true, true, Some(0));
 /// The loop is performed too.
 const BEHIND: Stand = (4, 0, false, false, Some(8));
 
-// A queue of the first device; `1` and `2` have the numbers 3 and 4.
-pub fn queue(number: u8) -> QueueAt
-    ensures device { result.device ≡ 0 }
-    ensures queue { result.queue ≡ number }
-{
-    QueueAt {
-        device: DeviceId::new(0),
-        queue: QueueId::new(number),
-    }
-}
+/// Blocks for a, which is copied in, and for b, and the loop.
+const ENTRY_AND_LOOP: &[Word] = &[
+    Word::Make(1, A),
+    Word::CopyIn(1, A),
+    Word::Make(2, B),
+    Word::Run(1, 2),
+];
 
-pub fn a() -> BlockId {
-    BlockId::new(1)
-}
-
-fn b() -> BlockId {
-    BlockId::new(2)
-}
-
-// `b[i] = a[i] + 1` over both cells of a and of b.
-fn successors(alloc: Global) -> Result<OpLabel, Fault> {
-    let table = Loop {
-        lo: 0,
-        hi: 2,
-        body: Body::Successor,
-    };
-    let kernel = Shared::new(alloc, kernel_of(alloc, table)?)?;
-    let uses = vec![in alloc; (a(), range(0, 0, 2)), (b(), range(1, 0, 2))]?;
-    let uses = Shared::new(alloc, Listed::from_vec(uses))?;
-    Ok(OpLabel::Run { kernel, uses })
-}
-
-// Blocks for a, which is copied in, and for b, and the loop.
-fn entry_and_loop(alloc: Global) -> Result<Few<OpLabel>, Fault> {
-    let mut ops = Few::new(alloc);
-    ops.push(OpLabel::Make {
-        block: a(),
-        range: range(0, 0, 2),
-    })?;
-    ops.push(OpLabel::CopyIn {
-        block: a(),
-        range: range(0, 0, 2),
-    })?;
-    ops.push(OpLabel::Make {
-        block: b(),
-        range: range(1, 0, 2),
-    })?;
-    ops.push(successors(alloc)?)?;
-    Ok(ops)
-}
-
-fn release(alloc: Global) -> Result<Few<OpLabel>, Fault> {
-    let mut ops = Few::new(alloc);
-    ops.push(OpLabel::Release { block: a() })?;
-    Ok(ops)
-}
-
-// A batch of these operations, the first of its queue.
-fn batch_of(alloc: Global, at: QueueAt, ops: Few<OpLabel>) -> Result<Batch, Fault>
-    ensures place { IfOk result (λ batch. batch.at ≡ at) }
-    ensures host { IfOk result (λ batch. batch.host < MAX_HOSTS) }
-    ensures filled { IfOk result (λ batch. 0 < length batch.ops) }
-{
-    let label = Label {
-        at,
-        number: 1,
-        host: HostId::new(0),
-        items_done: 0,
-        ops: Shared::new(alloc, ops)?,
-    };
-    if label.ops.get().as_slice().is_empty() || !label.has_its_cells() {
-        return Err(Fault::BadRange);
-    }
-    Batch::new(alloc, label)
-}
-
-// A queue takes a batch of these operations.
-pub fn offer(alloc: Global, work: &mut Work, at: QueueAt, ops: Few<OpLabel>) -> Result<(), Fault>
-    requires { HasQueue work.old at }
-    ensures { 0 < length work.new.memory.devices }
-{
-    let QueueAt { device, queue } = at;
-    let batch = batch_of(alloc, QueueAt { device, queue }, ops)?;
-    if !work.lane_empty(QueueAt { device, queue }) {
-        return Err(Fault::BadRange);
-    }
-    work.offer(QueueAt { device, queue }, batch);
-    Ok(())
-}
-
-// A work side whose queue `1` has taken its entry and its loop, and whose queue `2` is to release a.
+/// A work side whose queue `1` has taken its entry and its loop, and whose queue `2` is to release a.
 pub fn taken(alloc: Global) -> Result<Work, Fault>
-    ensures { IfOk result (λ work. 0 < length work.memory.devices) }
+    ensures { IfOk result (λ work. length work.memory.devices ≡ 2) }
 {
-    let first = vec![in alloc; 7i64, 9]?;
-    let second = vec![in alloc; 0i64; 2]?;
-    let config = Config::new(alloc, 1, 1, vec![in alloc; first, second]?, 100, 4)?;
-    config.keeps();
-    let mut work = Work::new(alloc, &config)?;
-    offer(alloc, &mut work, queue(3), entry_and_loop(alloc)?)?;
-    offer(alloc, &mut work, queue(4), release(alloc)?)?;
+    let mut work = work_side(alloc)?;
+    offer(alloc, &mut work, queue(3), ENTRY_AND_LOOP)?;
+    offer(alloc, &mut work, queue(4), &[Word::Release(1)])?;
     Ok(work)
 }
 
 // The same, where all is performed but the loop.
 fn work_of(alloc: Global) -> Result<Work, Fault> {
     let mut work = taken(alloc)?;
-    for _ in 0..3u8 {
-        let _ = work.perform(queue(3));
-    }
+    let _ = performed(&mut work, 3, 3);
     Ok(work)
-}
-
-// How many entries a log has.
-fn entries(log: &WorkLog) -> usize {
-    let mut count = 0usize;
-    for _ in log.iter() {
-        count = count.wrapping_add(1);
-    }
-    count
 }
 
 fn check(rt: &impl Abort, work: &Work, wanted: Stand) {
@@ -154,7 +53,7 @@ fn check(rt: &impl Abort, work: &Work, wanted: Stand) {
         work.ops_left(queue(3)),
         work.goes_on(queue(3)),
         work.is_live(queue(3)),
-        work.block_cell(DeviceId::new(0), b(), 0),
+        work.block_cell(DeviceId::new(0), BlockId::new(2), 0),
     );
     assert_eq!(rt; found, wanted);
 }
@@ -255,5 +154,48 @@ fn room_for_a_loop_is_refused_until_there_is_memory(rt: HostRuntime) -> Result<(
     let job = work.start_job(queue(3), &mut room);
     assert!(rt; commit(&mut work, job)?.is_none());
     check(&rt, &work, BEHIND);
+    Ok(())
+}
+
+/// How a loop is performed.
+#[derive(Clone, Copy, Debug)]
+enum Way {
+    /// In its turn.
+    InPlace,
+    /// It goes out, and there is no room for it.
+    Out,
+    /// It goes out, and room for it was made before.
+    OutWithRoom,
+}
+
+// Performs the loop so, where all memory is refused. The answers: whether room for it was refused, and whether it was performed.
+fn scarce_loop(alloc: Global, work: &mut Work, way: Way) -> Result<(bool, bool), Fault> {
+    let mut made = match way {
+        Way::OutWithRoom => room(alloc, work)?,
+        Way::InPlace | Way::Out => None,
+    };
+    let mut hoard = Hoard::new(alloc)?;
+    hoard.fill(alloc);
+    let refused = room(alloc, work).is_err();
+    let done = match way {
+        Way::InPlace => work.perform(queue(3)) == Done::Op,
+        Way::Out | Way::OutWithRoom => {
+            let job = work.start_job(queue(3), &mut made);
+            matches!(commit(work, job), Ok(None))
+        }
+    };
+    hoard.free();
+    Ok((refused, done))
+}
+
+/// Where all memory is refused a loop goes out, is computed and comes back all the same, in room that was made before and without.
+#[test]
+fn a_loop_takes_no_memory(rt: HostRuntime) -> Result<(), Fail> {
+    for way in [Way::InPlace, Way::Out, Way::OutWithRoom] {
+        let mut work = work_of(rt.alloc())?;
+        let answers = scarce_loop(rt.alloc(), &mut work, way)?;
+        assert_eq!(rt; answers, (true, true));
+        check(&rt, &work, BEHIND);
+    }
     Ok(())
 }

@@ -1,4 +1,4 @@
-//! Tests of the memory, of items that hosts record, of loops that are out, and of what is dropped: what no contract says.
+//! Tests of the memory, of items that hosts record, of loops that are out, of batches that no directive leads to, and of what is dropped: what no contract says.
 #![tactic(auto)]
 
 #[cfg(test)]
@@ -13,3 +13,7 @@ mod jobs;
 mod memory;
 #[cfg(test)]
 mod runs;
+#[cfg(test)]
+mod stuck;
+#[cfg(test)]
+mod words;
