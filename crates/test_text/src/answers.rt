@@ -1,6 +1,6 @@
 //! What is answered to an input, and what is written, beside what was wanted.
 
-use acc_driver::{DriverFault, Ended, Options, ReadFault, ReadKind, Remains, replay_one};
+use acc_driver::{DriverFault, Ended, Options, ReadFault, ReadKind, Remains, replay, replay_one};
 use std::alloc::Global;
 use std::io::Read;
 use std::process::Abort;
@@ -47,6 +47,38 @@ pub fn check_read<R: Read>(
         &mut written,
         &mut Remains::nothing(),
     );
+    check_bytes(rt, written.as_slice(), report);
+    check_answer(rt, answer, wanted);
+}
+
+// What is answered to two readers, a script and a schedule, and what is written.
+pub fn replayed<R: Read, S: Read>(
+    alloc: Global,
+    script: &mut R,
+    schedule: &mut S,
+) -> (Answer, Vec<u8>) {
+    let mut written = Vec::new(alloc);
+    let answer = replay(
+        alloc,
+        script,
+        schedule,
+        Options::DEFAULT,
+        &mut written,
+        &mut Remains::nothing(),
+    );
+    (answer, written)
+}
+
+// Two readers are answered so, and this is written.
+pub fn check_readers<R: Read, S: Read>(
+    rt: &impl Abort,
+    alloc: Global,
+    script: &mut R,
+    schedule: &mut S,
+    wanted: Answer,
+    report: &[u8],
+) {
+    let (answer, written) = replayed(alloc, script, schedule);
     check_bytes(rt, written.as_slice(), report);
     check_answer(rt, answer, wanted);
 }

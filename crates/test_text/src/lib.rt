@@ -8,6 +8,10 @@ mod language;
 #[cfg(test)]
 mod limits;
 #[cfg(test)]
+mod memory;
+#[cfg(test)]
+mod prefixes;
+#[cfg(test)]
 mod random;
 #[cfg(test)]
 mod replay;
@@ -15,6 +19,8 @@ mod replay;
 mod runs;
 #[cfg(test)]
 mod schedules;
+#[cfg(test)]
+mod scripts;
 #[cfg(test)]
 mod streams;
 #[cfg(test)]

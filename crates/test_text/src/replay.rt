@@ -1,17 +1,17 @@
-//! A replay whose reader, writer or memory fails at each place in turn: a clause can't say when one
-//! of these fails. Also worked reports, kinds of faults, and their texts.
+//! A replay whose reader or writer fails at each place in turn: a clause can't say when one of these
+//! fails. Also worked reports, kinds of faults, and their texts.
 
 use crate::answers::{
-    Answer, ENDED, REFUSED, check_answer, check_bytes, check_input, check_read, schedule_fault,
-    script_fault,
+    Answer, ENDED, REFUSED, check_answer, check_bytes, check_input, check_read, check_readers,
+    schedule_fault, script_fault,
 };
-use crate::streams::{End, Late, Narrow, Trickle};
+use crate::scripts::{DOUBLED, DOUBLED_REPORT, TWENTY_ROUNDS};
+use crate::streams::{End, Endless, Late, Narrow, Trickle};
 use acc_base::Fault;
-use acc_driver::{DriverFault, Ended, Options, ReadFault, ReadKind, Remains, replay_one};
+use acc_driver::{DriverFault, Options, ReadFault, ReadKind, Remains, replay_one};
 use std::alloc::{AllocError, Global};
 use std::process::Abort;
 use std::test::Fail;
-use tool_scarce::{Hoard, Purse};
 
 /// An input, its answer and its report.
 type Worked = (&'static [u8], Answer, &'static [u8]);
@@ -142,6 +142,111 @@ fn readers_are_interrupted(rt: HostRuntime) -> Result<(), Fail> {
     Ok(())
 }
 
+// A text that can't be read.
+const FAILED: Answer = Err(DriverFault::Input);
+
+/// A script's reader that fails at its third byte, and a schedule's reader that does, are told as the input's fault, and
+/// nothing is written.
+#[test]
+fn either_of_two_readers_fails(rt: HostRuntime) -> Result<(), Fail> {
+    let alloc = rt.alloc();
+    let mut script = Trickle {
+        left: b"lo",
+        end: End::Fails,
+    };
+    let mut schedule = TWENTY_ROUNDS;
+    check_readers(&rt, alloc, &mut script, &mut schedule, FAILED, b"");
+    let mut script = DOUBLED;
+    let mut schedule = Trickle {
+        left: b"ro",
+        end: End::Fails,
+    };
+    check_readers(&rt, alloc, &mut script, &mut schedule, FAILED, b"");
+    Ok(())
+}
+
+/// How often a script's reader is interrupted, and its text; the same of a schedule's; and what is answered and written.
+type Interrupted = (
+    u32,
+    &'static [u8],
+    u32,
+    &'static [u8],
+    Answer,
+    &'static [u8],
+);
+
+const INTERRUPTED: &[Interrupted] = &[
+    (
+        2_097_150,
+        DOUBLED,
+        2_097_150,
+        TWENTY_ROUNDS,
+        ENDED,
+        DOUBLED_REPORT,
+    ),
+    (2_097_151, DOUBLED, 0, TWENTY_ROUNDS, FAILED, b""),
+    (0, DOUBLED, 2_097_151, TWENTY_ROUNDS, FAILED, b""),
+    (2_097_151, b"", 2_097_151, b"", ENDED, b"end\n"),
+    (2_097_152, b"", 0, b"", FAILED, b""),
+    (0, b"", 2_097_152, b"", FAILED, b""),
+];
+
+/// Each of two texts has 2,097,152 turns, the last of which may be that of its end.
+#[test]
+fn two_readers_are_interrupted(rt: HostRuntime) -> Result<(), Fail> {
+    for (of_script, script, of_schedule, schedule, wanted, report) in INTERRUPTED {
+        let mut script = Late {
+            interrupts: *of_script,
+            left: script,
+        };
+        let mut schedule = Late {
+            interrupts: *of_schedule,
+            left: schedule,
+        };
+        check_readers(&rt, rt.alloc(), &mut script, &mut schedule, *wanted, report);
+    }
+    Ok(())
+}
+
+// A reader that doesn't end is read in so many turns, as a script and as a schedule, and is answered so.
+fn check_endless(
+    rt: &impl Abort,
+    alloc: Global,
+    interrupts: u32,
+    turns: u32,
+    as_script: Answer,
+    as_schedule: Answer,
+) {
+    let mut endless = Endless {
+        interrupts,
+        turns: 0,
+    };
+    let mut schedule = TWENTY_ROUNDS;
+    check_readers(rt, alloc, &mut endless, &mut schedule, as_script, b"");
+    assert_eq!(rt; endless.turns, turns);
+    let mut script = DOUBLED;
+    let mut endless = Endless {
+        interrupts,
+        turns: 0,
+    };
+    check_readers(rt, alloc, &mut script, &mut endless, as_schedule, b"");
+    assert_eq!(rt; endless.turns, turns);
+}
+
+/// A reader that gives a byte a turn and doesn't end is read up to one byte more than a text may have; one that gives none, or
+/// one too few, up to its last turn.
+#[test]
+fn readers_never_end(rt: HostRuntime) -> Result<(), Fail> {
+    let alloc = rt.alloc();
+    let long = script_fault(1, ReadKind::Limit);
+    let long_schedule = schedule_fault(1, ReadKind::Limit);
+    check_endless(&rt, alloc, 0, 1_048_577, long, long_schedule);
+    check_endless(&rt, alloc, 1_048_575, 2_097_152, long, long_schedule);
+    check_endless(&rt, alloc, 1_048_576, 2_097_152, FAILED, FAILED);
+    check_endless(&rt, alloc, u32::MAX, 2_097_152, FAILED, FAILED);
+    Ok(())
+}
+
 // Sixteen arrays of the most cells enter by one directive, leave by another, and one is printed whole.
 fn largest_arrays(alloc: Global) -> Result<Vec<u8>, AllocError> {
     let mut input = Vec::new(alloc);
@@ -257,81 +362,6 @@ fn options_are_refused(rt: HostRuntime) -> Result<(), Fail> {
         let wanted = Err(DriverFault::Runtime(*fault));
         check_input(&rt, rt.alloc(), STALE, *options, wanted, b"");
     }
-    Ok(())
-}
-
-/// How often nothing was written for want of memory, and how often a host was refused it; and what was answered at last.
-#[derive(Clone, Copy)]
-struct Tried {
-    silent: u32,
-    hosts_refused: u32,
-    answer: Answer,
-}
-
-// Whether a report tells that its host was refused memory.
-fn tells_of_memory(report: &[u8]) -> bool {
-    report
-        .windows(10)
-        .any(|bytes| bytes == b"F11 Memory".as_slice())
-}
-
-// An array whose block takes more memory than reading the texts leaves free, so that it can be wanting at the directive alone.
-const LARGE: &[u8] =
-    b"long a[5000];\nhost {\n#pragma acc enter data copyin(a)\na[0] = 9;\n#pragma acc exit data copyout(a)\nprint(a[0:4]);\n}\n%%\nround 20\n";
-
-const LARGE_REPORT: &[u8] =
-    b"host 0\n0 0 0 0\ndone\nqueue 0 sync batches 2 operations 4 of 4\nend\n";
-
-// Replays the input with each amount of memory, until it is answered otherwise than by want of that. The queues are
-// short, as a world takes their room.
-fn try_amounts(alloc: Global, written: &mut Vec<u8>) -> Result<Tried, AllocError> {
-    let options = Options {
-        room: 4,
-        ..Options::DEFAULT
-    };
-    let mut purse = Purse::new(alloc)?;
-    let mut hoard = Hoard::new(alloc)?;
-    let mut tried = Tried {
-        silent: 0,
-        hosts_refused: 0,
-        answer: Err(DriverFault::Memory),
-    };
-    hoard.fill(alloc);
-    for _ in 0..Purse::GIFTS {
-        let mut input = LARGE;
-        tried.answer = replay_one(alloc, &mut input, options, written, &mut Remains::nothing());
-        match tried.answer {
-            Err(DriverFault::Memory) if written.is_empty() => {
-                tried.silent = tried.silent.saturating_add(1);
-            }
-            Ok(Ended { refused: true }) if tells_of_memory(written.as_slice()) => {
-                tried.hosts_refused = tried.hosts_refused.saturating_add(1);
-                written.clear();
-            }
-            _ => break,
-        }
-        if !purse.give() {
-            break;
-        }
-    }
-    hoard.free();
-    Ok(tried)
-}
-
-fn check_tried(rt: &impl Abort, tried: Tried) {
-    assert!(rt; 8 < tried.silent, "{} times silent", tried.silent);
-    assert!(rt; 0 < tried.hosts_refused);
-}
-
-/// With each amount of memory from none on: first the answer is want of memory, and nothing is written; then the run is
-/// reported with a host that was refused F11; at last there is enough.
-#[test]
-fn memory_is_refused_at_each_amount(rt: HostRuntime) -> Result<(), Fail> {
-    let mut written = Vec::with_capacity(rt.alloc(), 4_096)?;
-    let tried = try_amounts(rt.alloc(), &mut written)?;
-    check_answer(&rt, tried.answer, ENDED);
-    check_bytes(&rt, written.as_slice(), LARGE_REPORT);
-    check_tried(&rt, tried);
     Ok(())
 }
 

@@ -60,6 +60,30 @@ impl<'a> Read for Late<'a> {
     }
 }
 
+/// A reader that is interrupted so often, and then gives a blank a turn, without end. It counts its turns.
+#[derive(Drop)]
+pub struct Endless {
+    pub interrupts: u32,
+    pub turns: u32,
+}
+
+impl Read for Endless {
+    fn read(&mut self, buffer: &mut [u8]) -> Result<usize> {
+        self.turns = self.turns.wrapping_add(1);
+        if 0 < self.interrupts {
+            self.interrupts -= 1;
+            return Err(Error::from(ErrorKind::Interrupted));
+        }
+        match buffer {
+            [first, ..] => {
+                *first = b' ';
+                Ok(1)
+            }
+            [] => Ok(0),
+        }
+    }
+}
+
 /// A writer with room for some bytes, which it takes two at a time, and which is interrupted before each such
 /// pair. It fails when it is full, or takes nothing more.
 #[derive(Drop)]

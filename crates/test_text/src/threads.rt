@@ -1,6 +1,7 @@
 //! Scripts that threads run, whose reports don't depend on who is first, and a gate at which threads wait for one another.
 
 use crate::answers::{Answer, ENDED, REFUSED, check_answer, check_bytes, script_fault};
+use crate::scripts::{DOUBLED, DOUBLED_REPORT, TWO_HOSTS, TWO_HOSTS_REPORT};
 use crate::streams::{End, Narrow, Trickle};
 use acc_base::{Fault, HostId, QUEUES, QueueAt};
 use acc_driver::{DriverFault, Gate, NoMonitor, OpenGate, Options, ReadKind, Remains, run_script};
@@ -13,7 +14,7 @@ use std::thread;
 use std::thread::Threads;
 
 /// No monitor.
-const NOBODY: Option<&NoMonitor> = None;
+pub const NOBODY: Option<&NoMonitor> = None;
 
 // A script is answered so with these options and this gate, and this is written.
 pub fn check_run<R: Abort + Threads + Wait + Sync, G: Gate + Sync>(
@@ -54,12 +55,7 @@ const ON_NOVAL_REPORT: &[u8] =
 /// What one host says, or two on queues and arrays of their own.
 const WORKED: &[Worked] = &[
     (b"", 64, ENDED, b"end\n"),
-    (
-        b"long a[4] = {1,2,3,4};\nhost {\n#pragma acc enter data copyin(a)\n#pragma acc parallel loop present(a)\nfor (i = 0; i < 4; i++) a[i] = a[i] * 2;\n#pragma acc exit data copyout(a)\nprint(a);\n}\n",
-        64,
-        ENDED,
-        b"host 0\n2 4 6 8\ndone\nqueue 0 sync batches 3 operations 5 of 5\nend\n",
-    ),
+    (DOUBLED, 64, ENDED, DOUBLED_REPORT),
     (ON_NOVAL, 64, ENDED, ON_NOVAL_REPORT),
     (ON_NOVAL, 1, ENDED, ON_NOVAL_REPORT),
     (
@@ -94,13 +90,6 @@ fn worked_scripts_have_their_reports(rt: HostRuntime) -> Result<(), Fail> {
     }
     Ok(())
 }
-
-/// Two hosts enter an array each, on queues of their own.
-const TWO_HOSTS: &[u8] =
-    b"long a[2];\nlong b[2];\nhost {\n#pragma acc enter data copyin(a) async(1)\n}\nhost {\n#pragma acc enter data copyin(b) async(2)\n}\n";
-
-const TWO_HOSTS_REPORT: &[u8] =
-    b"host 0\ndone\nhost 1\ndone\npresent 0 a[0:2] s 0 d 1\npresent 0 b[0:2] s 0 d 1\nqueue 0 1 batches 1 operations 2 of 2\nqueue 0 2 batches 1 operations 2 of 2\nend\n";
 
 /// Eight hosts on four devices, two on each: a host has an array and a queue of its own, on which it doubles the array.
 const EIGHT_HOSTS: &[u8] =
