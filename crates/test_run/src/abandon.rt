@@ -1,34 +1,16 @@
 //! What an abandoned run leaves, and when it can't be abandoned.
 
 use crate::finish::{Wrong, acted, made_wrong};
-use crate::fixtures::{config_of, entry_of, queue};
-use acc_base::{Fault, QUEUES, QueueAt};
+use crate::fixtures::{Fuse, config_of, entry_of, serve_all};
+use acc_base::{Fault, QUEUES};
 use acc_host::Outcome;
 use acc_place::Clause;
-use acc_run::{Gate, HostToken, Runtime};
+use acc_run::{HostToken, Runtime};
 use acc_work::WorkEntry;
 use std::alloc::Global;
 use std::sync::Wait;
-use std::sync::atomic::{AtomicU64, Ordering};
 use std::test::Fail;
 use tool_scarce::{Hoard, Purse, at_each_amount};
-
-// So many batches pass, and then none.
-#[derive(Drop)]
-struct Fuse {
-    left: AtomicU64,
-}
-
-impl Gate for Fuse {
-    fn pass(&self, _at: QueueAt, _number: u64) -> bool {
-        let left = self.left.load(Ordering::SeqCst);
-        if left == 0 {
-            return false;
-        }
-        self.left.store(left - 1, Ordering::SeqCst);
-        true
-    }
-}
 
 // A runtime whose host entered so many arrays in turns on two queues, each of which is two operations; all queues are closed, and so many
 // batches have passed.
@@ -47,17 +29,12 @@ pub fn served<R: Wait>(
         }
     }
     let _ = runtime.close(rt);
-    let gate = Fuse {
-        left: AtomicU64::new(passes),
-    };
-    for number in 0..QUEUES {
-        runtime.serve(rt, queue(number), &gate);
-    }
+    serve_all(rt, &runtime, &Fuse::new(passes));
     Ok((runtime, tokens))
 }
 
-// How many operations an outcome has that were performed, and how many that were discarded.
-fn count_in(outcome: &Outcome) -> (usize, usize) {
+/// How many operations an outcome has that were performed, and how many that were discarded.
+pub fn count_in(outcome: &Outcome) -> (usize, usize) {
     let mut performed = 0usize;
     for entry in outcome.works.iter() {
         if let WorkEntry::Op { .. } = entry {

@@ -1,7 +1,8 @@
 //! What a finished run leaves, and when it can't be finished.
 
-use crate::fixtures::{Open, config_of, entries, entry_of, print, queue, whole};
+use crate::fixtures::{Open, config_of, entries, entry_of, print, serve_all, whole};
 use acc_base::{Fault, QUEUES};
+use acc_host::Outcome;
 use acc_place::Clause;
 use acc_run::{HostToken, Runtime};
 use std::alloc::Global;
@@ -37,9 +38,7 @@ pub fn acted<R: Wait>(rt: &R, alloc: Global) -> Result<(Runtime, Vec<HostToken>)
 // The queues of the device are closed, and each performs all that was placed on it.
 fn perform_all<R: Wait>(rt: &R, runtime: &Runtime) {
     let _ = runtime.close(rt);
-    for number in 0..QUEUES {
-        runtime.serve(rt, queue(number), &Open);
-    }
+    serve_all(rt, runtime, &Open);
 }
 
 /// Tokens that are wrong in this way, in place of these.
@@ -106,20 +105,32 @@ fn an_unfinished_run_is_told_first(rt: HostRuntime) -> Result<(), Fail> {
     Ok(())
 }
 
-// What comes back from a run that isn't finished can be finished later.
-fn finished_later<R: Wait>(rt: &R, alloc: Global) -> Result<Left, Fault> {
-    let (runtime, tokens) = acted(rt, alloc)?;
+/// What a run leaves, and whether it was finished at once: one that is unfinished comes back, performs what is left, and is finished then.
+pub fn finish_later<R: Wait>(
+    rt: &R,
+    runtime: Runtime,
+    tokens: Vec<HostToken>,
+) -> Result<(bool, Outcome), Fault> {
     match runtime.finish(tokens) {
-        Ok(_) => Ok(Err(Fault::TooMany)),
+        Ok(outcome) => Ok((true, outcome)),
         Err(refused) => {
+            if refused.fault != Fault::Unfinished {
+                return Err(refused.fault);
+            }
             perform_all(rt, &refused.runtime);
-            Ok(finish(refused.runtime, refused.tokens))
+            match refused.runtime.finish(refused.tokens) {
+                Ok(outcome) => Ok((false, outcome)),
+                Err(refused) => Err(refused.fault),
+            }
         }
     }
 }
 
 #[test]
 fn a_run_comes_back_and_is_finished_later(rt: HostRuntime) -> Result<(), Fail> {
-    assert!(rt; finished_later(&rt, rt.alloc())? == Ok(WHOLE));
+    let (runtime, tokens) = acted(&rt, rt.alloc())?;
+    let (at_once, outcome) = finish_later(&rt, runtime, tokens)?;
+    assert!(rt; !at_once);
+    assert!(rt; (outcome.places.len(), entries(&outcome.works)) == WHOLE);
     Ok(())
 }

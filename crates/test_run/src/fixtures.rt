@@ -3,12 +3,13 @@
 ghost use Rattle.std.specs.Prelude.{◌≡◌, IfOk};
 ghost use Rattle.acc_host.specs.Engines.{MayRecord};
 
-use acc_base::{Config, DeviceId, Fault, QueueAt, QueueId, Range};
+use acc_base::{Config, DeviceId, Fault, QUEUES, QueueAt, QueueId, Range};
 use acc_place::{Clause, DataItem, Directive, Target, Waits};
 use acc_run::{Gate, HostToken, Runtime};
 use acc_work::{Item, WorkLog};
 use std::alloc::Global;
 use std::sync::Wait;
+use std::sync::atomic::{AtomicU64, Ordering};
 use std::thread;
 use tool_directives::{Form, directive_of};
 
@@ -29,6 +30,30 @@ pub struct Shut;
 impl Gate for Shut {
     fn pass(&self, _at: QueueAt, _number: u64) -> bool {
         false
+    }
+}
+
+/// So many batches pass, those of all queues together, and then none.
+#[derive(Drop)]
+pub struct Fuse {
+    left: AtomicU64,
+}
+
+impl Fuse {
+    pub fn new(batches: u64) -> Fuse {
+        Fuse {
+            left: AtomicU64::new(batches),
+        }
+    }
+}
+
+impl Gate for Fuse {
+    fn pass(&self, _at: QueueAt, _number: u64) -> bool {
+        self.left
+            .fetch_update(Ordering::SeqCst, Ordering::SeqCst, |left| {
+                left.checked_sub(1)
+            })
+            .is_ok()
     }
 }
 
@@ -151,5 +176,12 @@ pub fn close_all<R: Wait>(rt: &R, runtime: &Runtime) {
             return;
         }
         thread::yield_now();
+    }
+}
+
+/// Each queue of the first device goes on as far as the gate lets it.
+pub fn serve_all<R: Wait, G: Gate>(rt: &R, runtime: &Runtime, gate: &G) {
+    for number in 0..QUEUES {
+        runtime.serve(rt, queue(number), gate);
     }
 }

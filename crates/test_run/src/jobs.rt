@@ -1,9 +1,11 @@
 //! A loop is computed with no lock held: what hosts and other queues do meanwhile is done, and the loop is performed over the cells as they
 //! are when it comes back.
 
-use crate::fixtures::{Open, both, close_all, print, queue, record};
-use acc_base::{Config, DeviceId, Fault, QUEUES, QueueAt, Range};
-use acc_place::{Clause, DataItem, Target, Waits};
+ghost use Rattle.std.specs.Prelude.{◌≡◌, IfOk};
+
+use crate::fixtures::{Open, both, close_all, print, queue, record, serve_all};
+use acc_base::{Config, DeviceId, Fault, QueueAt, Range};
+use acc_place::{Clause, DataItem, Directive, Target, Waits};
 use acc_run::{Gate, HostToken, Runtime};
 use acc_work::{Item, Told, Values, WorkEntry, WorkLog};
 use std::alloc::Global;
@@ -21,16 +23,23 @@ type Cells = (u8, u32, u32);
 /// Cells, and the value that each of them is given.
 type Change = (Cells, i64);
 
-/// A loop over a and b, the arrays 0 and 1, which hold 1, 2, 3, 4 and 5, 6, 7, 8: its clauses name so many cells of both, from one on.
-/// What changes, one change behind another, and what the arrays hold in the end.
+/// A loop over a and b, the arrays 0 and 1, which hold 1, 2, 3, 4 and 5, 6, 7, 8 at first: its clauses name so many cells of both, from
+/// one on. What changes, one change behind another, and what the arrays hold in the end.
 #[derive(Clone, Copy)]
-struct Case {
+pub struct Case {
     lo: i64,
     hi: i64,
     body: Body,
     named: (u32, u32),
     changes: &'static [Change],
     after: [&'static [i64]; 2],
+}
+
+impl Case {
+    // How many cells each array has.
+    fn cells(&self) -> u32 {
+        u32::try_from(self.after[0].len()).unwrap_or(0)
+    }
 }
 
 /// `b[i] = a[i] + 1` in the middle, where another queue copies in cells of which one is the loop's and one isn't.
@@ -43,14 +52,26 @@ const IN_PART: Case = Case {
     after: [&[1, 2, 9, 9], &[5, 3, 10, 8]],
 };
 
+/// The same, where nothing changes.
+const UNCHANGED: Case = Case {
+    changes: &[],
+    after: [&[1, 2, 3, 4], &[5, 3, 4, 8]],
+    ..IN_PART
+};
+
+/// `b[i] = a[i] + 1` for each of a thousand cells, all of which are 0 at first, and of which none changes.
+pub const WIDE: Case = Case {
+    lo: 0,
+    hi: 1_000,
+    body: Body::Successor,
+    named: (0, 1_000),
+    changes: &[],
+    after: [&[0; 1_000], &[1; 1_000]],
+};
+
 const CASES: [Case; 11] = [
     IN_PART,
-    // nothing changes
-    Case {
-        changes: &[],
-        after: [&[1, 2, 3, 4], &[5, 3, 4, 8]],
-        ..IN_PART
-    },
+    UNCHANGED,
     // b changes, which the loop only assigns
     Case {
         named: (0, 4),
@@ -139,9 +160,9 @@ impl Gate for Holding {
     }
 }
 
-// Whether a mark is set within so many turns.
-fn comes(mark: &AtomicU64) -> bool {
-    for _ in 0..1_000_000u32 {
+/// Whether a mark is set within so many turns.
+pub fn comes(mark: &AtomicU64) -> bool {
+    for _ in 0..30_000_000u32 {
         if mark.load(Ordering::SeqCst) == 1 {
             return true;
         }
@@ -162,38 +183,41 @@ impl Gate for First {
     }
 }
 
-// A runtime of one host.
-fn runtime_of(alloc: Global) -> Result<(Runtime, Vec<HostToken>), Fault> {
-    let a = vec![in alloc; 1i64, 2, 3, 4]?;
-    let b = vec![in alloc; 5i64, 6, 7, 8]?;
-    let config = Config::new(alloc, 1, 1, vec![in alloc; a, b]?, 100, 64)?;
-    Runtime::new(alloc, &config)
+/// So many hosts, and these arrays.
+pub fn arrays_of(alloc: Global, hosts: u8, a: Vec<i64>, b: Vec<i64>) -> Result<Config, Fault>
+    ensures { IfOk result (λ config. config.hosts ≡ hosts) }
+{
+    Config::new(alloc, 1, hosts, vec![in alloc; a, b]?, 100_000, 64)
 }
 
 fn range_of((array, lo, len): Cells) -> Range {
     Range { array, lo, len }
 }
 
-// On queue `1`: a and b are entered, the loop is computed, and both come back.
-fn place_loop<R: Wait>(
+/// The directives of a loop, all on queue `1`: a and b are entered, the loop is computed, and both come back.
+pub fn directives_of(alloc: Global, case: &Case) -> Result<Vec<Directive>, Fault> {
+    let first = Target::Value { value: 1 };
+    let (lo, len) = case.named;
+    let copyin = both(Clause::Copyin, 0, case.cells());
+    let present = both(Clause::Present, lo, len);
+    let update = both(Clause::UpdateSelf, 0, case.cells());
+    let form = over(case.lo, case.hi, case.body);
+    let enter = directive_of(alloc, Form::EnterData, &copyin, first, Waits::Nothing)?;
+    let run = directive_of(alloc, form, &present, first, Waits::Nothing)?;
+    let back = directive_of(alloc, UPDATE, &update, first, Waits::Nothing)?;
+    Ok(vec![in alloc; enter, run, back]?)
+}
+
+/// Places the directives of a loop.
+pub fn place_loop<R: Wait>(
     rt: &R,
     alloc: Global,
     runtime: &Runtime,
     token: &mut HostToken,
     case: &Case,
 ) -> Result<(), Fault> {
-    let first = Target::Value { value: 1 };
-    let (lo, len) = case.named;
-    let copyin = both(Clause::Copyin, 0, 4);
-    let present = both(Clause::Present, lo, len);
-    let update = both(Clause::UpdateSelf, 0, 4);
-    let form = over(case.lo, case.hi, case.body);
-    for directive in [
-        directive_of(alloc, Form::EnterData, &copyin, first, Waits::Nothing)?,
-        directive_of(alloc, form, &present, first, Waits::Nothing)?,
-        directive_of(alloc, UPDATE, &update, first, Waits::Nothing)?,
-    ] {
-        let _ = runtime.place(rt, token, &directive)?;
+    for directive in directives_of(alloc, case)?.as_slice() {
+        let _ = runtime.place(rt, token, directive)?;
     }
     Ok(())
 }
@@ -294,7 +318,7 @@ fn serve<R: Threads + Wait + Sync>(
     })
 }
 
-// All of it is placed, performed and printed.
+// All of it is placed and performed.
 fn run<R: Threads + Wait + Sync>(
     rt: &R,
     alloc: Global,
@@ -307,11 +331,8 @@ fn run<R: Threads + Wait + Sync>(
     place_changes(rt, alloc, runtime, token, case.changes)?;
     close_all(rt, runtime);
     serve(rt, runtime, token, case.changes, while_out)?;
-    for number in 0..QUEUES {
-        runtime.serve(rt, queue(number), &Open);
-    }
-    print(rt, alloc, runtime, token, range_of((0, 0, 4)))?;
-    print(rt, alloc, runtime, token, range_of((1, 0, 4)))
+    serve_all(rt, runtime, &Open);
+    Ok(())
 }
 
 // Whether a print's values are these.
@@ -341,16 +362,17 @@ fn shows(works: &WorkLog, array: u8, wanted: &[i64]) -> bool {
     false
 }
 
-// Whether the arrays hold what they should in the end, where the changes come while the loop is out, or else behind it.
-fn holds<R: Threads + Wait + Sync>(
+/// Whether the arrays hold what they should, once all is performed.
+pub fn hold<R: Wait>(
     rt: &R,
     alloc: Global,
+    runtime: Runtime,
+    mut tokens: Vec<HostToken>,
     case: &Case,
-    while_out: bool,
 ) -> Result<bool, Fault> {
-    let (runtime, mut tokens) = runtime_of(alloc)?;
     for token in tokens.as_mut_slice() {
-        run(rt, alloc, &runtime, token, case, while_out)?;
+        print(rt, alloc, &runtime, token, range_of((0, 0, case.cells())))?;
+        print(rt, alloc, &runtime, token, range_of((1, 0, case.cells())))?;
     }
     match runtime.finish(tokens) {
         Ok(outcome) => {
@@ -359,6 +381,22 @@ fn holds<R: Threads + Wait + Sync>(
         }
         Err(refused) => Err(refused.fault),
     }
+}
+
+// Whether they hold it, where the changes come while the loop is out, or else behind it.
+fn holds<R: Threads + Wait + Sync>(
+    rt: &R,
+    alloc: Global,
+    case: &Case,
+    while_out: bool,
+) -> Result<bool, Fault> {
+    let a = vec![in alloc; 1i64, 2, 3, 4]?;
+    let b = vec![in alloc; 5i64, 6, 7, 8]?;
+    let (runtime, mut tokens) = Runtime::new(alloc, &arrays_of(alloc, 1, a, b)?)?;
+    for token in tokens.as_mut_slice() {
+        run(rt, alloc, &runtime, token, case, while_out)?;
+    }
+    hold(rt, alloc, runtime, tokens, case)
 }
 
 #[test]

@@ -4,11 +4,17 @@
 #[cfg(test)]
 mod abandon;
 #[cfg(test)]
+mod alone;
+#[cfg(test)]
+mod amounts;
+#[cfg(test)]
 mod closes;
 #[cfg(test)]
 mod finish;
 #[cfg(test)]
 mod fixtures;
+#[cfg(test)]
+mod fuse;
 #[cfg(test)]
 mod jobs;
 #[cfg(test)]
@@ -21,3 +27,7 @@ mod readers;
 mod runs;
 #[cfg(test)]
 mod stops;
+#[cfg(test)]
+mod threads;
+#[cfg(test)]
+mod workers;

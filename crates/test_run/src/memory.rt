@@ -2,8 +2,9 @@
 //! placed is performed without any; and what a dropped runtime held is free again.
 
 use crate::abandon::{ALL, served};
-use crate::fixtures::{Open, config_of, entries, entry_of, print, queue, whole};
-use acc_base::{DeviceId, Fault, QUEUES};
+use crate::finish::finish_later;
+use crate::fixtures::{config_of, entries, entry_of, print, queue, whole};
+use acc_base::{DeviceId, Fault};
 use acc_place::Clause;
 use acc_run::{HostToken, Runtime};
 use std::alloc::Global;
@@ -68,21 +69,19 @@ fn an_item_is_refused_until_there_is_memory(rt: HostRuntime) -> Result<(), Fail>
     Ok(())
 }
 
-/// Eight batches of two operations, and a close of each queue: no request for memory is granted behind the last of them.
+/// Eight batches of two operations, and a close of each queue, of which three were performed: no request for memory is granted behind the
+/// last of them, and the run comes back, goes on and is finished.
 #[test]
 fn what_was_placed_is_performed_without_memory(rt: HostRuntime) -> Result<(), Fail> {
     let alloc = rt.alloc();
-    let (runtime, tokens) = served(&rt, alloc, 8, 0)?;
+    let (runtime, tokens) = served(&rt, alloc, 8, 3)?;
     let mut hoard = Hoard::new(alloc)?;
     hoard.fill(alloc);
-    for number in 0..QUEUES {
-        runtime.serve(&rt, queue(number), &Open);
-    }
+    let answer = finish_later(&rt, runtime, tokens);
     hoard.free();
-    match runtime.finish(tokens) {
-        Ok(outcome) => assert!(rt; entries(&outcome.works) == ALL),
-        Err(refused) => assert!(rt; false, "{}", refused.fault),
-    }
+    let (at_once, outcome) = answer?;
+    assert!(rt; !at_once);
+    assert!(rt; entries(&outcome.works) == ALL);
     Ok(())
 }
 

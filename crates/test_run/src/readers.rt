@@ -33,9 +33,9 @@ fn program_of(alloc: Global, host: u8) -> Result<HostProgram, Fault>
     })
 }
 
-// Both hosts.
+/// Both hosts.
 #[tactic(auto, using(crate::proofs::NumberedPrograms::one_more))]
-fn both_programs(alloc: Global) -> Result<Vec<HostProgram>, Fault>
+pub(crate) fn both_programs(alloc: Global) -> Result<Vec<HostProgram>, Fault>
     ensures numbered { IfOk result (λ programs. AreNumbered 0 programs.items) }
     ensures count { IfOk result (λ programs. length programs.items ≡ 2) }
 {

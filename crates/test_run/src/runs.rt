@@ -5,10 +5,11 @@ ghost use Rattle.std.specs.Prelude.{◌≡◌, IfOk, length, map};
 ghost use Rattle.acc_host.specs.Hosts.{AreNumbered, ready};
 ghost use Rattle.acc_run.specs.Running.{Paired};
 
-use crate::fixtures::{Open, config_of, directive_with, queue, whole};
-use acc_base::{Config, Fault, HostId, Listed, QueueAt};
+use crate::finish::finish_later;
+use crate::fixtures::{Open, config_of, directive_with, entries, queue, whole};
+use acc_base::{Config, Fault, HostId, Listed, QUEUES, QueueAt};
 use acc_host::{Act, Host, HostProgram, HostState, Statement, ready_hosts};
-use acc_place::{Clause, Target, Waits};
+use acc_place::{Clause, Directive, Target, Waits};
 use acc_run::laws::new_hosts_are_paired;
 use acc_run::{Gate, HostToken, Runtime, TokenEntry};
 use acc_work::ItemLabel;
@@ -29,9 +30,13 @@ const HOSTS: u8 = 8;
 /// How often a host does its statements: a thousand directives.
 const ROUNDS: u32 = 250;
 
-// One round of a host: it writes a cell of its array, enters the array on a queue that all hosts share, updates it on another, waits for
-// both, lets go of it, and prints it.
-fn push_round(alloc: Global, host: u8, statements: &mut Vec<Statement>) -> Result<(), Fault> {
+/// One round of a host: it writes a cell of its array, enters the array on a queue that all hosts share, updates it on another, waits for
+/// both, lets go of it, and prints it.
+pub(crate) fn push_round(
+    alloc: Global,
+    host: u8,
+    statements: &mut Vec<Statement>,
+) -> Result<(), Fault> {
     let shared = Target::Value { value: 0 };
     let own = Target::Value {
         value: i64::from(host),
@@ -88,8 +93,8 @@ fn programs_of(alloc: Global, hosts: u8) -> Result<Vec<HostProgram>, Fault>
     Ok(programs)
 }
 
-// How many directives of its own program a token lists in their order, and how many writes and prints.
-fn count_in(token: &HostToken) -> (u32, u32) {
+/// How many directives of its own program a token lists in their order, and how many writes and prints.
+pub(crate) fn count_in(token: &HostToken) -> (u32, u32) {
     let mut directives = 0u32;
     let mut items = 0u32;
     for entry in token.entries() {
@@ -132,8 +137,8 @@ pub(crate) fn opened(
     Ok((runtime, hosts, tokens))
 }
 
-// Runs a new runtime's hosts.
-fn run_programs<R: Threads + Wait + Sync, G: Gate + Sync>(
+/// Runs a new runtime's hosts.
+pub(crate) fn run_programs<R: Threads + Wait + Sync, G: Gate + Sync>(
     rt: &R,
     alloc: Global,
     config: &Config,
@@ -186,11 +191,23 @@ fn hosts_finish_on_queues_with_room_for_sixty_four_batches(rt: HostRuntime) -> R
     Ok(())
 }
 
-// A host goes on once all hosts stand here.
+/// A host goes on once all hosts stand here, or after many turns.
 #[derive(Drop)]
-struct Start {
+pub(crate) struct Start {
+    hosts: u8,
     here: AtomicU64,
     failed: AtomicU64,
+}
+
+impl Start {
+    /// For so many hosts.
+    pub(crate) fn new(hosts: u8) -> Start {
+        Start {
+            hosts,
+            here: AtomicU64::new(0),
+            failed: AtomicU64::new(0),
+        }
+    }
 }
 
 impl Gate for Start {
@@ -201,7 +218,7 @@ impl Gate for Start {
     fn host(&self, _host: HostId) {
         self.here.fetch_add(1, Ordering::SeqCst);
         for _ in 0..100_000u32 {
-            if self.here.load(Ordering::SeqCst) >= u64::from(HOSTS) {
+            if self.here.load(Ordering::SeqCst) >= u64::from(self.hosts) {
                 return;
             }
             thread::yield_now();
@@ -212,10 +229,7 @@ impl Gate for Start {
 
 // Whether all hosts stood at the gate at once, each once, and finished then.
 fn start_together<R: Threads + Wait + Sync>(rt: &R, alloc: Global) -> Result<bool, Fault> {
-    let gate = Start {
-        here: AtomicU64::new(0),
-        failed: AtomicU64::new(0),
-    };
+    let gate = Start::new(HOSTS);
     let all_finished = run_with(rt, alloc, 2, &gate)?;
     Ok(
         all_finished
@@ -240,29 +254,43 @@ impl Gate for Barrier {
     }
 }
 
-// A host that has two batches on queue `0`, which has room for one.
-fn two_batches(alloc: Global) -> Result<HostProgram, Fault>
-    ensures { IfOk result (λ program. program.host ≡ 0) }
+/// One host, whose program is these directives.
+pub(crate) fn one_host(alloc: Global, directives: Vec<Directive>) -> Result<Vec<HostProgram>, Fault>
+    ensures numbered { IfOk result (λ programs. AreNumbered 0 programs.items) }
+    ensures count { IfOk result (λ programs. length programs.items ≡ 1) }
 {
-    let target = Target::Value { value: 0 };
-    let enter = directive_with(alloc, Form::EnterData, Clause::Create, 0, target)?;
-    let update = directive_with(alloc, UPDATE, Clause::UpdateSelf, 0, target)?;
     let mut statements = Vec::new(alloc);
-    for directive in [enter, update] {
+    for directive in directives {
         let act = Act::Place { directive };
         statements.push(Statement { line: 0, act })?;
     }
-    Ok(HostProgram {
+    let mut programs = Vec::new(alloc);
+    programs.push(HostProgram {
         host: HostId::new(0),
         statements: Listed::from_vec(statements),
-    })
+    })?;
+    Ok(programs)
 }
 
-// How many queues are without Close behind a run whose gate stops the worker of a queue that is full then.
+/// An array is entered on the queue of the first value, and updated on those of the others.
+pub(crate) fn updates_on(alloc: Global, values: &[i64]) -> Result<Vec<Directive>, Fault> {
+    let mut directives = Vec::new(alloc);
+    for value in values {
+        let target = Target::Value { value: *value };
+        let (form, clause) = if directives.is_empty() {
+            (Form::EnterData, Clause::Create)
+        } else {
+            (UPDATE, Clause::UpdateSelf)
+        };
+        directives.push(directive_with(alloc, form, clause, 0, target)?)?;
+    }
+    Ok(directives)
+}
+
+// How many queues are without Close behind a run of two batches on queue `0`, which has room for one, and whose worker its gate stops.
 fn left_open<R: Threads + Wait + Sync>(rt: &R, alloc: Global) -> Result<u32, Fault> {
     let config = config_of(alloc, 1, 1, 1)?;
-    let mut programs = Vec::new(alloc);
-    programs.push(two_batches(alloc)?)?;
+    let programs = one_host(alloc, updates_on(alloc, &[0, 0])?)?;
     let (runtime, hosts, _) = run_programs(rt, alloc, &config, &Barrier, programs)?;
     if are_finished(hosts.as_slice()) {
         Ok(runtime.close(rt))
@@ -277,7 +305,29 @@ fn a_queue_whose_worker_ended_is_not_waited_for(rt: HostRuntime) -> Result<(), F
     Ok(())
 }
 
-// Whether nothing has run where the workers are refused their threads: hosts and tokens come back as they were, and the runtime is closed.
+/// Whether a run that was called off has done nothing: hosts and tokens come back as they were, and the runtime is closed, performs no more
+/// than its closes, and is finished.
+pub(crate) fn has_done_nothing<R: Wait>(
+    rt: &R,
+    runtime: Runtime,
+    hosts: &[Host],
+    tokens: Vec<HostToken>,
+) -> Result<bool, Fault> {
+    let nothing = hosts
+        .iter()
+        .all(|host| host.state() == HostState::Running { ended: 0 })
+        && tokens.iter().all(|token| token.entries().is_empty())
+        && runtime.close(rt) == 0;
+    let (at_once, outcome) = finish_later(rt, runtime, tokens)?;
+    Ok(
+        nothing
+            && !at_once
+            && outcome.places.len() == 1 + usize::from(QUEUES)
+            && entries(&outcome.works) == usize::from(QUEUES),
+    )
+}
+
+// Whether nothing has run where the workers are refused their threads.
 fn is_called_off<R: Threads + Wait + Sync>(rt: &R, alloc: Global) -> Result<bool, Fault> {
     let config = config_of(alloc, 1, HOSTS, 64)?;
     let programs = programs_of(alloc, HOSTS)?;
@@ -289,12 +339,7 @@ fn is_called_off<R: Threads + Wait + Sync>(rt: &R, alloc: Global) -> Result<bool
     match answer {
         Ok(_) => Ok(false),
         Err((fault, hosts, tokens)) => Ok(
-            fault == Fault::Memory
-                && hosts
-                    .iter()
-                    .all(|host| host.state() == HostState::Running { ended: 0 })
-                && tokens.iter().all(|token| token.entries().is_empty())
-                && runtime.close(rt) == 0,
+            fault == Fault::Memory && has_done_nothing(rt, runtime, hosts.as_slice(), tokens)?,
         ),
     }
 }
