@@ -19,6 +19,10 @@ use std::convert::AsStr;
 const ABOUT: &str =
     "accq replays a script of hosts and OpenACC directives under a schedule, or runs it by threads, and\nreports what it means: what is present with its counters, and what each queue has performed.";
 
+/// The ways to call the program.
+const USAGE: &str =
+    "accq replay [OPTIONS] <SCRIPT> <SCHEDULE>\n       accq run [OPTIONS] <SCRIPT>\n       accq < INPUT\n       accq --help";
+
 const EXAMPLE: &str =
     "Example: a script in question.acc, and a schedule `round 20` in question.schedule\n    accq replay question.acc question.schedule\n    accq run question.acc\n\nWithout words accq replays standard input: a script, a line %%, and a schedule.\n\nStatus: 0; 1 where a host was refused; 2 for a fault of the script, the schedule or the words;\n3 for a fault of a file, of memory or of the run. docs/GUIDE.md tells how to ask a question and\nto read the report, docs/LANGUAGE.md all that scripts, schedules and reports can say.";
 
@@ -151,6 +155,7 @@ fn accq_words<'a>(alloc: Global) -> Result<Command<'a>, AllocError>
     Command::new(alloc, "accq")
         .version("0.1.0, for OpenACC API 3.0")
         .about(ABOUT)
+        .override_usage(USAGE)
         .after_help(EXAMPLE)
         .subcommand_required(true)
         .subcommand(replay_words(alloc)?)?

@@ -398,6 +398,10 @@ const FAULTY_WORDS: &[(&[&str], &[u8])] = &[
         &["accq", "script", "schedule"],
         b"error: unrecognized subcommand 'script'",
     ),
+    (
+        &["accq", "question.acc"],
+        b"error: unrecognized subcommand 'question.acc'\n\nUsage: accq replay [OPTIONS] <SCRIPT> <SCHEDULE>\n       accq run [OPTIONS] <SCRIPT>\n       accq < INPUT\n       accq --help\n",
+    ),
     (&["accq", ""], b"error: unrecognized subcommand ''"),
     (
         &["accq", "--help"],

@@ -9,6 +9,6 @@ pub returns : goal.returns
 returns c =
     let begun : app_of c.subcommand_required.result ≡ on_top (λ s. record s { has_version = true; subcommand_required = true }) (new_app (codes "accq")) =
     ap app_of_fields c.subcommand_required.ensures
-    ∙ ap (λ (a : App). on_top (λ s. record s { subcommand_required = true }) a) (ap app_of_fields c.after_help.ensures ∙ ap app_of_fields c.about.ensures ∙ ap app_of_fields c.version.ensures ∙ ap (λ (a : App). on_top (λ s. record s { has_version = true }) a) c.new.ensures.app) in
+    ∙ ap (λ (a : App). on_top (λ s. record s { subcommand_required = true }) a) (ap app_of_fields c.after_help.ensures ∙ ap app_of_fields c.override_usage.ensures ∙ ap app_of_fields c.about.ensures ∙ ap app_of_fields c.version.ensures ∙ ap (λ (a : App). on_top (λ s. record s { has_version = true }) a) c.new.ensures.app) in
     let replay = c.in_ok-subcommand.ensures.shape c.in_ok-replay_words.ensures.local ∙ ap₂ with_subcommand begun (ap (λ (a : App). a.top) c.in_ok-replay_words.ensures.app) in
     IfOk-weaker c.subcommand-2.result _ _ (λ made adds. adds.shape c.in_ok-run_words.ensures.local ∙ ap₂ with_subcommand replay (ap (λ (a : App). a.top) c.in_ok-run_words.ensures.app)) c.subcommand-2.ensures
