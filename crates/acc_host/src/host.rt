@@ -1,6 +1,7 @@
 //! A host.
 
 ghost use Rattle.std.specs.Prelude.{◌≡◌, ◌+◌, ◌<◌, ◌^◌, IfErr, IfOk, map, slice_get, Some};
+ghost use Rattle.std.specs.Option.{option_map};
 ghost use Rattle.acc_base.specs.declared.fault.Fault.TheVariants.{Memory};
 ghost use Rattle.acc_host.specs.Following.{Stands};
 ghost use Rattle.acc_host.specs.Engines.{Keeps};
@@ -114,6 +115,20 @@ impl Host {
             },
             _ => HostState::Running { ended: self.ended },
         }
+    }
+
+    /// The statement that it stands at; `None` where it has ended them all.
+    pub fn statement(&self) -> Option<&Statement>
+        ensures { option_map (λ s. bare s.now) result ≡ slice_get self.now.statements self.now.ended }
+    {
+        self.statements.get(self.ended)
+    }
+
+    /// What it does next at that statement.
+    pub fn phase(&self) -> &Phase
+        ensures { result.now ≡ self.now.phase }
+    {
+        &self.phase
     }
 
     /// Its program. A directive that it has come to has the ids that the host gave it. Takes no memory.

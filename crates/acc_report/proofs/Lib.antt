@@ -1,6 +1,6 @@
 mod BarePrograms
 mod CountedQueues
-mod JoinedPuts
+pub mod JoinedPuts
 mod LinesFound
 mod OneDigit
 mod PlacedTotals

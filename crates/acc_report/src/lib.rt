@@ -11,6 +11,7 @@ mod prints;
 mod retold;
 mod run;
 
-pub use bytes::ReportFault;
+pub use bytes::{ReportFault, put, put_number};
 pub use laws::{ids_are_not_told, lines_are_found};
+pub use line::put_queue_name;
 pub use run::{Run, report, report_run};

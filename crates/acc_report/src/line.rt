@@ -143,8 +143,8 @@ fn put_discarded<W: Write>(out: &mut W, failed: &mut bool, count: u64)
     }
 }
 
-// The queue of an async value stands so far behind that value as the first of them.
-fn put_queue_name<W: Write>(out: &mut W, failed: &mut bool, queue: QueueId)
+/// Puts the name of a queue. That of an async value stands so far behind that value as the first of them.
+pub fn put_queue_name<W: Write>(out: &mut W, failed: &mut bool, queue: QueueId)
     ensures { Puts (sink (W.contents out.old) failed.old) (sink (W.contents out.new) failed.new) (queue_name queue) }
 {
     match queue.number() {
