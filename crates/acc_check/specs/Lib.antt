@@ -1,2 +1,3 @@
 pub mod Findings
+pub mod Languages
 pub mod Places

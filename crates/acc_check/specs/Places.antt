@@ -1,39 +1,12 @@
--- Where a text stops being the beginning of a script.
-use Rattle.std.specs.Prelude.{◌≡◌, ℕ, zero, suc, ◌+◌, ◌<◌, ◌≤◌, Bool, true, false, ◌&&◌, ◌||◌, ◌==◌, List, [], ◌∷◌, ◌++◌, length, take, drop, filter, slice_index_or, Option, Some, None, Result, Ok, Err, if◌then◌else◌}
+-- Where a text stops being the beginning of one of its language.
+use Rattle.std.specs.Prelude.{◌≡◌, ℕ, zero, suc, ◌+◌, ◌<◌, ◌≤◌, Bool, true, false, ◌&&◌, ◌||◌, ◌==◌, List, [], ◌∷◌, ◌++◌, length, take, drop, filter, slice_index_or, if◌then◌else◌}
 use Rattle.std.specs.List.{prefix_len}
-use Rattle.acc_script.specs.Scripts.{Program, script_of}
-use Rattle.acc_token.specs.declared.read_fault.ReadFault.{ReadFault}
-use Rattle.acc_token.specs.declared.read_fault.ReadKind.{ReadKind}
-use Rattle.acc_token.specs.declared.read_fault.ReadKind.TheVariants.{Text, End, Name, Limit, Form}
 use Rattle.acc_token.specs.Tokens.{front, is_pair, is_word_byte}
+use Rattle.acc_check.specs.declared.language.Language.{Language}
+use Rattle.acc_check.specs.declared.place.Piece.{Piece}
 use Rattle.acc_check.specs.declared.place.Place.{Place}
-use Rattle.acc_check.specs.declared.place.Verdict.{Verdict}
-use Rattle.acc_check.specs.declared.place.Verdict.TheVariants as verdict
-
--- ## Texts that go on
-
-abbrev pub fault_in : Result Program ReadFault → Option ReadFault
-fault_in (Ok program) = None
-fault_in (Err fault) = Some fault
-
--- what is wrong with a text, if it is no script
-unfoldable pub fault_of : List ℕ → Option ReadFault
-fault_of text = fault_in (script_of text)
-
-abbrev pub needs_more : ReadKind → Bool
-needs_more Text = false
-needs_more End = true
-needs_more Name = false
-needs_more Limit = false
-needs_more Form = false
-
-abbrev pub is_begun : Option ReadFault → Bool
-is_begun None = true
-is_begun (Some fault) = needs_more fault.kind
-
--- A text goes on where it is a script, or ends where one needs more.
-abbrev pub goes_on : List ℕ → Bool
-goes_on text = is_begun (fault_of text)
+use Rattle.acc_check.specs.declared.place.Place.TheVariants.{AtEnd, AtPiece}
+use Rattle.acc_check.specs.Languages.{goes_on}
 
 -- ## The pieces of a text
 
@@ -68,29 +41,27 @@ abbrev pub end_of : List ℕ → ℕ → ℕ
 end_of ends i = slice_index_or ends i 0
 
 -- A text stops at this piece: before it the text goes on, and with it it doesn't.
-pub record Stops (text : List ℕ) (i : ℕ) : Type 0 where
+pub record Stops (language : Language) (text : List ℕ) (i : ℕ) : Type 0 where
   pub there : i < length (ends_of text)
-  pub before : goes_on (take (start_of (ends_of text) i) text) ≡ true
-  pub behind : goes_on (take (end_of (ends_of text) i) text) ≡ false
+  pub before : goes_on language (take (start_of (ends_of text) i) text) ≡ true
+  pub behind : goes_on language (take (end_of (ends_of text) i) text) ≡ false
 
--- The place where a text stops, with what is wrong there.
-pub record IsStop (text : List ℕ) (p : Place) : Type 0 where
-  pub piece : Stops text p.piece
-  pub start : p.start ≡ start_of (ends_of text) p.piece
-  pub end : p.end ≡ end_of (ends_of text) p.piece
+-- The piece at which a text stops.
+pub record IsStop (language : Language) (text : List ℕ) (p : Piece) : Type 0 where
+  pub number : Stops language text p.number
+  pub start : p.start ≡ start_of (ends_of text) p.number
+  pub end : p.end ≡ end_of (ends_of text) p.number
   pub within : (p.start ≤ length text) × (p.end ≤ length text)
-  pub fault : fault_of (take p.end text) ≡ Some p.fault
 
--- What a text comes to.
-abbrev pub IsVerdict : List ℕ → Verdict → Type 0
-IsVerdict text verdict.Script = fault_of text ≡ None
-IsVerdict text (verdict.NeedsMore fault) = (fault_of text ≡ Some fault) × (needs_more fault.kind ≡ true)
-IsVerdict text (verdict.Stops p) = IsStop text p
+-- Where a text stops: at its end where it goes on, or else at a piece.
+abbrev pub IsPlace : Language → List ℕ → Place → Type 0
+IsPlace language text AtEnd = goes_on language text ≡ true
+IsPlace language text (AtPiece p) = IsStop language text p
 
 -- ## What could stand there
 
-abbrev pub stands : List ℕ → List ℕ → Bool
-stands before word = goes_on (before ++ 32 ∷ word)
+abbrev pub stands : Language → List ℕ → List ℕ → Bool
+stands language before word = goes_on language (before ++ 32 ∷ word)
 
-abbrev pub could_stand : List ℕ → List (List ℕ) → List (List ℕ)
-could_stand before words = filter (stands before) words
+abbrev pub could_stand : Language → List ℕ → List (List ℕ) → List (List ℕ)
+could_stand language before words = filter (stands language before) words

@@ -1,19 +1,23 @@
-//! What is told of a text that is no script.
+//! What is told of a text that is none of its language.
 
-ghost use Rattle.std.specs.Prelude.{◌≡◌, ◌≤◌, ◌<◌, ◌^◌, map, length, None, IfOk, IfErr, IfSome};
+ghost use Rattle.std.specs.Prelude.{◌≡◌, ◌≤◌, map, length, None, IfOk, IfErr, IfSome};
 ghost use Rattle.acc_base.specs.declared.fault.Fault.TheVariants.{Memory};
-ghost use Rattle.acc_check.specs.Findings.{place_behind, start_in, Tells};
-ghost use Rattle.acc_check.specs.Places.{fault_of, IsVerdict};
+ghost use Rattle.acc_check.specs.Findings.{number_stands, place_behind, start_in, Tells};
+ghost use Rattle.acc_check.specs.Languages.{fault_of};
+ghost use Rattle.acc_check.specs.Places.{IsPlace};
 
-use crate::place::{Verdict, verdict_of};
+use crate::language::{Language, fault_of};
+use crate::place::{Place, place_of};
 use crate::stand::{could_stand, stands};
 use acc_base::Fault;
+use acc_token::ReadFault;
 use std::alloc::Global;
 
-/// What is told of a text that is no script: where it stops, and what could stand there.
+/// What is told of a text that is none of its language: where it stops, and what could stand there.
 #[derive(Drop)]
 pub struct Finding<'a> {
-    pub verdict: Verdict,
+    pub fault: ReadFault,
+    pub place: Place,
     /// How many bytes stand before the place.
     pub start: usize,
     /// Its line, and its column in bytes, both from 1.
@@ -46,45 +50,59 @@ fn place_behind(text: &[u8]) -> (usize, usize)
 }
 
 // How many bytes stand before the place.
-fn start_in(text: &[u8], verdict: Verdict) -> usize
-    requires { IsVerdict text.now verdict }
-    ensures start { result ≡ start_in text.now verdict }
+fn start_in(language: Language, text: &[u8], place: Place) -> usize
+    requires { IsPlace language text.now place }
+    ensures start { result ≡ start_in text.now place }
     ensures within { result ≤ length text.now }
 {
-    match verdict {
-        Verdict::Script | Verdict::NeedsMore(_) => text.len(),
-        Verdict::Stops(place) => place.start,
+    let _ = language;
+    match place {
+        Place::AtEnd => text.len(),
+        Place::AtPiece(piece) => piece.start,
     }
 }
 
-/// What is told of a text with these words, if it is no script.
+// Whether a number could stand there.
+fn number_stands(alloc: Global, language: Language, before: &[u8]) -> Result<bool, Fault>
+    ensures answer { IfOk result (λ r. r ≡ number_stands language before.now) }
+    ensures fault { IfErr result (λ fault. fault ≡ Memory) }
+{
+    if stands(alloc, language, before, b"1")? {
+        return Ok(true);
+    }
+    stands(alloc, language, before, b"0")
+}
+
+/// What is told of a text with these words, if it is none of its language.
 ///
 /// # Errors
 ///
 /// `Memory` where memory is refused.
 pub fn finding_of<'a>(
     alloc: Global,
+    language: Language,
     text: &[u8],
     words: &[&'a [u8]],
 ) -> Result<Option<Finding<'a>>, Fault>
-    ensures script { IfOk result (λ found. found ≡ None → fault_of text.now ≡ None) }
-    ensures told { IfOk result (λ found. IfSome found (λ f. Tells text.now (map (λ w. w.now) words.now) f)) }
+    ensures whole { IfOk result (λ found. found ≡ None → fault_of language text.now ≡ None) }
+    ensures told { IfOk result (λ found. IfSome found (λ f. Tells language text.now (map (λ w. w.now) words.now) f)) }
     ensures fault { IfErr result (λ fault. fault ≡ Memory) }
 {
-    let verdict = verdict_of(alloc, text)?;
-    if verdict == Verdict::Script {
+    let Some(fault) = fault_of(alloc, language, text)? else {
         return Ok(None);
-    }
-    let start = start_in(text, verdict);
+    };
+    let place = place_of(alloc, language, text)?;
+    let start = start_in(language, text, place);
     let (before, _) = text.split_at(start);
     let (line, column) = place_behind(before);
     Ok(Some(Finding {
-        verdict,
+        fault,
+        place,
         start,
         line,
         column,
-        words: could_stand(alloc, before, words)?,
-        number: stands(alloc, before, b"1")?,
-        line_end: stands(alloc, before, b"\n")?,
+        words: could_stand(alloc, language, before, words)?,
+        number: number_stands(alloc, language, before)?,
+        line_end: stands(alloc, language, before, b"\n")?,
     }))
 }

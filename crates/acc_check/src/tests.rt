@@ -1,8 +1,6 @@
 //! Texts with a mistake, and what is told of each.
 
-use crate::finding::finding_of;
-use crate::text::tell;
-use crate::words::WORDS;
+use crate::check::check_script;
 use std::alloc::Global;
 use std::io::Result;
 use std::process::Abort;
@@ -69,9 +67,7 @@ const TOLD: &[(&[u8], &[u8])] = &[
 // What is told of a text.
 fn told(alloc: Global, text: &[u8]) -> Result<Vec<u8>> {
     let mut lines = Vec::new(alloc);
-    if let Ok(Some(finding)) = finding_of(alloc, text, WORDS) {
-        tell("a", text, &finding, &mut lines)?;
-    }
+    let _ = check_script(alloc, "a", text, &mut lines);
     Ok(lines)
 }
 

@@ -1,44 +1,39 @@
 //! The lines that tell a finding.
 
 use crate::finding::Finding;
-use crate::place::Verdict;
-use acc_script::ReadKind;
-use acc_token::line_len;
+use crate::place::Place;
+use acc_token::{ReadKind, line_len};
 use std::io::{Result, Write};
 
-/// Tells a finding of a text: the place with what is wrong, its line with a mark below it, and what could stand there.
+/// Tells a finding of a text, which begins with the line of this number: the place with what is wrong, its line with a mark
+/// below it, and what could stand there.
 ///
 /// # Errors
 ///
 /// The output's.
-pub fn tell<W: Write>(name: &str, text: &[u8], finding: &Finding, output: &mut W) -> Result<()> {
-    let kind = kind_of(finding.verdict);
-    write!(
-        output,
-        "{name}:{}:{}: {kind:?}: ",
-        finding.line, finding.column
-    )?;
-    put_fault(output, kind, token_of(text, finding.verdict))?;
+pub fn tell<W: Write>(
+    name: &str,
+    first_line: usize,
+    text: &[u8],
+    finding: &Finding,
+    output: &mut W,
+) -> Result<()> {
+    let kind = finding.fault.kind;
+    let line = (first_line as u128 + finding.line as u128).saturating_sub(1);
+    write!(output, "{name}:{line}:{}: {kind:?}: ", finding.column)?;
+    put_fault(output, kind, token_of(text, finding.place))?;
     let (before, line) = line_of(text, finding);
     put_line(output, before, line)?;
     put_stand(output, finding, is_directive(before))
 }
 
-fn kind_of(verdict: Verdict) -> ReadKind {
-    match verdict {
-        Verdict::Script => ReadKind::End,
-        Verdict::NeedsMore(fault) => fault.kind,
-        Verdict::Stops(place) => place.fault.kind,
-    }
-}
-
 // The piece at which a text stops, and nothing at its end.
-fn token_of(text: &[u8], verdict: Verdict) -> &[u8] {
-    match verdict {
-        Verdict::Script | Verdict::NeedsMore(_) => b"",
-        Verdict::Stops(place) => {
-            let (front, _) = text.split_at(place.end.min(text.len()));
-            let (_, token) = front.split_at(place.start.min(front.len()));
+fn token_of(text: &[u8], place: Place) -> &[u8] {
+    match place {
+        Place::AtEnd => b"",
+        Place::AtPiece(piece) => {
+            let (front, _) = text.split_at(piece.end.min(text.len()));
+            let (_, token) = front.split_at(piece.start.min(front.len()));
             token
         }
     }
@@ -47,9 +42,11 @@ fn token_of(text: &[u8], verdict: Verdict) -> &[u8] {
 // Says what is wrong with a token.
 fn put_fault<W: Write>(output: &mut W, kind: ReadKind, token: &[u8]) -> Result<()> {
     put_token(output, token)?;
+    if token.is_empty() {
+        return output.write_all(b", where more has to stand\n");
+    }
     let fault: &[u8] = match kind {
-        ReadKind::Text | ReadKind::Form => b" cannot stand here\n",
-        ReadKind::End => b", where more has to stand\n",
+        ReadKind::Text | ReadKind::Form | ReadKind::End => b" cannot stand here\n",
         ReadKind::Name => b" is no name that can stand here\n",
         ReadKind::Limit => b" passes a limit\n",
     };

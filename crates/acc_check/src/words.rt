@@ -71,3 +71,8 @@ pub const WORDS: &[&[u8]] = &[
     b"?",
     b"++",
 ];
+
+/// Each word that can stand in a schedule, in the order in which they are told.
+pub const SCHEDULE_WORDS: &[&[u8]] = &[
+    b"host", b"take", b"do", b"close", b"round", b"sync", b"noval",
+];

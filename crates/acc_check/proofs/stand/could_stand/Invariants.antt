@@ -4,4 +4,4 @@ use Rattle.acc_check.proofs.stand.could_stand.Given as goal
 
 abbrev pub invariant-loop-word : goal.invariant-loop-word
 invariant-loop-word l =
-    map (λ w. w.now) l.found.items ≡ filter (stands l.before) (map (λ w. w.now) (take l.word-index l.words))
+    map (λ w. w.now) l.found.items ≡ filter (stands l.language l.before) (map (λ w. w.now) (take l.word-index l.words))

@@ -1,8 +1,9 @@
 use Rattle.std.proofs.Common.{◌≡◌, ◌-◌, length, take, ap, ◌∙◌, arith}
 use Rattle.std.proofs.lemmas.List.{take_all}
-use Rattle.acc_check.specs.Places.{end_of, goes_on}
+use Rattle.acc_check.specs.Languages.{goes_on}
+use Rattle.acc_check.specs.Places.{end_of}
 use Rattle.acc_check.proofs.Ends.{nothing_goes_on}
-use Rattle.acc_check.proofs.place.piece_of.Goals as goal
+use Rattle.acc_check.proofs.place.number_of_stop.Goals as goal
 
 pub loop-low-init : goal.loop-low-init
 loop-low-init c =
@@ -11,6 +12,6 @@ loop-low-init c =
     record {
       ordered = omega arith;
       there = omega (arith, c.requires.some);
-      before = nothing_goes_on;
-      behind = ap goes_on whole ∙ c.requires.stops;
+      before = nothing_goes_on c.args.language;
+      behind = ap (goes_on c.args.language) whole ∙ c.requires.stops;
     }
