@@ -1,5 +1,7 @@
 -- What is told of a text that is none of its language: where it stops, and what could stand there.
-use Rattle.std.specs.Prelude.{◌≡◌, ℕ, ◌+◌, Bool, ◌==◌, ◌||◌, List, [], ◌∷◌, length, map, take, codes, Some, if◌then◌else◌}
+use Rattle.std.specs.Prelude.{◌≡◌, ℕ, ◌+◌, ◌≤◌, Bool, true, false, ◌==◌, ◌||◌, List, [], ◌∷◌, length, map, take, drop, codes, decimal, Some, IfSome}
+use Rattle.std.specs.List.{after_last}
+use Rattle.acc_token.specs.Texts.{line_feeds}
 use Rattle.acc_check.specs.declared.finding.Finding.{Finding}
 use Rattle.acc_check.specs.declared.language.Language.{Language}
 use Rattle.acc_check.specs.declared.place.Place.{Place}
@@ -7,28 +9,44 @@ use Rattle.acc_check.specs.declared.place.Place.TheVariants.{AtEnd, AtPiece}
 use Rattle.acc_check.specs.Languages.{fault_of}
 use Rattle.acc_check.specs.Places.{could_stand, stands, IsPlace}
 
--- The line and the column, in bytes, of what stands behind a text that begins at these: a line feed begins the next line.
-unfoldable pub place_behind : ℕ → ℕ → List ℕ → ℕ × ℕ
-place_behind line column [] = (line, column)
-place_behind line column (b ∷ bs) =
-    if b == 10 then place_behind (line + 1) 1 bs else place_behind line (column + 1) bs
+-- what stands behind the last line feed of a text
+abbrev pub begun_line : List ℕ → List ℕ
+begun_line text = after_last (λ b. b == 10) text
 
 -- how many bytes stand before the place
 abbrev pub start_in : List ℕ → Place → ℕ
 start_in text AtEnd = length text
 start_in text (AtPiece p) = p.start
 
+-- the piece at the place, and nothing at the end
+abbrev pub token_in : List ℕ → Place → List ℕ
+token_in text AtEnd = []
+token_in text (AtPiece p) = drop p.start (take p.end text)
+
 -- a number of one digit
 abbrev pub number_stands : Language → List ℕ → Bool
 number_stands language before = stands language before (codes "1") || stands language before (codes "0")
 
--- What is told: what is wrong, the place, its line and column, and which of these words, a number, and the end of the line
--- could stand there.
+-- a name, if it is one
+abbrev pub name_stands : Language → List ℕ → List ℕ → Bool
+name_stands language before [] = false
+name_stands language before (b ∷ bs) = stands language before (b ∷ bs)
+
+-- What is told: what is wrong, the place, its line and column from 1, and which of these words, a name, a number, and the end of
+-- the line could stand there.
 pub record Tells (language : Language) (text : List ℕ) (words : List (List ℕ)) (f : Finding) : Type 0 where
   pub fault : fault_of language text ≡ Some f.fault
   pub place : IsPlace language text f.place
+  pub token : f.token.now ≡ token_in text f.place
   pub start : f.start ≡ start_in text f.place
-  pub line : (f.line, f.column) ≡ place_behind 1 1 (take f.start text)
+  pub within : f.start ≤ length text
+  pub line : f.line ≡ 1 + line_feeds (take f.start text)
+  pub column : f.column ≡ 1 + length (begun_line (take f.start text))
   pub stand : map (λ w. w.now) f.words.items ≡ could_stand language (take f.start text) words
+  pub array : (name : List ℕ) × (f.array ≡ name_stands language (take f.start text) name)
+  pub loop_name : (name : List ℕ) × (f.loop_name ≡ name_stands language (take f.start text) name)
+  pub new_name : f.new_name ≡ stands language (take f.start text) (codes "_")
   pub number : f.number ≡ number_stands language (take f.start text)
   pub line_end : f.line_end ≡ stands language (take f.start text) (10 ∷ [])
+  pub most : IfSome f.most (λ n. stands language (take f.start text) (decimal n) ≡ true)
+  pub no_more : IfSome f.most (λ n. stands language (take f.start text) (decimal (n + 1)) ≡ false)

@@ -1,11 +1,12 @@
 //! The check of a text: its finding is told.
 
-ghost use Rattle.std.specs.Prelude.{◌≡◌, ◌↔◌, true, IsTrue, IsNone, IfOk};
+ghost use Rattle.std.specs.Prelude.{◌≡◌, ◌↔◌, map, IsTrue, IsNone, IfOk};
+ghost use Rattle.acc_check.specs.Checks.{words_of, Checks, IsTold};
 ghost use Rattle.acc_check.specs.Languages.{fault_of};
 
 use crate::finding::finding_of;
 use crate::language::Language;
-use crate::text::tell;
+use crate::told::told_text;
 use crate::words::{SCHEDULE_WORDS, WORDS};
 use acc_base::Fault;
 use std::alloc::Global;
@@ -34,6 +35,19 @@ impl From<Fault> for CheckFault {
     }
 }
 
+// The words that could stand in a text.
+fn words_of(language: Language) -> &'static [&'static [u8]]
+    ensures { map (λ w. w.now) result.now ≡ words_of language }
+{
+    match language {
+        Language::Script => WORDS,
+        Language::Schedule {
+            hosts: _,
+            devices: _,
+        } => SCHEDULE_WORDS,
+    }
+}
+
 // Checks a text of a language, which begins with the line of this number.
 fn check<W: Write>(
     alloc: Global,
@@ -44,19 +58,13 @@ fn check<W: Write>(
     output: &mut W,
 ) -> Result<bool, CheckFault>
     ensures whole { IfOk result (λ whole. IsTrue whole ↔ IsNone (fault_of language text.now)) }
-    ensures silent { result ≡ Ok true → output.new ≡ output.old }
+    ensures told { Checks (W.contents output.old) (W.contents output.new) result (IsTold language name.now first_line text.now) }
 {
-    let words = match language {
-        Language::Script => WORDS,
-        Language::Schedule {
-            hosts: _,
-            devices: _,
-        } => SCHEDULE_WORDS,
-    };
-    let Some(finding) = finding_of(alloc, language, text, words)? else {
+    let Some(finding) = finding_of(alloc, language, text, words_of(language))? else {
         return Ok(true);
     };
-    match tell(name, first_line, text, &finding, output) {
+    let told = told_text(alloc, name, first_line, text, &finding)?;
+    match output.write_all(told.as_slice()) {
         Ok(()) => Ok(false),
         Err(_) => Err(CheckFault::Write),
     }
@@ -75,7 +83,7 @@ pub fn check_script<W: Write>(
     output: &mut W,
 ) -> Result<bool, CheckFault>
     ensures script { IfOk result (λ whole. IsTrue whole ↔ IsNone (fault_of Language.Script text.now)) }
-    ensures silent { result ≡ Ok true → output.new ≡ output.old }
+    ensures told { Checks (W.contents output.old) (W.contents output.new) result (IsTold Language.Script name.now 1 text.now) }
 {
     check(alloc, Language::Script, name, 1, text, output)
 }
@@ -96,7 +104,7 @@ pub fn check_schedule<W: Write>(
     output: &mut W,
 ) -> Result<bool, CheckFault>
     ensures schedule { IfOk result (λ whole. IsTrue whole ↔ IsNone (fault_of (Language.Schedule hosts devices) text.now)) }
-    ensures silent { result ≡ Ok true → output.new ≡ output.old }
+    ensures told { Checks (W.contents output.old) (W.contents output.new) result (IsTold (Language.Schedule hosts devices) name.now first_line text.now) }
 {
     let language = Language::Schedule { hosts, devices };
     check(alloc, language, name, first_line, text, output)

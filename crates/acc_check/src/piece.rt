@@ -40,9 +40,9 @@ fn word_len(bytes: &[u8]) -> usize
     bytes.iter().take_while(|byte| is_word_byte(**byte)).count()
 }
 
-// How many bytes the piece has that begins here.
+/// How many bytes the piece has that begins here.
 #[tactic(auto, unfolding(crate::specs::Places::piece_len))]
-fn piece_len(bytes: &[u8]) -> usize
+pub(crate) fn piece_len(bytes: &[u8]) -> usize
     ensures len { result ≡ piece_len bytes.now }
     ensures within { result ≤ length bytes.now }
     ensures some { 0 < length bytes.now → 0 < result }
