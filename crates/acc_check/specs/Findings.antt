@@ -32,6 +32,12 @@ abbrev pub name_stands : Language → List ℕ → List ℕ → Bool
 name_stands language before [] = false
 name_stands language before (b ∷ bs) = stands language before (b ∷ bs)
 
+-- The words that are asked for. Where a name that isn't declared could stand, each word could as a name, so those alone that are
+-- reserved.
+abbrev pub told_words : Bool → List (List ℕ) → List (List ℕ)
+told_words true words = codes "long" ∷ codes "int" ∷ []
+told_words false words = words
+
 -- What is told: what is wrong, the place, its line and column from 1, and which of these words, a name, a number, and the end of
 -- the line could stand there.
 pub record Tells (language : Language) (text : List ℕ) (words : List (List ℕ)) (f : Finding) : Type 0 where
@@ -42,7 +48,7 @@ pub record Tells (language : Language) (text : List ℕ) (words : List (List ℕ
   pub within : f.start ≤ length text
   pub line : f.line ≡ 1 + line_feeds (take f.start text)
   pub column : f.column ≡ 1 + length (begun_line (take f.start text))
-  pub stand : map (λ w. w.now) f.words.items ≡ could_stand language (take f.start text) words
+  pub stand : map (λ w. w.now) f.words.items ≡ could_stand language (take f.start text) (told_words f.new_name words)
   pub array : (name : List ℕ) × (f.array ≡ name_stands language (take f.start text) name)
   pub loop_name : (name : List ℕ) × (f.loop_name ≡ name_stands language (take f.start text) name)
   pub new_name : f.new_name ≡ stands language (take f.start text) (codes "_")

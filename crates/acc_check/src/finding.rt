@@ -3,7 +3,7 @@
 ghost use Rattle.std.specs.Prelude.{◌≡◌, ◌+◌, ◌≤◌, ◌==◌, not, map, length, decimal, true, false, None, Some, IfOk, IfErr, IfSome};
 ghost use Rattle.std.specs.List.{suffix_len};
 ghost use Rattle.acc_base.specs.declared.fault.Fault.TheVariants.{Memory};
-ghost use Rattle.acc_check.specs.Findings.{begun_line, name_stands, number_stands, start_in, token_in, Tells};
+ghost use Rattle.acc_check.specs.Findings.{begun_line, name_stands, number_stands, start_in, token_in, told_words, Tells};
 ghost use Rattle.acc_check.specs.Languages.{fault_of};
 ghost use Rattle.acc_check.specs.Places.{IsPlace, stands};
 ghost use Rattle.acc_token.specs.Texts.{line_feeds};
@@ -15,6 +15,7 @@ use crate::names::{array_names, has_name, is_word, loop_name, nearest};
 use crate::place::{Place, place_of};
 use crate::stand::{could_stand, stands};
 use crate::tokens::{first_piece, head_token, last_token, tokens_of};
+use crate::words::BESIDE_NAMES;
 use acc_base::Fault;
 use acc_token::{MAX_NAME, ReadFault, ReadKind, front, is, is_digit};
 use std::alloc::Global;
@@ -267,6 +268,14 @@ fn asked_words<'a>(
     Ok(asked)
 }
 
+// The words that are asked for: beside a name that isn't declared each word could stand as a name, so those alone that are
+// reserved.
+fn told_words<'a, 'b>(new_name: bool, words: &'b [&'a [u8]]) -> &'b [&'a [u8]]
+    ensures { map (λ w. w.now) result.now ≡ told_words new_name (map (λ w. w.now) words.now) }
+{
+    if new_name { BESIDE_NAMES } else { words }
+}
+
 // The finding at a place.
 fn finding_at<'a>(
     alloc: Global,
@@ -289,7 +298,8 @@ fn finding_at<'a>(
     let tokens = tokens.as_slice();
     let names = array_names(alloc, tokens)?;
     let names = names.as_slice();
-    let words = could_stand(alloc, language, before, words)?;
+    let new_name = stands(alloc, language, before, b"_")?;
+    let words = could_stand(alloc, language, before, told_words(new_name, words))?;
     let lack = lack_of(fault.kind, token, last_token(tokens), names);
     let loop_name = name_stands(alloc, language, before, loop_name(tokens))?;
     let number = number_stands(alloc, language, before)?;
@@ -303,7 +313,7 @@ fn finding_at<'a>(
         column: 1 + begun_line(before).len(),
         array: name_stands(alloc, language, before, first_name(names))?,
         loop_name,
-        new_name: stands(alloc, language, before, b"_")?,
+        new_name,
         number,
         line_end: stands(alloc, language, before, b"\n")?,
         lack,

@@ -28,16 +28,16 @@ fn parted(bytes: &[u8], at: u8) -> (&[u8], &[u8]) {
 
 // Whether a token is the one that a pattern asks for.
 fn is_pattern_of(pattern: &[u8], token: &[u8]) -> bool {
-    if is(pattern, b"@word") {
+    if is(pattern, token) {
+        true
+    } else if is(pattern, b"@word") {
         is_word(token)
     } else if is(pattern, b"@number") {
         is_digit(front(token))
     } else if is(pattern, b"@line") {
         is(token, b"\n")
-    } else if is(pattern, b"@end") {
-        token.is_empty()
     } else {
-        is(pattern, token)
+        is(pattern, b"@end") && token.is_empty()
     }
 }
 

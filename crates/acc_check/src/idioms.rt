@@ -80,7 +80,7 @@ _ _ while|do|goto|return|break|continue _ _ write its turns out\n\
 _ _ printf|puts|fprintf _ _ write `print` with a range: `print(a[0:1]);`\n\
 _ _ malloc|calloc|free|acc_malloc|acc_free _ _ arrays are declared: `long a[4];`\n\
 _ _ ] _ : a range is `a[LOWER:LENGTH]`: write `a[0:1]` for cell 0 alone\n\
-print _ , _ _ write one range, and its pieces as `print(a); print(b);`\n\
+print _ , _ _ write each range by itself: `print(a); print(b);`\n\
 acc_set_device_num _ , _ _ write the device's number alone\n\
 _ _ , _ ) write the range for pointer and size: `acc_copyin(a[0:4]);`\n\
 print ( @word ( _ a call doesn't stand in `print`\n\

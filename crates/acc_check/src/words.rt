@@ -76,3 +76,6 @@ pub const WORDS: &[&[u8]] = &[
 pub const SCHEDULE_WORDS: &[&[u8]] = &[
     b"host", b"take", b"do", b"close", b"round", b"sync", b"noval",
 ];
+
+/// Those words of a script that can stand where a name can that isn't declared.
+pub const BESIDE_NAMES: &[&[u8]] = &[b"long", b"int"];
