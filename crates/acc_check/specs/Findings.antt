@@ -39,7 +39,7 @@ told_words true words = codes "long" ∷ codes "int" ∷ []
 told_words false words = words
 
 -- What is told: what is wrong, the place, its line and column from 1, and which of these words, a name, a number, and the end of
--- the line could stand there.
+-- the line could stand there. A `@` could in a comment alone.
 pub record Tells (language : Language) (text : List ℕ) (words : List (List ℕ)) (f : Finding) : Type 0 where
   pub fault : fault_of language text ≡ Some f.fault
   pub place : IsPlace language text f.place
@@ -53,6 +53,7 @@ pub record Tells (language : Language) (text : List ℕ) (words : List (List ℕ
   pub loop_name : (name : List ℕ) × (f.loop_name ≡ name_stands language (take f.start text) name)
   pub new_name : f.new_name ≡ stands language (take f.start text) (codes "_")
   pub number : f.number ≡ number_stands language (take f.start text)
+  pub in_comment : f.in_comment ≡ stands language (take f.start text) (codes "@")
   pub line_end : f.line_end ≡ stands language (take f.start text) (10 ∷ [])
   pub most : IfSome f.most (λ n. stands language (take f.start text) (decimal n) ≡ true)
   pub no_more : IfSome f.most (λ n. stands language (take f.start text) (decimal (n + 1)) ≡ false)

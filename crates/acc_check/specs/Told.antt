@@ -130,9 +130,12 @@ unfoldable pub others_text : Finding → Bool → List ℕ
 others_text f in_directive =
     answer f.number (codes ", a number") ++ answer (f.line_end && in_directive) (codes ", the end of the line")
 
--- what could stand there, each with a comma before it
+unfoldable pub tokens_text : Finding → Bool → List ℕ
+tokens_text f in_directive = words_text f.words.items ++ (names_text f ++ others_text f in_directive)
+
+-- what could stand there, each with a comma before it; in a comment, what closes it
 unfoldable pub answers : Finding → Bool → List ℕ
-answers f in_directive = words_text f.words.items ++ (names_text f ++ others_text f in_directive)
+answers f in_directive = if f.in_comment then codes ", `*/`" else tokens_text f in_directive
 
 -- the line of it, if anything could
 unfoldable pub stand_text : Finding → Bool → List ℕ

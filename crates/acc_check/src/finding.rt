@@ -59,6 +59,8 @@ pub struct Finding<'a> {
     pub new_name: bool,
     /// Whether a number could.
     pub number: bool,
+    /// Whether the place is in a comment, where all could.
+    pub in_comment: bool,
     /// Whether the line could end there.
     pub line_end: bool,
     pub lack: Lack,
@@ -246,24 +248,26 @@ fn help_at(
     help_of(language, lack == Lack::Within, &seen)
 }
 
-// The words that could stand there, and `@loop`, `@number` or `@none` where the loop's name, a number or none of them could.
+// The words that could stand there, and `@loop` and `@number` where the loop's name and a number could;
+// in a comment what closes it.
 fn asked_words<'a>(
     alloc: Global,
     words: &[&'a [u8]],
     has_loop: bool,
     has_number: bool,
+    in_comment: bool,
 ) -> Result<Vec<&'a [u8]>, Fault>
     ensures { IfErr result (λ fault. fault ≡ Memory) }
 {
+    if in_comment {
+        return Ok(Vec::from_slice(alloc, &[b"*/".as_slice()])?);
+    }
     let mut asked = Vec::from_slice(alloc, words)?;
     if has_loop {
         asked.push(b"@loop")?;
     }
     if has_number {
         asked.push(b"@number")?;
-    }
-    if asked.is_empty() {
-        asked.push(b"@none")?;
     }
     Ok(asked)
 }
@@ -303,7 +307,8 @@ fn finding_at<'a>(
     let lack = lack_of(fault.kind, token, last_token(tokens), names);
     let loop_name = name_stands(alloc, language, before, loop_name(tokens))?;
     let number = number_stands(alloc, language, before)?;
-    let asked = asked_words(alloc, words.as_slice(), loop_name, number)?;
+    let in_comment = stands(alloc, language, before, b"@")?;
+    let asked = asked_words(alloc, words.as_slice(), loop_name, number, in_comment)?;
     Ok(Finding {
         fault,
         place,
@@ -315,6 +320,7 @@ fn finding_at<'a>(
         loop_name,
         new_name,
         number,
+        in_comment,
         line_end: stands(alloc, language, before, b"\n")?,
         lack,
         near: near_of(alloc, lack, token, names, words.as_slice())?,

@@ -6,7 +6,7 @@ use crate::names::is_word;
 use acc_token::{front, is, is_digit};
 
 /// What is seen around a place: the word that its line begins with, or that of the directive; the token before it, the one there
-/// and the one behind; and the words that could stand there, `@loop`, `@number` and `@none` among them.
+/// and the one behind; and the words that could stand there, `@loop` and `@number` among them.
 #[derive(Clone, Copy)]
 pub(crate) struct Seen<'a> {
     pub(crate) head: &'a [u8],

@@ -29,7 +29,7 @@ _ _ round|take|do _ host a schedule stands behind a line `%%`\n\
 _ host @number _ _ a schedule stands behind a line `%%`\n\
 _ long long _ _ write `long` once\n\
 _ _ long _ _ arrays are declared before the first `host`\n\
-_ _ @word (|[|= host statements stand in a host: `host { .. }`\n\
+_ ;|}|@end @word (|[|= host statements stand in a host: `host { .. }`\n\
 long @word =|;|, _ _ a scalar isn't known: write its number where it is used\n\
 long ] , _ _ declare each array by itself: `long a[4]; long b[4];`\n\
 long [ ] _ _ write how many cells it has: `long a[4]`\n\
@@ -93,7 +93,7 @@ _ _ @word _ @number write its number: macros and variables aren't known\n\
 _ _ @number _ @number write decimal digits alone, without a leading zero\n\
 _ _ _ _ { set the `{`, and its `}` behind the last statement\n\
 _ _ @end _ } close each `{` by its `}`\n\
-_ _ @end _ @none close the comment by `*/`\n\
+_ _ @end _ */ close the comment by `*/`\n\
 ";
 
 /// Of limits of a script.

@@ -82,6 +82,10 @@ const SCRIPTS: &[(&[u8], &[u8])] = &[
         b"long a[4];\nhost {\n",
         b"a:3:1: End: the end of the text, where more has to stand\n  \n  ^\ncould stand: `#`, `print`, `acc_copyin`, `acc_create`, `acc_copyout`, `acc_delete`, `acc_copyout_finalize`, `acc_delete_finalize`, `acc_update_device`, `acc_update_self`, `acc_wait`, `acc_wait_all`, `acc_wait_async`, `acc_set_device_num`, `acc_set_default_async`, `}`, an array's name\nhelp: close each `{` by its `}`\n",
     ),
+    (
+        b"long a[4];\n/* open\n",
+        b"a:3:1: End: the end of the text, where more has to stand\n  \n  ^\ncould stand: `*/`\nhelp: close the comment by `*/`\n",
+    ),
 ];
 
 /// A text, and the lines that are told of it as a schedule for one host and one device, under the name `s`, from its line 7 on:

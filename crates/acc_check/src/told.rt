@@ -4,7 +4,7 @@ ghost use Rattle.std.specs.Prelude.{◌≡◌, ◌≤◌, ◌++◌, decimal, len
 ghost use Rattle.std.specs.List.{prefix_len, flat_map};
 ghost use Rattle.acc_base.specs.declared.fault.Fault.TheVariants.{Memory};
 ghost use Rattle.acc_check.specs.Findings.{begun_line};
-ghost use Rattle.acc_check.specs.Told.{answer, answers, byte_text, complaint, finding_text, fault_line, fault_text, help_text, hex_digit, holds, is_blank, is_directive, is_printed, kind_mark, kind_text, marked_line, most_text, names_text, near_text, numbered, other_names, others_text, place_text, quoted, remedy, room_of, shown, stand_text, token_text, ways_text, words_text};
+ghost use Rattle.acc_check.specs.Told.{answer, answers, byte_text, complaint, finding_text, fault_line, fault_text, help_text, hex_digit, holds, is_blank, is_directive, is_printed, kind_mark, kind_text, marked_line, most_text, names_text, near_text, numbered, other_names, others_text, place_text, quoted, remedy, room_of, shown, stand_text, token_text, tokens_text, ways_text, words_text};
 
 use crate::finding::{Finding, Lack, begun_line};
 use acc_base::Fault;
@@ -383,10 +383,21 @@ fn put_others(lines: &mut Vec<u8>, finding: &Finding, in_directive: bool) -> Res
     )
 }
 
-// What could stand there, each with a comma before it.
+// What could stand there, each with a comma before it; in a comment, what closes it.
 #[tactic(auto, unfolding(crate::specs::Told::answers))]
 fn put_answers(lines: &mut Vec<u8>, finding: &Finding, in_directive: bool) -> Result<(), AllocError>
     ensures { OnOk result (lines.new.items ≡ lines.old.items ++ answers finding.now in_directive) }
+{
+    if finding.in_comment {
+        return lines.extend_from_slice(b", `*/`");
+    }
+    put_tokens(lines, finding, in_directive)
+}
+
+// Which tokens could stand there.
+#[tactic(auto, unfolding(crate::specs::Told::tokens_text))]
+fn put_tokens(lines: &mut Vec<u8>, finding: &Finding, in_directive: bool) -> Result<(), AllocError>
+    ensures { OnOk result (lines.new.items ≡ lines.old.items ++ tokens_text finding.now in_directive) }
 {
     put_words(lines, finding.words.as_slice())?;
     put_names(lines, finding)?;
