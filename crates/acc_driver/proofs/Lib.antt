@@ -1,3 +1,4 @@
+mod CheckAnswers
 mod KeptPrograms
 mod ReplayAnswers
 mod RunSchedule

@@ -45,11 +45,11 @@ within_reads limit read a x is = elim (cases_lt limit (length a)) [
 abbrev cut : List ℕ → List ℕ
 cut text = take INPUT_LIMIT text
 
-same_script : (text : List ℕ) → script_of (parts (cut text)).script ≡ script_of (parts text).script
+pub same_script : (text : List ℕ) → script_of (parts (cut text)).script ≡ script_of (parts text).script
 unfolding script_of
 same_script text = within_capped MAX_TEXT (λ (text : List ℕ). script_at (record { line = 1; bytes = text })) (parts (cut text)).script (parts text).script (cut_is_enough MAX_TEXT text).script
 
-same_schedule : (options : Options) (program : Program) (text : List ℕ) → script_of (parts text).script ≡ Ok program
+pub same_schedule : (options : Options) (program : Program) (text : List ℕ) → script_of (parts text).script ≡ Ok program
     → events_in options program (parts (cut text)).schedule ≡ events_in options program (parts text).schedule
 unfolding script_of schedule_of
 same_schedule options program text is =
@@ -105,7 +105,7 @@ capped_script text =
     ap (λ (limit : ℕ). script_of (take limit text)) text_limit
     ∙ capped_is_enough MAX_TEXT (λ (text : List ℕ). script_at (record { line = 1; bytes = text })) text
 
-capped_schedule : (options : Options) (program : Program) (text : List ℕ) → events_in options program (take TEXT_LIMIT text) ≡ events_in options program text
+pub capped_schedule : (options : Options) (program : Program) (text : List ℕ) → events_in options program (take TEXT_LIMIT text) ≡ events_in options program text
 unfolding schedule_of
 capped_schedule options program text =
     ap (λ (limit : ℕ). events_in options program (take limit text)) text_limit

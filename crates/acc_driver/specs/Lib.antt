@@ -1,3 +1,4 @@
+pub mod Checks
 pub mod Inputs
 pub mod Replays
 pub mod Runs

@@ -1,6 +1,8 @@
-//! From bytes to bytes: a script and a schedule are read, run, and reported; or a script alone, which threads run.
+//! From bytes to bytes: a script and a schedule are read, run, and reported; or a script alone, which threads run; or both are
+//! checked, and not run.
 #![tactic(auto)]
 
+mod checks;
 mod fault;
 mod input;
 mod laws;
@@ -14,6 +16,7 @@ mod runs;
 pub use acc_queue::Reader;
 pub use acc_run::Gate;
 pub use acc_script::{ReadFault, ReadKind};
+pub use checks::{CheckFault, Named, check, check_one};
 pub use fault::{DriverFault, ReplayFault};
 pub use input::split;
 pub use laws::{worked_replays, worked_splits};

@@ -5,7 +5,7 @@ use Rattle.accq.specs.worked.Words.{AreAsked, AreRefused}
 
 pub are_asked : AreAsked
 unfolding clap_on_literals
-are_asked = record { names = refl; before = refl; between = refl; behind = refl; all = refl; one_name = refl; around = refl; told = refl; behind_dashes = refl }
+are_asked = record { names = refl; before = refl; between = refl; behind = refl; all = refl; one_name = refl; around = refl; told = refl; behind_dashes = refl; one_file = refl; two_files = refl; for_devices = refl }
 
 pub are_refused : AreRefused
 unfolding clap_on_literals
@@ -29,4 +29,8 @@ are_refused = record {
   progress_of_a_replay = refl;
   a_flag_with_a_value = refl;
   version = refl;
+  no_file = refl;
+  three_files = refl;
+  room_of_a_check = refl;
+  many_devices = refl;
 }

@@ -1,13 +1,17 @@
 -- The status that the program ends with, and what it has written by then.
-use Rattle.std.specs.Prelude.{◌≡◌, ◌⊎◌, ℕ, Bool, false, List, [], Option, Some, None, IfSome, Result, Ok, Err, if◌then◌else◌}
+use Rattle.std.specs.Prelude.{◌≡◌, ◌⊎◌, ℕ, Bool, true, false, List, [], Option, Some, None, IfSome, Result, Ok, Err, if◌then◌else◌}
 use Rattle.std.specs.Io.KnownBytes.{Appends}
+use Rattle.acc_driver.specs.declared.checks.CheckFault.{CheckFault}
 use Rattle.acc_driver.specs.declared.fault.DriverFault.{DriverFault}
 use Rattle.acc_driver.specs.declared.fault.DriverFault.TheVariants as fault
 use Rattle.acc_driver.specs.declared.options.Ended.{Ended}
+use Rattle.acc_driver.specs.Checks.{ChecksTexts}
 use Rattle.acc_driver.specs.Inputs.{parts}
 use Rattle.acc_driver.specs.Replays.{Answers, IsRun, defaults}
 use Rattle.acc_driver.specs.Runs.{IsConfigured, ScriptAnswers}
-use Rattle.accq.specs.Words.{Asked, AskedReplay, AskedRun, ToReplay, ToRun}
+use Rattle.accq.specs.Words.{Asked, AskedCheck, AskedReplay, AskedRun, ToCheck, ToReplay, ToRun}
+
+-- ## Replays and runs
 
 abbrev pub status_for : DriverFault → ℕ
 status_for (fault.Script f) = 2
@@ -55,10 +59,39 @@ pub record FileRun (asked : AskedRun) (holds : List ℕ → Option (List ℕ)) (
   pub configured : IsConfigured answer
   pub follows : status ≡ status_after answer
 
+-- ## Checks
+
+-- 0 where nothing is wrong, 2 where something is, 3 where that couldn't be told
+abbrev pub status_checked : Result Bool CheckFault → ℕ
+status_checked (Ok true) = 0
+status_checked (Ok false) = 2
+status_checked (Err f) = 3
+
+-- What is answered where files are to be checked, if it is known what they hold: a script and a schedule, or one text that is split.
+abbrev pub FilesCheck : (List ℕ → Option (List ℕ)) → List ℕ → Option (List ℕ) → ℕ → Option (List ℕ) → Option (List ℕ) → Result Bool CheckFault → Type 0
+FilesCheck holds script None devices old new answer = IfSome (holds script) (λ text. ChecksTexts devices (parts text) old new answer)
+FilesCheck holds script (Some schedule) devices old new answer =
+    IfSome (holds script) (λ script. IfSome (holds schedule) (λ schedule. ChecksTexts devices (record { script = script; schedule = schedule }) old new answer))
+
+-- Where a file is known not to be opened, nothing is written, and the status is 3.
+abbrev pub NeedsOpen : Option Bool → Option (List ℕ) → Option (List ℕ) → ℕ → Type 0
+NeedsOpen can old new status = can ≡ Some false → Appends old new [] × (status ≡ 3)
+
+-- The files that are asked for were checked, for as many devices, and the status follows.
+pub record FilesChecked (asked : AskedCheck) (holds : List ℕ → Option (List ℕ)) (opens : List ℕ → Option Bool) (old new : Option (List ℕ)) (status : ℕ) : Type 0 where
+  pub answer : Result Bool CheckFault
+  pub answers : FilesCheck holds asked.script asked.schedule asked.devices old new answer
+  pub script : NeedsOpen (opens asked.script) old new status
+  pub schedule : IfSome asked.schedule (λ name. NeedsOpen (opens name) old new status)
+  pub follows : status ≡ status_checked answer
+
+-- ## Words
+
 -- It was done.
 abbrev pub IsDone : Asked → (List ℕ → Option (List ℕ)) → (List ℕ → Option Bool) → Option (List ℕ) → Option (List ℕ) → ℕ → Type 0
 IsDone (ToReplay asked) holds opens old new status = FilesReplayed asked holds opens old new status
 IsDone (ToRun asked) holds opens old new status = FileRun asked holds opens old new status
+IsDone (ToCheck asked) holds opens old new status = FilesChecked asked holds opens old new status
 
 -- What words come to. Where they ask for nothing, nothing is written, and the status is 2, or 3 for want of memory. What they ask for is done, unless there
 -- is no memory to read the words.

@@ -1,12 +1,14 @@
 -- What the words of a command line ask for. How a parser goes over words is told by the crate clap (`subcommand_of` gives what they say, `fault_of`
 -- what is wrong with them); which words there are, and what they mean, stands here.
-use Rattle.std.specs.Prelude.{◌&&◌, ℕ, Bool, false, List, [], ◌∷◌, Option, Some, None, option_and_then, option_map, bytes_eq, codes, nat_le, true, if◌then◌else◌}
+use Rattle.std.specs.Prelude.{◌&&◌, ◌≤◌, ℕ, Bool, false, List, [], ◌∷◌, Option, Some, None, option_and_then, option_map, bytes_eq, codes, nat_le, true, if◌then◌else◌}
 use Rattle.std.specs.Char.{is_ascii_digit}
 use Rattle.std.specs.List.{list_all}
 use Rattle.std.specs.Str.Parse.{digits_value}
 use Rattle.acc_base.specs.declared.config.TheConstants.{MAX_DEVICES, MAX_CAPACITY, MAX_ROOM}
 use Rattle.acc_driver.specs.declared.options.Options.{Options}
+use Rattle.acc_driver.specs.Replays.{AreUsable}
 use Rattle.clap.specs.Words.{App, Kinds, Row, Rule, Text, fault_of, first_of, new_app, new_rule, subcommand_of, with_rule, with_subcommand}
+use Rattle.accq.specs.declared.command.Check.{Check}
 use Rattle.accq.specs.declared.command.Replay.{Replay}
 use Rattle.accq.specs.declared.command.Run.{Run}
 use Rattle.accq.specs.declared.command.Task.{Task}
@@ -26,14 +28,22 @@ abbrev pub number_rule : Text → Text → ℕ → Rule
 number_rule id default most =
     record (new_rule id) { long = Some id; value_names = 1; defaults = default ∷ []; parser = Some (Unsigned 1 most) }
 
+-- a name, which may be missing
+abbrev pub optional_rule : Text → Rule
+optional_rule id = record (new_rule id) { action = Some Set }
+
 -- a flag
 abbrev pub flag_rule : Text → Rule
 flag_rule id = record (new_rule id) { long = Some id; action = Some SetTrue }
 
+-- [--devices N]
+abbrev pub with_devices : App → App
+with_devices app = with_rule app (number_rule (codes "devices") (codes "1") MAX_DEVICES)
+
 -- [--devices N] [--cells N] [--room N]
 abbrev pub with_options : App → App
 with_options app =
-    with_rule (with_rule (with_rule app (number_rule (codes "devices") (codes "1") MAX_DEVICES))
+    with_rule (with_rule (with_devices app)
     (number_rule (codes "cells") (codes "4194304") MAX_CAPACITY)) (number_rule (codes "room") (codes "64") MAX_ROOM)
 
 -- accq replay SCRIPT SCHEDULE, with options
@@ -44,9 +54,13 @@ replay_app = with_options (with_rule (with_rule (new_app (codes "replay")) (name
 abbrev pub run_app : App
 run_app = with_options (with_rule (with_rule (new_app (codes "run")) (name_rule (codes "SCRIPT"))) (flag_rule (codes "progress")))
 
+-- accq check SCRIPT [SCHEDULE] [--devices N]
+abbrev pub check_app : App
+check_app = with_devices (with_rule (with_rule (new_app (codes "check")) (name_rule (codes "SCRIPT"))) (optional_rule (codes "SCHEDULE")))
+
 abbrev pub accq_app : App
 accq_app =
-    with_subcommand (with_subcommand (on_top (λ s. record s { has_version = true; subcommand_required = true }) (new_app (codes "accq"))) replay_app.top) run_app.top
+    with_subcommand (with_subcommand (with_subcommand (on_top (λ s. record s { has_version = true; subcommand_required = true }) (new_app (codes "accq"))) replay_app.top) run_app.top) check_app.top
 
 -- ## What they mean
 
@@ -62,10 +76,17 @@ pub record AskedRun : Type 0 where
   pub options : Options
   pub progress : Bool
 
+-- Files are to be checked, by their names, for so many devices: a script and a schedule, or, where there is no second, one that may hold both.
+pub record AskedCheck : Type 0 where
+  pub script : Text
+  pub schedule : Option Text
+  pub devices : ℕ
+
 -- What words can ask for.
 pub data Asked : Type 0 where
   ToReplay : AskedReplay → Asked
   ToRun : AskedRun → Asked
+  ToCheck : AskedCheck → Asked
 
 -- a number that is written in digits alone, from 1 to the most
 abbrev pub number_in : ℕ → Text → Option ℕ
@@ -99,9 +120,16 @@ run_in rows =
     option_and_then (λ options. option_map (λ script. record { script = script; options = options; progress = has_flag rows (codes "progress") })
     (first_of (codes "SCRIPT") rows)) (options_in rows)
 
+abbrev pub check_in : List Row → Option AskedCheck
+check_in rows =
+    option_and_then (λ devices. option_map (λ script. record { script = script; schedule = first_of (codes "SCHEDULE") rows; devices = devices })
+    (first_of (codes "SCRIPT") rows)) (number_of rows (codes "devices") MAX_DEVICES)
+
 -- what is asked for behind the name of a subcommand
 abbrev pub asked_behind : Text → List Row → Option Asked
-asked_behind name rows = if bytes_eq name (codes "run") then option_map ToRun (run_in rows) else option_map ToReplay (replay_in rows)
+asked_behind name rows =
+    if bytes_eq name (codes "run") then option_map ToRun (run_in rows)
+    else (if bytes_eq name (codes "check") then option_map ToCheck (check_in rows) else option_map ToReplay (replay_in rows))
 
 -- what was found, unless there is an error of some kind
 abbrev pub unless_any : {A : Type 0} → Kinds → Option A → Option A
@@ -120,12 +148,18 @@ replay_by r = record { script = r.script.now; schedule = r.schedule.now; options
 abbrev pub run_by : Run → AskedRun
 run_by r = record { script = r.script.now; options = r.options; progress = r.progress }
 
+-- what is checked
+abbrev pub check_by : Check → AskedCheck
+check_by c = record { script = c.script.now; schedule = option_map (λ s. s.now) c.schedule; devices = c.devices }
+
 -- what is done
 abbrev pub asked_by : Task → Asked
 asked_by (task.Replay r) = ToReplay (replay_by r)
 asked_by (task.Run r) = ToRun (run_by r)
+asked_by (task.Check c) = ToCheck (check_by c)
 
--- the options of what is done
-abbrev pub options_of : Task → Options
-options_of (task.Replay r) = r.options
-options_of (task.Run r) = r.options
+-- Its options are within their limits.
+abbrev pub IsUsable : Task → Type 0
+IsUsable (task.Replay r) = AreUsable r.options
+IsUsable (task.Run r) = AreUsable r.options
+IsUsable (task.Check c) = (1 ≤ c.devices) × (c.devices ≤ MAX_DEVICES)

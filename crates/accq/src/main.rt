@@ -1,13 +1,20 @@
-//! `accq`: replays a script of hosts and OpenACC directives under a schedule, or runs it by threads, and reports what it means.
+//! `accq`: replays a script of hosts and OpenACC directives under a schedule, or runs it by threads, and reports what it means;
+//! or checks both texts.
 #![tactic(auto)]
 
+mod checks;
 mod command;
+mod help;
 mod laws;
 mod meter;
+mod replays;
 mod status;
 mod store;
 #[cfg(test)]
 mod tests;
+#[cfg(test)]
+mod tests_of_checks;
+mod words;
 
 use acc_driver::{DriverFault, Remains};
 use meter::on_terminal;

@@ -1,21 +1,16 @@
 //! The program between its words, its files and its streams, and the status that it ends with.
 
-ghost use Rattle.std.specs.Prelude.{◌≡◌, ◌≤◌, ◌<◌, ◌⊎◌, map, IfOk, IfErr, IfSome, length};
-ghost use Rattle.std.specs.Io.KnownBytes.{Keeps};
-ghost use Rattle.acc_driver.specs.Inputs.{parts};
-ghost use Rattle.acc_driver.specs.Replays.{Answers, AreUsable, IsRun, defaults};
-ghost use Rattle.acc_driver.specs.declared.fault.DriverFault.TheVariants.{Output};
-ghost use Rattle.acc_driver.specs.Runs.{IsConfigured, ScriptAnswers};
-ghost use Rattle.accq.specs.Statuses.{AsksForOpen, FilesAnswer, InputReplayed, TellsWords, status_after, status_for};
-ghost use Rattle.accq.specs.Words.{asked_of, replay_by};
+ghost use Rattle.std.specs.Prelude.{◌≡◌, ◌≤◌, ◌<◌, ◌⊎◌, map, length};
+ghost use Rattle.accq.specs.Statuses.{InputReplayed, TellsWords, status_after, status_checked, status_for};
+ghost use Rattle.accq.specs.Words.{asked_of};
 ghost use Rattle.clap.specs.Words.{kind_of};
 ghost use Rattle.clap.specs.declared.error.kind.ErrorKind.TheVariants.{OutOfMemory};
 
-use crate::command::{Replay, Run, Task, task_of};
+use crate::checks::check_files;
+use crate::command::{Task, task_of};
+use crate::replays::{replay_files, replay_input, run_file};
 use crate::store::Store;
-use acc_driver::{
-    DriverFault, Ended, Monitor, OpenGate, Options, Remains, replay, replay_one, run_script,
-};
+use acc_driver::{CheckFault, DriverFault, Ended, Monitor, Remains};
 use clap::Error;
 use clap::error::ErrorKind;
 use std::alloc::Global;
@@ -29,7 +24,8 @@ use std::thread::Threads;
 /// script of a file by threads, and shows the meter, if there is one, how far the run has come, where `--progress` is among
 /// them. The report goes to the output, and the answer is 0, or 1 where a host was refused. A
 /// fault of a text or of the words is answered by 2, all else by 3, and told to the errors: by one line, or for the words
-/// by the parser's own text. What a run left is put into `remains`.
+/// by the parser's own text. What a run left is put into `remains`. The words `check SCRIPT SCHEDULE`, or `check` and one
+/// name, run nothing: the answer is 0 where nothing is wrong with these files, and 2 where what is wrong is told to the output.
 pub fn status_of<
     T: Threads + Wait + Sync,
     F: Read + Drop,
@@ -67,6 +63,10 @@ pub fn status_of<
             let answer = run_file(rt, alloc, &asked, files, output, meter, remains);
             status_after(answer, errors)
         }
+        Ok(Task::Check(asked)) => {
+            let answer = check_files(alloc, &asked, files, output);
+            status_checked(answer, errors)
+        }
         Err(error) => told_words(&error, errors),
     }
 }
@@ -82,91 +82,18 @@ fn status_after<E: Write>(answer: Result<Ended, DriverFault>, errors: &mut E) ->
     }
 }
 
-// Replays the input.
-fn replay_input<R: Read, W: Write>(
-    alloc: Global,
-    input: &mut R,
-    output: &mut W,
-    remains: &mut Remains,
-) -> Result<Ended, DriverFault>
-    ensures answers { IfSome (R.remaining input.old) (λ text. Answers defaults (parts text) (W.contents output.old) (W.contents output.new) result) }
-    ensures run { IsRun result }
+// The status of a check, whose fault is told.
+fn status_checked<E: Write>(answer: Result<bool, CheckFault>, errors: &mut E) -> u8
+    ensures status { result ≡ status_checked answer.entry }
+    ensures quiet { result < 2 → errors.new ≡ errors.old }
 {
-    let ended = replay_one(alloc, input, Options::DEFAULT, output, remains)?;
-    sent(ended, output)
-}
-
-// Replays two files. Both are opened, in the order of the words, before one is read.
-fn replay_files<F: Read + Drop, S: Store<F>, W: Write>(
-    alloc: Global,
-    asked: &Replay,
-    files: &S,
-    output: &mut W,
-    remains: &mut Remains,
-) -> Result<Ended, DriverFault>
-    requires { AreUsable asked.now.options }
-    ensures answers { FilesAnswer (S.holds files.now) (replay_by asked.now) (W.contents output.old) (W.contents output.new) result }
-    ensures script { AsksForOpen (S.opens files.now asked.now.script.now) result }
-    ensures schedule { AsksForOpen (S.opens files.now asked.now.schedule.now) result }
-    ensures run { IsRun result }
-{
-    let Some(mut script) = files.open(asked.script) else {
-        return Err(DriverFault::Input);
-    };
-    let Some(mut schedule) = files.open(asked.schedule) else {
-        return Err(DriverFault::Input);
-    };
-    let ended = replay(
-        alloc,
-        &mut script,
-        &mut schedule,
-        asked.options,
-        output,
-        remains,
-    )?;
-    sent(ended, output)
-}
-
-// Runs the script of a file by threads, where each batch passes. The meter is shown how far the run has come, if that is asked for.
-fn run_file<T: Threads + Wait + Sync, F: Read + Drop, S: Store<F>, W: Write, M: Monitor + Sync>(
-    rt: &T,
-    alloc: Global,
-    asked: &Run,
-    files: &S,
-    output: &mut W,
-    meter: Option<&M>,
-    remains: &mut Remains,
-) -> Result<Ended, DriverFault>
-    requires { AreUsable asked.now.options }
-    ensures answers { IfSome (S.holds files.now asked.now.script.now) (λ script. ScriptAnswers asked.now.options script (W.contents output.old) (W.contents output.new) result) }
-    ensures script { AsksForOpen (S.opens files.now asked.now.script.now) result }
-    ensures configured { IsConfigured result }
-{
-    let Some(mut file) = files.open(asked.script) else {
-        return Err(DriverFault::Input);
-    };
-    let ended = run_script(
-        rt,
-        alloc,
-        &mut file,
-        asked.options,
-        &OpenGate,
-        if asked.progress { meter } else { None },
-        output,
-        remains,
-    )?;
-    sent(ended, output)
-}
-
-// Sees to it that the whole report has gone out.
-fn sent<W: Write>(ended: Ended, output: &mut W) -> Result<Ended, DriverFault>
-    ensures same { IfOk result (λ e. e ≡ ended) }
-    ensures fault { IfErr result (λ f. f ≡ Output) }
-    ensures kept { Keeps (W.contents output.old) (W.contents output.new) }
-{
-    match output.flush() {
-        Ok(()) => Ok(ended),
-        Err(_) => Err(DriverFault::Output),
+    match answer {
+        Ok(true) => 0,
+        Ok(false) => 2,
+        Err(fault) => {
+            let _ = writeln!(errors, "accq: {fault}");
+            3
+        }
     }
 }
 

@@ -17,7 +17,7 @@ use std::thread::Threads;
 
 /// A reader, or a writer, that fails.
 #[derive(Drop)]
-struct Broken;
+pub(crate) struct Broken;
 
 impl Read for Broken {
     fn read(&mut self, _buffer: &mut [u8]) -> Result<usize> {
@@ -37,7 +37,7 @@ impl Write for Broken {
 
 /// A writer that takes all bytes, and can't send them on.
 #[derive(Drop)]
-struct Stuck;
+pub(crate) struct Stuck;
 
 impl Write for Stuck {
     fn write(&mut self, bytes: &[u8]) -> Result<usize> {
@@ -51,9 +51,9 @@ impl Write for Stuck {
 
 /// A writer that takes so many bytes, and then fails.
 #[derive(Drop)]
-struct Narrow {
-    room: usize,
-    taken: usize,
+pub(crate) struct Narrow {
+    pub(crate) room: usize,
+    pub(crate) taken: usize,
 }
 
 impl Write for Narrow {
@@ -114,9 +114,15 @@ const DOUBLED: &[u8] =
 
 const SCHEDULE: &[u8] = b"host 0 4\nround 5\n";
 
+/// A script and a schedule.
+const BOTH: &[u8] = b"long a[1];\nhost {\n}\n%%\nround 1\n";
+
+/// A script, and a schedule whose second line is no line of schedules.
+const WRONG_BELOW: &[u8] = b"long a[1];\nhost {\n}\n%%\nround 1\nrounds 2\n";
+
 /// A few files.
 #[derive(Drop)]
-struct Shelf;
+pub(crate) struct Shelf;
 
 impl Store<Sheet> for Shelf {
     ghost holds = { λ _ _. None };
@@ -130,6 +136,10 @@ impl Store<Sheet> for Shelf {
             "doubled" => Some(Sheet::Bytes(DOUBLED)),
             "faulty" => Some(Sheet::Bytes(b"long a[01];\n")),
             "empty" => Some(Sheet::Bytes(b"")),
+            "both" => Some(Sheet::Bytes(BOTH)),
+            "wrong_below" => Some(Sheet::Bytes(WRONG_BELOW)),
+            "second_host" => Some(Sheet::Bytes(b"round 1\nhost 1\n")),
+            "second_device" => Some(Sheet::Bytes(b"take 1 0\n")),
             "folder" => Some(Sheet::Unreadable),
             _ => None,
         }
@@ -138,12 +148,12 @@ impl Store<Sheet> for Shelf {
 
 /// Words, an input for where there are none, with the status and what is written to the output and to the errors.
 #[derive(Clone, Copy)]
-struct Told {
-    words: &'static [&'static str],
-    input: &'static [u8],
-    status: u8,
-    output: &'static [u8],
-    errors: &'static [u8],
+pub(crate) struct Told {
+    pub(crate) words: &'static [&'static str],
+    pub(crate) input: &'static [u8],
+    pub(crate) status: u8,
+    pub(crate) output: &'static [u8],
+    pub(crate) errors: &'static [u8],
 }
 
 const INPUTS: &[Told] = &[
@@ -400,7 +410,7 @@ const FAULTY_WORDS: &[(&[&str], &[u8])] = &[
     ),
     (
         &["accq", "question.acc"],
-        b"error: unrecognized subcommand 'question.acc'\n\nUsage: accq replay [OPTIONS] <SCRIPT> <SCHEDULE>\n       accq run [OPTIONS] <SCRIPT>\n       accq < INPUT\n       accq --help\n",
+        b"error: unrecognized subcommand 'question.acc'\n\nUsage: accq replay [OPTIONS] <SCRIPT> <SCHEDULE>\n       accq run [OPTIONS] <SCRIPT>\n       accq check [OPTIONS] <SCRIPT> [SCHEDULE]\n       accq < INPUT\n       accq --help\n",
     ),
     (&["accq", ""], b"error: unrecognized subcommand ''"),
     (
@@ -412,6 +422,18 @@ const FAULTY_WORDS: &[(&[&str], &[u8])] = &[
         b"Replays a script under a schedule",
     ),
     (&["accq", "run", "-h"], b"Runs a script by threads"),
+    (
+        &["accq", "check", "-h"],
+        b"Tells what is wrong with a script or a schedule",
+    ),
+    (
+        &["accq", "check"],
+        b"error: the following required arguments were not provided:\n  <SCRIPT>",
+    ),
+    (
+        &["accq", "check", "script", "schedule", "--room", "3"],
+        b"error: unexpected argument '--room' found",
+    ),
     (
         &["accq", "run"],
         b"error: the following required arguments were not provided:\n  <SCRIPT>",
@@ -432,7 +454,7 @@ const FAULTY_WORDS: &[(&[&str], &[u8])] = &[
 ];
 
 // What the program answers and writes.
-fn answered<T: Threads + Wait + Sync>(
+pub(crate) fn answered<T: Threads + Wait + Sync>(
     rt: &T,
     alloc: Global,
     case: &Told,
@@ -455,11 +477,11 @@ fn answered<T: Threads + Wait + Sync>(
 }
 
 // It ended with this status, and wrote this.
-fn check_told(rt: &impl Abort, status: u8, written: &[u8], wanted: u8, text: &[u8]) {
+pub(crate) fn check_told(rt: &impl Abort, status: u8, written: &[u8], wanted: u8, text: &[u8]) {
     assert_eq!(rt; (status, written), (wanted, text));
 }
 
-fn check_case<T: Abort + Threads + Wait + Sync>(rt: &T, alloc: Global, case: &Told) {
+pub(crate) fn check_case<T: Abort + Threads + Wait + Sync>(rt: &T, alloc: Global, case: &Told) {
     let (status, output, errors) = answered(rt, alloc, case);
     check_told(rt, status, output.as_slice(), case.status, case.output);
     check_told(rt, status, errors.as_slice(), case.status, case.errors);
@@ -476,7 +498,7 @@ fn words_and_inputs_have_their_status(rt: HostRuntime) -> std::result::Result<()
 }
 
 // The text begins so.
-fn check_begin(rt: &impl Abort, text: &[u8], begin: &[u8]) {
+pub(crate) fn check_begin(rt: &impl Abort, text: &[u8], begin: &[u8]) {
     assert!(rt; text.starts_with(begin));
 }
 
@@ -510,10 +532,10 @@ const NAMED: &[&str] = &["accq", "replay", "script", "schedule"];
 
 const RUN: &[&str] = &["accq", "run", "script"];
 
-const CANNOT_WRITE: &[u8] = b"accq: cannot write\n";
+pub(crate) const CANNOT_WRITE: &[u8] = b"accq: cannot write\n";
 
 // With these words and streams the status is 3, and this is told.
-fn check_streams<T: Abort + Threads + Wait + Sync, R: Read, W: Write>(
+pub(crate) fn check_streams<T: Abort + Threads + Wait + Sync, R: Read, W: Write>(
     rt: &T,
     alloc: Global,
     words: &[&str],

@@ -2,7 +2,7 @@
 use Rattle.std.specs.Prelude.{◌≡◌, ℕ, Bool, true, false, List, [], ◌∷◌, Option, Some, None, codes}
 use Rattle.clap.specs.Words.{Text}
 use Rattle.acc_driver.specs.Replays.{defaults}
-use Rattle.accq.specs.Words.{Asked, ToReplay, ToRun, asked_of}
+use Rattle.accq.specs.Words.{Asked, ToCheck, ToReplay, ToRun, asked_of}
 
 -- a replay of the files a and b, with these options
 abbrev pub asks : ℕ → ℕ → ℕ → Option Asked
@@ -14,6 +14,10 @@ abbrev pub asks_to_run : ℕ → ℕ → ℕ → Bool → Option Asked
 asks_to_run devices cells room progress =
     Some (ToRun (record { script = codes "a"; options = record { devices = devices; cells = cells; room = room }; progress = progress }))
 
+-- a check of the file a and this schedule, for so many devices
+abbrev pub asks_to_check : Option Text → ℕ → Option Asked
+asks_to_check schedule devices = Some (ToCheck (record { script = codes "a"; schedule = schedule; devices = devices }))
+
 -- behind `accq replay`
 abbrev pub replay : List Text → Option Asked
 replay words = asked_of (codes "accq" ∷ codes "replay" ∷ words)
@@ -22,8 +26,12 @@ replay words = asked_of (codes "accq" ∷ codes "replay" ∷ words)
 abbrev pub run : List Text → Option Asked
 run words = asked_of (codes "accq" ∷ codes "run" ∷ words)
 
--- Two names behind `replay` alone, or one behind `run`, ask for the default options. An option stands before, between or behind them, with `=`
--- or without; a flag stands alone.
+-- behind `accq check`
+abbrev pub check : List Text → Option Asked
+check words = asked_of (codes "accq" ∷ codes "check" ∷ words)
+
+-- Two names behind `replay` alone, or one behind `run`, ask for the default options; one or two behind `check` for one device. An option stands before,
+-- between or behind them, with `=` or without; a flag stands alone.
 pub record AreAsked : Type 0 where
   pub names : replay (codes "a" ∷ codes "b" ∷ []) ≡ Some (ToReplay (record { script = codes "a"; schedule = codes "b"; options = defaults }))
   pub before : replay (codes "--devices" ∷ codes "4" ∷ codes "a" ∷ codes "b" ∷ []) ≡ asks 4 4194304 64
@@ -34,6 +42,9 @@ pub record AreAsked : Type 0 where
   pub around : run (codes "--room=1" ∷ codes "a" ∷ codes "--devices" ∷ codes "2" ∷ []) ≡ asks_to_run 2 4194304 1 false
   pub told : run (codes "--progress" ∷ codes "a" ∷ codes "--devices=2" ∷ []) ≡ asks_to_run 2 4194304 64 true
   pub behind_dashes : replay (codes "--devices=3" ∷ codes "--" ∷ codes "a" ∷ codes "b" ∷ []) ≡ asks 3 4194304 64
+  pub one_file : check (codes "a" ∷ []) ≡ asks_to_check None 1
+  pub two_files : check (codes "a" ∷ codes "b" ∷ []) ≡ asks_to_check (Some (codes "b")) 1
+  pub for_devices : check (codes "--devices" ∷ codes "4" ∷ codes "a" ∷ codes "b" ∷ []) ≡ asks_to_check (Some (codes "b")) 4
 
 -- What asks for nothing: an option beyond its limits, not in digits alone or written twice, a name too few or too many, a word that there isn't, and
 -- requests for help or the version.
@@ -57,3 +68,7 @@ pub record AreRefused : Type 0 where
   pub progress_of_a_replay : replay (codes "a" ∷ codes "b" ∷ codes "--progress" ∷ []) ≡ None
   pub a_flag_with_a_value : run (codes "a" ∷ codes "--progress=true" ∷ []) ≡ None
   pub version : asked_of (codes "accq" ∷ codes "--version" ∷ []) ≡ None
+  pub no_file : check [] ≡ None
+  pub three_files : check (codes "a" ∷ codes "b" ∷ codes "c" ∷ []) ≡ None
+  pub room_of_a_check : check (codes "a" ∷ codes "--room=1" ∷ []) ≡ None
+  pub many_devices : check (codes "a" ∷ codes "--devices=5" ∷ []) ≡ None

@@ -5,7 +5,7 @@ use Rattle.clap.specs.Words.{app_of, new_app, rule_of, with_rule}
 use Rattle.clap.specs.Simple.{app_of_fields}
 use Rattle.clap.specs.declared.builder.command.Command.TheViews.{out-Command as fields_of}
 use Rattle.accq.specs.Words.{name_rule, with_options}
-use Rattle.accq.proofs.command.replay_words.Goals as goal
+use Rattle.accq.proofs.words.replay_words.Goals as goal
 
 -- the words that each call adds
 pub returns-clause-app : goal.returns-clause-app

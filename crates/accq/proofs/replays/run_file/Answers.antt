@@ -1,5 +1,5 @@
 use Rattle.accq.proofs.StatusReplay.{file_sent}
-use Rattle.accq.proofs.status.run_file.Goals as goal
+use Rattle.accq.proofs.replays.run_file.Goals as goal
 
 pub returns-clause-answers : goal.returns-clause-answers
 returns-clause-answers g c =

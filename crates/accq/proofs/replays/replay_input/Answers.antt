@@ -1,5 +1,5 @@
 use Rattle.accq.proofs.StatusReplay.{input_sent}
-use Rattle.accq.proofs.status.replay_input.Goals as goal
+use Rattle.accq.proofs.replays.replay_input.Goals as goal
 
 pub returns-clause-answers : goal.returns-clause-answers
 returns-clause-answers g c =

@@ -1,7 +1,7 @@
 use Rattle.std.proofs.Common.{Ok}
 use Rattle.accq.specs.Words.{replay_by}
 use Rattle.accq.proofs.StatusReplay.{files_answered, files_sent}
-use Rattle.accq.proofs.status.replay_files.Goals as goal
+use Rattle.accq.proofs.replays.replay_files.Goals as goal
 
 pub returns-clause-answers : goal.returns-clause-answers
 returns-clause-answers g c =

@@ -1,0 +1,25 @@
+//! What `--help` tells, of the program and of each subcommand.
+
+/// What the program is.
+pub const ABOUT: &str =
+    "accq replays a script of hosts and OpenACC directives under a schedule, or runs it by threads, and\nreports what it means: what is present with its counters, and what each queue has performed.";
+
+/// The ways to call the program.
+pub const USAGE: &str =
+    "accq replay [OPTIONS] <SCRIPT> <SCHEDULE>\n       accq run [OPTIONS] <SCRIPT>\n       accq check [OPTIONS] <SCRIPT> [SCHEDULE]\n       accq < INPUT\n       accq --help";
+
+/// What stands behind the program's options.
+pub const PROGRAM: &str =
+    "Example: a script in question.acc, and a schedule `round 20` in question.schedule\n    accq check question.acc question.schedule\n    accq replay question.acc question.schedule\n    accq run question.acc\n\nWithout words accq replays standard input: a script, a line %%, and a schedule.\n\nStatus: 0; 1 where a host was refused; 2 for a fault of the script, the schedule or the words;\n3 for a fault of a file, of memory or of the run. docs/GUIDE.md tells how to ask a question and\nto read the report, docs/LANGUAGE.md all that scripts, schedules and reports can say.";
+
+/// What stands behind the options of `replay`.
+pub const REPLAY: &str =
+    "A replay does what its schedule says, line by line, and then reports. The same script under the same\nschedule always gives the same report.\n\nExample: a script in question.acc, and a schedule `round 20` in question.schedule\n    accq replay question.acc question.schedule --devices 2";
+
+/// What stands behind the options of `run`.
+pub const RUN: &str =
+    "A replay does what its schedule says, and so always gives the same report. In a run each host and\neach queue has a thread of its own, and the system decides who is first: what depends on that may\nbe reported in another way each time. A directive that a full queue refuses is tried again, and at\nthe end all that was placed is performed.\n\nWith --progress a terminal shows how far the run has come: `1/noval:3` says that queue noval of\ndevice 1 has performed three batches.\n\nExample: accq run question.acc --devices 2";
+
+/// What stands behind the options of `check`.
+pub const CHECK: &str =
+    "Nothing is run. Where nothing is wrong, nothing is told, and the status is 0. Else standard output\ntells the place, its line with a mark below it, and what could stand there, and the status is 2.\nThe schedule is checked once the script is one, for its hosts and for as many devices as there are.\nWithout a second file the one file may hold a script, a line %%, and a schedule.\n\nExample: accq check question.acc question.schedule --devices 2";

@@ -1,0 +1,156 @@
+//! The words that a command line can have.
+
+ghost use Rattle.std.specs.Prelude.{◌≡◌, ◌<◌, ◌^◌, codes, false, IfOk};
+ghost use Rattle.clap.specs.Words.{app_of, rule_of};
+ghost use Rattle.clap.specs.declared.builder.command.Command.TheViews.{out-Command as fields_of};
+ghost use Rattle.acc_base.specs.declared.config.TheConstants.{MAX_DEVICES};
+ghost use Rattle.accq.specs.Words.{accq_app, check_app, flag_rule, name_rule, number_rule, optional_rule, replay_app, run_app, with_options};
+
+use crate::help;
+use acc_base::{MAX_CAPACITY, MAX_DEVICES, MAX_ROOM};
+use clap::{Arg, ArgAction, Command, value_parser};
+use std::alloc::{AllocError, Global};
+
+// An option with a number from 1 to the most that a run may have.
+fn number<'a>(alloc: Global, name: &'a str, help: &'a str, default: &'a str, most: u64) -> Arg<'a>
+    requires { most < 2 ^ 63 }
+    ensures rule { rule_of result ≡ number_rule name.entry.now default.entry.now most }
+    ensures local { result.global ≡ false }
+{
+    Arg::new(alloc, name)
+        .long(name)
+        .value_name("N")
+        .value_parser(value_parser!(u64).range(1..=most as i64))
+        .default_value(default)
+        .help(help)
+}
+
+// How many devices there are.
+fn devices<'a>(alloc: Global) -> Arg<'a>
+    ensures rule { rule_of result ≡ number_rule (codes "devices") (codes "1") MAX_DEVICES }
+    ensures local { result.global ≡ false }
+{
+    number(
+        alloc,
+        "devices",
+        "How many devices there are",
+        "1",
+        u64::from(MAX_DEVICES),
+    )
+}
+
+// A name that has to be there.
+fn name<'a>(alloc: Global, id: &'a str, help: &'a str) -> Arg<'a>
+    ensures rule { rule_of result ≡ name_rule id.entry.now }
+    ensures local { result.global ≡ false }
+{
+    Arg::new(alloc, id)
+        .required(true)
+        .action(ArgAction::Set)
+        .help(help)
+}
+
+// A name that may be missing.
+fn optional<'a>(alloc: Global, id: &'a str, help: &'a str) -> Arg<'a>
+    ensures rule { rule_of result ≡ optional_rule id.entry.now }
+    ensures local { result.global ≡ false }
+{
+    Arg::new(alloc, id).action(ArgAction::Set).help(help)
+}
+
+// A flag.
+fn flag<'a>(alloc: Global, name: &'a str, help: &'a str) -> Arg<'a>
+    ensures rule { rule_of result ≡ flag_rule name.entry.now }
+    ensures local { result.global ≡ false }
+{
+    Arg::new(alloc, name)
+        .long(name)
+        .action(ArgAction::SetTrue)
+        .help(help)
+}
+
+// The options of a replay or a run, behind the words that there are already.
+fn with_options<'a>(alloc: Global, words: Command<'a>) -> Result<Command<'a>, AllocError>
+    requires { (fields_of words).has_globals ≡ false }
+    ensures app { IfOk result (λ c. app_of c ≡ with_options (app_of words.entry)) }
+    ensures local { IfOk result (λ c. (fields_of c).has_globals ≡ false) }
+{
+    words
+        .arg(devices(alloc))?
+        .arg(number(
+            alloc,
+            "cells",
+            "How many cells may be present on each device at once",
+            "4194304",
+            MAX_CAPACITY,
+        ))?
+        .arg(number(
+            alloc,
+            "room",
+            "How many batches each queue holds that it hasn't taken",
+            "64",
+            u64::from(MAX_ROOM),
+        ))
+}
+
+// The words behind `replay`.
+fn replay_words<'a>(alloc: Global) -> Result<Command<'a>, AllocError>
+    ensures app { IfOk result (λ c. app_of c ≡ replay_app) }
+    ensures local { IfOk result (λ c. (fields_of c).has_globals ≡ false) }
+{
+    let words = Command::new(alloc, "replay")
+        .about("Replays a script under a schedule")
+        .after_help(help::REPLAY)
+        .arg(name(alloc, "SCRIPT", "The file of the script"))?
+        .arg(name(alloc, "SCHEDULE", "The file of the schedule"))?;
+    with_options(alloc, words)
+}
+
+// The words behind `run`.
+fn run_words<'a>(alloc: Global) -> Result<Command<'a>, AllocError>
+    ensures app { IfOk result (λ c. app_of c ≡ run_app) }
+    ensures local { IfOk result (λ c. (fields_of c).has_globals ≡ false) }
+{
+    let words = Command::new(alloc, "run")
+        .about("Runs a script by threads")
+        .after_help(help::RUN)
+        .arg(name(alloc, "SCRIPT", "The file of the script"))?
+        .arg(flag(
+            alloc,
+            "progress",
+            "While it runs, tells on a terminal how many batches each queue has performed",
+        ))?;
+    with_options(alloc, words)
+}
+
+// The words behind `check`.
+fn check_words<'a>(alloc: Global) -> Result<Command<'a>, AllocError>
+    ensures app { IfOk result (λ c. app_of c ≡ check_app) }
+    ensures local { IfOk result (λ c. (fields_of c).has_globals ≡ false) }
+{
+    Command::new(alloc, "check")
+        .about("Tells what is wrong with a script or a schedule")
+        .after_help(help::CHECK)
+        .arg(name(
+            alloc,
+            "SCRIPT",
+            "The file of the script, or of a script, a line %% and a schedule",
+        ))?
+        .arg(optional(alloc, "SCHEDULE", "The file of the schedule"))?
+        .arg(devices(alloc))
+}
+
+/// The words that there can be.
+pub fn accq_words<'a>(alloc: Global) -> Result<Command<'a>, AllocError>
+    ensures { IfOk result (λ c. app_of c ≡ accq_app) }
+{
+    Command::new(alloc, "accq")
+        .version("0.1.0, for OpenACC API 3.0")
+        .about(help::ABOUT)
+        .override_usage(help::USAGE)
+        .after_help(help::PROGRAM)
+        .subcommand_required(true)
+        .subcommand(replay_words(alloc)?)?
+        .subcommand(run_words(alloc)?)?
+        .subcommand(check_words(alloc)?)
+}
