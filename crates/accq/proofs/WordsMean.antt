@@ -5,7 +5,7 @@ use Rattle.accq.specs.worked.Words.{AreAsked, AreRefused}
 
 pub are_asked : AreAsked
 unfolding clap_on_literals
-are_asked = record { names = refl; before = refl; between = refl; behind = refl; all = refl; one_name = refl; around = refl; told = refl; behind_dashes = refl; one_file = refl; two_files = refl; for_devices = refl }
+are_asked = record { names = refl; before = refl; between = refl; behind = refl; all = refl; one_name = refl; around = refl; told = refl; behind_dashes = refl; one_file = refl; two_files = refl; word = refl; for_devices = refl }
 
 pub are_refused : AreRefused
 unfolding clap_on_literals
@@ -32,5 +32,7 @@ are_refused = record {
   no_file = refl;
   three_files = refl;
   room_of_a_check = refl;
+  no_word = refl;
+  two_words = refl;
   many_devices = refl;
 }

@@ -1,3 +1,4 @@
+pub mod Explanations
 pub mod Statuses
 pub mod Words
 pub mod worked

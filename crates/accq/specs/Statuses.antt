@@ -9,7 +9,8 @@ use Rattle.acc_driver.specs.Checks.{ChecksTexts}
 use Rattle.acc_driver.specs.Inputs.{parts}
 use Rattle.acc_driver.specs.Replays.{Answers, IsRun, defaults}
 use Rattle.acc_driver.specs.Runs.{IsConfigured, ScriptAnswers}
-use Rattle.accq.specs.Words.{Asked, AskedCheck, AskedReplay, AskedRun, ToCheck, ToReplay, ToRun}
+use Rattle.accq.specs.Explanations.{text_for}
+use Rattle.accq.specs.Words.{Asked, AskedCheck, AskedReplay, AskedRun, ToCheck, ToExplain, ToReplay, ToRun}
 
 -- ## Replays and runs
 
@@ -85,6 +86,13 @@ pub record FilesChecked (asked : AskedCheck) (holds : List ℕ → Option (List 
   pub schedule : IfSome asked.schedule (λ name. NeedsOpen (opens name) old new status)
   pub follows : status ≡ status_checked answer
 
+-- ## Explanations
+
+-- A word that names a fault has its text written, and the status is 0, or 3 where the output fails. Of another word nothing is written, and it is 2.
+abbrev pub Explains : Option (List ℕ) → Option (List ℕ) → Option (List ℕ) → ℕ → Type 0
+Explains None old new status = Appends old new [] × (status ≡ 2)
+Explains (Some text) old new status = (Appends old new text × (status ≡ 0)) ⊎ (status ≡ 3)
+
 -- ## Words
 
 -- It was done.
@@ -92,6 +100,7 @@ abbrev pub IsDone : Asked → (List ℕ → Option (List ℕ)) → (List ℕ →
 IsDone (ToReplay asked) holds opens old new status = FilesReplayed asked holds opens old new status
 IsDone (ToRun asked) holds opens old new status = FileRun asked holds opens old new status
 IsDone (ToCheck asked) holds opens old new status = FilesChecked asked holds opens old new status
+IsDone (ToExplain word) holds opens old new status = Explains (text_for word) old new status
 
 -- What words come to. Where they ask for nothing, nothing is written, and the status is 2, or 3 for want of memory. What they ask for is done, unless there
 -- is no memory to read the words.

@@ -58,9 +58,13 @@ run_app = with_options (with_rule (with_rule (new_app (codes "run")) (name_rule 
 abbrev pub check_app : App
 check_app = with_devices (with_rule (with_rule (new_app (codes "check")) (name_rule (codes "SCRIPT"))) (optional_rule (codes "SCHEDULE")))
 
+-- accq explain WORD
+abbrev pub explain_app : App
+explain_app = with_rule (new_app (codes "explain")) (name_rule (codes "WORD"))
+
 abbrev pub accq_app : App
 accq_app =
-    with_subcommand (with_subcommand (with_subcommand (on_top (λ s. record s { has_version = true; subcommand_required = true }) (new_app (codes "accq"))) replay_app.top) run_app.top) check_app.top
+    with_subcommand (with_subcommand (with_subcommand (with_subcommand (on_top (λ s. record s { has_version = true; subcommand_required = true }) (new_app (codes "accq"))) replay_app.top) run_app.top) check_app.top) explain_app.top
 
 -- ## What they mean
 
@@ -82,11 +86,12 @@ pub record AskedCheck : Type 0 where
   pub schedule : Option Text
   pub devices : ℕ
 
--- What words can ask for.
+-- What words can ask for: a replay, a run, a check, or what the guide says of what a word names.
 pub data Asked : Type 0 where
   ToReplay : AskedReplay → Asked
   ToRun : AskedRun → Asked
   ToCheck : AskedCheck → Asked
+  ToExplain : Text → Asked
 
 -- a number that is written in digits alone, from 1 to the most
 abbrev pub number_in : ℕ → Text → Option ℕ
@@ -129,7 +134,8 @@ check_in rows =
 abbrev pub asked_behind : Text → List Row → Option Asked
 asked_behind name rows =
     if bytes_eq name (codes "run") then option_map ToRun (run_in rows)
-    else (if bytes_eq name (codes "check") then option_map ToCheck (check_in rows) else option_map ToReplay (replay_in rows))
+    else (if bytes_eq name (codes "check") then option_map ToCheck (check_in rows)
+    else (if bytes_eq name (codes "explain") then option_map ToExplain (first_of (codes "WORD") rows) else option_map ToReplay (replay_in rows)))
 
 -- what was found, unless there is an error of some kind
 abbrev pub unless_any : {A : Type 0} → Kinds → Option A → Option A
@@ -157,9 +163,11 @@ abbrev pub asked_by : Task → Asked
 asked_by (task.Replay r) = ToReplay (replay_by r)
 asked_by (task.Run r) = ToRun (run_by r)
 asked_by (task.Check c) = ToCheck (check_by c)
+asked_by (task.Explain e) = ToExplain e.word.now
 
 -- Its options are within their limits.
 abbrev pub IsUsable : Task → Type 0
 IsUsable (task.Replay r) = AreUsable r.options
 IsUsable (task.Run r) = AreUsable r.options
 IsUsable (task.Check c) = (1 ≤ c.devices) × (c.devices ≤ MAX_DEVICES)
+IsUsable (task.Explain e) = Unit {0}

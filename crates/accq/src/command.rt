@@ -41,12 +41,19 @@ pub struct Check<'a> {
     pub devices: u8,
 }
 
+/// A word, of which it is to be told what the guide says.
+#[derive(Clone, Copy)]
+pub struct Explain<'a> {
+    pub word: &'a str,
+}
+
 /// What words ask for.
 #[derive(Clone, Copy)]
 pub enum Task<'a> {
     Replay(Replay<'a>),
     Run(Run<'a>),
     Check(Check<'a>),
+    Explain(Explain<'a>),
 }
 
 // Whether a text has digits alone.
@@ -164,6 +171,9 @@ fn asked_behind<'a>(name: &str, matches: &ArgMatches<'a>) -> Option<Task<'a>>
     match name {
         "run" => Some(Task::Run(run_in(matches)?)),
         "check" => Some(Task::Check(check_in(matches)?)),
+        "explain" => Some(Task::Explain(Explain {
+            word: text_of(matches, "WORD")?,
+        })),
         _ => Some(Task::Replay(replay_in(matches)?)),
     }
 }

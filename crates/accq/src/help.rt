@@ -6,11 +6,11 @@ pub const ABOUT: &str =
 
 /// The ways to call the program.
 pub const USAGE: &str =
-    "accq replay [OPTIONS] <SCRIPT> <SCHEDULE>\n       accq run [OPTIONS] <SCRIPT>\n       accq check [OPTIONS] <SCRIPT> [SCHEDULE]\n       accq < INPUT\n       accq --help";
+    "accq replay [OPTIONS] <SCRIPT> <SCHEDULE>\n       accq run [OPTIONS] <SCRIPT>\n       accq check [OPTIONS] <SCRIPT> [SCHEDULE]\n       accq explain <WORD>\n       accq < INPUT\n       accq --help";
 
 /// What stands behind the program's options.
 pub const PROGRAM: &str =
-    "Example: a script in question.acc, and a schedule `round 20` in question.schedule\n    accq check question.acc question.schedule\n    accq replay question.acc question.schedule\n    accq run question.acc\n\nWithout words accq replays standard input: a script, a line %%, and a schedule.\n\nStatus: 0; 1 where a host was refused; 2 for a fault of the script, the schedule or the words;\n3 for a fault of a file, of memory or of the run. docs/GUIDE.md tells how to ask a question and\nto read the report, docs/LANGUAGE.md all that scripts, schedules and reports can say.";
+    "Example: a script in question.acc, and a schedule `round 20` in question.schedule\n    accq check question.acc question.schedule\n    accq replay question.acc question.schedule\n    accq run question.acc\n    accq explain PartlyPresent\n\nWithout words accq replays standard input: a script, a line %%, and a schedule.\n\nStatus: 0; 1 where a host was refused; 2 for a fault of the script, the schedule or the words;\n3 for a fault of a file, of memory or of the run. docs/GUIDE.md tells how to ask a question and\nto read the report, docs/LANGUAGE.md all that scripts, schedules and reports can say.";
 
 /// What stands behind the options of `replay`.
 pub const REPLAY: &str =
@@ -23,3 +23,7 @@ pub const RUN: &str =
 /// What stands behind the options of `check`.
 pub const CHECK: &str =
     "Nothing is run. Where nothing is wrong, nothing is told, and the status is 0. Else standard output\ntells the place, its line with a mark below it, and what could stand there, and the status is 2.\nThe schedule is checked once the script is one, for its hosts and for as many devices as there are.\nWithout a second file the one file may hold a script, a line %%, and a schedule.\n\nExample: accq check question.acc question.schedule --devices 2";
+
+/// What stands behind the options of `explain`.
+pub const EXPLAIN: &str =
+    "The words are those by which faults are told: `refused 9 F6 PartlyPresent` in a report has F6 and\nPartlyPresent, and `accq: script line 8: Form` has Form. Capital and small letters are the same. The\ntext is that of docs/GUIDE.md. Of another word all words are told, and the status is 2.\n\nExample: accq explain F6";

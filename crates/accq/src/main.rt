@@ -1,9 +1,11 @@
 //! `accq`: replays a script of hosts and OpenACC directives under a schedule, or runs it by threads, and reports what it means;
-//! or checks both texts.
+//! or checks both texts, or explains a fault.
 #![tactic(auto)]
 
 mod checks;
 mod command;
+mod explain;
+mod explanations;
 mod help;
 mod laws;
 mod meter;
@@ -14,6 +16,8 @@ mod store;
 mod tests;
 #[cfg(test)]
 mod tests_of_checks;
+#[cfg(test)]
+mod tests_of_explanations;
 mod words;
 
 use acc_driver::{DriverFault, Remains};

@@ -8,6 +8,7 @@ ghost use Rattle.clap.specs.declared.error.kind.ErrorKind.TheVariants.{OutOfMemo
 
 use crate::checks::check_files;
 use crate::command::{Task, task_of};
+use crate::explain::explain;
 use crate::replays::{replay_files, replay_input, run_file};
 use crate::store::Store;
 use acc_driver::{CheckFault, DriverFault, Ended, Monitor, Remains};
@@ -26,6 +27,7 @@ use std::thread::Threads;
 /// fault of a text or of the words is answered by 2, all else by 3, and told to the errors: by one line, or for the words
 /// by the parser's own text. What a run left is put into `remains`. The words `check SCRIPT SCHEDULE`, or `check` and one
 /// name, run nothing: the answer is 0 where nothing is wrong with these files, and 2 where what is wrong is told to the output.
+/// With `explain` and a word it is told what the guide says of the fault that the word names; the answer is 2 where it names none.
 pub fn status_of<
     T: Threads + Wait + Sync,
     F: Read + Drop,
@@ -67,6 +69,7 @@ pub fn status_of<
             let answer = check_files(alloc, &asked, files, output);
             status_checked(answer, errors)
         }
+        Ok(Task::Explain(asked)) => explain(asked.word, output, errors),
         Err(error) => told_words(&error, errors),
     }
 }

@@ -410,7 +410,7 @@ const FAULTY_WORDS: &[(&[&str], &[u8])] = &[
     ),
     (
         &["accq", "question.acc"],
-        b"error: unrecognized subcommand 'question.acc'\n\nUsage: accq replay [OPTIONS] <SCRIPT> <SCHEDULE>\n       accq run [OPTIONS] <SCRIPT>\n       accq check [OPTIONS] <SCRIPT> [SCHEDULE]\n       accq < INPUT\n       accq --help\n",
+        b"error: unrecognized subcommand 'question.acc'\n\nUsage: accq replay [OPTIONS] <SCRIPT> <SCHEDULE>\n       accq run [OPTIONS] <SCRIPT>\n       accq check [OPTIONS] <SCRIPT> [SCHEDULE]\n       accq explain <WORD>\n       accq < INPUT\n       accq --help\n",
     ),
     (&["accq", ""], b"error: unrecognized subcommand ''"),
     (
@@ -425,6 +425,18 @@ const FAULTY_WORDS: &[(&[&str], &[u8])] = &[
     (
         &["accq", "check", "-h"],
         b"Tells what is wrong with a script or a schedule",
+    ),
+    (
+        &["accq", "explain", "-h"],
+        b"Tells what a fault is, and what to do about it",
+    ),
+    (
+        &["accq", "explain", "f15"],
+        b"accq: `f15` is no fault; the words are:\nF1 Closed, F2 BadDevice, ",
+    ),
+    (
+        &["accq", "explain"],
+        b"error: the following required arguments were not provided:\n  <WORD>",
     ),
     (
         &["accq", "check"],

@@ -4,7 +4,7 @@ ghost use Rattle.std.specs.Prelude.{◌≡◌, ◌<◌, ◌^◌, codes, false, I
 ghost use Rattle.clap.specs.Words.{app_of, rule_of};
 ghost use Rattle.clap.specs.declared.builder.command.Command.TheViews.{out-Command as fields_of};
 ghost use Rattle.acc_base.specs.declared.config.TheConstants.{MAX_DEVICES};
-ghost use Rattle.accq.specs.Words.{accq_app, check_app, flag_rule, name_rule, number_rule, optional_rule, replay_app, run_app, with_options};
+ghost use Rattle.accq.specs.Words.{accq_app, check_app, explain_app, flag_rule, name_rule, number_rule, optional_rule, replay_app, run_app, with_options};
 
 use crate::help;
 use acc_base::{MAX_CAPACITY, MAX_DEVICES, MAX_ROOM};
@@ -140,6 +140,21 @@ fn check_words<'a>(alloc: Global) -> Result<Command<'a>, AllocError>
         .arg(devices(alloc))
 }
 
+// The word behind `explain`.
+fn explain_words<'a>(alloc: Global) -> Result<Command<'a>, AllocError>
+    ensures app { IfOk result (λ c. app_of c ≡ explain_app) }
+    ensures local { IfOk result (λ c. (fields_of c).has_globals ≡ false) }
+{
+    Command::new(alloc, "explain")
+        .about("Tells what a fault is, and what to do about it")
+        .after_help(help::EXPLAIN)
+        .arg(name(
+            alloc,
+            "WORD",
+            "A fault's number or name, or a kind of fault of a text",
+        ))
+}
+
 /// The words that there can be.
 pub fn accq_words<'a>(alloc: Global) -> Result<Command<'a>, AllocError>
     ensures { IfOk result (λ c. app_of c ≡ accq_app) }
@@ -152,5 +167,6 @@ pub fn accq_words<'a>(alloc: Global) -> Result<Command<'a>, AllocError>
         .subcommand_required(true)
         .subcommand(replay_words(alloc)?)?
         .subcommand(run_words(alloc)?)?
-        .subcommand(check_words(alloc)?)
+        .subcommand(check_words(alloc)?)?
+        .subcommand(explain_words(alloc)?)
 }

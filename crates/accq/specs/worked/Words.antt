@@ -2,7 +2,7 @@
 use Rattle.std.specs.Prelude.{◌≡◌, ℕ, Bool, true, false, List, [], ◌∷◌, Option, Some, None, codes}
 use Rattle.clap.specs.Words.{Text}
 use Rattle.acc_driver.specs.Replays.{defaults}
-use Rattle.accq.specs.Words.{Asked, ToCheck, ToReplay, ToRun, asked_of}
+use Rattle.accq.specs.Words.{Asked, ToCheck, ToExplain, ToReplay, ToRun, asked_of}
 
 -- a replay of the files a and b, with these options
 abbrev pub asks : ℕ → ℕ → ℕ → Option Asked
@@ -30,7 +30,8 @@ run words = asked_of (codes "accq" ∷ codes "run" ∷ words)
 abbrev pub check : List Text → Option Asked
 check words = asked_of (codes "accq" ∷ codes "check" ∷ words)
 
--- Two names behind `replay` alone, or one behind `run`, ask for the default options; one or two behind `check` for one device. An option stands before,
+-- Two names behind `replay` alone, or one behind `run`, ask for the default options; one or two behind `check` for one device;
+-- `explain` has one word. An option stands before,
 -- between or behind them, with `=` or without; a flag stands alone.
 pub record AreAsked : Type 0 where
   pub names : replay (codes "a" ∷ codes "b" ∷ []) ≡ Some (ToReplay (record { script = codes "a"; schedule = codes "b"; options = defaults }))
@@ -44,6 +45,7 @@ pub record AreAsked : Type 0 where
   pub behind_dashes : replay (codes "--devices=3" ∷ codes "--" ∷ codes "a" ∷ codes "b" ∷ []) ≡ asks 3 4194304 64
   pub one_file : check (codes "a" ∷ []) ≡ asks_to_check None 1
   pub two_files : check (codes "a" ∷ codes "b" ∷ []) ≡ asks_to_check (Some (codes "b")) 1
+  pub word : asked_of (codes "accq" ∷ codes "explain" ∷ codes "F6" ∷ []) ≡ Some (ToExplain (codes "F6"))
   pub for_devices : check (codes "--devices" ∷ codes "4" ∷ codes "a" ∷ codes "b" ∷ []) ≡ asks_to_check (Some (codes "b")) 4
 
 -- What asks for nothing: an option beyond its limits, not in digits alone or written twice, a name too few or too many, a word that there isn't, and
@@ -71,4 +73,6 @@ pub record AreRefused : Type 0 where
   pub no_file : check [] ≡ None
   pub three_files : check (codes "a" ∷ codes "b" ∷ codes "c" ∷ []) ≡ None
   pub room_of_a_check : check (codes "a" ∷ codes "--room=1" ∷ []) ≡ None
+  pub no_word : asked_of (codes "accq" ∷ codes "explain" ∷ []) ≡ None
+  pub two_words : asked_of (codes "accq" ∷ codes "explain" ∷ codes "F6" ∷ codes "F7" ∷ []) ≡ None
   pub many_devices : check (codes "a" ∷ codes "--devices=5" ∷ []) ≡ None
