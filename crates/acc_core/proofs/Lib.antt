@@ -20,6 +20,7 @@ mod Lanes
 mod LegalSteps
 mod Merged
 mod NextOfQueue
+mod NextOp
 mod PerformOp
 mod QueueTotals
 mod RunParts

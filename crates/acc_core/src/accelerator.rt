@@ -5,6 +5,7 @@ ghost use Rattle.acc_base.specs.declared.config.TheConstants.{MAX_HOSTS};
 ghost use Rattle.acc_host.specs.Engines.{Wait, Record, MayRecord, without_item};
 ghost use Rattle.acc_core.specs.inner.Answers.{Makes, Places};
 ghost use Rattle.acc_core.specs.Enabled.{is_enabled, is_left, SomeEnabled};
+ghost use Rattle.acc_core.specs.Progress.{next_by, taken_by};
 ghost use Rattle.acc_core.specs.Legality.{AllRise};
 ghost use Rattle.acc_place.specs.Histories.{is_closed, IsQueue};
 ghost use Rattle.acc_base.specs.Configurations.{has_range};
@@ -23,7 +24,7 @@ ghost use Rattle.acc_present.specs.Tables.{entry_presence};
 
 use crate::queue::{Queue, holds_none, queues_of};
 use acc_base::{BlockId, Config, DeviceId, Fault, HostId, QueueAt, QueueCounts, Range};
-use acc_batch::Page;
+use acc_batch::{OpLabel, Page};
 use acc_host::{Engine, Reply};
 use acc_place::{Directive, Place, Placed};
 use acc_present::Entry;
@@ -323,6 +324,47 @@ impl Accelerator {
         }
     }
 
+    /// Where directives are accepted.
+    pub(crate) fn place(&self) -> &Place
+        ensures config { result.now.config ≡ self.now.config }
+        ensures history { result.now.history ≡ self.now.history }
+        ensures counts { result.now.counts ≡ self.now.counts }
+    {
+        &self.place
+    }
+
+    /// How many batches a queue has taken.
+    pub(crate) fn taken(&self, at: QueueAt) -> u64
+        ensures { result ≡ taken_by self.now at }
+    {
+        let QueueAt { device, queue } = at;
+        if !self.place.config().has_queue(QueueAt { device, queue }) {
+            return 0;
+        }
+        self.work.keeps();
+        let held = self.queues[QueueAt { device, queue }.seat()].len();
+        self.place.placed_count(at) - held as u64
+    }
+
+    /// The operation that a queue performs next, of the batches that it has taken.
+    pub(crate) fn next_op(&self, at: QueueAt) -> Option<&OpLabel>
+        ensures { option_map (λ op. op.now) result ≡ next_by self.now at }
+    {
+        let QueueAt { device, queue } = at;
+        if !self.place.config().has_queue(QueueAt { device, queue }) {
+            return None;
+        }
+        self.work.keeps();
+        let left = self.work.ops_left(QueueAt { device, queue });
+        match self.work.last_taken(at) {
+            None => None,
+            Some(label) => {
+                let ops = label.ops.get().as_slice();
+                op_at(ops, ops.len() - left)
+            }
+        }
+    }
+
     /// Whether a queue can take a batch or perform an operation.
     pub(crate) fn enabled(&self, at: QueueAt) -> bool
         ensures { result ≡ is_enabled self.now at }
@@ -357,6 +399,13 @@ impl Accelerator {
         let Accelerator { place, work, .. } = self;
         (place, work.into_log())
     }
+}
+
+// The operation with this index.
+fn op_at(ops: &[OpLabel], index: usize) -> Option<&OpLabel>
+    ensures { option_map (λ op. op.now) result ≡ slice_get ops.now index }
+{
+    ops.get(index)
 }
 
 impl Engine for Accelerator {

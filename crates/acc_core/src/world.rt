@@ -7,18 +7,20 @@ ghost use Rattle.acc_present.specs.Tables.{entry_presence};
 ghost use Rattle.acc_base.specs.declared.config.TheConstants.{MAX_HOSTS};
 ghost use Rattle.acc_core.specs.Enabled.{is_enabled, is_left, SomeEnabled};
 ghost use Rattle.acc_core.specs.Legality.{AllFollow, Legal};
-ghost use Rattle.acc_core.specs.Machine.{Step, standing_of};
+ghost use Rattle.acc_core.specs.Machine.{Step, labels_of, standing_of};
+ghost use Rattle.acc_core.specs.Progress.{next_by, taken_by};
 ghost use Rattle.acc_host.specs.declared.state.Reply.{Reply};
 ghost use Rattle.acc_host.specs.Hosts.{bare_statements, ready, state_of};
 ghost use Rattle.acc_base.specs.Configurations.{has_range};
 ghost use Rattle.acc_memory.specs.Memories.{find_block, has_cell};
 ghost use Rattle.acc_memory.specs.Values.{Block_cell, Host_cell};
-ghost use Rattle.acc_work.specs.Logs.{performed, value};
+ghost use Rattle.acc_work.specs.Logs.{all_done, performed, value};
 ghost use Rattle.acc_work.specs.Remembering.{blocks_in};
 ghost use Rattle.acc_core.specs.Worlds.{OnePerHost, first_state, statements_in, Ran};
 
 use crate::accelerator::Accelerator;
-use acc_base::{BlockId, Config, DeviceId, Fault, HostId, QueueAt, Range};
+use acc_base::{BlockId, Config, DeviceId, Fault, HostId, QueueAt, QueueCounts, Range};
+use acc_batch::OpLabel;
 use acc_host::{Event, Host, HostProgram, HostState, Outcome, Reply, hosts_follow, ready_hosts};
 use acc_place::Place;
 use acc_present::Entry;
@@ -204,6 +206,44 @@ impl World {
         ensures enabled { IsTrue result → SomeEnabled self.now }
     {
         self.accelerator.any_left()
+    }
+
+    /// Where directives are accepted, with all that was accepted so far.
+    pub fn place(&self) -> &Place
+        ensures config { result.now.config ≡ self.now.config }
+        ensures history { result.now.history ≡ self.now.history }
+        ensures counts { result.now.counts ≡ self.now.counts }
+    {
+        self.accelerator.place()
+    }
+
+    /// How many batches a queue has taken; none where there is no such queue.
+    pub fn taken(&self, at: QueueAt) -> u64
+        ensures { result ≡ taken_by self.now at }
+    {
+        self.accelerator.taken(at)
+    }
+
+    /// The operation that a queue performs next, of the batches that it has taken; `None` where it has performed them, or there is
+    /// no such queue.
+    pub fn next_op(&self, at: QueueAt) -> Option<&OpLabel>
+        ensures { option_map (λ op. op.now) result ≡ next_by self.now at }
+    {
+        self.accelerator.next_op(at)
+    }
+
+    /// Whether each queue of a device has performed so many batches.
+    pub fn reached(&self, device: DeviceId, counts: &QueueCounts) -> bool
+        ensures { result ≡ all_done (labels_of self.now) self.now.work device 0 counts.now }
+    {
+        self.accelerator.reached(device, counts)
+    }
+
+    /// A host as it stands; `None` where there is no such host.
+    pub fn host(&self, host: HostId) -> Option<&Host>
+        ensures { option_map (λ h. h.now) result ≡ slice_get self.now.hosts host }
+    {
+        self.hosts.get(usize::from(host.number()))
     }
 
     /// What was performed and shown so far, in order.

@@ -131,6 +131,13 @@ impl Host {
         &self.phase
     }
 
+    /// Its device and default queue.
+    pub fn ids(&self) -> &Ids
+        ensures { result.now ≡ self.now.ids }
+    {
+        &self.ids
+    }
+
     /// Its program. A directive that it has come to has the ids that the host gave it. Takes no memory.
     pub fn into_program(self) -> HostProgram
         ensures host { result.host ≡ self.host }
