@@ -1,0 +1,7 @@
+mod DrawnBoxes
+mod DrawnSteps
+pub mod EventsByLine
+mod FoundRanges
+pub mod PutSteps
+pub mod SourceLines
+pub mod ToldSteps
