@@ -2,6 +2,7 @@ mod CheckAnswers
 mod KeptPrograms
 mod ReplayAnswers
 mod RunSchedule
+mod StepsAnswers
 mod ThreadRuns
 mod WorkedSplits
 mod SplitText

@@ -3,6 +3,7 @@ use Rattle.std.proofs.Common.{◌≡◌, ◌≤◌, ℕ, false, List, [], length
 use Rattle.std.specs.Prelude.{nat_lt}
 use Rattle.std.proofs.lemmas.Bool.{cases_lt, le-ltb, lt-ltb}
 use Rattle.std.specs.Prelude.{◌+◌, ◌⊎◌, Option, Some, None, IfSome, All, ℤ, ◌==◌}
+use Rattle.std.proofs.lemmas.List.{length-take-le, take-take, take_all}
 use Rattle.std.proofs.lemmas.List.Folds.{list_any_none}
 use Rattle.std.proofs.lemmas.Bool.Decides.{nat_tests}
 use Rattle.acc_base.specs.declared.config.TheConstants.{MAX_ARRAYS, MAX_CELLS, MAX_DEVICES, MAX_HOSTS, MAX_CAPACITY, MAX_ROOM}
@@ -40,6 +41,27 @@ within_reads limit read a x is = elim (cases_lt limit (length a)) [
   | inl long ↦ absurd (let off = rw (lt-ltb limit (length a) long) at is in cc)
   | inr short ↦ short
 ]
+
+-- texts that are the same up to a byte behind the limit are the same, if one of them is within it
+same_within : (limit : ℕ) (a b : List ℕ) → capped limit a ≡ capped limit b → length a ≤ limit → a ≡ b
+same_within limit a b same short =
+    let all : take (limit + 1) a ≡ a = take_all (limit + 1) a (omega (arith, short)) in
+    let front : a ≡ take (limit + 1) b = sym all ∙ same in
+    elim (cases_lt (limit + 1) (length b)) [
+      | inl long ↦
+          let cut : length (take (limit + 1) b) ≡ limit + 1 = length-take-le (limit + 1) b (omega (arith, long)) in
+          absurd (omega (arith, ap length front ∙ cut, short))
+      | inr within ↦ front ∙ take_all (limit + 1) b within
+    ]
+
+script_within : (a b : List ℕ) (program : Program) → capped MAX_TEXT a ≡ capped MAX_TEXT b → script_of a ≡ Ok program → a ≡ b
+unfolding script_of
+script_within a b program same is = same_within MAX_TEXT a b same (within_reads MAX_TEXT (λ (text : List ℕ). script_at (record { line = 1; bytes = text })) a program is)
+
+schedule_within : (options : Options) (program : Program) (events : List Event) (a b : List ℕ) → capped MAX_TEXT a ≡ capped MAX_TEXT b → events_in options program a ≡ Ok events → a ≡ b
+unfolding schedule_of
+schedule_within options program events a b same is =
+    same_within MAX_TEXT a b same (within_reads MAX_TEXT (λ (text : List ℕ). events_from (length program.programs) options.devices 1 [] (lines text)) a events is)
 
 -- the bytes that are read of a text that holds a script and a schedule
 abbrev cut : List ℕ → List ℕ
@@ -110,6 +132,41 @@ unfolding schedule_of
 capped_schedule options program text =
     ap (λ (limit : ℕ). events_in options program (take limit text)) text_limit
     ∙ capped_is_enough MAX_TEXT (λ (text : List ℕ). events_from (length program.programs) options.devices 1 [] (lines text)) text
+
+-- what two texts say that are read up to where each is cut, and what the whole ones say
+pub record SameTexts (options : Options) (a b : Parts) : Type 0 where
+  pub script : script_of a.script ≡ script_of b.script
+  pub schedule : (program : Program) → script_of b.script ≡ Ok program → events_in options program a.schedule ≡ events_in options program b.schedule
+  pub same_script : (program : Program) → script_of a.script ≡ Ok program → a.script ≡ b.script
+  pub same_schedule : (program : Program) (events : List Event) → script_of a.script ≡ Ok program → events_in options program a.schedule ≡ Ok events → a.schedule ≡ b.schedule
+
+capped_limit : (text : List ℕ) → capped MAX_TEXT (take TEXT_LIMIT text) ≡ capped MAX_TEXT text
+capped_limit text = ap (λ (limit : ℕ). capped MAX_TEXT (take limit text)) text_limit ∙ take-take (MAX_TEXT + 1) (MAX_TEXT + 1) text (omega arith)
+
+pub same_both : (options : Options) (script schedule : List ℕ)
+    → SameTexts options (record { script = take TEXT_LIMIT script; schedule = take TEXT_LIMIT schedule }) (record { script = script; schedule = schedule })
+same_both options script schedule = record {
+  script = capped_script script;
+  schedule = λ program is. capped_schedule options program schedule;
+  same_script = λ program is. script_within (take TEXT_LIMIT script) script program (capped_limit script) is;
+  same_schedule = λ program events is says. schedule_within options program events (take TEXT_LIMIT schedule) schedule (capped_limit schedule) says;
+}
+
+pub same_parts : (options : Options) (text : List ℕ) → SameTexts options (parts (take INPUT_LIMIT text)) (parts text)
+unfolding script_of
+same_parts options text =
+    let cuts = cut_is_enough MAX_TEXT text in
+    let scripts : (program : Program) → script_of (parts (cut text)).script ≡ Ok program → (parts (cut text)).script ≡ (parts text).script =
+    λ program is. script_within (parts (cut text)).script (parts text).script program cuts.script is in
+    record {
+      script = same_script text;
+      schedule = λ program is. same_schedule options program text is;
+      same_script = scripts;
+      same_schedule = λ program events is says.
+          let read : script_of (parts text).script ≡ Ok program = sym (same_script text) ∙ is in
+          let short = within_reads MAX_TEXT (λ (text : List ℕ). script_at (record { line = 1; bytes = text })) (parts text).script program read in
+          schedule_within options program events (parts (cut text)).schedule (parts text).schedule (cuts.schedule short) says;
+    }
 
 answers_both : (options : Options) (script schedule : List ℕ) (old new : Option (List ℕ)) (result : Result Ended DriverFault)
     → Answers options (record { script = take TEXT_LIMIT script; schedule = take TEXT_LIMIT schedule }) old new result

@@ -2,5 +2,6 @@ pub mod Checks
 pub mod Inputs
 pub mod Replays
 pub mod Runs
+pub mod Steps
 pub mod inner
 pub mod worked

@@ -1,3 +1,4 @@
 pub mod Checked
 pub mod Readers
 pub mod Scripts
+pub mod Steps

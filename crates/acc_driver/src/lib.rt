@@ -12,6 +12,7 @@ mod program;
 mod remains;
 mod replays;
 mod runs;
+mod steps;
 
 pub use acc_queue::Reader;
 pub use acc_run::Gate;
@@ -27,3 +28,4 @@ pub use replays::{
     INPUT_LIMIT, INPUT_TURNS, TEXT_LIMIT, TEXT_TURNS, replay, replay_one, replay_texts,
 };
 pub use runs::{OpenGate, run_script};
+pub use steps::{StepsAs, show, show_one};

@@ -7,10 +7,11 @@ ghost use Rattle.acc_host.specs.Hosts.{AreNumbered};
 ghost use Rattle.acc_core.specs.Worlds.{first_state};
 ghost use Rattle.acc_script.specs.Arrays.{IsDeclared, texts};
 ghost use Rattle.acc_driver.specs.Inputs.{parts};
+ghost use Rattle.acc_core.specs.Legality.{AllFollow, Legal};
 ghost use Rattle.acc_core.specs.Machine.{Runs};
 ghost use Rattle.acc_host.specs.declared.state.Reply.{Reply};
 ghost use Rattle.acc_driver.specs.Replays.{Answers, RunAnswers, AreUsable, IsOfScript, IsRun, IsScript, IsWorldFault, driver_fault, of_input, is_refused};
-ghost use Rattle.acc_driver.specs.inner.Scripts.{ScheduleAnswers};
+ghost use Rattle.acc_driver.specs.inner.Scripts.{ReportsWorld, ScheduleAnswers};
 ghost use Rattle.std.specs.List.{list_any};
 ghost use Rattle.acc_base.specs.declared.fault.Fault.TheVariants.{Memory};
 ghost use Rattle.acc_schedule.specs.Schedules.{kept_events};
@@ -26,6 +27,7 @@ use acc_host::{Event, HostProgram};
 use acc_report::{ReportFault, Run, ids_are_not_told, report_run};
 use acc_schedule::{Schedule, ScheduleLine};
 use acc_script::{ReadError, Script};
+use indexmap::IndexSet;
 use std::alloc::Global;
 use std::io::{Read, Write};
 
@@ -107,7 +109,7 @@ pub fn replay_one<R: Read, W: Write>(
 }
 
 // The same answer, to the input that the texts were read from.
-fn of_input(answer: Result<Ended, ReplayFault>) -> Result<Ended, DriverFault>
+pub(crate) fn of_input(answer: Result<Ended, ReplayFault>) -> Result<Ended, DriverFault>
     ensures { result ≡ of_input answer }
 {
     match answer {
@@ -185,12 +187,27 @@ fn run<W: Write>(
         programs,
     } = script;
     programs_stay();
-    ids_are_not_told();
     let mut world = match open(alloc, arrays, programs, options) {
         Ok(world) => world,
         Err(fault) => return Err(fault),
     };
     run_schedule(schedule, &mut world);
+    report_world(alloc, names, world, writer, remains)
+}
+
+// Writes the report of what a world has run, with these names of its arrays, and hands out what the run left.
+pub(crate) fn report_world<W: Write>(
+    alloc: Global,
+    names: IndexSet<&[u8]>,
+    world: World,
+    writer: &mut W,
+    remains: &mut Remains,
+) -> Result<Ended, ReplayFault>
+    ensures answers { ReportsWorld (texts names.entry.keys) world (W.contents writer.old) (W.contents writer.new) (of_input result) }
+    ensures legal { Legal world }
+    ensures follow { AllFollow world 0 world.hosts }
+{
+    ids_are_not_told();
     let (place, works, hosts, programs) = world.into_parts();
     let left = Run {
         place: &place,
@@ -237,7 +254,7 @@ fn run_line(round: &[Event], line: &ScheduleLine, world: &mut World)
 }
 
 // The world of these arrays and programs, before the first event.
-fn open(
+pub(crate) fn open(
     alloc: Global,
     arrays: Vec<Vec<i64>>,
     programs: Vec<HostProgram>,
