@@ -1,0 +1,81 @@
+//! Folders of the system.
+
+ghost use Rattle.std.specs.Prelude.{None};
+
+use crate::folder::{Folder, FolderFault};
+use std::alloc::{AllocError, Global};
+use std::fs;
+use std::io::{Error, ErrorKind};
+
+/// A folder of the system, by its path. No contract knows what it holds.
+#[derive(Drop)]
+pub struct DiskFolder<'a> {
+    rt: &'a HostRuntime,
+    path: String,
+}
+
+impl<'a> DiskFolder<'a> {
+    /// The folder of a path, be it there or not.
+    ///
+    /// # Errors
+    ///
+    /// `AllocError` for want of memory.
+    pub fn new(rt: &'a HostRuntime, path: &str) -> Result<Self, AllocError> {
+        Ok(DiskFolder {
+            rt,
+            path: String::from_str(rt.alloc(), path)?,
+        })
+    }
+
+    // The path of a file in it.
+    fn path_of(&self, name: &str) -> Result<String, FolderFault> {
+        match format!(in self.rt.alloc(); "{}/{name}", self.path.as_str()) {
+            Ok(path) => Ok(path),
+            Err(_) => Err(FolderFault::Memory),
+        }
+    }
+}
+
+// What an error of the system says of a file or a folder.
+fn fault_of(error: Error) -> FolderFault {
+    match error.kind() {
+        ErrorKind::NotFound => FolderFault::Missing,
+        ErrorKind::OutOfMemory => FolderFault::Memory,
+        _ => FolderFault::Unusable,
+    }
+}
+
+impl<'a> Folder for DiskFolder<'a> {
+    ghost files = { λ _. None };
+
+    fn names(&self, alloc: Global) -> Result<Vec<String>, FolderFault> {
+        let entries = match fs::read_dir(self.rt, self.path.as_str()) {
+            Ok(entries) => entries,
+            Err(error) => return Err(fault_of(error)),
+        };
+        let mut names = Vec::new(alloc);
+        for entry in entries {
+            let entry = match entry {
+                Ok(entry) => entry,
+                Err(error) => return Err(fault_of(error)),
+            };
+            let Ok(name) = String::from_str(alloc, entry.file_name()) else {
+                return Err(FolderFault::Memory);
+            };
+            let Ok(()) = names.push(name) else {
+                return Err(FolderFault::Memory);
+            };
+        }
+        Ok(names)
+    }
+
+    fn read(&self, _alloc: Global, name: &str) -> Result<Vec<u8>, FolderFault> {
+        let path = self.path_of(name)?;
+        fs::read(self.rt, path).map_err(fault_of)
+    }
+
+    fn write(&mut self, name: &str, bytes: &[u8]) -> Result<(), FolderFault> {
+        let path = self.path_of(name)?;
+        fs::write(self.rt, path, bytes).map_err(fault_of)
+    }
+}

@@ -1,0 +1,69 @@
+//! Folders of the system.
+
+use crate::disk::DiskFolder;
+use crate::run::{Tally, TestFault, test_all};
+use acc_driver::Options;
+use std::alloc::Global;
+use std::fs;
+use std::process::Abort;
+use std::test::Fail;
+
+/// A folder where the test runs.
+const PATH: &str = "folder-of-cases";
+
+// One case of a folder passes, and none fails; and this is told.
+fn check_folder(
+    rt: &impl Abort,
+    alloc: Global,
+    folder: &mut DiskFolder,
+    bless: bool,
+    wanted: &[u8],
+) {
+    let mut written = Vec::new(alloc);
+    let counts = test_all(alloc, folder, Options::DEFAULT, bless, &mut written);
+    let tally = Tally {
+        passed: 1,
+        failed: 0,
+    };
+    assert_eq!(rt; written.as_slice(), wanted);
+    assert_eq!(rt; counts, Ok(tally));
+}
+
+#[test]
+fn folders_of_the_system_are_read_and_written(rt: HostRuntime) -> Result<(), Fail> {
+    fs::create_dir_all(&rt, PATH)?;
+    fs::write(
+        &rt,
+        "folder-of-cases/a.acc",
+        "host { print(acc_get_num_devices()); }\n",
+    )?;
+    fs::write(&rt, "folder-of-cases/a.schedule", "round 9\n")?;
+    let mut folder = DiskFolder::new(&rt, PATH)?;
+    check_folder(
+        &rt,
+        rt.alloc(),
+        &mut folder,
+        true,
+        b"changed a\n1 passed, 0 failed\n",
+    );
+    let report = fs::read_to_string(&rt, "folder-of-cases/a.report")?;
+    assert_eq!(&rt; report.as_str(), "host 0\n1\ndone\nend\n");
+    check_folder(
+        &rt,
+        rt.alloc(),
+        &mut folder,
+        false,
+        b"ok a\n1 passed, 0 failed\n",
+    );
+    fs::remove_dir_all(&rt, PATH)?;
+    let mut written = Vec::new(rt.alloc());
+    let told = test_all(
+        rt.alloc(),
+        &mut folder,
+        Options::DEFAULT,
+        false,
+        &mut written,
+    );
+    assert_eq!(&rt; told, Err(TestFault::Folder));
+    Ok(())
+}
