@@ -14,13 +14,13 @@ use Rattle.acc_driver.specs.Runs.{ScriptAnswers}
 use Rattle.accq.specs.Statuses.{FilesAnswer}
 use Rattle.accq.specs.Words.{AskedReplay}
 
-appends_kept : (a b c : Option (List ℕ)) (text : List ℕ) → Appends a b text → Keeps b c → Appends a c text
+pub appends_kept : (a b c : Option (List ℕ)) (text : List ℕ) → Appends a b text → Keeps b c → Appends a c text
 appends_kept None b c text first kept = tt
 appends_kept (Some xs) None c text first kept = absurd first
 appends_kept (Some xs) (Some ys) None text first kept = absurd kept
 appends_kept (Some xs) (Some ys) (Some zs) text first kept = kept ∙ first
 
-appends_front : (a b : Option (List ℕ)) (text : List ℕ) → Appends a b text → AppendsFront a b text
+pub appends_front : (a b : Option (List ℕ)) (text : List ℕ) → Appends a b text → AppendsFront a b text
 appends_front None b text first = (length text, tt)
 appends_front (Some xs) None text first = absurd first
 appends_front (Some xs) (Some ys) text first = (length text, first ∙ ap (λ t. xs ++ t) (sym (take_all (length text) text (omega arith))))

@@ -1,5 +1,5 @@
 -- The status that the program ends with, and what it has written by then.
-use Rattle.std.specs.Prelude.{◌≡◌, ◌⊎◌, ℕ, Bool, true, false, List, [], Option, Some, None, IfSome, Result, Ok, Err, if◌then◌else◌}
+use Rattle.std.specs.Prelude.{◌≡◌, ◌≢◌, ◌⊎◌, ◌==◌, ℕ, Bool, true, false, List, [], Option, Some, None, IfSome, Result, Ok, Err, if◌then◌else◌}
 use Rattle.std.specs.Io.KnownBytes.{Appends}
 use Rattle.acc_driver.specs.declared.checks.CheckFault.{CheckFault}
 use Rattle.acc_driver.specs.declared.fault.DriverFault.{DriverFault}
@@ -9,8 +9,14 @@ use Rattle.acc_driver.specs.Checks.{ChecksTexts}
 use Rattle.acc_driver.specs.Inputs.{parts}
 use Rattle.acc_driver.specs.Replays.{Answers, IsRun, defaults}
 use Rattle.acc_driver.specs.Runs.{IsConfigured, ScriptAnswers}
+use Rattle.acc_driver.specs.Steps.{StepsAnswer}
+use Rattle.acc_cases.specs.Folders.{File}
+use Rattle.acc_cases.specs.Runs.{TestedAll}
+use Rattle.acc_cases.specs.declared.run.Tally.{Tally}
+use Rattle.acc_cases.specs.declared.run.TestFault.{TestFault}
+use Rattle.acc_cases.specs.declared.run.TestFault.TheVariants.{Folder as NotListed}
 use Rattle.accq.specs.Explanations.{text_for}
-use Rattle.accq.specs.Words.{Asked, AskedCheck, AskedReplay, AskedRun, ToCheck, ToExplain, ToReplay, ToRun}
+use Rattle.accq.specs.Words.{Asked, AskedCheck, AskedReplay, AskedRun, AskedSteps, AskedTest, ToCheck, ToExplain, ToReplay, ToRun, ToShow, ToTest}
 
 -- ## Replays and runs
 
@@ -40,7 +46,7 @@ FilesAnswer holds asked old new answer =
     Answers asked.options (record { script = script; schedule = schedule }) old new answer))
 
 -- A file that is known not to be opened is told as one that can't be read, whatever stands in the other one.
-abbrev pub AsksForOpen : Option Bool → Result Ended DriverFault → Type 0
+abbrev pub AsksForOpen : {A : Type 0} → Option Bool → Result A DriverFault → Type 0
 AsksForOpen can answer = can ≡ Some false → answer ≡ Err fault.Input
 
 -- The two files that are asked for were replayed, with the options that are, and the status follows.
@@ -59,6 +65,29 @@ pub record FileRun (asked : AskedRun) (holds : List ℕ → Option (List ℕ)) (
   pub script : AsksForOpen (opens asked.script) answer
   pub configured : IsConfigured answer
   pub follows : status ≡ status_after answer
+
+-- ## Steps
+
+-- as that of a replay; 3 for a picture that would be too long
+abbrev pub status_shown : Result (Option Ended) DriverFault → ℕ
+status_shown (Ok (Some ended)) = status_after (Ok ended)
+status_shown (Ok None) = 3
+status_shown (Err f) = status_for f
+
+-- What is answered where the steps of files are to be shown, if it is known what they hold: a script and a schedule, or one text that is split.
+abbrev pub StepsOfFiles : (List ℕ → Option (List ℕ)) → AskedSteps → Option (List ℕ) → Option (List ℕ) → Option (List ℕ) → Result (Option Ended) DriverFault → Type 0
+StepsOfFiles holds asked None old new answer = IfSome (holds asked.script) (λ text. StepsAnswer asked.options asked.form (parts text) old new answer)
+StepsOfFiles holds asked (Some schedule) old new answer =
+    IfSome (holds asked.script) (λ script. IfSome (holds schedule) (λ schedule.
+    StepsAnswer asked.options asked.form (record { script = script; schedule = schedule }) old new answer))
+
+-- The steps of the files that are asked for were shown as is asked for, with the options that are, and the status follows.
+pub record StepsAnswered (asked : AskedSteps) (holds : List ℕ → Option (List ℕ)) (opens : List ℕ → Option Bool) (old new : Option (List ℕ)) (status : ℕ) : Type 0 where
+  pub answer : Result (Option Ended) DriverFault
+  pub answers : StepsOfFiles holds asked asked.schedule old new answer
+  pub script : AsksForOpen (opens asked.script) answer
+  pub schedule : IfSome asked.schedule (λ name. AsksForOpen (opens name) answer)
+  pub follows : status ≡ status_shown answer
 
 -- ## Checks
 
@@ -93,17 +122,39 @@ abbrev pub Explains : Option (List ℕ) → Option (List ℕ) → Option (List �
 Explains None old new status = Appends old new [] × (status ≡ 2)
 Explains (Some text) old new status = (Appends old new text × (status ≡ 0)) ⊎ (status ≡ 3)
 
+-- ## Cases
+
+-- 0 where no case fails, 1 where one does, 3 where not all were told
+abbrev pub status_tested : Result Tally TestFault → ℕ
+status_tested (Ok tally) = if tally.failed == 0 then 0 else 1
+status_tested (Err f) = 3
+
+-- What a test of a folder's files answers: the counts of its cases, each tested as is asked for, or why not all were told, which is not that the folder can't be
+-- listed.
+abbrev pub FolderAnswers : AskedTest → List File → Option (List File) → Result Tally TestFault → Type 0
+FolderAnswers asked fs new (Ok tally) = TestedAll fs asked.options asked.bless tally new
+FolderAnswers asked fs new (Err f) = f ≢ NotListed
+
+-- The cases of the folder that is asked for were tested, and the status follows.
+pub record FolderTested (asked : AskedTest) (files_in : List ℕ → Option (List File)) (status : ℕ) : Type 0 where
+  pub answer : Result Tally TestFault
+  pub new : Option (List File)
+  pub answers : IfSome (files_in asked.folder) (λ fs. FolderAnswers asked fs new answer)
+  pub follows : status ≡ status_tested answer
+
 -- ## Words
 
 -- It was done.
-abbrev pub IsDone : Asked → (List ℕ → Option (List ℕ)) → (List ℕ → Option Bool) → Option (List ℕ) → Option (List ℕ) → ℕ → Type 0
-IsDone (ToReplay asked) holds opens old new status = FilesReplayed asked holds opens old new status
-IsDone (ToRun asked) holds opens old new status = FileRun asked holds opens old new status
-IsDone (ToCheck asked) holds opens old new status = FilesChecked asked holds opens old new status
-IsDone (ToExplain word) holds opens old new status = Explains (text_for word) old new status
+abbrev pub IsDone : Asked → (List ℕ → Option (List ℕ)) → (List ℕ → Option Bool) → (List ℕ → Option (List File)) → Option (List ℕ) → Option (List ℕ) → ℕ → Type 0
+IsDone (ToReplay asked) holds opens files_in old new status = FilesReplayed asked holds opens old new status
+IsDone (ToRun asked) holds opens files_in old new status = FileRun asked holds opens old new status
+IsDone (ToShow asked) holds opens files_in old new status = StepsAnswered asked holds opens old new status
+IsDone (ToCheck asked) holds opens files_in old new status = FilesChecked asked holds opens old new status
+IsDone (ToExplain word) holds opens files_in old new status = Explains (text_for word) old new status
+IsDone (ToTest asked) holds opens files_in old new status = FolderTested asked files_in status
 
 -- What words come to. Where they ask for nothing, nothing is written, and the status is 2, or 3 for want of memory. What they ask for is done, unless there
 -- is no memory to read the words.
-abbrev pub TellsWords : Option Asked → (List ℕ → Option (List ℕ)) → (List ℕ → Option Bool) → Option (List ℕ) → Option (List ℕ) → ℕ → Type 0
-TellsWords None holds opens old new status = Appends old new [] × ((status ≡ 2) ⊎ (status ≡ 3))
-TellsWords (Some asked) holds opens old new status = (Appends old new [] × (status ≡ 3)) ⊎ IsDone asked holds opens old new status
+abbrev pub TellsWords : Option Asked → (List ℕ → Option (List ℕ)) → (List ℕ → Option Bool) → (List ℕ → Option (List File)) → Option (List ℕ) → Option (List ℕ) → ℕ → Type 0
+TellsWords None holds opens files_in old new status = Appends old new [] × ((status ≡ 2) ⊎ (status ≡ 3))
+TellsWords (Some asked) holds opens files_in old new status = (Appends old new [] × (status ≡ 3)) ⊎ IsDone asked holds opens files_in old new status

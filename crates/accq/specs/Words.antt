@@ -6,12 +6,16 @@ use Rattle.std.specs.List.{list_all}
 use Rattle.std.specs.Str.Parse.{digits_value}
 use Rattle.acc_base.specs.declared.config.TheConstants.{MAX_DEVICES, MAX_CAPACITY, MAX_ROOM}
 use Rattle.acc_driver.specs.declared.options.Options.{Options}
+use Rattle.acc_driver.specs.declared.steps.StepsAs.{StepsAs}
+use Rattle.acc_driver.specs.declared.steps.StepsAs.TheVariants.{AllLines, Lines, Picture}
 use Rattle.acc_driver.specs.Replays.{AreUsable}
 use Rattle.clap.specs.Words.{App, Kinds, Row, Rule, Text, fault_of, first_of, new_app, new_rule, subcommand_of, with_rule, with_subcommand}
 use Rattle.accq.specs.declared.command.Check.{Check}
 use Rattle.accq.specs.declared.command.Replay.{Replay}
 use Rattle.accq.specs.declared.command.Run.{Run}
+use Rattle.accq.specs.declared.command.Steps.{Steps}
 use Rattle.accq.specs.declared.command.Task.{Task}
+use Rattle.accq.specs.declared.command.Test.{Test}
 use Rattle.accq.specs.declared.command.Task.TheVariants as task
 use Rattle.clap.specs.Simple.{on_top}
 use Rattle.clap.specs.declared.builder.ArgAction.TheVariants.{Set, SetTrue}
@@ -54,6 +58,12 @@ replay_app = with_options (with_rule (with_rule (new_app (codes "replay")) (name
 abbrev pub run_app : App
 run_app = with_options (with_rule (with_rule (new_app (codes "run")) (name_rule (codes "SCRIPT"))) (flag_rule (codes "progress")))
 
+-- accq steps SCRIPT [SCHEDULE] [--idle] [--picture], with options
+abbrev pub steps_app : App
+steps_app =
+    with_options (with_rule (with_rule (with_rule (with_rule (new_app (codes "steps")) (name_rule (codes "SCRIPT"))) (optional_rule (codes "SCHEDULE")))
+    (flag_rule (codes "idle"))) (flag_rule (codes "picture")))
+
 -- accq check SCRIPT [SCHEDULE] [--devices N]
 abbrev pub check_app : App
 check_app = with_devices (with_rule (with_rule (new_app (codes "check")) (name_rule (codes "SCRIPT"))) (optional_rule (codes "SCHEDULE")))
@@ -62,9 +72,15 @@ check_app = with_devices (with_rule (with_rule (new_app (codes "check")) (name_r
 abbrev pub explain_app : App
 explain_app = with_rule (new_app (codes "explain")) (name_rule (codes "WORD"))
 
+-- accq test FOLDER [--bless], with options
+abbrev pub test_app : App
+test_app = with_options (with_rule (with_rule (new_app (codes "test")) (name_rule (codes "FOLDER"))) (flag_rule (codes "bless")))
+
 abbrev pub accq_app : App
 accq_app =
-    with_subcommand (with_subcommand (with_subcommand (with_subcommand (on_top (λ s. record s { has_version = true; subcommand_required = true }) (new_app (codes "accq"))) replay_app.top) run_app.top) check_app.top) explain_app.top
+    with_subcommand (with_subcommand (with_subcommand (with_subcommand (with_subcommand (with_subcommand
+    (on_top (λ s. record s { has_version = true; subcommand_required = true }) (new_app (codes "accq")))
+    replay_app.top) run_app.top) steps_app.top) check_app.top) explain_app.top) test_app.top
 
 -- ## What they mean
 
@@ -80,18 +96,34 @@ pub record AskedRun : Type 0 where
   pub options : Options
   pub progress : Bool
 
+-- The replay of files is to be shown step by step, by their names, under options, and how: a script and a schedule, or, where there is no second,
+-- one that may hold both.
+pub record AskedSteps : Type 0 where
+  pub script : Text
+  pub schedule : Option Text
+  pub options : Options
+  pub form : StepsAs
+
 -- Files are to be checked, by their names, for so many devices: a script and a schedule, or, where there is no second, one that may hold both.
 pub record AskedCheck : Type 0 where
   pub script : Text
   pub schedule : Option Text
   pub devices : ℕ
 
--- What words can ask for: a replay, a run, a check, or what the guide says of what a word names.
+-- The cases of a folder are to be tested, by its name, under options that they have in common; and whether their reports are written anew.
+pub record AskedTest : Type 0 where
+  pub folder : Text
+  pub options : Options
+  pub bless : Bool
+
+-- What words can ask for: a replay, a run, the steps of a replay, a check, what the guide says of what a word names, or a test.
 pub data Asked : Type 0 where
   ToReplay : AskedReplay → Asked
   ToRun : AskedRun → Asked
+  ToShow : AskedSteps → Asked
   ToCheck : AskedCheck → Asked
   ToExplain : Text → Asked
+  ToTest : AskedTest → Asked
 
 -- a number that is written in digits alone, from 1 to the most
 abbrev pub number_in : ℕ → Text → Option ℕ
@@ -125,17 +157,33 @@ run_in rows =
     option_and_then (λ options. option_map (λ script. record { script = script; options = options; progress = has_flag rows (codes "progress") })
     (first_of (codes "SCRIPT") rows)) (options_in rows)
 
+-- how steps are shown, by flags: as a picture, or as lines, of all events where that is asked for
+abbrev pub form_in : List Row → StepsAs
+form_in rows = if has_flag rows (codes "picture") then Picture else (if has_flag rows (codes "idle") then AllLines else Lines)
+
+abbrev pub steps_in : List Row → Option AskedSteps
+steps_in rows =
+    option_and_then (λ options. option_map (λ script. record { script = script; schedule = first_of (codes "SCHEDULE") rows; options = options; form = form_in rows })
+    (first_of (codes "SCRIPT") rows)) (options_in rows)
+
 abbrev pub check_in : List Row → Option AskedCheck
 check_in rows =
     option_and_then (λ devices. option_map (λ script. record { script = script; schedule = first_of (codes "SCHEDULE") rows; devices = devices })
     (first_of (codes "SCRIPT") rows)) (number_of rows (codes "devices") MAX_DEVICES)
 
+abbrev pub test_in : List Row → Option AskedTest
+test_in rows =
+    option_and_then (λ options. option_map (λ folder. record { folder = folder; options = options; bless = has_flag rows (codes "bless") })
+    (first_of (codes "FOLDER") rows)) (options_in rows)
+
 -- what is asked for behind the name of a subcommand
 abbrev pub asked_behind : Text → List Row → Option Asked
 asked_behind name rows =
     if bytes_eq name (codes "run") then option_map ToRun (run_in rows)
+    else (if bytes_eq name (codes "steps") then option_map ToShow (steps_in rows)
     else (if bytes_eq name (codes "check") then option_map ToCheck (check_in rows)
-    else (if bytes_eq name (codes "explain") then option_map ToExplain (first_of (codes "WORD") rows) else option_map ToReplay (replay_in rows)))
+    else (if bytes_eq name (codes "explain") then option_map ToExplain (first_of (codes "WORD") rows)
+    else (if bytes_eq name (codes "test") then option_map ToTest (test_in rows) else option_map ToReplay (replay_in rows)))))
 
 -- what was found, unless there is an error of some kind
 abbrev pub unless_any : {A : Type 0} → Kinds → Option A → Option A
@@ -154,20 +202,32 @@ replay_by r = record { script = r.script.now; schedule = r.schedule.now; options
 abbrev pub run_by : Run → AskedRun
 run_by r = record { script = r.script.now; options = r.options; progress = r.progress }
 
+-- whose steps are shown
+abbrev pub steps_by : Steps → AskedSteps
+steps_by s = record { script = s.script.now; schedule = option_map (λ n. n.now) s.schedule; options = s.options; form = s.form }
+
 -- what is checked
 abbrev pub check_by : Check → AskedCheck
 check_by c = record { script = c.script.now; schedule = option_map (λ s. s.now) c.schedule; devices = c.devices }
+
+-- what is tested
+abbrev pub test_by : Test → AskedTest
+test_by t = record { folder = t.folder.now; options = t.options; bless = t.bless }
 
 -- what is done
 abbrev pub asked_by : Task → Asked
 asked_by (task.Replay r) = ToReplay (replay_by r)
 asked_by (task.Run r) = ToRun (run_by r)
+asked_by (task.Steps s) = ToShow (steps_by s)
 asked_by (task.Check c) = ToCheck (check_by c)
 asked_by (task.Explain e) = ToExplain e.word.now
+asked_by (task.Test t) = ToTest (test_by t)
 
 -- Its options are within their limits.
 abbrev pub IsUsable : Task → Type 0
 IsUsable (task.Replay r) = AreUsable r.options
 IsUsable (task.Run r) = AreUsable r.options
+IsUsable (task.Steps s) = AreUsable s.options
 IsUsable (task.Check c) = (1 ≤ c.devices) × (c.devices ≤ MAX_DEVICES)
 IsUsable (task.Explain e) = Unit {0}
+IsUsable (task.Test t) = AreUsable t.options

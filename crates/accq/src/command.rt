@@ -6,12 +6,12 @@ ghost use Rattle.std.specs.List.{list_all};
 ghost use Rattle.clap.specs.Words.{app_of, first_of, found_of, kind_of, rows_of, subcommand_rows_of};
 ghost use Rattle.clap.specs.declared.error.kind.ErrorKind.TheVariants.{OutOfMemory};
 ghost use Rattle.acc_base.specs.declared.config.TheConstants.{MAX_DEVICES};
-ghost use Rattle.accq.specs.Words.{accq_app, asked_behind, asked_by, asked_of, check_by, check_in, has_flag, number_in, number_of, options_in, replay_by, replay_in, run_by, run_in, IsUsable};
+ghost use Rattle.accq.specs.Words.{accq_app, asked_behind, asked_by, asked_of, check_by, check_in, form_in, has_flag, number_in, number_of, options_in, replay_by, replay_in, run_by, run_in, steps_by, steps_in, test_by, test_in, IsUsable};
 ghost use Rattle.acc_driver.specs.Replays.{AreUsable};
 
 use crate::words::accq_words;
 use acc_base::{MAX_CAPACITY, MAX_DEVICES, MAX_ROOM};
-use acc_driver::Options;
+use acc_driver::{Options, StepsAs};
 use clap::error::ErrorKind;
 use clap::{ArgMatches, Command, Error};
 use std::alloc::Global;
@@ -33,6 +33,16 @@ pub struct Run<'a> {
     pub progress: bool,
 }
 
+/// Files whose replay is to be shown step by step, by their names, under which options, and how: a script and a schedule, or one that may
+/// hold both.
+#[derive(Clone, Copy)]
+pub struct Steps<'a> {
+    pub script: &'a str,
+    pub schedule: Option<&'a str>,
+    pub options: Options,
+    pub form: StepsAs,
+}
+
 /// Files that are to be checked, by their names, for so many devices: a script and a schedule, or one that may hold both.
 #[derive(Clone, Copy)]
 pub struct Check<'a> {
@@ -47,13 +57,24 @@ pub struct Explain<'a> {
     pub word: &'a str,
 }
 
+/// A folder whose cases are to be tested, by its name, the options that they have in common, and whether their reports are written
+/// anew.
+#[derive(Clone, Copy)]
+pub struct Test<'a> {
+    pub folder: &'a str,
+    pub options: Options,
+    pub bless: bool,
+}
+
 /// What words ask for.
 #[derive(Clone, Copy)]
 pub enum Task<'a> {
     Replay(Replay<'a>),
     Run(Run<'a>),
+    Steps(Steps<'a>),
     Check(Check<'a>),
     Explain(Explain<'a>),
+    Test(Test<'a>),
 }
 
 // Whether a text has digits alone.
@@ -149,6 +170,35 @@ fn run_in<'a>(matches: &ArgMatches<'a>) -> Option<Run<'a>>
     })
 }
 
+// How the steps are shown that flags ask for.
+fn form_in(matches: &ArgMatches) -> StepsAs
+    ensures { result ≡ form_in (rows_of (found_of matches.now)) }
+{
+    if has_flag(matches, "picture") {
+        StepsAs::Picture
+    } else if has_flag(matches, "idle") {
+        StepsAs::AllLines
+    } else {
+        StepsAs::Lines
+    }
+}
+
+// The steps that the words behind `steps` ask for, unless a number isn't written in digits.
+fn steps_in<'a>(matches: &ArgMatches<'a>) -> Option<Steps<'a>>
+    ensures value { option_map steps_by result ≡ steps_in (rows_of (found_of matches.now)) }
+    ensures usable { IfSome result (λ s. AreUsable s.options) }
+{
+    let options = options_in(matches)?;
+    let script = text_of(matches, "SCRIPT")?;
+    let schedule = text_of(matches, "SCHEDULE");
+    Some(Steps {
+        script,
+        schedule,
+        options,
+        form: form_in(matches),
+    })
+}
+
 // What is to be checked by the words behind `check`, unless a number isn't written in digits.
 fn check_in<'a>(matches: &ArgMatches<'a>) -> Option<Check<'a>>
     ensures value { option_map check_by result ≡ check_in (rows_of (found_of matches.now)) }
@@ -163,6 +213,20 @@ fn check_in<'a>(matches: &ArgMatches<'a>) -> Option<Check<'a>>
     })
 }
 
+// The test that the words behind `test` ask for, unless a number isn't written in digits.
+fn test_in<'a>(matches: &ArgMatches<'a>) -> Option<Test<'a>>
+    ensures value { option_map test_by result ≡ test_in (rows_of (found_of matches.now)) }
+    ensures usable { IfSome result (λ t. AreUsable t.options) }
+{
+    let options = options_in(matches)?;
+    let folder = text_of(matches, "FOLDER")?;
+    Some(Test {
+        folder,
+        options,
+        bless: has_flag(matches, "bless"),
+    })
+}
+
 // What the words behind the name of a subcommand ask for, unless a number isn't written in digits.
 fn asked_behind<'a>(name: &str, matches: &ArgMatches<'a>) -> Option<Task<'a>>
     ensures value { option_map asked_by result ≡ asked_behind name.now (rows_of (found_of matches.now)) }
@@ -170,10 +234,12 @@ fn asked_behind<'a>(name: &str, matches: &ArgMatches<'a>) -> Option<Task<'a>>
 {
     match name {
         "run" => Some(Task::Run(run_in(matches)?)),
+        "steps" => Some(Task::Steps(steps_in(matches)?)),
         "check" => Some(Task::Check(check_in(matches)?)),
         "explain" => Some(Task::Explain(Explain {
             word: text_of(matches, "WORD")?,
         })),
+        "test" => Some(Task::Test(test_in(matches)?)),
         _ => Some(Task::Replay(replay_in(matches)?)),
     }
 }

@@ -6,11 +6,11 @@ pub const ABOUT: &str =
 
 /// The ways to call the program.
 pub const USAGE: &str =
-    "accq replay [OPTIONS] <SCRIPT> <SCHEDULE>\n       accq run [OPTIONS] <SCRIPT>\n       accq check [OPTIONS] <SCRIPT> [SCHEDULE]\n       accq explain <WORD>\n       accq < INPUT\n       accq --help";
+    "accq replay [OPTIONS] <SCRIPT> <SCHEDULE>\n       accq run [OPTIONS] <SCRIPT>\n       accq steps [OPTIONS] <SCRIPT> [SCHEDULE]\n       accq check [OPTIONS] <SCRIPT> [SCHEDULE]\n       accq explain <WORD>\n       accq test [OPTIONS] <FOLDER>\n       accq < INPUT\n       accq --help";
 
 /// What stands behind the program's options.
 pub const PROGRAM: &str =
-    "Example: a script in question.acc, and a schedule `round 20` in question.schedule\n    accq check question.acc question.schedule\n    accq replay question.acc question.schedule\n    accq run question.acc\n    accq explain PartlyPresent\n\nWithout words accq replays standard input: a script, a line %%, and a schedule.\n\nStatus: 0; 1 where a host was refused; 2 for a fault of the script, the schedule or the words;\n3 for a fault of a file, of memory or of the run. docs/GUIDE.md tells how to ask a question and\nto read the report, docs/LANGUAGE.md all that scripts, schedules and reports can say.";
+    "Example: a script in question.acc, and a schedule `round 20` in question.schedule\n    accq check question.acc question.schedule\n    accq replay question.acc question.schedule\n    accq run question.acc\n    accq steps question.acc question.schedule\n    accq explain PartlyPresent\n    accq test examples\n\nWithout words accq replays standard input: a script, a line %%, and a schedule.\n\nStatus: 0; 1 where a host was refused or a case failed; 2 for a fault of the script, the schedule or\nthe words; 3 for a fault of a file, of memory or of the run. docs/GUIDE.md tells how to ask a question\nand to read the report, docs/LANGUAGE.md all that scripts, schedules and reports can say.";
 
 /// What stands behind the options of `replay`.
 pub const REPLAY: &str =
@@ -20,6 +20,10 @@ pub const REPLAY: &str =
 pub const RUN: &str =
     "A replay does what its schedule says, and so always gives the same report. In a run each host and\neach queue has a thread of its own, and the system decides who is first: what depends on that may\nbe reported in another way each time. A directive that a full queue refuses is tried again, and at\nthe end all that was placed is performed.\n\nWith --progress a terminal shows how far the run has come: `1/noval:3` says that queue noval of\ndevice 1 has performed three batches.\n\nExample: accq run question.acc --devices 2";
 
+/// What stands behind the options of `steps`.
+pub const STEPS: &str =
+    "A line has the number of the event among all of the schedule, the schedule's line, who went on, of a\nhost the line of its statement, and what that did. Behind the lines stands the report of `replay`.\nWith --idle an event that did nothing has a line too, and of a queue it tells what it waits for.\n\nWith --picture standard output gets an SVG of at most 1 MiB in place of lines and report: a lane for\neach host and queue, a box for each event with its line as a title, an arrow from what is awaited.\n\nExample: accq steps question.acc question.schedule --picture > question.svg";
+
 /// What stands behind the options of `check`.
 pub const CHECK: &str =
     "Nothing is run. Where nothing is wrong, nothing is told, and the status is 0. Else standard output\ntells the place, its line with a mark below it, and what could stand there, and the status is 2.\nThe schedule is checked once the script is one, for its hosts and for as many devices as there are.\nWithout a second file the one file may hold a script, a line %%, and a schedule.\n\nExample: accq check question.acc question.schedule --devices 2";
@@ -27,3 +31,7 @@ pub const CHECK: &str =
 /// What stands behind the options of `explain`.
 pub const EXPLAIN: &str =
     "The words are those by which faults are told: `refused 9 F6 PartlyPresent` in a report has F6 and\nPartlyPresent, and `accq: script line 8: Form` has Form. Capital and small letters are the same. The\ntext is that of docs/GUIDE.md. Of another word all words are told, and the status is 2.\n\nExample: accq explain F6";
+
+/// What stands behind the options of `test`.
+pub const TEST: &str =
+    "A case has a name. NAME.acc is its script and NAME.schedule its schedule, or both stand in NAME.acc, with\na line %% between them. NAME.options, if it is there, is a line of options. NAME.report is what is wanted:\nthe report, or the line that tells a fault of a text. Each case is told by a line, with the difference\nwhere something else came; the last line has the counts. The status is 1 where a case failed.\n\nWith --bless what came is put into NAME.report, where that has something else or isn't there. The\noptions here are those of each case whose own line of options says nothing else.\n\nExample: accq test examples";

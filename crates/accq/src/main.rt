@@ -1,7 +1,8 @@
 //! `accq`: replays a script of hosts and OpenACC directives under a schedule, or runs it by threads, and reports what it means;
-//! or checks both texts, or explains a fault.
+//! or tells what each event of a replay did, or checks both texts, or explains a fault, or tests the cases of a folder.
 #![tactic(auto)]
 
+mod cases;
 mod checks;
 mod command;
 mod explain;
@@ -11,13 +12,18 @@ mod laws;
 mod meter;
 mod replays;
 mod status;
+mod steps;
 mod store;
 #[cfg(test)]
 mod tests;
 #[cfg(test)]
+mod tests_of_cases;
+#[cfg(test)]
 mod tests_of_checks;
 #[cfg(test)]
 mod tests_of_explanations;
+#[cfg(test)]
+mod tests_of_steps;
 mod words;
 
 use acc_driver::{DriverFault, Remains};

@@ -95,8 +95,8 @@ pub fn run_file<T: Threads + Wait + Sync, F: Read + Drop, S: Store<F>, W: Write,
     sent(ended, output)
 }
 
-// Sees to it that the whole report has gone out.
-fn sent<W: Write>(ended: Ended, output: &mut W) -> Result<Ended, DriverFault>
+/// Sees to it that the whole report has gone out.
+pub(crate) fn sent<W: Write>(ended: Ended, output: &mut W) -> Result<Ended, DriverFault>
     ensures same { IfOk result (λ e. e ≡ ended) }
     ensures fault { IfErr result (λ f. f ≡ Output) }
     ensures kept { Keeps (W.contents output.old) (W.contents output.new) }

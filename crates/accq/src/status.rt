@@ -1,16 +1,19 @@
 //! The program between its words, its files and its streams, and the status that it ends with.
 
 ghost use Rattle.std.specs.Prelude.{◌≡◌, ◌≤◌, ◌<◌, ◌⊎◌, map, length};
-ghost use Rattle.accq.specs.Statuses.{InputReplayed, TellsWords, status_after, status_checked, status_for};
+ghost use Rattle.accq.specs.Statuses.{InputReplayed, TellsWords, status_after, status_checked, status_for, status_shown, status_tested};
 ghost use Rattle.accq.specs.Words.{asked_of};
 ghost use Rattle.clap.specs.Words.{kind_of};
 ghost use Rattle.clap.specs.declared.error.kind.ErrorKind.TheVariants.{OutOfMemory};
 
+use crate::cases::test_folder;
 use crate::checks::check_files;
 use crate::command::{Task, task_of};
 use crate::explain::explain;
 use crate::replays::{replay_files, replay_input, run_file};
-use crate::store::Store;
+use crate::steps::show_steps;
+use crate::store::{Folders, Store};
+use acc_cases::{Folder, Tally, TestFault};
 use acc_driver::{CheckFault, DriverFault, Ended, Monitor, Remains};
 use clap::Error;
 use clap::error::ErrorKind;
@@ -25,13 +28,17 @@ use std::thread::Threads;
 /// script of a file by threads, and shows the meter, if there is one, how far the run has come, where `--progress` is among
 /// them. The report goes to the output, and the answer is 0, or 1 where a host was refused. A
 /// fault of a text or of the words is answered by 2, all else by 3, and told to the errors: by one line, or for the words
-/// by the parser's own text. What a run left is put into `remains`. The words `check SCRIPT SCHEDULE`, or `check` and one
+/// by the parser's own text. What a run left is put into `remains`. The words `steps SCRIPT SCHEDULE` replay two files and show what each
+/// event did, before the report or, with `--picture`, in a picture, and are answered so too. The words `check SCRIPT SCHEDULE`, or `check` and one
 /// name, run nothing: the answer is 0 where nothing is wrong with these files, and 2 where what is wrong is told to the output.
 /// With `explain` and a word it is told what the guide says of the fault that the word names; the answer is 2 where it names none.
+/// The words `test FOLDER`, with options, test all cases of a folder, and tell the output of each: the answer is 0 where none fails,
+/// and else 1; with `--bless` among them what comes of a case is written into its report.
 pub fn status_of<
     T: Threads + Wait + Sync,
     F: Read + Drop,
-    S: Store<F>,
+    D: Folder + Drop,
+    S: Store<F> + Folders<D>,
     N: AsStr,
     R: Read,
     W: Write,
@@ -49,7 +56,7 @@ pub fn status_of<
     remains: &mut Remains,
 ) -> u8
     ensures input { length words.now ≤ 1 → InputReplayed (R.remaining input.old) (W.contents output.old) (W.contents output.new) result }
-    ensures words { 1 < length words.now → TellsWords (asked_of (map N.text words.now)) (S.holds files.now) (S.opens files.now) (W.contents output.old) (W.contents output.new) result }
+    ensures words { 1 < length words.now → TellsWords (asked_of (map N.text words.now)) (S.holds files.now) (S.opens files.now) (S.files_in files.now) (W.contents output.old) (W.contents output.new) result }
     ensures unread { 1 < length words.now → input.new ≡ input.old }
     ensures quiet { result < 2 → errors.new ≡ errors.old }
 {
@@ -65,11 +72,19 @@ pub fn status_of<
             let answer = run_file(rt, alloc, &asked, files, output, meter, remains);
             status_after(answer, errors)
         }
+        Ok(Task::Steps(asked)) => {
+            let answer = show_steps(alloc, &asked, files, output, remains);
+            status_shown(answer, errors)
+        }
         Ok(Task::Check(asked)) => {
             let answer = check_files(alloc, &asked, files, output);
             status_checked(answer, errors)
         }
         Ok(Task::Explain(asked)) => explain(asked.word, output, errors),
+        Ok(Task::Test(asked)) => {
+            let answer = test_folder(alloc, &asked, files, output);
+            status_tested(answer, asked.folder, errors)
+        }
         Err(error) => told_words(&error, errors),
     }
 }
@@ -85,6 +100,24 @@ fn status_after<E: Write>(answer: Result<Ended, DriverFault>, errors: &mut E) ->
     }
 }
 
+/// The status of steps, whose fault is told.
+pub(crate) fn status_shown<E: Write>(
+    answer: Result<Option<Ended>, DriverFault>,
+    errors: &mut E,
+) -> u8
+    ensures status { result ≡ status_shown answer }
+    ensures quiet { result < 2 → errors.new ≡ errors.old }
+{
+    match answer {
+        Ok(Some(ended)) => status_after(Ok(ended), errors),
+        Ok(None) => {
+            let _ = errors.write_all(b"accq: too long for a picture\n");
+            3
+        }
+        Err(fault) => told(fault, errors),
+    }
+}
+
 // The status of a check, whose fault is told.
 fn status_checked<E: Write>(answer: Result<bool, CheckFault>, errors: &mut E) -> u8
     ensures status { result ≡ status_checked answer.entry }
@@ -93,6 +126,24 @@ fn status_checked<E: Write>(answer: Result<bool, CheckFault>, errors: &mut E) ->
     match answer {
         Ok(true) => 0,
         Ok(false) => 2,
+        Err(fault) => {
+            let _ = writeln!(errors, "accq: {fault}");
+            3
+        }
+    }
+}
+
+// The status of a test of a folder, whose fault is told.
+fn status_tested<E: Write>(answer: Result<Tally, TestFault>, folder: &str, errors: &mut E) -> u8
+    ensures status { result ≡ status_tested answer }
+    ensures quiet { result < 2 → errors.new ≡ errors.old }
+{
+    match answer {
+        Ok(tally) => u8::from(tally.failed > 0),
+        Err(TestFault::Folder) => {
+            let _ = writeln!(errors, "accq: cannot read {folder}");
+            3
+        }
         Err(fault) => {
             let _ = writeln!(errors, "accq: {fault}");
             3

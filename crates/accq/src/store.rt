@@ -1,7 +1,10 @@
-//! Files by their names.
+//! Files and folders by their names.
 
-ghost use Rattle.std.specs.Prelude.{◌≡◌, ℕ, Bool, List, Option, None, Some, IfSome, is_some};
+ghost use Rattle.std.specs.Prelude.{◌≡◌, ℕ, Bool, List, Option, None, Some, IfOk, IfSome, is_some};
+ghost use Rattle.acc_cases.specs.Folders as folders;
 
+use acc_cases::{DiskFolder, Folder};
+use std::alloc::AllocError;
 use std::fs::File;
 use std::io::Read;
 
@@ -19,7 +22,21 @@ pub trait Store<F: Read> {
         ensures opened { IfSome (opens self.now name.now) (λ can. is_some result ≡ can) };
 }
 
-/// The files of the system. No contract knows what they hold.
+/// Where folders are found by their names.
+pub trait Folders<D: Folder> {
+    /// The files of the folder with a name, where they are known.
+    ghost files_in: { Self → List ℕ → Option (List folders.File) };
+
+    /// The folder with this name, be it there or not.
+    ///
+    /// # Errors
+    ///
+    /// `AllocError` for want of memory.
+    fn folder(&self, name: &str) -> Result<D, AllocError>
+        ensures { IfOk result (λ folder. IfSome (files_in self.now name.now) (λ fs. D.files folder ≡ Some fs)) };
+}
+
+/// The files and the folders of the system. No contract knows what they hold.
 #[derive(Drop)]
 pub struct Disk<'a> {
     pub rt: &'a HostRuntime,
@@ -32,5 +49,13 @@ impl<'a> Store<File> for Disk<'a> {
 
     fn open(&self, name: &str) -> Option<File> {
         File::open(self.rt, name).ok()
+    }
+}
+
+impl<'a> Folders<DiskFolder<'a>> for Disk<'a> {
+    ghost files_in = { λ _ _. None };
+
+    fn folder(&self, name: &str) -> Result<DiskFolder<'a>, AllocError> {
+        DiskFolder::new(self.rt, name)
     }
 }

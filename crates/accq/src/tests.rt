@@ -140,6 +140,7 @@ impl Store<Sheet> for Shelf {
             "wrong_below" => Some(Sheet::Bytes(WRONG_BELOW)),
             "second_host" => Some(Sheet::Bytes(b"round 1\nhost 1\n")),
             "second_device" => Some(Sheet::Bytes(b"take 1 0\n")),
+            "one_step" => Some(Sheet::Bytes(b"take 0 sync\n")),
             "folder" => Some(Sheet::Unreadable),
             _ => None,
         }
@@ -410,7 +411,7 @@ const FAULTY_WORDS: &[(&[&str], &[u8])] = &[
     ),
     (
         &["accq", "question.acc"],
-        b"error: unrecognized subcommand 'question.acc'\n\nUsage: accq replay [OPTIONS] <SCRIPT> <SCHEDULE>\n       accq run [OPTIONS] <SCRIPT>\n       accq check [OPTIONS] <SCRIPT> [SCHEDULE]\n       accq explain <WORD>\n       accq < INPUT\n       accq --help\n",
+        b"error: unrecognized subcommand 'question.acc'\n\nUsage: accq replay [OPTIONS] <SCRIPT> <SCHEDULE>\n       accq run [OPTIONS] <SCRIPT>\n       accq steps [OPTIONS] <SCRIPT> [SCHEDULE]\n       accq check [OPTIONS] <SCRIPT> [SCHEDULE]\n       accq explain <WORD>\n       accq test [OPTIONS] <FOLDER>\n       accq < INPUT\n       accq --help\n",
     ),
     (&["accq", ""], b"error: unrecognized subcommand ''"),
     (
@@ -422,6 +423,14 @@ const FAULTY_WORDS: &[(&[&str], &[u8])] = &[
         b"Replays a script under a schedule",
     ),
     (&["accq", "run", "-h"], b"Runs a script by threads"),
+    (
+        &["accq", "steps", "-h"],
+        b"Replays a script under a schedule, and tells what each event did",
+    ),
+    (
+        &["accq", "steps", "--idle"],
+        b"error: the following required arguments were not provided:\n  <SCRIPT>",
+    ),
     (
         &["accq", "check", "-h"],
         b"Tells what is wrong with a script or a schedule",
@@ -437,6 +446,14 @@ const FAULTY_WORDS: &[(&[&str], &[u8])] = &[
     (
         &["accq", "explain"],
         b"error: the following required arguments were not provided:\n  <WORD>",
+    ),
+    (
+        &["accq", "test", "-h"],
+        b"Replays all cases of a folder, and compares what comes with their reports",
+    ),
+    (
+        &["accq", "test", "--bless"],
+        b"error: the following required arguments were not provided:\n  <FOLDER>",
     ),
     (
         &["accq", "check"],

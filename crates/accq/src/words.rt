@@ -4,7 +4,7 @@ ghost use Rattle.std.specs.Prelude.{◌≡◌, ◌<◌, ◌^◌, codes, false, I
 ghost use Rattle.clap.specs.Words.{app_of, rule_of};
 ghost use Rattle.clap.specs.declared.builder.command.Command.TheViews.{out-Command as fields_of};
 ghost use Rattle.acc_base.specs.declared.config.TheConstants.{MAX_DEVICES};
-ghost use Rattle.accq.specs.Words.{accq_app, check_app, explain_app, flag_rule, name_rule, number_rule, optional_rule, replay_app, run_app, with_options};
+ghost use Rattle.accq.specs.Words.{accq_app, check_app, explain_app, flag_rule, name_rule, number_rule, optional_rule, replay_app, run_app, steps_app, test_app, with_options};
 
 use crate::help;
 use acc_base::{MAX_CAPACITY, MAX_DEVICES, MAX_ROOM};
@@ -69,7 +69,7 @@ fn flag<'a>(alloc: Global, name: &'a str, help: &'a str) -> Arg<'a>
         .help(help)
 }
 
-// The options of a replay or a run, behind the words that there are already.
+// The options of a replay, a run or cases, behind the words that there are already.
 fn with_options<'a>(alloc: Global, words: Command<'a>) -> Result<Command<'a>, AllocError>
     requires { (fields_of words).has_globals ≡ false }
     ensures app { IfOk result (λ c. app_of c ≡ with_options (app_of words.entry)) }
@@ -123,6 +123,29 @@ fn run_words<'a>(alloc: Global) -> Result<Command<'a>, AllocError>
     with_options(alloc, words)
 }
 
+// The words behind `steps`.
+fn steps_words<'a>(alloc: Global) -> Result<Command<'a>, AllocError>
+    ensures app { IfOk result (λ c. app_of c ≡ steps_app) }
+    ensures local { IfOk result (λ c. (fields_of c).has_globals ≡ false) }
+{
+    let words = Command::new(alloc, "steps")
+        .about("Replays a script under a schedule, and tells what each event did")
+        .after_help(help::STEPS)
+        .arg(name(
+            alloc,
+            "SCRIPT",
+            "The file of the script, or of a script, a line %% and a schedule",
+        ))?
+        .arg(optional(alloc, "SCHEDULE", "The file of the schedule"))?
+        .arg(flag(alloc, "idle", "Tells the events that did nothing too"))?
+        .arg(flag(
+            alloc,
+            "picture",
+            "Draws the events that did something, as SVG, in place of lines and report",
+        ))?;
+    with_options(alloc, words)
+}
+
 // The words behind `check`.
 fn check_words<'a>(alloc: Global) -> Result<Command<'a>, AllocError>
     ensures app { IfOk result (λ c. app_of c ≡ check_app) }
@@ -155,6 +178,23 @@ fn explain_words<'a>(alloc: Global) -> Result<Command<'a>, AllocError>
         ))
 }
 
+// The words behind `test`.
+fn test_words<'a>(alloc: Global) -> Result<Command<'a>, AllocError>
+    ensures app { IfOk result (λ c. app_of c ≡ test_app) }
+    ensures local { IfOk result (λ c. (fields_of c).has_globals ≡ false) }
+{
+    let words = Command::new(alloc, "test")
+        .about("Replays all cases of a folder, and compares what comes with their reports")
+        .after_help(help::TEST)
+        .arg(name(alloc, "FOLDER", "The folder of the cases"))?
+        .arg(flag(
+            alloc,
+            "bless",
+            "Writes what comes of each case into its report",
+        ))?;
+    with_options(alloc, words)
+}
+
 /// The words that there can be.
 pub fn accq_words<'a>(alloc: Global) -> Result<Command<'a>, AllocError>
     ensures { IfOk result (λ c. app_of c ≡ accq_app) }
@@ -167,6 +207,8 @@ pub fn accq_words<'a>(alloc: Global) -> Result<Command<'a>, AllocError>
         .subcommand_required(true)
         .subcommand(replay_words(alloc)?)?
         .subcommand(run_words(alloc)?)?
+        .subcommand(steps_words(alloc)?)?
         .subcommand(check_words(alloc)?)?
-        .subcommand(explain_words(alloc)?)
+        .subcommand(explain_words(alloc)?)?
+        .subcommand(test_words(alloc)?)
 }

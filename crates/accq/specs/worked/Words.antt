@@ -2,7 +2,9 @@
 use Rattle.std.specs.Prelude.{◌≡◌, ℕ, Bool, true, false, List, [], ◌∷◌, Option, Some, None, codes}
 use Rattle.clap.specs.Words.{Text}
 use Rattle.acc_driver.specs.Replays.{defaults}
-use Rattle.accq.specs.Words.{Asked, ToCheck, ToExplain, ToReplay, ToRun, asked_of}
+use Rattle.acc_driver.specs.declared.steps.StepsAs.{StepsAs}
+use Rattle.acc_driver.specs.declared.steps.StepsAs.TheVariants.{AllLines, Lines, Picture}
+use Rattle.accq.specs.Words.{Asked, ToCheck, ToExplain, ToReplay, ToRun, ToShow, ToTest, asked_of}
 
 -- a replay of the files a and b, with these options
 abbrev pub asks : ℕ → ℕ → ℕ → Option Asked
@@ -18,6 +20,19 @@ asks_to_run devices cells room progress =
 abbrev pub asks_to_check : Option Text → ℕ → Option Asked
 asks_to_check schedule devices = Some (ToCheck (record { script = codes "a"; schedule = schedule; devices = devices }))
 
+-- the steps of a replay of the file a and this schedule, with default options, shown so
+abbrev pub asks_for_steps : Option Text → StepsAs → Option Asked
+asks_for_steps schedule form = Some (ToShow (record { script = codes "a"; schedule = schedule; options = defaults; form = form }))
+
+-- behind `accq steps`
+abbrev pub steps : List Text → Option Asked
+steps words = asked_of (codes "accq" ∷ codes "steps" ∷ words)
+
+-- a test of the folder a, for so many devices, whose reports are written anew or not
+abbrev pub asks_to_test : ℕ → Bool → Option Asked
+asks_to_test devices bless =
+    Some (ToTest (record { folder = codes "a"; options = record { devices = devices; cells = 4194304; room = 64 }; bless = bless }))
+
 -- behind `accq replay`
 abbrev pub replay : List Text → Option Asked
 replay words = asked_of (codes "accq" ∷ codes "replay" ∷ words)
@@ -30,8 +45,12 @@ run words = asked_of (codes "accq" ∷ codes "run" ∷ words)
 abbrev pub check : List Text → Option Asked
 check words = asked_of (codes "accq" ∷ codes "check" ∷ words)
 
+-- behind `accq test`
+abbrev pub test : List Text → Option Asked
+test words = asked_of (codes "accq" ∷ codes "test" ∷ words)
+
 -- Two names behind `replay` alone, or one behind `run`, ask for the default options; one or two behind `check` for one device;
--- `explain` has one word. An option stands before,
+-- `explain` has one word, and `test` one folder. An option stands before,
 -- between or behind them, with `=` or without; a flag stands alone.
 pub record AreAsked : Type 0 where
   pub names : replay (codes "a" ∷ codes "b" ∷ []) ≡ Some (ToReplay (record { script = codes "a"; schedule = codes "b"; options = defaults }))
@@ -46,6 +65,11 @@ pub record AreAsked : Type 0 where
   pub one_file : check (codes "a" ∷ []) ≡ asks_to_check None 1
   pub two_files : check (codes "a" ∷ codes "b" ∷ []) ≡ asks_to_check (Some (codes "b")) 1
   pub word : asked_of (codes "accq" ∷ codes "explain" ∷ codes "F6" ∷ []) ≡ Some (ToExplain (codes "F6"))
+  pub lines : steps (codes "a" ∷ codes "b" ∷ []) ≡ asks_for_steps (Some (codes "b")) Lines
+  pub all_lines : steps (codes "a" ∷ codes "--idle" ∷ []) ≡ asks_for_steps None AllLines
+  pub picture : steps (codes "--picture" ∷ codes "a" ∷ codes "b" ∷ codes "--idle" ∷ []) ≡ asks_for_steps (Some (codes "b")) Picture
+  pub one_folder : test (codes "a" ∷ []) ≡ asks_to_test 1 false
+  pub anew : test (codes "--bless" ∷ codes "a" ∷ codes "--devices=2" ∷ []) ≡ asks_to_test 2 true
   pub for_devices : check (codes "--devices" ∷ codes "4" ∷ codes "a" ∷ codes "b" ∷ []) ≡ asks_to_check (Some (codes "b")) 4
 
 -- What asks for nothing: an option beyond its limits, not in digits alone or written twice, a name too few or too many, a word that there isn't, and
@@ -75,4 +99,9 @@ pub record AreRefused : Type 0 where
   pub room_of_a_check : check (codes "a" ∷ codes "--room=1" ∷ []) ≡ None
   pub no_word : asked_of (codes "accq" ∷ codes "explain" ∷ []) ≡ None
   pub two_words : asked_of (codes "accq" ∷ codes "explain" ∷ codes "F6" ∷ codes "F7" ∷ []) ≡ None
+  pub steps_of_no_file : steps [] ≡ None
+  pub picture_of_a_replay : replay (codes "a" ∷ codes "b" ∷ codes "--picture" ∷ []) ≡ None
+  pub no_folder : test (codes "--bless" ∷ []) ≡ None
+  pub two_folders : test (codes "a" ∷ codes "b" ∷ []) ≡ None
+  pub no_cells : test (codes "a" ∷ codes "--cells=0" ∷ []) ≡ None
   pub many_devices : check (codes "a" ∷ codes "--devices=5" ∷ []) ≡ None
