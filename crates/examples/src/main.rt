@@ -1,101 +1,36 @@
-//! Replays each example, or runs it with threads, and compares what is answered with its report.
+//! Tests the examples and the cases of the language, as `accq test` does; then runs with threads each example whose report no
+//! schedule changes.
 #![tactic(auto)]
 
 use acc_base::QueueAt;
+use acc_cases::{DiskFolder, Folder, OptionsFault, options_of, test_all};
 use acc_driver::{
-    DriverFault, Ended, Gate, NoMonitor, OpenGate, Options, Remains, replay, replay_one,
-    run_script, split,
+    DriverFault, Ended, Gate, NoMonitor, OpenGate, Options, Remains, run_script, split,
 };
 use std::alloc::Global;
+use std::io::{ErrorKind, Write};
 use std::sync::Wait;
 use std::thread::Threads;
 use std::{fs, io};
 
+/// The folders of cases: the examples, and short texts of what the language says.
+const FOLDERS: [&str; 2] = [".", "language"];
+
+/// The examples whose report depends on their schedule. Threads give that of each other one, too.
+const SCHEDULED: [&str; 9] = [
+    "close",
+    "counters",
+    "maker",
+    "queue-full",
+    "questions",
+    "race",
+    "sharing",
+    "unfinished",
+    "waits",
+];
+
 /// No monitor.
 const NOBODY: Option<&NoMonitor> = None;
-
-const TWO_DEVICES: Options = Options {
-    devices: 2,
-    cells: 4_194_304,
-    room: 64,
-};
-
-const EIGHT_CELLS: Options = Options {
-    devices: 1,
-    cells: 8,
-    room: 64,
-};
-
-const ROOM_FOR_TWO: Options = Options {
-    devices: 1,
-    cells: 4_194_304,
-    room: 2,
-};
-
-// Each example by its name, in teaching order. One with options has its schedule in a file of its own.
-const EXAMPLES: [(&str, Option<Options>); 33] = [
-    ("ranges", None),
-    ("stale", None),
-    ("unfinished", None),
-    ("mistake", None),
-    ("counting", None),
-    ("parts", None),
-    ("finalize", None),
-    ("nested", None),
-    ("counters", None),
-    ("updates", None),
-    ("implicit", None),
-    ("no-create", None),
-    ("shifted", None),
-    ("async", None),
-    ("queues", None),
-    ("maker", None),
-    ("release", None),
-    ("race", None),
-    ("ordered", None),
-    ("waits", None),
-    ("questions", None),
-    ("sharing", None),
-    ("devices", Some(TWO_DEVICES)),
-    ("close", None),
-    ("no-device", None),
-    ("bad-async", None),
-    ("outside-array", None),
-    ("too-many", None),
-    ("refusal", None),
-    ("absent", None),
-    ("device-full", Some(EIGHT_CELLS)),
-    ("outside-range", None),
-    ("queue-full", Some(ROOM_FOR_TWO)),
-];
-
-// Each example whose report no schedule changes that lets all end: threads give it, too. The last has no schedule at all.
-const RUNS: [(&str, Options); 24] = [
-    ("ranges", Options::DEFAULT),
-    ("stale", Options::DEFAULT),
-    ("counting", Options::DEFAULT),
-    ("parts", Options::DEFAULT),
-    ("finalize", Options::DEFAULT),
-    ("nested", Options::DEFAULT),
-    ("updates", Options::DEFAULT),
-    ("implicit", Options::DEFAULT),
-    ("no-create", Options::DEFAULT),
-    ("shifted", Options::DEFAULT),
-    ("async", Options::DEFAULT),
-    ("queues", Options::DEFAULT),
-    ("release", Options::DEFAULT),
-    ("ordered", Options::DEFAULT),
-    ("devices", TWO_DEVICES),
-    ("no-device", Options::DEFAULT),
-    ("bad-async", Options::DEFAULT),
-    ("outside-array", Options::DEFAULT),
-    ("too-many", Options::DEFAULT),
-    ("refusal", Options::DEFAULT),
-    ("absent", Options::DEFAULT),
-    ("device-full", EIGHT_CELLS),
-    ("outside-range", Options::DEFAULT),
-    ("threads", TWO_DEVICES),
-];
 
 // Keeps queue `2` from its batches.
 #[derive(Drop)]
@@ -108,40 +43,38 @@ impl Gate for SecondShut {
     }
 }
 
-// The bytes of an example's file.
+// Tests all cases of a folder, and says whether there are some, and all pass; or else what is told of them.
+fn test_folder(rt: &HostRuntime, path: &str) -> io::Result<()> {
+    let alloc = rt.alloc();
+    let mut folder = DiskFolder::new(rt, path)?;
+    let mut told = Vec::new(alloc);
+    match test_all(alloc, &mut folder, Options::DEFAULT, false, &mut told) {
+        Ok(tally) if tally.failed == 0 && tally.passed > 0 => println!(rt; "{path}: all pass"),
+        Ok(_) => {
+            io::writer(rt).write_all(told.as_slice())?;
+            println!(rt; "{path}: NOT all pass")
+        }
+        Err(fault) => println!(rt; "{path}: {fault}"),
+    }
+}
+
+// The bytes of a file.
 fn read(rt: &HostRuntime, name: &str, kind: &str) -> io::Result<Vec<u8>> {
     fs::read(rt, format!(in rt.alloc(); "{name}.{kind}")?)
 }
 
-// What the program answers to an example: the report, or the line of a fault.
-fn answer(rt: &HostRuntime, name: &str, options: Option<Options>) -> io::Result<Vec<u8>> {
-    let alloc = rt.alloc();
-    let script = read(rt, name, "acc")?;
-    let mut script = script.as_slice();
-    let mut written = Vec::new(alloc);
-    let mut remains = Remains::nothing();
-    let answered = match options {
-        None => replay_one(
-            alloc,
-            &mut script,
-            Options::DEFAULT,
-            &mut written,
-            &mut remains,
-        ),
-        Some(options) => {
-            let schedule = read(rt, name, "schedule")?;
-            let mut schedule = schedule.as_slice();
-            replay(
-                alloc,
-                &mut script,
-                &mut schedule,
-                options,
-                &mut written,
-                &mut remains,
-            )
-        }
+// The options of an example, or the default ones where it says none.
+fn options_by(rt: &HostRuntime, name: &str) -> io::Result<Options> {
+    let line = match read(rt, name, "options") {
+        Ok(line) => line,
+        Err(error) if error.kind() == ErrorKind::NotFound => return Ok(Options::DEFAULT),
+        Err(error) => return Err(error),
     };
-    told(alloc, answered, written)
+    match options_of(rt.alloc(), line.as_slice(), Options::DEFAULT) {
+        Ok(options) => Ok(options),
+        Err(OptionsFault::Memory) => Err(io::Error::from(ErrorKind::OutOfMemory)),
+        Err(OptionsFault::Word(_)) => Err(io::Error::from(ErrorKind::InvalidData)),
+    }
 }
 
 // What the program answers to an example's script alone, which it runs with threads, whose batches pass this gate.
@@ -149,10 +82,10 @@ fn run_answer<R: Threads + Wait + Sync, G: Gate + Sync>(
     rt: &HostRuntime,
     threads: &R,
     name: &str,
-    options: Options,
     gate: &G,
 ) -> io::Result<Vec<u8>> {
     let alloc = rt.alloc();
+    let options = options_by(rt, name)?;
     let text = read(rt, name, "acc")?;
     let (mut script, _) = split(text.as_slice());
     let mut written = Vec::new(alloc);
@@ -181,27 +114,68 @@ fn told(
     }
 }
 
-// Says whether what was answered to an example is its report.
-fn print_compared(rt: &HostRuntime, name: &str, how: &str, answered: &[u8]) -> io::Result<()> {
+// Whether a run of an example, whose batches pass this gate, has its report; it is told where it hasn't.
+fn run_example<R: Threads + Wait + Sync, G: Gate + Sync>(
+    rt: &HostRuntime,
+    threads: &R,
+    name: &str,
+    gate: &G,
+) -> io::Result<bool> {
+    let answered = run_answer(rt, threads, name, gate)?;
     let report = read(rt, name, "report")?;
-    let not = if answered == report.as_slice() {
-        ""
-    } else {
-        "NOT "
+    let is_same = answered.as_slice() == report.as_slice();
+    if !is_same {
+        println!(rt; "{name}, run: NOT as its report says")?;
+    }
+    Ok(is_same)
+}
+
+// The names of the examples.
+fn names_of(rt: &HostRuntime) -> io::Result<Vec<String>> {
+    let alloc = rt.alloc();
+    let Ok(files) = DiskFolder::new(rt, ".")?.names(alloc) else {
+        return Err(io::Error::from(ErrorKind::Other));
     };
-    println!(rt; "{name}{how}: {not}as its report says")
+    let mut names = Vec::new(alloc);
+    for file in &files {
+        if let Some(name) = file.as_str().strip_suffix(".acc") {
+            names.push(String::from_str(alloc, name)?)?;
+        }
+    }
+    Ok(names)
+}
+
+// Whether this is the name of an example whose report depends on its schedule.
+fn is_scheduled(name: &str) -> bool {
+    SCHEDULED.contains(&name)
+}
+
+// Runs each example whose report no schedule changes, and says whether all have theirs.
+fn run_examples<R: Threads + Wait + Sync>(rt: &HostRuntime, threads: &R) -> io::Result<()> {
+    let names = names_of(rt)?;
+    let mut scheduled = 0usize;
+    let mut all = true;
+    for name in &names {
+        if is_scheduled(name.as_str()) {
+            scheduled = scheduled.wrapping_add(1);
+        } else {
+            all = run_example(rt, threads, name.as_str(), &OpenGate)? && all;
+        }
+    }
+    if all && scheduled == SCHEDULED.len() {
+        println!(rt; "run: all as their reports say")
+    } else {
+        println!(rt; "run: NOT all as their reports say, or not all of SCHEDULED are there")
+    }
 }
 
 fn main(rt: HostRuntime) -> io::Result<()> {
-    for (name, options) in &EXAMPLES {
-        let answered = answer(&rt, name, *options)?;
-        print_compared(&rt, name, "", answered.as_slice())?;
+    for path in FOLDERS {
+        test_folder(&rt, path)?;
     }
-    for (name, options) in &RUNS {
-        let answered = run_answer(&rt, &rt, name, *options, &OpenGate)?;
-        print_compared(&rt, name, ", run", answered.as_slice())?;
+    run_examples(&rt, &rt)?;
+    if run_example(&rt, &rt, "abandoned/discarded", &SecondShut)? {
+        println!(&rt; "discarded, run: as its report says")?;
     }
-    let answered = run_answer(&rt, &rt, "discarded", Options::DEFAULT, &SecondShut)?;
-    print_compared(&rt, "discarded", ", run", answered.as_slice())?;
     Ok(())
 }

@@ -4,8 +4,6 @@
 #[cfg(test)]
 mod answers;
 #[cfg(test)]
-mod language;
-#[cfg(test)]
 mod limits;
 #[cfg(test)]
 mod memory;
@@ -21,6 +19,8 @@ mod runs;
 mod schedules;
 #[cfg(test)]
 mod scripts;
+#[cfg(test)]
+mod steps;
 #[cfg(test)]
 mod streams;
 #[cfg(test)]
