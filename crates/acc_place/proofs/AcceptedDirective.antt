@@ -93,7 +93,7 @@ first_behind [] gs = refl
 first_behind (None ∷ fs) gs = first_behind fs gs
 first_behind (Some f ∷ fs) gs = refl
 
-items_asked : (k : Kind) (items : List DataItem) → map (λ (a : Asked). a.item) (all_asked k items) ≡ items
+pub items_asked : (k : Kind) (items : List DataItem) → map (λ (a : Asked). a.item) (all_asked k items) ≡ items
 items_asked k [] = refl
 items_asked k (i ∷ is) = ap (λ xs. i ∷ xs) (items_asked k is)
 

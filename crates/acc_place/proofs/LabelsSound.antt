@@ -1,15 +1,14 @@
 -- The labels that accepted directives place are sound: on each device they use live blocks in the order of placing, and each
 -- stands behind those that it needs.
-use Rattle.std.proofs.Common.{inl, inr, ◌≡◌, ◌⊎◌, ℕ, zero, suc, ◌<◌, Bool, true, false, cond, List, [], ◌∷◌, ◌++◌, length, map, drop, refl, sym, ap, subst, ◌∙◌, arith, Option, Some, None}
+use Rattle.std.proofs.Common.{inl, inr, ◌≡◌, ◌⊎◌, ℕ, zero, suc, ◌<◌, Bool, true, false, List, [], ◌∷◌, ◌++◌, length, drop, refl, sym, ap, subst, ◌∙◌, arith, Option, Some, None}
 use Rattle.std.specs.Prelude.{All, Contains, ℤ, pos, negsuc, ◌==◌, ◌||◌, slice_index_or}
 use Rattle.std.specs.List.{flat_map}
 use Rattle.std.proofs.lemmas.Bool.{cases_Bool, eq-eqb, eqb-true}
 use Rattle.std.proofs.lemmas.List.{append_assoc, append-nil}
-use Rattle.std.proofs.lemmas.List.Elements.{All-nil, All-cons, All-head, All-tail, All-append, filter-append, Contains-push_cases, Contains-append_left, Contains-append_right}
+use Rattle.std.proofs.lemmas.List.Elements.{All-nil, All-cons, All-head, All-tail, filter-append, Contains-push_cases, Contains-append_left, Contains-append_right}
 use Rattle.std.proofs.lemmas.Grind.{flat_map-append}
 use Rattle.acc_base.specs.declared.ids.QueueAt.{QueueAt}
 use Rattle.acc_base.specs.declared.ids.TheConstants.{QUEUES}
-use Rattle.acc_base.specs.declared.range.Range.{Range}
 use Rattle.acc_base.specs.Configurations.{Configuration}
 use Rattle.acc_base.proofs.Members.{no_member, member_first, member_rest, member_cases}
 use Rattle.acc_present.specs.Lifetimes.{opened_lifetimes}
@@ -25,8 +24,6 @@ use Rattle.acc_batch.specs.Awaits.{is_await, IsOrdered, AllOrdered, IsNumbered}
 use Rattle.acc_batch.proofs.Labels.{ops_of-append}
 use Rattle.acc_batch.proofs.OrderedBatches.{behind_is, close_ordered, label_ordered, ordered_push}
 use Rattle.acc_kernel.specs.Kernels.{Loop}
-use Rattle.acc_place.specs.declared.directive.Clause.{Clause}
-use Rattle.acc_place.specs.declared.directive.Clause.TheVariants.{Copy, Copyin, Copyout, Create, Present, NoCreate, Delete, UpdateSelf, UpdateDevice}
 use Rattle.acc_place.specs.Directives.{Directive}
 use Rattle.acc_place.specs.declared.directive.DataItem.{DataItem}
 use Rattle.acc_place.specs.declared.directive.Kind.{Kind}
@@ -36,11 +33,12 @@ use Rattle.acc_place.specs.declared.directive.PlaceEntry.TheVariants as noted
 use Rattle.acc_place.specs.declared.directive.Target.{Target}
 use Rattle.acc_place.specs.declared.directive.Target.TheVariants.{Plain, Unvalued, Value}
 use Rattle.acc_place.specs.Targets.{queue_of_own, queue_of, target_queue, or_sync, queue_by}
-use Rattle.acc_place.specs.Standings.{Standing, Walk, Visit, all_visits, walk_of, marks_behind}
-use Rattle.acc_place.specs.Batches.{walk_at, makes, copy_ins, runs, runs_by, updates, updates_by, copy_outs, releases, copies_in, copies_out, opened_blocks, ended_blocks, holding_blocks, grouped, operations_of, batch_of, next_number, labels_with}
+use Rattle.acc_place.specs.Standings.{Standing, Walk, all_visits, walk_of, marks_behind}
+use Rattle.acc_place.specs.Batches.{walk_at, runs, runs_by, grouped, operations_of, batch_of, next_number, labels_with}
 use Rattle.acc_place.specs.Histories.{AllAccepted, standing, at_first, after_close, after_walk}
 use Rattle.acc_place.proofs.AllVisits.{asks_of}
 use Rattle.acc_place.proofs.GroupLives.{AllInArrays}
+use Rattle.acc_place.proofs.GroupedOperations.{HoldsOfBlocks, grouped_all}
 use Rattle.acc_place.proofs.InArrays.{accepted_fits}
 use Rattle.acc_place.proofs.VisitLives.{AllUse-append, Booked}
 use Rattle.acc_place.proofs.WalkLives.{made_quiet, released_quiet, walk_uses, none_opened}
@@ -73,41 +71,12 @@ awaits_quiet (Close ∷ ops) h = (let no : false ≡ true = All-head (λ op. is_
 abbrev pub NoAwait : OpLabel → Type 0
 NoAwait op = is_await op ≡ false
 
-each_of : (f : ℕ → OpLabel) (bs : List ℕ) → ((b : ℕ) → NoAwait (f b)) → All NoAwait (map f bs)
-each_of f [] h = All-nil NoAwait
-each_of f (b ∷ bs) h = All-cons NoAwait (f b) (map f bs) (h b) (each_of f bs h)
-
-if_each : (t : Bool) (f : ℕ → OpLabel) (bs : List ℕ) → ((b : ℕ) → NoAwait (f b)) → All NoAwait (cond t (map f bs) [])
-if_each true f bs h = each_of f bs h
-if_each false f bs h = All-nil NoAwait
-
-update_each : (c : Clause) (r : Range) (bs : List ℕ) → All NoAwait (updates_by c r bs)
-update_each UpdateSelf r bs = each_of (λ b. CopyOut r b) bs (λ b. refl)
-update_each UpdateDevice r bs = each_of (λ b. CopyIn r b) bs (λ b. refl)
-update_each Copy r bs = All-nil NoAwait
-update_each Copyin r bs = All-nil NoAwait
-update_each Copyout r bs = All-nil NoAwait
-update_each Create r bs = All-nil NoAwait
-update_each Present r bs = All-nil NoAwait
-update_each NoCreate r bs = All-nil NoAwait
-update_each Delete r bs = All-nil NoAwait
-
-each_visit : (f : Visit → List OpLabel) (vs : List Visit) → ((v : Visit) → All NoAwait (f v)) → All NoAwait (flat_map f vs)
-each_visit f [] h = All-nil NoAwait
-each_visit f (v ∷ vs) h = All-append NoAwait (f v) (flat_map f vs) (h v) (each_visit f vs h)
+of_blocks : HoldsOfBlocks NoAwait
+of_blocks = record { make = λ r b. refl; copy_in = λ r b. refl; copy_out = λ r b. refl; release = λ b. refl }
 
 run_each : (k : Option Loop) (items : List DataItem) (ms : List Mark) → All NoAwait (runs_by k items ms)
 run_each None items ms = All-nil NoAwait
 run_each (Some k) items ms = All-cons NoAwait (Run k _) [] refl (All-nil NoAwait)
-
-none_awaits : (run : List OpLabel) (vs : List Visit) → All NoAwait run → All NoAwait (grouped run vs)
-none_awaits run vs h =
-    All-append NoAwait (flat_map makes vs) _ (each_visit makes vs (λ v. each_of (λ b. Make v.item.range b) (opened_blocks v) (λ b. refl)))
-    (All-append NoAwait (flat_map copy_ins vs) _ (each_visit copy_ins vs (λ v. if_each (copies_in v.item.clause) (λ b. CopyIn v.item.range b) (opened_blocks v) (λ b. refl)))
-    (All-append NoAwait run _ h
-    (All-append NoAwait (flat_map updates vs) _ (each_visit updates vs (λ v. update_each v.item.clause v.item.range (holding_blocks v.before v.item.range)))
-    (All-append NoAwait (flat_map copy_outs vs) _ (each_visit copy_outs vs (λ v. if_each (copies_out v.item.clause) (λ b. CopyOut v.item.range b) (ended_blocks v) (λ b. refl)))
-    (each_visit releases vs (λ v. each_of Release (ended_blocks v) (λ b. refl)))))))
 
 -- ## One more label
 
@@ -203,7 +172,7 @@ unfolding batch_of
 label_is st host items_done walk known ordered =
     let ms = st.marks walk.device in
     label_ordered walk.alone walk.waits (walk_at walk) st.labels host items_done (operations_of st walk) known ordered
-    (none_awaits (runs walk ms) (all_visits ms walk) (run_each walk.runs _ _))
+    (grouped_all NoAwait of_blocks (runs walk ms) (all_visits ms walk) (run_each walk.runs _ _))
 
 -- one more walk leaves the labels sound
 pub sound_more : (config : Configuration) (st : Standing) (host items_done : ℕ) (d : Directive) (walk : Walk) → Sound config st → AllInArrays config.arrays (asks_of walk) → walk.queue < QUEUES

@@ -1,12 +1,10 @@
 -- No operation is placed on a queue behind its close.
-use Rattle.std.proofs.Common.{inl, inr, ◌≡◌, ℕ, ◌<◌, Bool, true, false, cond, List, [], ◌∷◌, ◌++◌, length, map, drop, refl, sym, ap, subst, ◌∙◌, Option, Some, None, arith}
+use Rattle.std.proofs.Common.{inl, inr, ◌≡◌, ℕ, ◌<◌, Bool, true, false, cond, List, [], ◌∷◌, ◌++◌, length, drop, refl, sym, ap, subst, ◌∙◌, Option, Some, None, arith}
 use Rattle.std.specs.Prelude.{All, slice_index_or}
-use Rattle.std.specs.List.{flat_map}
 use Rattle.std.proofs.lemmas.Bool.{cases_Bool}
 use Rattle.std.proofs.lemmas.List.{append-nil}
 use Rattle.std.proofs.lemmas.List.Elements.{All-nil, All-cons, All-head, All-tail, All-append}
 use Rattle.acc_base.specs.declared.ids.QueueAt.{QueueAt}
-use Rattle.acc_base.specs.declared.range.Range.{Range}
 use Rattle.acc_base.specs.Configurations.{Configuration}
 use Rattle.acc_base.specs.Queues.{same_queue}
 use Rattle.acc_base.proofs.SameQueue.{same_queue_is}
@@ -19,57 +17,27 @@ use Rattle.acc_batch.proofs.Labels.{on_queue-append, ops_of-append}
 use Rattle.acc_batch.proofs.OrderedBatches.{behind_is}
 use Rattle.acc_kernel.specs.Kernels.{Loop}
 use Rattle.acc_present.specs.Marks.{Mark}
-use Rattle.acc_place.specs.declared.directive.Clause.{Clause}
-use Rattle.acc_place.specs.declared.directive.Clause.TheVariants.{Copy, Copyin, Copyout, Create, Present, NoCreate, Delete, UpdateSelf, UpdateDevice}
 use Rattle.acc_place.specs.declared.directive.DataItem.{DataItem}
 use Rattle.acc_place.specs.declared.directive.PlaceEntry.{PlaceEntry}
 use Rattle.acc_place.specs.declared.directive.PlaceEntry.TheVariants.{Accepted, Closing, Closed}
-use Rattle.acc_place.specs.Batches.{walk_at, makes, copy_ins, runs, runs_by, updates, updates_by, copy_outs, releases, copies_in, copies_out, opened_blocks, ended_blocks, holding_blocks, grouped, operations_of, batch_of, next_number, labels_with}
+use Rattle.acc_place.specs.Batches.{walk_at, runs, runs_by, operations_of, batch_of, next_number, labels_with}
 use Rattle.acc_place.specs.Histories.{AllAccepted, IsQueue, is_closed, standing}
 use Rattle.acc_place.specs.Sound.{is_close, AcceptedCloseLast, CloseLast}
-use Rattle.acc_place.specs.Standings.{Standing, Visit, Walk, all_visits, walk_of}
+use Rattle.acc_place.specs.Standings.{Standing, Walk, all_visits, walk_of}
 use Rattle.acc_place.proofs.AcceptedDirective.{accepted_open}
+use Rattle.acc_place.proofs.GroupedOperations.{HoldsOfBlocks, grouped_all}
 
 -- ## No batch of a directive closes
 
 abbrev pub Goes : OpLabel → Type 0
 Goes op = is_close op ≡ false
 
-each_of : (f : ℕ → OpLabel) (bs : List ℕ) → ((b : ℕ) → Goes (f b)) → All Goes (map f bs)
-each_of f [] h = All-nil Goes
-each_of f (b ∷ bs) h = All-cons Goes (f b) (map f bs) (h b) (each_of f bs h)
-
-if_each : (t : Bool) (f : ℕ → OpLabel) (bs : List ℕ) → ((b : ℕ) → Goes (f b)) → All Goes (cond t (map f bs) [])
-if_each true f bs h = each_of f bs h
-if_each false f bs h = All-nil Goes
-
-update_each : (c : Clause) (r : Range) (bs : List ℕ) → All Goes (updates_by c r bs)
-update_each UpdateSelf r bs = each_of (λ b. CopyOut r b) bs (λ b. refl)
-update_each UpdateDevice r bs = each_of (λ b. CopyIn r b) bs (λ b. refl)
-update_each Copy r bs = All-nil Goes
-update_each Copyin r bs = All-nil Goes
-update_each Copyout r bs = All-nil Goes
-update_each Create r bs = All-nil Goes
-update_each Present r bs = All-nil Goes
-update_each NoCreate r bs = All-nil Goes
-update_each Delete r bs = All-nil Goes
-
-each_visit : (f : Visit → List OpLabel) (vs : List Visit) → ((v : Visit) → All Goes (f v)) → All Goes (flat_map f vs)
-each_visit f [] h = All-nil Goes
-each_visit f (v ∷ vs) h = All-append Goes (f v) (flat_map f vs) (h v) (each_visit f vs h)
+of_blocks : HoldsOfBlocks Goes
+of_blocks = record { make = λ r b. refl; copy_in = λ r b. refl; copy_out = λ r b. refl; release = λ b. refl }
 
 run_each : (k : Option Loop) (items : List DataItem) (ms : List Mark) → All Goes (runs_by k items ms)
 run_each None items ms = All-nil Goes
 run_each (Some k) items ms = All-cons Goes (Run k _) [] refl (All-nil Goes)
-
-groups_go : (run : List OpLabel) (vs : List Visit) → All Goes run → All Goes (grouped run vs)
-groups_go run vs h =
-    All-append Goes (flat_map makes vs) _ (each_visit makes vs (λ v. each_of (λ b. Make v.item.range b) (opened_blocks v) (λ b. refl)))
-    (All-append Goes (flat_map copy_ins vs) _ (each_visit copy_ins vs (λ v. if_each (copies_in v.item.clause) (λ b. CopyIn v.item.range b) (opened_blocks v) (λ b. refl)))
-    (All-append Goes run _ h
-    (All-append Goes (flat_map updates vs) _ (each_visit updates vs (λ v. update_each v.item.clause v.item.range (holding_blocks v.before v.item.range)))
-    (All-append Goes (flat_map copy_outs vs) _ (each_visit copy_outs vs (λ v. if_each (copies_out v.item.clause) (λ b. CopyOut v.item.range b) (ended_blocks v) (λ b. refl)))
-    (each_visit releases vs (λ v. each_of Release (ended_blocks v) (λ b. refl)))))))
 
 await_goes : (op : OpLabel) → is_await op ≡ true → Goes op
 await_goes (Await q n) h = refl
@@ -91,7 +59,7 @@ batch_goes st walk =
     let ms = st.marks walk.device in
     let ops = operations_of st walk in
     let b = behind_is walk.alone walk.waits (walk_at walk) st.labels ops in
-    rw b.split (All-append Goes b.first ops (awaits_go b.first b.all_await) (groups_go (runs walk ms) (all_visits ms walk) (run_each walk.runs _ _)))
+    rw b.split (All-append Goes b.first ops (awaits_go b.first b.all_await) (grouped_all Goes of_blocks (runs walk ms) (all_visits ms walk) (run_each walk.runs _ _)))
 
 -- ## Each queue
 

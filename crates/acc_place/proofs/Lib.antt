@@ -14,6 +14,7 @@ mod ExitWalks
 mod FaultIn
 pub mod FirstFault
 pub mod GroupLives
+mod GroupedOperations
 mod HeldAndMade
 mod HeldInWalk
 pub mod InArrays
@@ -22,6 +23,7 @@ pub mod LabelsSound
 pub mod LabelsThere
 pub mod LastClose
 pub mod LeftOpen
+pub mod LoopCells
 mod LoopItems
 mod LoopReach
 mod NoteFound

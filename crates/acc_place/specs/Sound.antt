@@ -8,6 +8,7 @@ use Rattle.acc_batch.specs.declared.label.OpLabel.{OpLabel}
 use Rattle.acc_batch.specs.declared.label.OpLabel.TheVariants.{Close}
 use Rattle.acc_batch.specs.Labels.{on_queue, ops_of}
 use Rattle.acc_batch.specs.Lives.{IsSound}
+use Rattle.acc_batch.specs.Ops.{HasItsCells}
 use Rattle.acc_place.specs.declared.directive.PlaceEntry.{PlaceEntry}
 use Rattle.acc_place.specs.Histories.{AllAccepted, standing}
 
@@ -22,6 +23,16 @@ abbrev pub AcceptedAreThere : Type 0
 AcceptedAreThere =
     (config : Configuration) (history : List PlaceEntry) (counts : List ℕ) → AllAccepted config history counts
     → All (λ (l : Label). (l.at.device < config.devices) × (l.at.queue < QUEUES) × (0 < length l.ops)) (standing config history counts).labels
+
+-- the loops of a batch have their cells
+abbrev pub HaveTheirCells : Label → Type 0
+HaveTheirCells l = All HasItsCells l.ops
+
+-- What each loop uses names each array at most once, and has all cells that the loop reaches.
+abbrev pub AcceptedHaveTheirCells : Type 0
+AcceptedHaveTheirCells =
+    (config : Configuration) (history : List PlaceEntry) (counts : List ℕ) → AllAccepted config history counts
+    → All HaveTheirCells (standing config history counts).labels
 
 abbrev pub is_close : OpLabel → Bool
 is_close Close = true

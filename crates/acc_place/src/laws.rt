@@ -7,7 +7,7 @@ ghost use Rattle.acc_place.specs.worked.Loops.{RunsOnPresent, CopiesImplicitly, 
 ghost use Rattle.acc_place.specs.worked.NoCreate.{AbsentWithoutAction, PresentIsCounted, TakesBackItsOwn, InItsTurn, NamesWhatItCounted};
 ghost use Rattle.acc_place.specs.worked.Refusals.{EarlierItemFirst, ItemBeforeCounts, LimitsFirst, LastDirective, RangesOutside, CapacityReached};
 ghost use Rattle.acc_place.specs.worked.Regions.{AbsentAtEntry, PresentAtEntry, LastExit, NotTheLastExit, Nested, OwnRegion, Depth, Entries, ExitsInside, Updates, Questions, ItemsInTurn};
-ghost use Rattle.acc_place.specs.Sound.{AcceptedAreSound, AcceptedAreThere, AcceptedCloseLast};
+ghost use Rattle.acc_place.specs.Sound.{AcceptedAreSound, AcceptedAreThere, AcceptedCloseLast, AcceptedHaveTheirCells};
 ghost use Rattle.acc_place.specs.Counters.{AcceptedAreCounted, EndsTakeBack, EnteredCanBeLeft, EntriesAdd, OthersAreKept};
 ghost use Rattle.acc_place.specs.Loops.{ReachIsJudged};
 ghost use Rattle.acc_place.specs.worked.Closes.{LastBatches, RefusedForClosing, RegionsStay, ClosedOnce};
@@ -153,6 +153,12 @@ pub fn accepted_labels_are_sound()
 /// What accepted directives place is on queues that are there, and each batch has an operation.
 pub fn accepted_labels_are_there()
     ensures { AcceptedAreThere }
+{}
+
+/// Each loop that accepted directives place has its cells: what it uses names each array at most once, and has all cells that the
+/// loop reaches.
+pub fn accepted_loops_have_their_cells()
+    ensures { AcceptedHaveTheirCells }
 {}
 
 /// No operation is placed on a queue behind its close.
