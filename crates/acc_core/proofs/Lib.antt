@@ -13,14 +13,15 @@ mod HavingItems
 mod HostCalls
 mod HostLaws
 mod HostSteps
-mod IdleSteps
+pub mod IdleSteps
 mod ItemAnswer
-mod KeptPrograms
+pub mod KeptPrograms
 mod Lanes
-mod LegalSteps
-mod Merged
-mod NextOfQueue
+pub mod LegalSteps
+pub mod Merged
+pub mod NextOfQueue
 mod NextOp
+mod OutsideCells
 mod PerformOp
 mod QueueTotals
 mod RunParts

@@ -2,7 +2,7 @@
 use Rattle.std.proofs.Common.{inl, inr, ◌≡◌, true, false, cond, refl, ◌+◌, ◌<◌, List, [], ◌∷◌, ◌++◌, length, take, drop, sym, ap, ◌∙◌, arith}
 use Rattle.std.specs.Prelude.{Contains, nat_lt, slice_set, ◌==◌}
 use Rattle.std.proofs.lemmas.Bool.{cases_Bool, eqb-true, lt-ltb, le-ltb, ltb-false, ltb-true}
-use Rattle.std.proofs.lemmas.List.{append_assoc, get_or-map, get_or_past, length-append, length-set, map-set}
+use Rattle.std.proofs.lemmas.List.{append_assoc, get_or-map, get_or_past, length-append, length-set, map-set, take_at}
 use Rattle.std.proofs.lemmas.List.Elements.{All-contains, Contains-append_right}
 use Rattle.acc_base.proofs.Members.{member_first, member_filter}
 use Rattle.acc_base.proofs.SameQueue.{same_queue_is}
@@ -46,6 +46,17 @@ lane_is_rest w v queues at q s h k same =
     ∙ (ap (λ ls. drop (length (performed at w.work)) (ops_of (take (length lane.taken) ls))) h.split
     ∙ (ap (λ work. drop (length (performed at work)) (ops_of (take (length lane.taken) (lane.taken ++ q.held)))) (sym same)
     ∙ left_is lane.taken q.held (performed at v.work) lane.left (k.order at).in_order))
+
+-- what was performed, and the lane's rest, are the operations of what was taken
+pub taken_in_order : (w : State) (v : WorkView) (queues : List QueueView) (at : QueueAt) (q : QueueView) → IsSeated w.config.devices v queues at → QueueIs w.config (labels_of w) at (lane_at v at) q → KeepsOrder v → v.work ≡ w.work
+    → performed at w.work ++ (lane_at v at).left ≡ ops_of (take (taken_on (with_taken w v) at) (on_queue at (labels_of w)))
+taken_in_order w v queues at q s h k same =
+    let lane = lane_at v at in
+    ap (λ work. performed at work ++ lane.left) (sym same)
+    ∙ ((k.order at).in_order
+    ∙ (ap ops_of (sym (take_at lane.taken q.held (length lane.taken) refl))
+    ∙ (ap (λ ls. ops_of (take (length lane.taken) ls)) (sym h.split)
+    ∙ ap (λ n. ops_of (take n (on_queue at (labels_of w)))) (sym (taken_is w v at s.queue s.lane)))))
 
 pub held_is : (w : State) (v : WorkView) (queues : List QueueView) (at : QueueAt) (q : QueueView) → IsSeated w.config.devices v queues at → QueueIs w.config (labels_of w) at (lane_at v at) q → batches_held (with_taken w v) (labels_of w) at ≡ length q.held
 held_is w v queues at q s h = omega (arith, taken_is w v at s.queue s.lane, ap length h.split, length-append (lane_at v at).taken q.held)

@@ -1,7 +1,7 @@
 -- The hosts with the accelerator that they share: how a run begins, what it gives, and what it leaves.
-use Rattle.std.specs.Prelude.{◌≡◌, ℕ, ◌≤◌, List, [], ◌++◌, length, map}
+use Rattle.std.specs.Prelude.{◌≡◌, ℕ, ◌≤◌, false, List, [], ◌++◌, length, map, pos}
 use Rattle.acc_base.specs.declared.config.TheConstants.{MAX_HOSTS}
-use Rattle.acc_base.specs.Configurations.{Configuration}
+use Rattle.acc_base.specs.Configurations.{Configuration, has_range}
 use Rattle.acc_host.specs.declared.event.Event.{Event}
 use Rattle.acc_host.specs.declared.state.Reply.{Reply}
 use Rattle.acc_host.specs.declared.program.HostProgram.{HostProgram}
@@ -11,6 +11,8 @@ use Rattle.acc_host.specs.Hosts.{HostView, AreNumbered, ready}
 use Rattle.acc_core.specs.Following.{AllStand}
 use Rattle.acc_core.specs.Legality.{AllFollow, Legal, LegalCut}
 use Rattle.acc_core.specs.Machine.{State, state_at_first, Runs}
+use Rattle.acc_memory.specs.Values.{Host_cell}
+use Rattle.acc_work.specs.Logs.{value}
 
 -- Each host has one program, and they come in the order of the hosts.
 pub record OnePerHost (config : Configuration) (programs : List HostProgram) : Type 0 where
@@ -38,6 +40,12 @@ pub record IsWorld (w : State) (states : List HostState) (room : ℕ) (programs 
   pub has_room : length w.hosts ≤ room
   pub no_programs : programs ≡ []
   pub has_programs_room : length w.hosts ≤ programs_room
+
+-- A cell that no host array has is zero.
+abbrev pub OutsideIsZero : State → Type 0
+OutsideIsZero w =
+    (array cell : ℕ) → has_range w.config.arrays (record { array = array; lo = cell; len = 1 }) ≡ false
+    → value w.config.arrays w.work (Host_cell array cell) ≡ pos 0
 
 -- The machine gave these replies, and wherever the events are cut, both histories are legal there, and each host's
 -- entries follow its program.

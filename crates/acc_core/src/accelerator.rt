@@ -1,11 +1,14 @@
 //! The place, the queues and the work side as one: the machine without its hosts, and their engine.
 
-ghost use Rattle.std.specs.Prelude.{reverse, ◌≡◌, ◌+◌, ◌<◌, [], IfOk, IfErr, IfSome, OnOk, OnErr, OnSome, true, false, is_some, slice_get, IsTrue, ◌^◌, Ok};
+ghost use Rattle.std.specs.Prelude.{reverse, ◌≡◌, ◌+◌, ◌<◌, [], IfOk, IfErr, IfSome, OnOk, OnErr, OnSome, true, false, is_some, slice_get, IsTrue, ◌^◌, Ok, length};
+ghost use Rattle.acc_base.specs.declared.ids.QueueAt.{QueueAt};
+ghost use Rattle.acc_base.specs.Queues.{queue_count};
 ghost use Rattle.acc_base.specs.declared.config.TheConstants.{MAX_HOSTS};
 ghost use Rattle.acc_host.specs.Engines.{Wait, Record, MayRecord, without_item};
 ghost use Rattle.acc_core.specs.inner.Answers.{Makes, Places};
 ghost use Rattle.acc_core.specs.Enabled.{is_enabled, is_left, SomeEnabled};
-ghost use Rattle.acc_core.specs.Progress.{next_by, taken_by};
+ghost use Rattle.acc_core.specs.Progress.{IsTakenInOrder, left_by, next_by, taken_by};
+ghost use Rattle.acc_core.specs.Worlds.{OutsideIsZero};
 ghost use Rattle.acc_core.specs.Legality.{AllRise};
 ghost use Rattle.acc_place.specs.Histories.{is_closed, IsQueue};
 ghost use Rattle.acc_base.specs.Configurations.{has_range};
@@ -17,7 +20,7 @@ ghost use Rattle.acc_work.specs.Items.{shown_by};
 ghost use Rattle.acc_work.specs.Logs.{all_done, all_items, value};
 ghost use Rattle.acc_work.specs.Remembering.{blocks_in};
 ghost use Rattle.acc_core.specs.inner.Closing.{closing_begun, closes_one};
-ghost use Rattle.acc_core.specs.Machine.{state_at_first, step, standing_of, labels_of, can_tell, told_of, with_item};
+ghost use Rattle.acc_core.specs.Machine.{is_there, state_at_first, step, standing_of, labels_of, can_tell, told_of, with_item};
 ghost use Rattle.std.specs.Option.{option_map};
 ghost use Rattle.acc_present.specs.Presences.{presences, holder};
 ghost use Rattle.acc_present.specs.Tables.{entry_presence};
@@ -115,6 +118,15 @@ impl Accelerator {
         ensures { AllRise self.now }
     {
         let _ = &self.work;
+    }
+
+    /// Each queue has its count of batches that it has taken, which it performs in order; and a cell that no host array has is zero.
+    pub(crate) fn keeps_counts(&self)
+        ensures taken { length self.now.taken ≡ queue_count self.now.config }
+        ensures in_order { (at : QueueAt) → is_there self.now at ≡ true → IsTakenInOrder self.now at }
+        ensures outside { OutsideIsZero self.now }
+    {
+        self.work.keeps();
     }
 
     // Records an item of a host, any but a Seen.
@@ -344,6 +356,18 @@ impl Accelerator {
         self.work.keeps();
         let held = self.queues[QueueAt { device, queue }.seat()].len();
         self.place.placed_count(at) - held as u64
+    }
+
+    /// How many operations are left of the batches that a queue has taken.
+    pub(crate) fn ops_left(&self, at: QueueAt) -> usize
+        ensures { result ≡ length (left_by self.now at) }
+    {
+        let QueueAt { device, queue } = at;
+        if !self.place.config().has_queue(QueueAt { device, queue }) {
+            return 0;
+        }
+        self.work.keeps();
+        self.work.ops_left(at)
     }
 
     /// The operation that a queue performs next, of the batches that it has taken.

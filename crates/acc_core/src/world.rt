@@ -7,8 +7,11 @@ ghost use Rattle.acc_present.specs.Tables.{entry_presence};
 ghost use Rattle.acc_base.specs.declared.config.TheConstants.{MAX_HOSTS};
 ghost use Rattle.acc_core.specs.Enabled.{is_enabled, is_left, SomeEnabled};
 ghost use Rattle.acc_core.specs.Legality.{AllFollow, Legal};
-ghost use Rattle.acc_core.specs.Machine.{Step, labels_of, standing_of};
-ghost use Rattle.acc_core.specs.Progress.{next_by, taken_by};
+ghost use Rattle.acc_core.specs.Machine.{Step, is_there, labels_of, standing_of};
+ghost use Rattle.acc_core.specs.Progress.{IsTakenInOrder, left_by, next_by, taken_by};
+ghost use Rattle.acc_base.specs.declared.ids.QueueAt.{QueueAt};
+ghost use Rattle.acc_base.specs.Queues.{queue_count};
+ghost use Rattle.acc_core.specs.Following.{AllStand};
 ghost use Rattle.acc_host.specs.declared.state.Reply.{Reply};
 ghost use Rattle.acc_host.specs.Hosts.{bare_statements, ready, state_of};
 ghost use Rattle.acc_base.specs.Configurations.{has_range};
@@ -16,7 +19,7 @@ ghost use Rattle.acc_memory.specs.Memories.{find_block, has_cell};
 ghost use Rattle.acc_memory.specs.Values.{Block_cell, Host_cell};
 ghost use Rattle.acc_work.specs.Logs.{all_done, performed, value};
 ghost use Rattle.acc_work.specs.Remembering.{blocks_in};
-ghost use Rattle.acc_core.specs.Worlds.{OnePerHost, first_state, statements_in, Ran};
+ghost use Rattle.acc_core.specs.Worlds.{OnePerHost, OutsideIsZero, first_state, statements_in, Ran};
 
 use crate::accelerator::Accelerator;
 use acc_base::{BlockId, Config, DeviceId, Fault, HostId, QueueAt, QueueCounts, Range};
@@ -104,6 +107,19 @@ impl World {
             Event::Perform(at) => self.accelerator.perform(at),
             Event::Close => self.accelerator.close(),
         }
+    }
+
+    /// Its state is legal, and each host stands in its program; each queue has its count of batches that it has taken, which it
+    /// performs in order; and a cell that no host array has is zero.
+    pub fn keeps(&self)
+        ensures legal { Legal self.now }
+        ensures stand { AllStand self.now 0 self.now.hosts }
+        ensures taken { length self.now.taken ≡ queue_count self.now.config }
+        ensures in_order { (at : QueueAt) → is_there self.now at ≡ true → IsTakenInOrder self.now at }
+        ensures outside { OutsideIsZero self.now }
+    {
+        self.accelerator.keeps_counts();
+        let _ = &self.hosts;
     }
 
     /// One step for each event, in order, with a reply to each.
@@ -222,6 +238,13 @@ impl World {
         ensures { result ≡ taken_by self.now at }
     {
         self.accelerator.taken(at)
+    }
+
+    /// How many operations are left of the batches that a queue has taken; none where there is no such queue.
+    pub fn ops_left(&self, at: QueueAt) -> usize
+        ensures { result ≡ length (left_by self.now at) }
+    {
+        self.accelerator.ops_left(at)
     }
 
     /// The operation that a queue performs next, of the batches that it has taken; `None` where it has performed them, or there is

@@ -195,6 +195,11 @@ state_in host (phase.Refused fault) = state.Refused host.ended (line_of (slice_g
 abbrev pub state_of : HostView → HostState
 state_of host = state_in host host.phase
 
+abbrev pub is_refused : HostState → Bool
+is_refused state.Finished = false
+is_refused (state.Running ended) = false
+is_refused (state.Refused ended line fault) = true
+
 -- The directive of a statement, if it is one, has these ids.
 abbrev pub IsSet : Ids → Act → Type 0
 IsSet ids (act.Place d) = with_ids ids d ≡ d

@@ -124,6 +124,13 @@ impl Host {
         self.statements.get(self.ended)
     }
 
+    /// How many statements it has ended.
+    pub fn ended(&self) -> usize
+        ensures { result ≡ self.now.ended }
+    {
+        self.ended
+    }
+
     /// What it does next at that statement.
     pub fn phase(&self) -> &Phase
         ensures { result.now ≡ self.now.phase }

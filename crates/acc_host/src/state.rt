@@ -1,5 +1,9 @@
 //! Where a host stands, and how it goes on.
 
+ghost use Rattle.std.specs.Prelude.{◌≡◌};
+ghost use Rattle.std.specs.List.{list_any};
+ghost use Rattle.acc_host.specs.Hosts.{is_refused};
+
 use acc_base::{DeviceId, Fault, QueueCounts};
 
 /// A host's current device and default async value.
@@ -17,7 +21,7 @@ pub struct Awaited {
 }
 
 /// What a host does next.
-#[derive(Clone, Copy)]
+#[derive(Clone, Copy, Debug, PartialEq, Eq)]
 pub enum Phase {
     Ready,
     /// It waits until each queue of the device has performed so many batches.
@@ -76,4 +80,13 @@ pub enum HostState {
         line: u32,
         fault: Fault,
     },
+}
+
+/// Whether one of these hosts was refused.
+pub fn any_refused(hosts: &[HostState]) -> bool
+    ensures { result ≡ list_any is_refused hosts.now }
+{
+    hosts
+        .iter()
+        .any(|host| matches!(host, HostState::Refused { .. }))
 }
