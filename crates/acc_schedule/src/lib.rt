@@ -3,4 +3,4 @@
 
 mod schedule;
 
-pub use schedule::{Schedule, ScheduleLine, Turn, read_schedule};
+pub use schedule::{MAX_TIMES, Schedule, ScheduleLine, Turn, read_schedule};

@@ -1,0 +1,62 @@
+-- States that no event tells apart, and that have one report.
+use Rattle.std.specs.Prelude.{◌≡◌, ℕ, ℤ, Bool, IsTrue, List, length}
+use Rattle.acc_base.specs.declared.ids.QueueAt.{QueueAt}
+use Rattle.acc_base.specs.declared.range.Range.{Range}
+use Rattle.acc_batch.specs.declared.entry.WorkEntry.{WorkEntry}
+use Rattle.acc_batch.specs.Lives.{HoldsBlock}
+use Rattle.acc_core.specs.Legality.{Legal}
+use Rattle.acc_core.specs.Machine.{State, Outcome, step}
+use Rattle.acc_explore.specs.Runs.{report_of}
+use Rattle.acc_host.specs.declared.event.Event.{Event}
+use Rattle.acc_host.specs.declared.program.HostProgram.{HostProgram}
+use Rattle.acc_host.specs.Entries.{items_shown}
+use Rattle.acc_memory.specs.Values.{Cell, Host_cell, Block_cell, is_in}
+use Rattle.acc_work.specs.Logs.{performed, device_ops, all_items, value}
+
+-- a cell of a host array, or of a block that is live behind this log
+abbrev pub IsLive : List WorkEntry → Cell → Type 0
+IsLive work (Host_cell array cell) = Unit {0}
+IsLive work (Block_cell device block cell) = (r : Range) × HoldsBlock (device_ops device work) block r × IsTrue (is_in r cell)
+
+-- Live cells have the same values behind both logs.
+abbrev pub SameCells : List (List ℤ) → List WorkEntry → List WorkEntry → Type 0
+SameCells arrays old new = (c : Cell) → IsLive old c → value arrays old c ≡ value arrays new c
+
+-- Two work logs show the same: how many operations each queue has performed, the items of each host, how many items there are,
+-- and the live cells. In which order queues and hosts came is left open.
+pub record AlikeLogs (arrays : List (List ℤ)) (old new : List WorkEntry) : Type 0 where
+  pub done : (at : QueueAt) → length (performed at old) ≡ length (performed at new)
+  pub shown : (host : ℕ) → items_shown host old ≡ items_shown host new
+  pub items : all_items old ≡ all_items new
+  pub cells : SameCells arrays old new
+
+abbrev pub with_work : State → List WorkEntry → State
+with_work w work = record w { work = work }
+
+-- All but the work logs is equal, and these show the same.
+pub record Alike (old new : State) : Type 0 where
+  pub rest : new ≡ with_work old new.work
+  pub work : AlikeLogs old.config.arrays old.work new.work
+
+-- The replies are equal, and the states alike.
+pub record AlikeOutcome (old new : Outcome) : Type 0 where
+  pub reply : old.reply ≡ new.reply
+  pub state : Alike old.state new.state
+
+-- Each event gets one reply of both, and leads to two that are alike again, with the same choice of memory.
+abbrev pub StepKeepsAlike : Type 0
+StepKeepsAlike =
+    (no_memory : Bool) (old new : State) (e : Event) → Legal old → Alike old new
+    → AlikeOutcome (step no_memory old e) (step no_memory new e)
+
+-- Both have one report.
+abbrev pub SameReports : Type 0
+SameReports =
+    (names : List (List ℕ)) (programs : List HostProgram) (old new : State) → Legal old → Legal new → Alike old new
+    → report_of names programs old ≡ report_of names programs new
+
+-- Being alike is an equivalence of legal states.
+abbrev pub AlikeIsEquivalence : Type 0
+AlikeIsEquivalence =
+    (a b c : State) → Legal a → Legal b → Legal c
+    → Alike a a × (Alike a b → Alike b a) × (Alike a b → Alike b c → Alike a c)

@@ -1,0 +1,13 @@
+pub mod Alike
+pub mod Arrivals
+pub mod Endings
+pub mod Explorations
+pub mod Origins
+pub mod OwnStatements
+pub mod Reductions
+pub mod Runs
+pub mod Scripts
+pub mod Searches
+pub mod Spellings
+pub mod inner
+pub mod worked

@@ -1,0 +1,3 @@
+pub mod Comparing
+pub mod Searching
+pub mod Telling
