@@ -1,4 +1,5 @@
 mod CheckAnswers
+mod ExploreAnswers
 mod KeptPrograms
 mod ReplayAnswers
 mod RunSchedule

@@ -1,4 +1,5 @@
 pub mod Checks
+pub mod Explorations
 pub mod Inputs
 pub mod Replays
 pub mod Runs

@@ -6,12 +6,10 @@ use Rattle.acc_base.specs.declared.config.TheConstants.{MAX_CAPACITY, MAX_DEVICE
 use Rattle.acc_base.specs.Configurations.{Configuration, configuration, fault_of}
 use Rattle.acc_host.specs.declared.event.Event.{Event}
 use Rattle.acc_host.specs.declared.state.Reply.{Reply}
-use Rattle.acc_host.specs.declared.state.HostState.{HostState}
-use Rattle.acc_host.specs.declared.state.HostState.TheVariants as state
 use Rattle.acc_core.specs.Legality.{AllFollow, Legal}
 use Rattle.acc_core.specs.Machine.{State, Runs}
 use Rattle.acc_core.specs.Worlds.{first_state}
-use Rattle.acc_host.specs.Hosts.{state_of}
+use Rattle.acc_host.specs.Hosts.{is_refused, state_of}
 use Rattle.acc_driver.specs.declared.fault.DriverFault.{DriverFault}
 use Rattle.acc_driver.specs.declared.fault.DriverFault.TheVariants as fault
 use Rattle.acc_driver.specs.declared.fault.ReplayFault.{ReplayFault}
@@ -90,11 +88,6 @@ pub record SaysNoEvents (options : Options) (texts : Parts) (program : Program) 
 pub record EndsIn (options : Options) (program : Program) (events : List Event) (final : State) : Type 0 where
   pub replies : List Reply
   pub runs : Runs (first_state (configured options program) program.programs) events replies final
-
-abbrev pub is_refused : HostState → Bool
-is_refused state.Finished = false
-is_refused (state.Running ended) = false
-is_refused (state.Refused ended line f) = true
 
 -- what is left of the machine: both histories, and where each host stands
 abbrev pub left_in : State → Left

@@ -8,7 +8,7 @@ use Rattle.acc_base.specs.declared.fault.Fault.{Fault}
 use Rattle.acc_base.specs.declared.fault.Fault.TheVariants.{HostsDiffer}
 use Rattle.acc_host.specs.Discards.{discarded_on}
 use Rattle.acc_host.specs.Following.{Follows}
-use Rattle.acc_host.specs.Hosts.{ready}
+use Rattle.acc_host.specs.Hosts.{is_refused, ready}
 use Rattle.acc_host.specs.Legality.{Histories, Legal, entries_of}
 use Rattle.acc_host.specs.declared.outcome.Discarded.{Discarded}
 use Rattle.acc_host.specs.declared.program.HostProgram.{HostProgram}
@@ -18,7 +18,7 @@ use Rattle.acc_run.specs.Finishing.{AllClosedLast, Leaves, PerformedAll}
 use Rattle.acc_report.specs.Puts.{AppendsFront}
 use Rattle.acc_report.specs.Reports.{Left, report}
 use Rattle.acc_script.specs.Scripts.{Program, script_of}
-use Rattle.acc_driver.specs.Replays.{configured, is_refused}
+use Rattle.acc_driver.specs.Replays.{configured}
 use Rattle.acc_driver.specs.declared.fault.DriverFault.{DriverFault}
 use Rattle.acc_driver.specs.declared.fault.DriverFault.TheVariants as fault
 use Rattle.acc_driver.specs.declared.options.Ended.{Ended}

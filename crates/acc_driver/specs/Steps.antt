@@ -7,6 +7,7 @@ use Rattle.acc_core.specs.Legality.{AllFollow, Legal}
 use Rattle.acc_core.specs.Machine.{State}
 use Rattle.acc_core.specs.Worlds.{first_state}
 use Rattle.acc_host.specs.declared.event.Event.{Event}
+use Rattle.acc_host.specs.Hosts.{is_refused}
 use Rattle.acc_report.specs.Puts.{AppendsFront}
 use Rattle.acc_report.specs.Reports.{report}
 use Rattle.acc_schedule.specs.Schedules.{lines}
@@ -22,7 +23,7 @@ use Rattle.acc_driver.specs.declared.options.Options.{Options}
 use Rattle.acc_driver.specs.declared.steps.StepsAs.{StepsAs}
 use Rattle.acc_driver.specs.declared.steps.StepsAs.TheVariants as shown_as
 use Rattle.acc_driver.specs.Inputs.{Parts}
-use Rattle.acc_driver.specs.Replays.{SaysNoEvents, configured, events_in, is_refused, left_in}
+use Rattle.acc_driver.specs.Replays.{SaysNoEvents, configured, events_in, left_in}
 
 -- whether events that did nothing are told
 abbrev pub tells_idle : StepsAs → Bool

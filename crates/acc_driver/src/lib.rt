@@ -3,6 +3,7 @@
 #![tactic(auto)]
 
 mod checks;
+mod explorations;
 mod fault;
 mod input;
 mod laws;
@@ -14,10 +15,12 @@ mod replays;
 mod runs;
 mod steps;
 
+pub use acc_explore::{Counts, Form, Watcher};
 pub use acc_queue::Reader;
 pub use acc_run::Gate;
 pub use acc_script::{ReadFault, ReadKind};
 pub use checks::{CheckFault, Named, check, check_one};
+pub use explorations::{Exploring, explore, explore_script};
 pub use fault::{DriverFault, ReplayFault};
 pub use input::split;
 pub use laws::{worked_replays, worked_splits};

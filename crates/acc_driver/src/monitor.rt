@@ -6,6 +6,7 @@ ghost use Rattle.acc_base.specs.declared.fault.Fault.TheVariants.{Memory};
 ghost use Rattle.acc_run.specs.Running.{Paired, WentEach};
 
 use acc_base::Fault;
+use acc_explore::Watcher;
 use acc_host::Host;
 use acc_queue::Reader;
 use acc_run::{Gate, HostToken, Runtime};
@@ -35,6 +36,12 @@ pub struct NoMonitor;
 
 impl Monitor for NoMonitor {
     fn show(&self, _reader: &mut Reader) {}
+
+    fn end(&self) {}
+}
+
+impl Watcher for NoMonitor {
+    fn found(&self, _states: u32) {}
 
     fn end(&self) {}
 }

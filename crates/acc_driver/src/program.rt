@@ -1,20 +1,19 @@
 //! What a script says, and what each run of it begins and ends with.
 
 ghost use Rattle.std.specs.Prelude.{◌≡◌, ◌≤◌, IfOk, IfErr, OnOk, None, Ok, length};
-ghost use Rattle.std.specs.List.{list_any};
 ghost use Rattle.acc_base.specs.Configurations.{rows, configuration, fault_of};
 ghost use Rattle.acc_base.specs.declared.config.TheConstants.{MAX_HOSTS};
 ghost use Rattle.acc_base.specs.declared.fault.Fault.TheVariants.{Memory};
 ghost use Rattle.acc_host.specs.Hosts.{AreNumbered};
 ghost use Rattle.acc_script.specs.Arrays.{IsDeclared, texts};
 ghost use Rattle.acc_script.specs.Scripts.{program_of, script_of};
-ghost use Rattle.acc_driver.specs.Replays.{IsWorldFault, driver_fault, is_refused};
+ghost use Rattle.acc_driver.specs.Replays.{IsWorldFault, driver_fault};
 ghost use Rattle.acc_driver.specs.inner.Scripts.{IsScriptFault};
 
 use crate::fault::ReplayFault;
 use crate::options::Options;
 use acc_base::{Config, Fault};
-use acc_host::{HostProgram, HostState};
+use acc_host::HostProgram;
 use acc_script::{ReadError, Script, read};
 use std::alloc::Global;
 
@@ -77,13 +76,4 @@ pub(crate) fn config_of(
         Err(Fault::Memory) => Err(ReplayFault::Memory),
         Err(fault) => Err(ReplayFault::Runtime(fault)),
     }
-}
-
-// Whether a host was refused.
-pub(crate) fn has_refused(hosts: &[HostState]) -> bool
-    ensures { result ≡ list_any is_refused hosts.now }
-{
-    hosts
-        .iter()
-        .any(|host| matches!(host, HostState::Refused { .. }))
 }

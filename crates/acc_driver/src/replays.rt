@@ -10,9 +10,8 @@ ghost use Rattle.acc_driver.specs.Inputs.{parts};
 ghost use Rattle.acc_core.specs.Legality.{AllFollow, Legal};
 ghost use Rattle.acc_core.specs.Machine.{Runs};
 ghost use Rattle.acc_host.specs.declared.state.Reply.{Reply};
-ghost use Rattle.acc_driver.specs.Replays.{Answers, RunAnswers, AreUsable, IsOfScript, IsRun, IsScript, IsWorldFault, driver_fault, of_input, is_refused};
+ghost use Rattle.acc_driver.specs.Replays.{Answers, RunAnswers, AreUsable, IsOfScript, IsRun, IsScript, IsWorldFault, driver_fault, of_input};
 ghost use Rattle.acc_driver.specs.inner.Scripts.{ReportsWorld, ScheduleAnswers};
-ghost use Rattle.std.specs.List.{list_any};
 ghost use Rattle.acc_base.specs.declared.fault.Fault.TheVariants.{Memory};
 ghost use Rattle.acc_schedule.specs.Schedules.{kept_events};
 ghost use Rattle.acc_script.specs.Scripts.{program_of, script_of};
@@ -20,10 +19,10 @@ ghost use Rattle.acc_script.specs.Scripts.{program_of, script_of};
 use crate::fault::{DriverFault, ReplayFault};
 use crate::input::{read_text, split};
 use crate::options::{Ended, Options};
-use crate::program::{config_of, has_refused, hosts_of, read_script};
+use crate::program::{config_of, hosts_of, read_script};
 use crate::remains::Remains;
 use acc_core::{World, programs_stay};
-use acc_host::{Event, HostProgram};
+use acc_host::{Event, HostProgram, any_refused};
 use acc_report::{ReportFault, Run, ids_are_not_told, report_run};
 use acc_schedule::{Schedule, ScheduleLine};
 use acc_script::{ReadError, Script};
@@ -222,7 +221,7 @@ pub(crate) fn report_world<W: Write>(
     };
     match report_run(alloc, &left, &script, writer) {
         Ok(()) => {
-            let refused = has_refused(hosts.as_slice());
+            let refused = any_refused(hosts.as_slice());
             *remains = Remains::of_replay(place, works, hosts, script.programs);
             Ok(Ended { refused })
         }

@@ -18,11 +18,11 @@ use crate::fault::DriverFault;
 use crate::input::read_text;
 use crate::monitor::{Monitor, run_hosts};
 use crate::options::{Ended, Options};
-use crate::program::{config_of, copies_of, has_refused, read_script};
+use crate::program::{config_of, copies_of, read_script};
 use crate::remains::Remains;
 use crate::replays::{TEXT_LIMIT, TEXT_TURNS};
 use acc_base::{Config, Fault, QueueAt};
-use acc_host::{Host, HostProgram, HostState, Outcome, ready_hosts};
+use acc_host::{Host, HostProgram, HostState, Outcome, any_refused, ready_hosts};
 use acc_report::{ReportFault, report};
 use acc_run::laws::{new_hosts_are_paired, tokens_follow};
 use acc_run::{FinishRefused, Gate, HostToken, Runtime};
@@ -118,7 +118,7 @@ fn run<R: Threads + Wait + Sync, G: Gate + Sync, M: Monitor + Sync, W: Write>(
     };
     match report(alloc, &outcome, &script, writer) {
         Ok(()) => {
-            let refused = has_refused(outcome.hosts.as_slice());
+            let refused = any_refused(outcome.hosts.as_slice());
             *remains = Remains::of_threads(outcome, script.programs);
             Ok(Ended { refused })
         }

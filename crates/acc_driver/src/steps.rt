@@ -19,10 +19,11 @@ ghost use Rattle.acc_steps.specs.Walks.{numbered_events};
 use crate::fault::DriverFault;
 use crate::input::{read_text, split};
 use crate::options::{Ended, Options};
-use crate::program::{has_refused, hosts_of, read_script};
+use crate::program::{hosts_of, read_script};
 use crate::remains::Remains;
 use crate::replays::{INPUT_LIMIT, INPUT_TURNS, TEXT_LIMIT, TEXT_TURNS, open, report_world};
 use acc_core::{World, programs_stay};
+use acc_host::any_refused;
 use acc_report::put;
 use acc_schedule::Schedule;
 use acc_script::{ReadError, Script};
@@ -265,7 +266,7 @@ fn draw_world<'t, W: Write>(
         return Err(DriverFault::Output);
     }
     let (place, works, hosts, programs) = world.into_parts();
-    let refused = has_refused(hosts.as_slice());
+    let refused = any_refused(hosts.as_slice());
     *remains = Remains::of_replay(place, works, hosts, programs);
     Ok(Some(Ended { refused }))
 }

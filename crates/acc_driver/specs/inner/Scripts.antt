@@ -6,7 +6,7 @@ use Rattle.acc_core.specs.Machine.{State}
 use Rattle.acc_core.specs.Worlds.{statements_in}
 use Rattle.acc_host.specs.declared.event.Event.{Event}
 use Rattle.acc_host.specs.declared.program.HostProgram.{HostProgram}
-use Rattle.acc_host.specs.Hosts.{bare_statements}
+use Rattle.acc_host.specs.Hosts.{bare_statements, is_refused}
 use Rattle.acc_report.specs.Puts.{AppendsFront}
 use Rattle.acc_report.specs.Reports.{report}
 use Rattle.acc_script.specs.Scripts.{Program, script_of}
@@ -16,7 +16,7 @@ use Rattle.acc_driver.specs.declared.fault.ReplayFault.{ReplayFault}
 use Rattle.acc_driver.specs.declared.fault.ReplayFault.TheVariants as replay
 use Rattle.acc_driver.specs.declared.options.Ended.{Ended}
 use Rattle.acc_driver.specs.declared.options.Options.{Options}
-use Rattle.acc_driver.specs.Replays.{RunAnswers, events_in, is_refused, left_in}
+use Rattle.acc_driver.specs.Replays.{RunAnswers, events_in, left_in}
 
 -- Why a script says no program.
 abbrev pub IsScriptFault : List ℕ → ReplayFault → Type 0

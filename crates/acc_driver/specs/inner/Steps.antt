@@ -7,7 +7,7 @@ use Rattle.acc_core.specs.Machine.{State}
 use Rattle.acc_core.specs.Worlds.{statements_in}
 use Rattle.acc_host.specs.declared.event.Event.{Event}
 use Rattle.acc_host.specs.declared.program.HostProgram.{HostProgram}
-use Rattle.acc_host.specs.Hosts.{bare_statements}
+use Rattle.acc_host.specs.Hosts.{bare_statements, is_refused}
 use Rattle.acc_report.specs.Puts.{AppendsFront}
 use Rattle.acc_report.specs.Reports.{report}
 use Rattle.acc_schedule.specs.Schedules.{schedule_of}
@@ -23,7 +23,7 @@ use Rattle.acc_driver.specs.declared.options.Options.{Options}
 use Rattle.acc_driver.specs.declared.steps.StepsAs.{StepsAs}
 use Rattle.acc_driver.specs.declared.steps.StepsAs.TheVariants as shown_as
 use Rattle.acc_driver.specs.Inputs.{Parts}
-use Rattle.acc_driver.specs.Replays.{events_in, is_refused, left_in}
+use Rattle.acc_driver.specs.Replays.{events_in, left_in}
 use Rattle.acc_driver.specs.Steps.{ShowsSteps, StepsOfProgram}
 
 -- It is shown by lines.

@@ -11,7 +11,7 @@ returns-in-Ok-clause-answers g c =
       λ programs is.
           let same = c.ids_are_not_told.ensures (texts c.args.names.keys) _ programs (left_in w) (e.programs ∙ sym is) in
           rw (c.as_slice.ensures.value, e.config, e.history, e.counts, e.works, e.hosts, reverse-reverse w.work, same) at c.in-Ok.ensures,
-      rw (c.as_slice-in-Ok.ensures.value, e.hosts) at c.has_refused-refused.ensures,
+      rw (c.as_slice-in-Ok.ensures.value, e.hosts) at c.any_refused-refused.ensures,
     )
 
 pub returns-in-Err-Write-clause-answers : goal.returns-in-Err-Write-clause-answers
