@@ -1,5 +1,6 @@
 mod CasesTested
 mod NumberWords
+mod StatusExplorations
 mod StatusReplay
 mod StatusSteps
 mod WordsMean

@@ -25,9 +25,9 @@ appends_front None b text first = (length text, tt)
 appends_front (Some xs) None text first = absurd first
 appends_front (Some xs) (Some ys) text first = (length text, first ∙ ap (λ t. xs ++ t) (sym (take_all (length text) text (omega arith))))
 
--- The report of this end was written, and then it was sent on, or not.
-pub record IsSent (ended : Ended) (whole new : Option (List ℕ)) (result : Result Ended DriverFault) : Type 0 where
-  pub same : IfOk result (λ e. e ≡ ended)
+-- All that this answer tells of was written, and then it was sent on, or not.
+pub record IsSent {A : Type 0} (answer : A) (whole new : Option (List ℕ)) (result : Result A DriverFault) : Type 0 where
+  pub same : IfOk result (λ a. a ≡ answer)
   pub fault : IfErr result (λ f. f ≡ fault.Output)
   pub kept : Keeps whole new
 

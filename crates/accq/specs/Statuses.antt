@@ -1,22 +1,24 @@
 -- The status that the program ends with, and what it has written by then.
-use Rattle.std.specs.Prelude.{◌≡◌, ◌≢◌, ◌⊎◌, ◌==◌, ℕ, Bool, true, false, List, [], Option, Some, None, IfSome, Result, Ok, Err, if◌then◌else◌}
+use Rattle.std.specs.Prelude.{◌≡◌, ◌≢◌, ◌⊎◌, ◌==◌, ◌||◌, not, ℕ, Bool, true, false, List, [], Option, Some, None, IfSome, Result, Ok, Err, if◌then◌else◌}
 use Rattle.std.specs.Io.KnownBytes.{Appends}
 use Rattle.acc_driver.specs.declared.checks.CheckFault.{CheckFault}
 use Rattle.acc_driver.specs.declared.fault.DriverFault.{DriverFault}
 use Rattle.acc_driver.specs.declared.fault.DriverFault.TheVariants as fault
 use Rattle.acc_driver.specs.declared.options.Ended.{Ended}
 use Rattle.acc_driver.specs.Checks.{ChecksTexts}
+use Rattle.acc_driver.specs.Explorations.{ExploreAnswer, script_alone}
 use Rattle.acc_driver.specs.Inputs.{parts}
 use Rattle.acc_driver.specs.Replays.{Answers, IsRun, defaults}
 use Rattle.acc_driver.specs.Runs.{IsConfigured, ScriptAnswers}
 use Rattle.acc_driver.specs.Steps.{StepsAnswer}
+use Rattle.acc_explore.specs.declared.reports.Counts.{Counts}
 use Rattle.acc_cases.specs.Folders.{File}
 use Rattle.acc_cases.specs.Runs.{TestedAll}
 use Rattle.acc_cases.specs.declared.run.Tally.{Tally}
 use Rattle.acc_cases.specs.declared.run.TestFault.{TestFault}
 use Rattle.acc_cases.specs.declared.run.TestFault.TheVariants.{Folder as NotListed}
 use Rattle.accq.specs.Explanations.{text_for}
-use Rattle.accq.specs.Words.{Asked, AskedCheck, AskedReplay, AskedRun, AskedSteps, AskedTest, ToCheck, ToExplain, ToReplay, ToRun, ToShow, ToTest}
+use Rattle.accq.specs.Words.{Asked, AskedCheck, AskedExplore, AskedReplay, AskedRun, AskedSteps, AskedTest, ToCheck, ToExplain, ToExplore, ToReplay, ToRun, ToShow, ToTest}
 
 -- ## Replays and runs
 
@@ -89,6 +91,31 @@ pub record StepsAnswered (asked : AskedSteps) (holds : List ℕ → Option (List
   pub schedule : IfSome asked.schedule (λ name. AsksForOpen (opens name) answer)
   pub follows : status ≡ status_shown answer
 
+-- ## Explorations
+
+-- 0 where there is one report, and no host was refused in it; 1 for several, or where one was; 3 where there may be more
+abbrev pub status_explored : Result Counts DriverFault → ℕ
+status_explored (Ok counts) =
+    if not counts.whole then 3 else (if counts.refused || not (counts.reports == 1) then 1 else 0)
+status_explored (Err f) = status_for f
+
+-- What is answered where the runs of a script are to be explored, if it is known what the files hold: its file may hold a schedule too, which is left
+-- aside where no schedule is named.
+abbrev pub ExploreOfFiles : (List ℕ → Option (List ℕ)) → AskedExplore → Option (List ℕ) → Option (List ℕ) → Option (List ℕ) → Result Counts DriverFault → Type 0
+ExploreOfFiles holds asked None old new answer =
+    IfSome (holds asked.script) (λ text. ExploreAnswer asked.options asked.exploring (script_alone text) old new answer)
+ExploreOfFiles holds asked (Some schedule) old new answer =
+    IfSome (holds asked.script) (λ script. IfSome (holds schedule) (λ schedule.
+    ExploreAnswer asked.options asked.exploring (record { script = script; schedule = schedule }) old new answer))
+
+-- The runs that are asked for were explored, and the status follows.
+pub record Explored (asked : AskedExplore) (holds : List ℕ → Option (List ℕ)) (opens : List ℕ → Option Bool) (old new : Option (List ℕ)) (status : ℕ) : Type 0 where
+  pub answer : Result Counts DriverFault
+  pub answers : ExploreOfFiles holds asked asked.schedule old new answer
+  pub script : AsksForOpen (opens asked.script) answer
+  pub schedule : IfSome asked.schedule (λ name. AsksForOpen (opens name) answer)
+  pub follows : status ≡ status_explored answer
+
 -- ## Checks
 
 -- 0 where nothing is wrong, 2 where something is, 3 where that couldn't be told
@@ -149,6 +176,7 @@ abbrev pub IsDone : Asked → (List ℕ → Option (List ℕ)) → (List ℕ →
 IsDone (ToReplay asked) holds opens files_in old new status = FilesReplayed asked holds opens old new status
 IsDone (ToRun asked) holds opens files_in old new status = FileRun asked holds opens old new status
 IsDone (ToShow asked) holds opens files_in old new status = StepsAnswered asked holds opens old new status
+IsDone (ToExplore asked) holds opens files_in old new status = Explored asked holds opens old new status
 IsDone (ToCheck asked) holds opens files_in old new status = FilesChecked asked holds opens old new status
 IsDone (ToExplain word) holds opens files_in old new status = Explains (text_for word) old new status
 IsDone (ToTest asked) holds opens files_in old new status = FolderTested asked files_in status

@@ -5,18 +5,22 @@ use Rattle.std.specs.Char.{is_ascii_digit}
 use Rattle.std.specs.List.{list_all}
 use Rattle.std.specs.Str.Parse.{digits_value}
 use Rattle.acc_base.specs.declared.config.TheConstants.{MAX_DEVICES, MAX_CAPACITY, MAX_ROOM}
+use Rattle.acc_driver.specs.declared.explorations.Exploring.{Exploring}
 use Rattle.acc_driver.specs.declared.options.Options.{Options}
 use Rattle.acc_driver.specs.declared.steps.StepsAs.{StepsAs}
 use Rattle.acc_driver.specs.declared.steps.StepsAs.TheVariants.{AllLines, Lines, Picture}
 use Rattle.acc_driver.specs.Replays.{AreUsable}
+use Rattle.acc_explore.specs.declared.reports.Form.TheVariants.{Short, Whole}
 use Rattle.clap.specs.Words.{App, Kinds, Row, Rule, Text, fault_of, first_of, new_app, new_rule, subcommand_of, with_rule, with_subcommand}
 use Rattle.accq.specs.declared.command.Check.{Check}
+use Rattle.accq.specs.declared.command.Explore.{Explore}
 use Rattle.accq.specs.declared.command.Replay.{Replay}
 use Rattle.accq.specs.declared.command.Run.{Run}
 use Rattle.accq.specs.declared.command.Steps.{Steps}
 use Rattle.accq.specs.declared.command.Task.{Task}
 use Rattle.accq.specs.declared.command.Test.{Test}
 use Rattle.accq.specs.declared.command.Task.TheVariants as task
+use Rattle.accq.specs.declared.words.TheConstants.{MAX_STATES}
 use Rattle.clap.specs.Simple.{on_top}
 use Rattle.clap.specs.declared.builder.ArgAction.TheVariants.{Set, SetTrue}
 use Rattle.clap.specs.declared.builder.value_parser.ValueParser.TheVariants.{Unsigned}
@@ -64,6 +68,12 @@ steps_app =
     with_options (with_rule (with_rule (with_rule (with_rule (new_app (codes "steps")) (name_rule (codes "SCRIPT"))) (optional_rule (codes "SCHEDULE")))
     (flag_rule (codes "idle"))) (flag_rule (codes "picture")))
 
+-- accq explore SCRIPT [SCHEDULE] [--states N] [--close] [--short], with options
+abbrev pub explore_app : App
+explore_app =
+    with_options (with_rule (with_rule (with_rule (with_rule (with_rule (new_app (codes "explore")) (name_rule (codes "SCRIPT"))) (optional_rule (codes "SCHEDULE")))
+    (number_rule (codes "states") (codes "1000000") MAX_STATES)) (flag_rule (codes "close"))) (flag_rule (codes "short")))
+
 -- accq check SCRIPT [SCHEDULE] [--devices N]
 abbrev pub check_app : App
 check_app = with_devices (with_rule (with_rule (new_app (codes "check")) (name_rule (codes "SCRIPT"))) (optional_rule (codes "SCHEDULE")))
@@ -78,9 +88,9 @@ test_app = with_options (with_rule (with_rule (new_app (codes "test")) (name_rul
 
 abbrev pub accq_app : App
 accq_app =
-    with_subcommand (with_subcommand (with_subcommand (with_subcommand (with_subcommand (with_subcommand
+    with_subcommand (with_subcommand (with_subcommand (with_subcommand (with_subcommand (with_subcommand (with_subcommand
     (on_top (λ s. record s { has_version = true; subcommand_required = true }) (new_app (codes "accq")))
-    replay_app.top) run_app.top) steps_app.top) check_app.top) explain_app.top) test_app.top
+    replay_app.top) run_app.top) steps_app.top) explore_app.top) check_app.top) explain_app.top) test_app.top
 
 -- ## What they mean
 
@@ -104,6 +114,14 @@ pub record AskedSteps : Type 0 where
   pub options : Options
   pub form : StepsAs
 
+-- The runs of a script are to be explored, by the names of its file and of that of a schedule behind which they go on, if there is one; under options;
+-- how far, and how that is told.
+pub record AskedExplore : Type 0 where
+  pub script : Text
+  pub schedule : Option Text
+  pub options : Options
+  pub exploring : Exploring
+
 -- Files are to be checked, by their names, for so many devices: a script and a schedule, or, where there is no second, one that may hold both.
 pub record AskedCheck : Type 0 where
   pub script : Text
@@ -116,11 +134,12 @@ pub record AskedTest : Type 0 where
   pub options : Options
   pub bless : Bool
 
--- What words can ask for: a replay, a run, the steps of a replay, a check, what the guide says of what a word names, or a test.
+-- What words can ask for: a replay, a run, the steps of a replay, an exploration, a check, what the guide says of what a word names, or a test.
 pub data Asked : Type 0 where
   ToReplay : AskedReplay → Asked
   ToRun : AskedRun → Asked
   ToShow : AskedSteps → Asked
+  ToExplore : AskedExplore → Asked
   ToCheck : AskedCheck → Asked
   ToExplain : Text → Asked
   ToTest : AskedTest → Asked
@@ -166,6 +185,17 @@ steps_in rows =
     option_and_then (λ options. option_map (λ script. record { script = script; schedule = first_of (codes "SCHEDULE") rows; options = options; form = form_in rows })
     (first_of (codes "SCRIPT") rows)) (options_in rows)
 
+abbrev pub exploring_in : List Row → Option Exploring
+exploring_in rows =
+    option_map (λ states. record { closing = has_flag rows (codes "close"); states = states; form = if has_flag rows (codes "short") then Short else Whole })
+    (number_of rows (codes "states") MAX_STATES)
+
+abbrev pub explore_in : List Row → Option AskedExplore
+explore_in rows =
+    option_and_then (λ options. option_and_then (λ exploring. option_map (λ script.
+    record { script = script; schedule = first_of (codes "SCHEDULE") rows; options = options; exploring = exploring })
+    (first_of (codes "SCRIPT") rows)) (exploring_in rows)) (options_in rows)
+
 abbrev pub check_in : List Row → Option AskedCheck
 check_in rows =
     option_and_then (λ devices. option_map (λ script. record { script = script; schedule = first_of (codes "SCHEDULE") rows; devices = devices })
@@ -181,9 +211,10 @@ abbrev pub asked_behind : Text → List Row → Option Asked
 asked_behind name rows =
     if bytes_eq name (codes "run") then option_map ToRun (run_in rows)
     else (if bytes_eq name (codes "steps") then option_map ToShow (steps_in rows)
+    else (if bytes_eq name (codes "explore") then option_map ToExplore (explore_in rows)
     else (if bytes_eq name (codes "check") then option_map ToCheck (check_in rows)
     else (if bytes_eq name (codes "explain") then option_map ToExplain (first_of (codes "WORD") rows)
-    else (if bytes_eq name (codes "test") then option_map ToTest (test_in rows) else option_map ToReplay (replay_in rows)))))
+    else (if bytes_eq name (codes "test") then option_map ToTest (test_in rows) else option_map ToReplay (replay_in rows))))))
 
 -- what was found, unless there is an error of some kind
 abbrev pub unless_any : {A : Type 0} → Kinds → Option A → Option A
@@ -206,6 +237,10 @@ run_by r = record { script = r.script.now; options = r.options; progress = r.pro
 abbrev pub steps_by : Steps → AskedSteps
 steps_by s = record { script = s.script.now; schedule = option_map (λ n. n.now) s.schedule; options = s.options; form = s.form }
 
+-- what is explored
+abbrev pub explore_by : Explore → AskedExplore
+explore_by e = record { script = e.script.now; schedule = option_map (λ n. n.now) e.schedule; options = e.options; exploring = e.exploring }
+
 -- what is checked
 abbrev pub check_by : Check → AskedCheck
 check_by c = record { script = c.script.now; schedule = option_map (λ s. s.now) c.schedule; devices = c.devices }
@@ -219,6 +254,7 @@ abbrev pub asked_by : Task → Asked
 asked_by (task.Replay r) = ToReplay (replay_by r)
 asked_by (task.Run r) = ToRun (run_by r)
 asked_by (task.Steps s) = ToShow (steps_by s)
+asked_by (task.Explore e) = ToExplore (explore_by e)
 asked_by (task.Check c) = ToCheck (check_by c)
 asked_by (task.Explain e) = ToExplain e.word.now
 asked_by (task.Test t) = ToTest (test_by t)
@@ -228,6 +264,7 @@ abbrev pub IsUsable : Task → Type 0
 IsUsable (task.Replay r) = AreUsable r.options
 IsUsable (task.Run r) = AreUsable r.options
 IsUsable (task.Steps s) = AreUsable s.options
+IsUsable (task.Explore e) = AreUsable e.options
 IsUsable (task.Check c) = (1 ≤ c.devices) × (c.devices ≤ MAX_DEVICES)
 IsUsable (task.Explain e) = Unit {0}
 IsUsable (task.Test t) = AreUsable t.options

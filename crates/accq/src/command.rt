@@ -6,12 +6,12 @@ ghost use Rattle.std.specs.List.{list_all};
 ghost use Rattle.clap.specs.Words.{app_of, first_of, found_of, kind_of, rows_of, subcommand_rows_of};
 ghost use Rattle.clap.specs.declared.error.kind.ErrorKind.TheVariants.{OutOfMemory};
 ghost use Rattle.acc_base.specs.declared.config.TheConstants.{MAX_DEVICES};
-ghost use Rattle.accq.specs.Words.{accq_app, asked_behind, asked_by, asked_of, check_by, check_in, form_in, has_flag, number_in, number_of, options_in, replay_by, replay_in, run_by, run_in, steps_by, steps_in, test_by, test_in, IsUsable};
+ghost use Rattle.accq.specs.Words.{accq_app, asked_behind, asked_by, asked_of, check_by, check_in, explore_by, explore_in, exploring_in, form_in, has_flag, number_in, number_of, options_in, replay_by, replay_in, run_by, run_in, steps_by, steps_in, test_by, test_in, IsUsable};
 ghost use Rattle.acc_driver.specs.Replays.{AreUsable};
 
-use crate::words::accq_words;
+use crate::words::{MAX_STATES, accq_words};
 use acc_base::{MAX_CAPACITY, MAX_DEVICES, MAX_ROOM};
-use acc_driver::{Options, StepsAs};
+use acc_driver::{Exploring, Form, Options, StepsAs};
 use clap::error::ErrorKind;
 use clap::{ArgMatches, Command, Error};
 use std::alloc::Global;
@@ -43,6 +43,16 @@ pub struct Steps<'a> {
     pub form: StepsAs,
 }
 
+/// Files whose runs are to be explored, by their names, under which options, and how: a script, and a schedule behind which they go on,
+/// if there is one.
+#[derive(Clone, Copy)]
+pub struct Explore<'a> {
+    pub script: &'a str,
+    pub schedule: Option<&'a str>,
+    pub options: Options,
+    pub exploring: Exploring,
+}
+
 /// Files that are to be checked, by their names, for so many devices: a script and a schedule, or one that may hold both.
 #[derive(Clone, Copy)]
 pub struct Check<'a> {
@@ -72,6 +82,7 @@ pub enum Task<'a> {
     Replay(Replay<'a>),
     Run(Run<'a>),
     Steps(Steps<'a>),
+    Explore(Explore<'a>),
     Check(Check<'a>),
     Explain(Explain<'a>),
     Test(Test<'a>),
@@ -199,6 +210,39 @@ fn steps_in<'a>(matches: &ArgMatches<'a>) -> Option<Steps<'a>>
     })
 }
 
+// How far it is explored, and how that is told, unless a number isn't written in digits.
+fn exploring_in(matches: &ArgMatches) -> Option<Exploring>
+    ensures { result ≡ exploring_in (rows_of (found_of matches.now)) }
+{
+    let states = number_of(matches, "states", u64::from(MAX_STATES))?;
+    Some(Exploring {
+        closing: has_flag(matches, "close"),
+        states: states as u32,
+        form: if has_flag(matches, "short") {
+            Form::Short
+        } else {
+            Form::Whole
+        },
+    })
+}
+
+// The exploration that the words behind `explore` ask for, unless a number isn't written in digits.
+fn explore_in<'a>(matches: &ArgMatches<'a>) -> Option<Explore<'a>>
+    ensures value { option_map explore_by result ≡ explore_in (rows_of (found_of matches.now)) }
+    ensures usable { IfSome result (λ e. AreUsable e.options) }
+{
+    let options = options_in(matches)?;
+    let exploring = exploring_in(matches)?;
+    let script = text_of(matches, "SCRIPT")?;
+    let schedule = text_of(matches, "SCHEDULE");
+    Some(Explore {
+        script,
+        schedule,
+        options,
+        exploring,
+    })
+}
+
 // What is to be checked by the words behind `check`, unless a number isn't written in digits.
 fn check_in<'a>(matches: &ArgMatches<'a>) -> Option<Check<'a>>
     ensures value { option_map check_by result ≡ check_in (rows_of (found_of matches.now)) }
@@ -235,6 +279,7 @@ fn asked_behind<'a>(name: &str, matches: &ArgMatches<'a>) -> Option<Task<'a>>
     match name {
         "run" => Some(Task::Run(run_in(matches)?)),
         "steps" => Some(Task::Steps(steps_in(matches)?)),
+        "explore" => Some(Task::Explore(explore_in(matches)?)),
         "check" => Some(Task::Check(check_in(matches)?)),
         "explain" => Some(Task::Explain(Explain {
             word: text_of(matches, "WORD")?,

@@ -2,15 +2,15 @@
 
 /// What the program is.
 pub const ABOUT: &str =
-    "accq replays a script of hosts and OpenACC directives under a schedule, or runs it by threads, and\nreports what it means: what is present with its counters, and what each queue has performed.";
+    "accq replays a script of hosts and OpenACC directives under a schedule, or runs it by threads, or\nexplores all that can happen, and reports what it means: what is present with its counters, and\nwhat each queue has performed.";
 
 /// The ways to call the program.
 pub const USAGE: &str =
-    "accq replay [OPTIONS] <SCRIPT> <SCHEDULE>\n       accq run [OPTIONS] <SCRIPT>\n       accq steps [OPTIONS] <SCRIPT> [SCHEDULE]\n       accq check [OPTIONS] <SCRIPT> [SCHEDULE]\n       accq explain <WORD>\n       accq test [OPTIONS] <FOLDER>\n       accq < INPUT\n       accq --help";
+    "accq replay [OPTIONS] <SCRIPT> <SCHEDULE>\n       accq run [OPTIONS] <SCRIPT>\n       accq steps [OPTIONS] <SCRIPT> [SCHEDULE]\n       accq explore [OPTIONS] <SCRIPT> [SCHEDULE]\n       accq check [OPTIONS] <SCRIPT> [SCHEDULE]\n       accq explain <WORD>\n       accq test [OPTIONS] <FOLDER>\n       accq < INPUT\n       accq --help";
 
 /// What stands behind the program's options.
 pub const PROGRAM: &str =
-    "Example: a script in question.acc, and a schedule `round 20` in question.schedule\n    accq check question.acc question.schedule\n    accq replay question.acc question.schedule\n    accq run question.acc\n    accq steps question.acc question.schedule\n    accq explain PartlyPresent\n    accq test examples\n\nWithout words accq replays standard input: a script, a line %%, and a schedule.\n\nStatus: 0; 1 where a host was refused or a case failed; 2 for a fault of the script, the schedule or\nthe words; 3 for a fault of a file, of memory or of the run. docs/GUIDE.md tells how to ask a question\nand to read the report, docs/LANGUAGE.md all that scripts, schedules and reports can say.";
+    "Example: a script in question.acc, and a schedule `round 20` in question.schedule\n    accq check question.acc question.schedule\n    accq replay question.acc question.schedule\n    accq run question.acc\n    accq steps question.acc question.schedule\n    accq explore question.acc\n    accq explain PartlyPresent\n    accq test examples\n\nWithout words accq replays standard input: a script, a line %%, and a schedule.\n\nStatus: 0; 1 where a host was refused, a case failed or a script has several reports; 2 for a fault of\nthe script, the schedule or the words; 3 for a fault of a file, of memory or of the run. docs/GUIDE.md tells how to ask a question\nand to read the report, docs/LANGUAGE.md all that scripts, schedules and reports can say.";
 
 /// What stands behind the options of `replay`.
 pub const REPLAY: &str =
@@ -23,6 +23,10 @@ pub const RUN: &str =
 /// What stands behind the options of `steps`.
 pub const STEPS: &str =
     "A line has the number of the event among all of the schedule, the schedule's line, who went on, of a\nhost the line of its statement, and what that did. Behind the lines stands the report of `replay`.\nWith --idle an event that did nothing has a line too, and of a queue it tells what it waits for.\n\nWith --picture standard output gets an SVG of at most 1 MiB in place of lines and report: a lane for\neach host and queue, a box for each event with its line as a title, an arrow from what is awaited.\n\nExample: accq steps question.acc question.schedule --picture > question.svg";
+
+/// What stands behind the options of `explore`.
+pub const EXPLORE: &str =
+    "Hosts and queues go on in every order, from the start or from where the schedule leads, until none\ncan. Each different report is told once, with the shortest schedule that leads to it, which `replay`\ntakes; the last line tells whether these are all. A schedule in the file of the script is left aside.\nThe owner doesn't close, unless --close says that it may at any point.\n\nStatus: 0 where there is one report and no host was refused in it, 1 for more, 3 where so many states\nwere kept that there may be more.\n\nExample: accq explore question.acc --states 100000";
 
 /// What stands behind the options of `check`.
 pub const CHECK: &str =

@@ -1,5 +1,5 @@
 //! `accq`: replays a script of hosts and OpenACC directives under a schedule, or runs it by threads, and reports what it means;
-//! or tells what each event of a replay did, or checks both texts, or explains a fault, or tests the cases of a folder.
+//! or tells what each event of a replay did, or all reports that a script can have; or checks both texts, or explains a fault, or tests the cases of a folder.
 #![tactic(auto)]
 
 mod cases;
@@ -7,6 +7,7 @@ mod checks;
 mod command;
 mod explain;
 mod explanations;
+mod explorations;
 mod help;
 mod laws;
 mod meter;
@@ -22,6 +23,8 @@ mod tests_of_cases;
 mod tests_of_checks;
 #[cfg(test)]
 mod tests_of_explanations;
+#[cfg(test)]
+mod tests_of_explorations;
 #[cfg(test)]
 mod tests_of_steps;
 mod words;

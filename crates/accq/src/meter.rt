@@ -1,7 +1,7 @@
-//! The line on a terminal that tells how far a run has come.
+//! The line on a terminal that tells how far a run or an exploration has come.
 
 use acc_base::{FIRST_VALUE, MAX_DEVICES, QUEUES, QueueAt, QueueId};
-use acc_driver::{Monitor, Reader};
+use acc_driver::{Monitor, Reader, Watcher};
 use std::io::{IsTerminal, Result, Write};
 
 /// Where the cursor goes back to the beginning of its line, and what stands there is gone.
@@ -39,6 +39,18 @@ impl<'a> Monitor for Meter<'a> {
             let _ = errors.write_all(CLEAR);
             let _ = errors.write_all(line.as_slice());
         }
+    }
+
+    fn end(&self) {
+        let _ = self.rt.stderr().write_all(CLEAR);
+    }
+}
+
+impl<'a> Watcher for Meter<'a> {
+    fn found(&self, states: u32) {
+        let mut errors = self.rt.stderr();
+        let _ = errors.write_all(CLEAR);
+        let _ = write!(errors, "{states} states");
     }
 
     fn end(&self) {

@@ -95,14 +95,14 @@ pub fn run_file<T: Threads + Wait + Sync, F: Read + Drop, S: Store<F>, W: Write,
     sent(ended, output)
 }
 
-/// Sees to it that the whole report has gone out.
-pub(crate) fn sent<W: Write>(ended: Ended, output: &mut W) -> Result<Ended, DriverFault>
-    ensures same { IfOk result (λ e. e ≡ ended) }
+/// Sees to it that all that was written has gone out.
+pub(crate) fn sent<T: Drop, W: Write>(answer: T, output: &mut W) -> Result<T, DriverFault>
+    ensures same { IfOk result (λ a. a ≡ answer) }
     ensures fault { IfErr result (λ f. f ≡ Output) }
     ensures kept { Keeps (W.contents output.old) (W.contents output.new) }
 {
     match output.flush() {
-        Ok(()) => Ok(ended),
+        Ok(()) => Ok(answer),
         Err(_) => Err(DriverFault::Output),
     }
 }

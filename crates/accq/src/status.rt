@@ -1,7 +1,7 @@
 //! The program between its words, its files and its streams, and the status that it ends with.
 
 ghost use Rattle.std.specs.Prelude.{◌≡◌, ◌≤◌, ◌<◌, ◌⊎◌, map, length};
-ghost use Rattle.accq.specs.Statuses.{InputReplayed, TellsWords, status_after, status_checked, status_for, status_shown, status_tested};
+ghost use Rattle.accq.specs.Statuses.{InputReplayed, TellsWords, status_after, status_checked, status_explored, status_for, status_shown, status_tested};
 ghost use Rattle.accq.specs.Words.{asked_of};
 ghost use Rattle.clap.specs.Words.{kind_of};
 ghost use Rattle.clap.specs.declared.error.kind.ErrorKind.TheVariants.{OutOfMemory};
@@ -10,11 +10,12 @@ use crate::cases::test_folder;
 use crate::checks::check_files;
 use crate::command::{Task, task_of};
 use crate::explain::explain;
+use crate::explorations::explore_files;
 use crate::replays::{replay_files, replay_input, run_file};
 use crate::steps::show_steps;
 use crate::store::{Folders, Store};
 use acc_cases::{Folder, Tally, TestFault};
-use acc_driver::{CheckFault, DriverFault, Ended, Monitor, Remains};
+use acc_driver::{CheckFault, Counts, DriverFault, Ended, Monitor, Remains, Watcher};
 use clap::Error;
 use clap::error::ErrorKind;
 use std::alloc::Global;
@@ -29,7 +30,9 @@ use std::thread::Threads;
 /// them. The report goes to the output, and the answer is 0, or 1 where a host was refused. A
 /// fault of a text or of the words is answered by 2, all else by 3, and told to the errors: by one line, or for the words
 /// by the parser's own text. What a run left is put into `remains`. The words `steps SCRIPT SCHEDULE` replay two files and show what each
-/// event did, before the report or, with `--picture`, in a picture, and are answered so too. The words `check SCRIPT SCHEDULE`, or `check` and one
+/// event did, before the report or, with `--picture`, in a picture, and are answered so too. The words `explore SCRIPT`, with options, tell all reports that the script can have, or, with a schedule behind the script's name, those
+/// that it can have behind that: the answer is 0 where there is one and no host was refused in it, 1 for several or where one was, and 3
+/// where so many states were to be kept that there may be more; the meter, if there is one, is shown how many are found. The words `check SCRIPT SCHEDULE`, or `check` and one
 /// name, run nothing: the answer is 0 where nothing is wrong with these files, and 2 where what is wrong is told to the output.
 /// With `explain` and a word it is told what the guide says of the fault that the word names; the answer is 2 where it names none.
 /// The words `test FOLDER`, with options, test all cases of a folder, and tell the output of each: the answer is 0 where none fails,
@@ -43,7 +46,7 @@ pub fn status_of<
     R: Read,
     W: Write,
     E: Write,
-    M: Monitor + Sync,
+    M: Monitor + Watcher + Sync,
 >(
     rt: &T,
     alloc: Global,
@@ -75,6 +78,10 @@ pub fn status_of<
         Ok(Task::Steps(asked)) => {
             let answer = show_steps(alloc, &asked, files, output, remains);
             status_shown(answer, errors)
+        }
+        Ok(Task::Explore(asked)) => {
+            let answer = explore_files(alloc, &asked, files, output, &meter);
+            status_explored(answer, errors)
         }
         Ok(Task::Check(asked)) => {
             let answer = check_files(alloc, &asked, files, output);
@@ -114,6 +121,18 @@ pub(crate) fn status_shown<E: Write>(
             let _ = errors.write_all(b"accq: too long for a picture\n");
             3
         }
+        Err(fault) => told(fault, errors),
+    }
+}
+
+/// The status of an exploration, whose fault is told.
+pub(crate) fn status_explored<E: Write>(answer: Result<Counts, DriverFault>, errors: &mut E) -> u8
+    ensures status { result ≡ status_explored answer }
+    ensures quiet { result < 2 → errors.new ≡ errors.old }
+{
+    match answer {
+        Ok(counts) if !counts.whole => 3,
+        Ok(counts) => u8::from(counts.refused || counts.reports != 1),
         Err(fault) => told(fault, errors),
     }
 }

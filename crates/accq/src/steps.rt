@@ -74,8 +74,8 @@ fn steps_opened<F: Read + Drop, S: Store<F>, W: Write>(
     }
 }
 
-// The file of a name, from its first byte on.
-fn open<F: Read + Drop, S: Store<F>>(files: &S, name: &str) -> Result<F, DriverFault>
+/// The file of a name, from its first byte on.
+pub(crate) fn open<F: Read + Drop, S: Store<F>>(files: &S, name: &str) -> Result<F, DriverFault>
     ensures bytes { IfOk result (λ file. IfSome (S.holds files.now name.now) (λ bytes. F.remaining file ≡ Some bytes)) }
     ensures opened { AsksForOpen (S.opens files.now name.now) result }
     ensures fault { IfErr result (λ fault. fault ≡ Input) }

@@ -6,7 +6,7 @@ use crate::meter::{MAX_SEATS, put_line};
 use crate::status::{status_of, told, told_no_text};
 use crate::store::Store;
 use acc_base::QUEUES;
-use acc_driver::{DriverFault, Monitor, NoMonitor, Reader, Remains};
+use acc_driver::{DriverFault, Monitor, NoMonitor, Reader, Remains, Watcher};
 use std::alloc::Global;
 use std::io::{Error, ErrorKind, Read, Result, Write};
 use std::process::Abort;
@@ -75,7 +75,7 @@ impl Write for Narrow {
 /// No meter.
 const NOBODY: Option<&NoMonitor> = None;
 
-/// A meter that counts how often it was told that the run is over.
+/// A meter that counts how often it was told that the run or the exploration is over.
 #[derive(Drop)]
 struct Ends {
     count: AtomicU64,
@@ -83,6 +83,14 @@ struct Ends {
 
 impl Monitor for Ends {
     fn show(&self, _reader: &mut Reader) {}
+
+    fn end(&self) {
+        self.count.fetch_add(1, Ordering::SeqCst);
+    }
+}
+
+impl Watcher for Ends {
+    fn found(&self, _states: u32) {}
 
     fn end(&self) {
         self.count.fetch_add(1, Ordering::SeqCst);
@@ -683,7 +691,7 @@ fn ends_told<T: Abort + Threads + Wait + Sync>(rt: &T, alloc: Global, words: &[&
     ends.count.load(Ordering::SeqCst)
 }
 
-/// A meter is told of a run that is to be told, and of no other.
+/// A meter is told of a run that is to be told, and of no other; and of an exploration.
 #[test]
 fn a_run_is_told(rt: HostRuntime) -> std::result::Result<(), Fail> {
     let alloc = rt.alloc();
@@ -692,6 +700,7 @@ fn a_run_is_told(rt: HostRuntime) -> std::result::Result<(), Fail> {
         1
     );
     assert_eq!(rt; ends_told(&rt, alloc, &["accq", "run", "doubled"]), 0);
+    assert_eq!(rt; ends_told(&rt, alloc, &["accq", "explore", "doubled"]), 1);
     Ok(())
 }
 

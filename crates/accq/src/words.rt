@@ -4,12 +4,15 @@ ghost use Rattle.std.specs.Prelude.{◌≡◌, ◌<◌, ◌^◌, codes, false, I
 ghost use Rattle.clap.specs.Words.{app_of, rule_of};
 ghost use Rattle.clap.specs.declared.builder.command.Command.TheViews.{out-Command as fields_of};
 ghost use Rattle.acc_base.specs.declared.config.TheConstants.{MAX_DEVICES};
-ghost use Rattle.accq.specs.Words.{accq_app, check_app, explain_app, flag_rule, name_rule, number_rule, optional_rule, replay_app, run_app, steps_app, test_app, with_options};
+ghost use Rattle.accq.specs.Words.{accq_app, check_app, explain_app, explore_app, flag_rule, name_rule, number_rule, optional_rule, replay_app, run_app, steps_app, test_app, with_options};
 
 use crate::help;
 use acc_base::{MAX_CAPACITY, MAX_DEVICES, MAX_ROOM};
 use clap::{Arg, ArgAction, Command, value_parser};
 use std::alloc::{AllocError, Global};
+
+/// How many states an exploration may keep.
+pub(crate) const MAX_STATES: u32 = 10_000_000;
 
 // An option with a number from 1 to the most that a run may have.
 fn number<'a>(alloc: Global, name: &'a str, help: &'a str, default: &'a str, most: u64) -> Arg<'a>
@@ -146,6 +149,36 @@ fn steps_words<'a>(alloc: Global) -> Result<Command<'a>, AllocError>
     with_options(alloc, words)
 }
 
+// The words behind `explore`.
+fn explore_words<'a>(alloc: Global) -> Result<Command<'a>, AllocError>
+    ensures app { IfOk result (λ c. app_of c ≡ explore_app) }
+    ensures local { IfOk result (λ c. (fields_of c).has_globals ≡ false) }
+{
+    let words = Command::new(alloc, "explore")
+        .about("Tells all reports that a script can have, each with a schedule")
+        .after_help(help::EXPLORE)
+        .arg(name(alloc, "SCRIPT", "The file of the script"))?
+        .arg(optional(
+            alloc,
+            "SCHEDULE",
+            "The file of a schedule, behind which the runs go on",
+        ))?
+        .arg(number(
+            alloc,
+            "states",
+            "How many states are kept at most",
+            "1000000",
+            u64::from(MAX_STATES),
+        ))?
+        .arg(flag(alloc, "close", "The owner may close at any point"))?
+        .arg(flag(
+            alloc,
+            "short",
+            "Tells each report on one line, without a schedule, and nothing else",
+        ))?;
+    with_options(alloc, words)
+}
+
 // The words behind `check`.
 fn check_words<'a>(alloc: Global) -> Result<Command<'a>, AllocError>
     ensures app { IfOk result (λ c. app_of c ≡ check_app) }
@@ -208,6 +241,7 @@ pub fn accq_words<'a>(alloc: Global) -> Result<Command<'a>, AllocError>
         .subcommand(replay_words(alloc)?)?
         .subcommand(run_words(alloc)?)?
         .subcommand(steps_words(alloc)?)?
+        .subcommand(explore_words(alloc)?)?
         .subcommand(check_words(alloc)?)?
         .subcommand(explain_words(alloc)?)?
         .subcommand(test_words(alloc)?)

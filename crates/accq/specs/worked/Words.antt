@@ -4,7 +4,9 @@ use Rattle.clap.specs.Words.{Text}
 use Rattle.acc_driver.specs.Replays.{defaults}
 use Rattle.acc_driver.specs.declared.steps.StepsAs.{StepsAs}
 use Rattle.acc_driver.specs.declared.steps.StepsAs.TheVariants.{AllLines, Lines, Picture}
-use Rattle.accq.specs.Words.{Asked, ToCheck, ToExplain, ToReplay, ToRun, ToShow, ToTest, asked_of}
+use Rattle.acc_explore.specs.declared.reports.Form.{Form}
+use Rattle.acc_explore.specs.declared.reports.Form.TheVariants.{Short, Whole}
+use Rattle.accq.specs.Words.{Asked, ToCheck, ToExplain, ToExplore, ToReplay, ToRun, ToShow, ToTest, asked_of}
 
 -- a replay of the files a and b, with these options
 abbrev pub asks : ℕ → ℕ → ℕ → Option Asked
@@ -28,6 +30,15 @@ asks_for_steps schedule form = Some (ToShow (record { script = codes "a"; schedu
 abbrev pub steps : List Text → Option Asked
 steps words = asked_of (codes "accq" ∷ codes "steps" ∷ words)
 
+-- an exploration of the file a behind this schedule, with default options, so far and told so
+abbrev pub asks_to_explore : Option Text → Bool → ℕ → Form → Option Asked
+asks_to_explore schedule closing states form =
+    Some (ToExplore (record { script = codes "a"; schedule = schedule; options = defaults; exploring = record { closing = closing; states = states; form = form } }))
+
+-- behind `accq explore`
+abbrev pub explore : List Text → Option Asked
+explore words = asked_of (codes "accq" ∷ codes "explore" ∷ words)
+
 -- a test of the folder a, for so many devices, whose reports are written anew or not
 abbrev pub asks_to_test : ℕ → Bool → Option Asked
 asks_to_test devices bless =
@@ -49,7 +60,8 @@ check words = asked_of (codes "accq" ∷ codes "check" ∷ words)
 abbrev pub test : List Text → Option Asked
 test words = asked_of (codes "accq" ∷ codes "test" ∷ words)
 
--- Two names behind `replay` alone, or one behind `run`, ask for the default options; one or two behind `check` for one device;
+-- Two names behind `replay` alone, or one behind `run`, ask for the default options; one or two behind `check` for one device; one or
+-- two behind `explore` for a million states and no close;
 -- `explain` has one word, and `test` one folder. An option stands before,
 -- between or behind them, with `=` or without; a flag stands alone.
 pub record AreAsked : Type 0 where
@@ -68,6 +80,8 @@ pub record AreAsked : Type 0 where
   pub lines : steps (codes "a" ∷ codes "b" ∷ []) ≡ asks_for_steps (Some (codes "b")) Lines
   pub all_lines : steps (codes "a" ∷ codes "--idle" ∷ []) ≡ asks_for_steps None AllLines
   pub picture : steps (codes "--picture" ∷ codes "a" ∷ codes "b" ∷ codes "--idle" ∷ []) ≡ asks_for_steps (Some (codes "b")) Picture
+  pub all_reports : explore (codes "a" ∷ []) ≡ asks_to_explore None false 1000000 Whole
+  pub reports_behind : explore (codes "--close" ∷ codes "a" ∷ codes "--states=7" ∷ codes "b" ∷ codes "--short" ∷ []) ≡ asks_to_explore (Some (codes "b")) true 7 Short
   pub one_folder : test (codes "a" ∷ []) ≡ asks_to_test 1 false
   pub anew : test (codes "--bless" ∷ codes "a" ∷ codes "--devices=2" ∷ []) ≡ asks_to_test 2 true
   pub for_devices : check (codes "--devices" ∷ codes "4" ∷ codes "a" ∷ codes "b" ∷ []) ≡ asks_to_check (Some (codes "b")) 4
@@ -101,6 +115,10 @@ pub record AreRefused : Type 0 where
   pub two_words : asked_of (codes "accq" ∷ codes "explain" ∷ codes "F6" ∷ codes "F7" ∷ []) ≡ None
   pub steps_of_no_file : steps [] ≡ None
   pub picture_of_a_replay : replay (codes "a" ∷ codes "b" ∷ codes "--picture" ∷ []) ≡ None
+  pub no_script : explore (codes "--short" ∷ []) ≡ None
+  pub no_states : explore (codes "a" ∷ codes "--states=0" ∷ []) ≡ None
+  pub many_states : explore (codes "a" ∷ codes "--states" ∷ codes "10000001" ∷ []) ≡ None
+  pub close_of_a_run : run (codes "a" ∷ codes "--close" ∷ []) ≡ None
   pub no_folder : test (codes "--bless" ∷ []) ≡ None
   pub two_folders : test (codes "a" ∷ codes "b" ∷ []) ≡ None
   pub no_cells : test (codes "a" ∷ codes "--cells=0" ∷ []) ≡ None

@@ -14,6 +14,7 @@ returns c =
     let replay = c.in_ok-subcommand.ensures.shape c.in_ok-replay_words.ensures.local ∙ ap₂ with_subcommand begun (ap (λ (a : App). a.top) c.in_ok-replay_words.ensures.app) in
     let run = c.in_ok-subcommand-2.ensures.shape c.in_ok-run_words.ensures.local ∙ ap₂ with_subcommand replay (ap (λ (a : App). a.top) c.in_ok-run_words.ensures.app) in
     let steps = c.in_ok-subcommand-3.ensures.shape c.in_ok-steps_words.ensures.local ∙ ap₂ with_subcommand run (ap (λ (a : App). a.top) c.in_ok-steps_words.ensures.app) in
-    let check = c.in_ok-subcommand-4.ensures.shape c.in_ok-check_words.ensures.local ∙ ap₂ with_subcommand steps (ap (λ (a : App). a.top) c.in_ok-check_words.ensures.app) in
-    let explain = c.in_ok-subcommand-5.ensures.shape c.in_ok-explain_words.ensures.local ∙ ap₂ with_subcommand check (ap (λ (a : App). a.top) c.in_ok-explain_words.ensures.app) in
-    IfOk-weaker c.subcommand-6.result _ _ (λ made adds. adds.shape c.in_ok-test_words.ensures.local ∙ ap₂ with_subcommand explain (ap (λ (a : App). a.top) c.in_ok-test_words.ensures.app)) c.subcommand-6.ensures
+    let explore = c.in_ok-subcommand-4.ensures.shape c.in_ok-explore_words.ensures.local ∙ ap₂ with_subcommand steps (ap (λ (a : App). a.top) c.in_ok-explore_words.ensures.app) in
+    let check = c.in_ok-subcommand-5.ensures.shape c.in_ok-check_words.ensures.local ∙ ap₂ with_subcommand explore (ap (λ (a : App). a.top) c.in_ok-check_words.ensures.app) in
+    let explain = c.in_ok-subcommand-6.ensures.shape c.in_ok-explain_words.ensures.local ∙ ap₂ with_subcommand check (ap (λ (a : App). a.top) c.in_ok-explain_words.ensures.app) in
+    IfOk-weaker c.subcommand-7.result _ _ (λ made adds. adds.shape c.in_ok-test_words.ensures.local ∙ ap₂ with_subcommand explain (ap (λ (a : App). a.top) c.in_ok-test_words.ensures.app)) c.subcommand-7.ensures
