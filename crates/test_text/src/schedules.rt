@@ -1,6 +1,8 @@
-//! A schedule with all its events in one list.
+//! A schedule with all its events in one list, and events that are written as one.
 
+use crate::answers::check_bytes;
 use acc_base::{DeviceId, HostId, QUEUES, QueueAt, QueueId};
+use acc_explore::put_schedule;
 use acc_host::Event;
 use acc_schedule::read_schedule;
 use std::test::Fail;
@@ -34,5 +36,42 @@ fn a_schedule_is_read_as_its_events(rt: HostRuntime) -> Result<(), Fail> {
     }
     assert!(rt; has_at(events, 6, Event::Host(HostId::new(0))));
     assert!(rt; has_at(events, 6 + round, Event::Close));
+    Ok(())
+}
+
+/// Schedules for two hosts and two devices, and the one that says the same events with a line for so many of one in a row.
+const WRITTEN: &[(&[u8], &[u8])] = &[
+    (b"", b""),
+    (b"host 1", b"host 1\n"),
+    (
+        b"host 0\n\nhost 0\nhost 1\nhost 0 1\n",
+        b"host 0 2\nhost 1\nhost 0\n",
+    ),
+    (
+        b"take 1 sync\ndo 1 sync\ndo 1 sync 2\ntake 1 noval 2\ndo 0 13\n",
+        b"take 1 sync\ndo 1 sync 3\ntake 1 noval 2\ndo 0 13\n",
+    ),
+    (
+        b"do 0 3\ndo 1 3\ndo 1 4\ntake 1 4\n",
+        b"do 0 3\ndo 1 3\ndo 1 4\ntake 1 4\n",
+    ),
+    (b"close\nclose\nhost 0\n", b"close\nclose\nhost 0\n"),
+    (
+        b"host 1 6000\nhost 1 6000\n",
+        b"host 1 10000\nhost 1 2000\n",
+    ),
+];
+
+/// Events are written with the words that a schedule has for them.
+#[test]
+fn events_are_written_as_a_schedule(rt: HostRuntime) -> Result<(), Fail> {
+    for (text, written) in WRITTEN {
+        let events = read_schedule(rt.alloc(), *text, 2, 2)?;
+        let mut out = Vec::new(rt.alloc());
+        let mut failed = false;
+        put_schedule(&mut out, &mut failed, events.as_slice());
+        assert!(rt; !failed);
+        check_bytes(&rt, out.as_slice(), *written);
+    }
     Ok(())
 }
