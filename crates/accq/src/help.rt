@@ -10,7 +10,7 @@ pub const USAGE: &str =
 
 /// What stands behind the program's options.
 pub const PROGRAM: &str =
-    "Example: a script in question.acc, and a schedule `round 20` in question.schedule\n    accq check question.acc question.schedule\n    accq replay question.acc question.schedule\n    accq run question.acc\n    accq steps question.acc question.schedule\n    accq explore question.acc\n    accq explain PartlyPresent\n    accq test examples\n\nWithout words accq replays standard input: a script, a line %%, and a schedule.\n\nStatus: 0; 1 where a host was refused, a case failed or a script has several reports; 2 for a fault of\nthe script, the schedule or the words; 3 for a fault of a file, of memory or of the run. docs/GUIDE.md tells how to ask a question\nand to read the report, docs/LANGUAGE.md all that scripts, schedules and reports can say.";
+    "Example: a script in question.acc, and a schedule `round 20` in question.schedule\n    accq check question.acc question.schedule\n    accq replay question.acc question.schedule\n    accq run question.acc\n    accq steps question.acc question.schedule\n    accq explore question.acc\n    accq explain PartlyPresent\n    accq test examples\n\nWithout words accq replays standard input: a script, a line %%, and a schedule.\n\nStatus: 0; 1 where a host was refused, a case failed or a script has several reports; 2 for a fault\nof the script, the schedule or the words; 3 for a fault of a file, of memory or of the run, and where\nan exploration stopped. docs/GUIDE.md tells how to ask a question and to read the report,\ndocs/LANGUAGE.md all that scripts, schedules and reports can say.";
 
 /// What stands behind the options of `replay`.
 pub const REPLAY: &str =
