@@ -419,7 +419,7 @@ const FAULTY_WORDS: &[(&[&str], &[u8])] = &[
     ),
     (
         &["accq", "question.acc"],
-        b"error: unrecognized subcommand 'question.acc'\n\nUsage: accq replay [OPTIONS] <SCRIPT> <SCHEDULE>\n       accq run [OPTIONS] <SCRIPT>\n       accq steps [OPTIONS] <SCRIPT> [SCHEDULE]\n       accq check [OPTIONS] <SCRIPT> [SCHEDULE]\n       accq explain <WORD>\n       accq test [OPTIONS] <FOLDER>\n       accq < INPUT\n       accq --help\n",
+        b"error: unrecognized subcommand 'question.acc'\n\nUsage: accq replay [OPTIONS] <SCRIPT> <SCHEDULE>\n       accq run [OPTIONS] <SCRIPT>\n       accq steps [OPTIONS] <SCRIPT> [SCHEDULE]\n       accq explore [OPTIONS] <SCRIPT> [SCHEDULE]\n       accq check [OPTIONS] <SCRIPT> [SCHEDULE]\n       accq explain <WORD>\n       accq test [OPTIONS] <FOLDER>\n       accq < INPUT\n       accq --help\n",
     ),
     (&["accq", ""], b"error: unrecognized subcommand ''"),
     (
