@@ -1,21 +1,32 @@
 -- Values spread over chains by number: which is found, and what a change of one chain makes of all.
-use Rattle.std.proofs.Common.{◌≡◌, ℕ, zero, suc, ◌<◌, List, [], ◌∷◌, length, get_or, set, Option, None, refl, sym, ap, subst, ◌∙◌, arith, inl, inr}
-use Rattle.std.specs.Prelude.{◌==◌, All}
+use Rattle.std.proofs.Common.{◌≡◌, ℕ, zero, suc, ◌<◌, ◌≤◌, List, [], ◌∷◌, ◌++◌, length, get_or, set, Option, None, refl, sym, ap, subst, ◌∙◌, arith, inl, inr}
+use Rattle.std.specs.Prelude.{◌==◌}
 use Rattle.std.specs.Option.{option_or}
 use Rattle.std.proofs.lemmas.Bool.{cases_eq, ne_eqb}
 use Rattle.std.proofs.lemmas.List.{get_or-set_other, get_or-set_same, get_or_default, length-set}
-use Rattle.std.proofs.lemmas.List.Elements.{All-head, All-tail}
 use Rattle.std.proofs.lemmas.List.Folds.{find-append}
 use Rattle.std.proofs.lemmas.Nat.{mod_below}
 use Rattle.acc_memory.specs.declared.buckets.TheConstants.{BUCKETS}
-use Rattle.acc_memory.specs.inner.Buckets.{AreOnce, AreSpread, IsSetBy, bucket_in, bucket_of, find_by, in_all}
+use Rattle.acc_memory.specs.inner.Buckets.{AreOnce, AreSpread, HaveSame, IsSetBy, bucket_in, bucket_of, find_by, in_all}
 use Rattle.acc_memory.proofs.ByNumber.{set_past}
 use Rattle.acc_memory.proofs.Found.{or_none}
 
-module _ {X : Type 0} (key : X → ℕ) where
-  bucket_low : (buckets : List (List X)) (n : ℕ) → AreSpread key buckets → bucket_of n < length buckets
-  bucket_low buckets n h = omega (arith, h.count, mod_below n BUCKETS (omega arith))
+pub bucket_low : (n : ℕ) → bucket_of n < BUCKETS
+bucket_low n = mod_below n BUCKETS (omega arith)
 
+bucket_past : {X : Type 0} (buckets : List (List X)) (k : ℕ) → length buckets ≤ k → bucket_in buckets k ≡ []
+bucket_past [] k past = refl
+bucket_past (xs ∷ buckets) zero past = absurd (omega (arith, past))
+bucket_past (xs ∷ buckets) (suc k) past = bucket_past buckets k (omega (arith, past))
+
+-- an empty chain behind the others is as good as none
+pub one_more : {X : Type 0} (buckets : List (List X)) → HaveSame buckets (buckets ++ [] ∷ [])
+one_more [] zero = refl
+one_more [] (suc k) = refl
+one_more (xs ∷ buckets) zero = refl
+one_more (xs ∷ buckets) (suc k) = one_more buckets k
+
+module _ {X : Type 0} (key : X → ℕ) where
   -- ## What is found
 
   none_in_all : (buckets : List (List X)) (n : ℕ) → ((k : ℕ) → find_by key (bucket_in buckets k) n ≡ None)
@@ -41,17 +52,22 @@ module _ {X : Type 0} (key : X → ℕ) where
       → find_by key (in_all buckets) n ≡ find_by key (bucket_in buckets (bucket_of n)) n
   find_spread buckets n h = found_in buckets n (bucket_of n) (λ j apart. h.own j n (λ e. apart (sym e)))
 
+  -- what has no chain isn't there
+  pub find_past : (buckets : List (List X)) (n : ℕ) → AreSpread key buckets → length buckets ≤ bucket_of n
+      → find_by key (in_all buckets) n ≡ None
+  find_past buckets n h past = find_spread buckets n h ∙ ap (λ xs. find_by key xs n) (bucket_past buckets (bucket_of n) past)
+
   -- the chain of a number, as a call reaches it
   pub record IsOwn (buckets : List (List X)) (n : ℕ) (xs : List X) : Type 0 where
     pub finds : find_by key xs n ≡ find_by key (in_all buckets) n
     pub once : AreOnce key xs
     pub is : xs ≡ bucket_in buckets (bucket_of n)
 
-  pub own_bucket : (buckets : List (List X)) (i n : ℕ) (xs : List X) → AreSpread key buckets → i ≡ bucket_of n → xs ≡ get_or buckets i xs
-      → IsOwn buckets n xs
-  own_bucket buckets i n xs h same is =
+  pub own_bucket : (buckets : List (List X)) (i n : ℕ) (xs : List X) → AreSpread key buckets → i < length buckets → i ≡ bucket_of n
+      → xs ≡ get_or buckets i xs → IsOwn buckets n xs
+  own_bucket buckets i n xs h low same is =
       let at : xs ≡ get_or buckets (bucket_of n) xs = rw same at is in
-      let here : xs ≡ bucket_in buckets (bucket_of n) = at ∙ sym (get_or_default buckets (bucket_of n) [] xs (bucket_low buckets n h)) in
+      let here : xs ≡ bucket_in buckets (bucket_of n) = at ∙ sym (get_or_default buckets (bucket_of n) [] xs (rw same at low)) in
       record {
         finds = ap (λ ys. find_by key ys n) here ∙ sym (find_spread buckets n h);
         once = subst (AreOnce key) (sym here) (h.once (bucket_of n));
@@ -60,18 +76,18 @@ module _ {X : Type 0} (key : X → ℕ) where
 
   -- ## A chain that changes
 
-  spread_set : (buckets : List (List X)) (n : ℕ) (x : Option X) (xs : List X) → AreSpread key buckets → AreOnce key xs
-      → IsSetBy key n x (bucket_in buckets (bucket_of n)) xs → AreSpread key (set buckets (bucket_of n) xs)
-  spread_set buckets n x xs h once is = record {
-    count = length-set buckets (bucket_of n) xs ∙ h.count;
+  spread_set : (buckets : List (List X)) (n : ℕ) (x : Option X) (xs : List X) → AreSpread key buckets → bucket_of n < length buckets
+      → AreOnce key xs → IsSetBy key n x (bucket_in buckets (bucket_of n)) xs → AreSpread key (set buckets (bucket_of n) xs)
+  spread_set buckets n x xs h low once is = record {
+    count = omega (arith, length-set buckets (bucket_of n) xs, h.count);
     once = λ k. elim (cases_eq k (bucket_of n)) [
-      | inl same ↦ rw (same, get_or-set_same buckets (bucket_of n) xs [] (bucket_low buckets n h)) once
+      | inl same ↦ rw (same, get_or-set_same buckets (bucket_of n) xs [] low) once
       | inr differ ↦ rw (get_or-set_other buckets (bucket_of n) k xs [] differ) (h.once k)
     ];
     own = λ k m apart. elim (cases_eq k (bucket_of n)) [
       | inl same ↦
           let other : m ≡ n → ⊥ = λ e. apart (ap bucket_of e ∙ sym same) in
-          rw (same, get_or-set_same buckets (bucket_of n) xs [] (bucket_low buckets n h))
+          rw (same, get_or-set_same buckets (bucket_of n) xs [] low)
           (set_past key n m x (bucket_in buckets (bucket_of n)) xs is other ∙ h.own (bucket_of n) m (λ e. apart (e ∙ sym same)))
       | inr differ ↦ rw (get_or-set_other buckets (bucket_of n) k xs [] differ) (h.own k m apart)
     ];
@@ -82,42 +98,48 @@ module _ {X : Type 0} (key : X → ℕ) where
     pub spread : AreSpread key new
     pub is_set : IsSetBy key n x (in_all old) (in_all new)
 
-  pub bucket_changed : (buckets : List (List X)) (i n : ℕ) (x : Option X) (before after : List X) → AreSpread key buckets → i ≡ bucket_of n
-      → before ≡ get_or buckets i before → AreOnce key after → IsSetBy key n x before after → IsChanged n x buckets (set buckets i after)
-  bucket_changed buckets i n x before after h same is once change = rw same (record { spread = spread; is_set = all })
+  pub bucket_changed : (buckets : List (List X)) (i n : ℕ) (x : Option X) (before after : List X) → AreSpread key buckets
+      → i < length buckets → i ≡ bucket_of n → before ≡ get_or buckets i before → AreOnce key after → IsSetBy key n x before after
+      → IsChanged n x buckets (set buckets i after)
+  bucket_changed buckets i n x before after h there same is once change = rw same (record { spread = spread; is_set = all })
     where
+      low : bucket_of n < length buckets
+      low = rw same at there
+
       own : IsSetBy key n x (bucket_in buckets (bucket_of n)) after
-      own = subst (λ (xs : List X). IsSetBy key n x xs after) (own_bucket buckets i n before h same is).is change
+      own = subst (λ (xs : List X). IsSetBy key n x xs after) (own_bucket buckets i n before h there same is).is change
 
       spread : AreSpread key (set buckets (bucket_of n) after)
-      spread = spread_set buckets n x after h once own
+      spread = spread_set buckets n x after h low once own
 
       all : IsSetBy key n x (in_all buckets) (in_all (set buckets (bucket_of n) after))
       all k = find_spread (set buckets (bucket_of n) after) k spread ∙ elim (cases_eq (bucket_of k) (bucket_of n)) [
         | inl same ↦
             let was : find_by key (in_all buckets) k ≡ find_by key (bucket_in buckets (bucket_of n)) k =
             find_spread buckets k h ∙ ap (λ j. find_by key (bucket_in buckets j) k) same in
-            rw (same, get_or-set_same buckets (bucket_of n) after [] (bucket_low buckets n h), was) (own k)
+            rw (same, get_or-set_same buckets (bucket_of n) after [] low, was) (own k)
         | inr differ ↦
             ap (λ xs. find_by key xs k) (get_or-set_other buckets (bucket_of n) (bucket_of k) after [] differ)
             ∙ (sym (find_spread buckets k h) ∙ rw (ne_eqb k n (λ e. differ (ap bucket_of e))) refl)
       ]
 
-  -- ## Chains without a value
+  -- ## Chains that are added, without a value
 
-  pub none_in_empty : (buckets : List (List X)) → All (λ xs. xs ≡ []) buckets → in_all buckets ≡ []
-  none_in_empty [] h = refl
-  none_in_empty (xs ∷ buckets) h =
-      rw (All-head (λ ys. ys ≡ []) xs buckets h) (none_in_empty buckets (All-tail (λ ys. ys ≡ []) xs buckets h))
-
-  empty_bucket : (buckets : List (List X)) (k : ℕ) → All (λ xs. xs ≡ []) buckets → bucket_in buckets k ≡ []
-  empty_bucket [] k h = refl
-  empty_bucket (xs ∷ buckets) zero h = All-head (λ ys. ys ≡ []) xs buckets h
-  empty_bucket (xs ∷ buckets) (suc k) h = empty_bucket buckets k (All-tail (λ ys. ys ≡ []) xs buckets h)
-
-  pub empty_spread : (buckets : List (List X)) → length buckets ≡ BUCKETS → All (λ xs. xs ≡ []) buckets → AreSpread key buckets
-  empty_spread buckets count h = record {
-    count = count;
-    once = λ k. rw (empty_bucket buckets k h) (λ i j d before low. absurd (omega (arith, low)));
-    own = λ k n apart. ap (λ xs. find_by key xs n) (empty_bucket buckets k h);
+  pub none_spread : AreSpread key []
+  none_spread = record {
+    count = omega arith;
+    once = λ k i j d before low. absurd (omega (arith, low));
+    own = λ k n apart. refl;
   }
+
+  pub spread_same : (old new : List (List X)) → AreSpread key old → length new ≤ BUCKETS → HaveSame old new → AreSpread key new
+  spread_same old new h few same = record {
+    count = few;
+    once = λ k. subst (AreOnce key) (sym (same k)) (h.once k);
+    own = λ k n apart. ap (λ xs. find_by key xs n) (same k) ∙ h.own k n apart;
+  }
+
+  pub found_same : (old new : List (List X)) → AreSpread key old → AreSpread key new → HaveSame old new → (n : ℕ)
+      → find_by key (in_all new) n ≡ find_by key (in_all old) n
+  found_same old new h k same n =
+      find_spread new n k ∙ (ap (λ xs. find_by key xs n) (same (bucket_of n)) ∙ sym (find_spread old n h))

@@ -1,9 +1,10 @@
 //! Values by number, each in its node, spread over chains.
 
-ghost use Rattle.std.specs.Prelude.{◌≡◌, ◌-◌, [], length, is_some, Some, None, IfOk, IfErr};
+ghost use Rattle.std.specs.Prelude.{◌≡◌, ◌≤◌, ◌<◌, ◌-◌, [], length, is_some, vec_capacity, Some, None, IfOk, IfErr};
 ghost use Rattle.std.specs.Option.{option_copied, option_map};
 ghost use Rattle.acc_base.specs.declared.fault.Fault.TheVariants as fault;
-ghost use Rattle.acc_memory.specs.inner.Buckets.{IsSetBy, bucket_of, find_by};
+ghost use Rattle.acc_memory.specs.declared.buckets.TheConstants.{BUCKETS};
+ghost use Rattle.acc_memory.specs.inner.Buckets.{HaveSame, IsSetBy, bucket_of, find_by};
 ghost use Rattle.acc_memory.specs.Memories.{Row, find_row};
 ghost use Rattle.acc_memory.specs.inner.Rows.{HasRoom, IsSetAt, stored};
 
@@ -20,18 +21,21 @@ const BUCKETS: u64 = 1_024;
 /// the count of chains. Contracts see the list of the values, of which the order says nothing.
 #[derive(Drop)]
 pub(crate) struct Buckets<T: Keyed + Drop> {
+    alloc: Global,
+    // From the first up to the last one that had a value; there is room for all. So it costs little that there are none.
     chains: Vec<Chain<T>>,
 }
 
 impl<T: Keyed + Drop> Model for Buckets<T> {
-    ghost use Rattle.std.specs.Prelude.{List};
+    ghost use Rattle.std.specs.Prelude.{List, vec_capacity, ◌≤◌};
+    ghost use Rattle.acc_memory.specs.declared.buckets.TheConstants.{BUCKETS};
     ghost use Rattle.acc_memory.specs.inner.Buckets.{in_all, AreSpread};
 
     ghost Value = { List T };
 
     ghost view = { λ b. in_all b.chains.items };
 
-    ghost invariant = { λ b. AreSpread T.key_of b.chains.items };
+    ghost invariant = { λ b. AreSpread T.key_of b.chains.items × (BUCKETS ≤ vec_capacity b.chains) };
 }
 
 impl<T: Keyed + Drop> Buckets<T> {
@@ -44,18 +48,19 @@ impl<T: Keyed + Drop> Buckets<T> {
         ensures none { IfOk result (λ b. b ≡ []) }
         ensures fault { IfErr result (λ f. f ≡ fault.Memory) }
     {
-        let mut chains = Vec::with_capacity(alloc, BUCKETS as usize)?;
-        for _ in 0..BUCKETS {
-            chains.push(Chain::new(alloc))?;
-        }
-        Ok(Buckets { chains })
+        let chains = Vec::with_capacity(alloc, BUCKETS as usize)?;
+        Ok(Buckets { alloc, chains })
     }
 
     /// The value of this number, if it is there.
     pub(crate) fn get(&self, number: u64) -> Option<&T>
         ensures { option_copied result ≡ find_by T.key_of self.now number }
     {
-        self.chains[bucket_of(number)].find(number)
+        let bucket = bucket_of(number);
+        if bucket >= self.chains.len() {
+            return None;
+        }
+        self.chains[bucket].find(number)
     }
 
     /// Takes in a value of a number of which none is there. Takes no memory.
@@ -63,7 +68,9 @@ impl<T: Keyed + Drop> Buckets<T> {
         requires { find_by T.key_of self.old (T.key_of node) ≡ None }
         ensures { IsSetBy T.key_of (T.key_of node) (Some node) self.old self.new }
     {
-        let chain = &mut self.chains[bucket_of(node.value().key())];
+        let bucket = bucket_of(node.value().key());
+        reach(self.alloc, &mut self.chains, bucket);
+        let chain = &mut self.chains[bucket];
         chain.push_back(node);
     }
 
@@ -72,7 +79,11 @@ impl<T: Keyed + Drop> Buckets<T> {
         ensures there { result ≡ is_some (find_by T.key_of self.old number) }
         ensures gone { IsSetBy T.key_of number None self.old self.new }
     {
-        let chain = &mut self.chains[bucket_of(number)];
+        let bucket = bucket_of(number);
+        if bucket >= self.chains.len() {
+            return false;
+        }
+        let chain = &mut self.chains[bucket];
         chain.unlink_first_match(number).is_some()
     }
 }
@@ -84,12 +95,31 @@ impl Buckets<Block> {
         requires { (row : Row) → find_row self.old number ≡ Some row → HasRoom row first (length values.now) }
         ensures { IsSetAt number (option_map (λ row. stored row (first - row.range.lo) values.now) (find_row self.old number)) self.old self.new }
     {
-        let chain = &mut self.chains[bucket_of(number)];
+        let bucket = bucket_of(number);
+        if bucket >= self.chains.len() {
+            return;
+        }
+        let chain = &mut self.chains[bucket];
         let held = match chain.find_mut(number) {
             None => return,
             Some(held) => held,
         };
         held.cells.copy_from(first - held.range.lo as usize, values);
+    }
+}
+
+// Empty chains are added up to this one, where it isn't there. There is room for them.
+fn reach<T: Keyed + Drop>(alloc: Global, chains: &mut Vec<Chain<T>>, bucket: usize)
+    requires low { bucket < BUCKETS }
+    requires few { length chains.old.items ≤ BUCKETS }
+    requires room { BUCKETS ≤ vec_capacity chains.old }
+    ensures there { bucket < length chains.new.items }
+    ensures few { length chains.new.items ≤ BUCKETS }
+    ensures room { BUCKETS ≤ vec_capacity chains.new }
+    ensures same { HaveSame chains.old.items chains.new.items }
+{
+    while chains.len() <= bucket {
+        chains.push_reserved(Chain::new(alloc));
     }
 }
 

@@ -1,5 +1,5 @@
 -- Values by number, spread over chains. Only private contracts and proofs cite it.
-use Rattle.std.specs.Prelude.{◌≡◌, ℕ, ◌%◌, ◌==◌, if◌then◌else◌, List, [], length, find, slice_index_or, Option, None}
+use Rattle.std.specs.Prelude.{◌≡◌, ◌≤◌, ℕ, ◌%◌, ◌==◌, if◌then◌else◌, List, [], length, find, slice_index_or, Option, None}
 use Rattle.std.specs.List.{AllPairs, flat_map}
 use Rattle.acc_memory.specs.declared.buckets.TheConstants.{BUCKETS}
 
@@ -19,6 +19,7 @@ IsSetBy key n x old new = (k : ℕ) → find_by key new k ≡ (if k == n then x 
 abbrev pub bucket_of : ℕ → ℕ
 bucket_of n = n % BUCKETS
 
+-- the values of that chain; none where it isn't there
 abbrev pub bucket_in : {X : Type 0} → List (List X) → ℕ → List X
 bucket_in buckets k = slice_index_or buckets k []
 
@@ -26,8 +27,12 @@ bucket_in buckets k = slice_index_or buckets k []
 abbrev pub in_all : {X : Type 0} → List (List X) → List X
 in_all buckets = flat_map (λ xs. xs) buckets
 
--- There are so many chains, and each value that is there is in that of its number, which no other there is of.
+-- each chain has the values that it had
+abbrev pub HaveSame : {X : Type 0} → List (List X) → List (List X) → Type 0
+HaveSame old new = (k : ℕ) → bucket_in new k ≡ bucket_in old k
+
+-- There are no more chains than may be, and each value that is there is in that of its number, which no other there is of.
 pub record AreSpread {X : Type 0} (key : X → ℕ) (buckets : List (List X)) : Type 0 where
-  pub count : length buckets ≡ BUCKETS
+  pub count : length buckets ≤ BUCKETS
   pub once : (k : ℕ) → AreOnce key (bucket_in buckets k)
   pub own : (k n : ℕ) → (bucket_of n ≡ k → ⊥) → find_by key (bucket_in buckets k) n ≡ None
