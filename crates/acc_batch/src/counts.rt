@@ -1,8 +1,10 @@
-//! How many batches each queue has performed: one number, or all of them.
+//! How many batches each queue has performed: that of one queue, or all of them.
 
-ghost use Rattle.std.specs.Prelude.{◌≡◌, IfOk, IfErr};
+ghost use Rattle.std.specs.Prelude.{◌≡◌, ◌<◌, replicate, slice_set, IfOk, IfErr, IfSome};
+ghost use Rattle.acc_base.specs.declared.ids.TheConstants.{QUEUES};
+ghost use Rattle.acc_batch.specs.Counted.{one_count};
 
-use acc_base::{Boxed, Fault, QUEUES, QueueCounts, is_nothing};
+use acc_base::{Boxed, Fault, QUEUES, QueueCounts, QueueId, is_nothing};
 use std::alloc::Global;
 use std::marker::Model;
 
@@ -14,8 +16,8 @@ pub struct Counts {
 
 #[derive(Drop)]
 enum Form {
-    // The first queue has so many, and the others have none.
-    First { count: u64 },
+    // One queue has so many, and the others have none.
+    One { queue: QueueId, count: u64 },
     All { counts: Boxed<QueueCounts> },
 }
 
@@ -24,15 +26,17 @@ impl Model for Counts {
 
     ghost Value = { List ℕ };
 
-    ghost use Rattle.acc_batch.specs.Counted.{counts_of};
+    ghost use Rattle.acc_batch.specs.Counted.{counts_of, IsForm};
 
     ghost view = { λ c. counts_of c.form };
+
+    ghost invariant = { λ c. IsForm c.form };
 }
 
 impl Counts {
     ghost use Rattle.acc_base.specs.declared.fault.Fault.TheVariants.{Memory};
 
-    /// It takes memory where another queue than the first has some.
+    /// It takes memory where more than one queue has some.
     ///
     /// # Errors
     ///
@@ -41,13 +45,15 @@ impl Counts {
         ensures counts { IfOk result (λ c. c ≡ counts) }
         ensures fault { IfErr result (λ f. f ≡ Memory) }
     {
-        let form = if is_nothing(&counts[1..]) {
-            Form::First { count: counts[0] }
-        } else {
-            let counts = Boxed::new(alloc, counts)?;
-            Form::All { counts }
-        };
-        Ok(Counts { form })
+        if let Some((queue, count)) = only_count(&counts) {
+            return Ok(Counts {
+                form: Form::One { queue, count },
+            });
+        }
+        let counts = Boxed::new(alloc, counts)?;
+        Ok(Counts {
+            form: Form::All { counts },
+        })
     }
 
     /// The numbers, by queue.
@@ -55,12 +61,49 @@ impl Counts {
         ensures { result ≡ self.now }
     {
         match &self.form {
-            Form::First { count } => {
-                let mut counts = [0; QUEUES as usize];
-                counts[0] = *count;
-                counts
-            }
+            Form::One { queue, count } => one_count(*queue, *count),
             Form::All { counts } => *counts.get(),
         }
     }
+}
+
+/// The counts of which that of one queue is this, and the others are 0.
+pub fn one_count(queue: QueueId, count: u64) -> QueueCounts
+    requires { queue < QUEUES }
+    ensures { result ≡ one_count queue count }
+{
+    let mut counts = [0; QUEUES as usize];
+    counts[usize::from(queue.number())] = count;
+    counts
+}
+
+/// A queue and its count, where no other queue has one.
+pub fn only_count(counts: &QueueCounts) -> Option<(QueueId, u64)>
+    ensures queue { IfSome result (λ one. one.0 < QUEUES) }
+    ensures only { IfSome result (λ one. one_count one.0 one.1 ≡ counts.now) }
+{
+    if is_nothing(&counts[1..]) {
+        return Some((QueueId::SYNC, counts[0]));
+    }
+    let index = first_counted(counts);
+    let queue = QueueId::new(index as u8);
+    let count = counts[index];
+    let one = one_count(queue, count);
+    if one.as_slice() == counts.as_slice() {
+        Some((queue, count))
+    } else {
+        None
+    }
+}
+
+// Where the first count above zero stands, or the first one, if there is none.
+fn first_counted(counts: &QueueCounts) -> usize
+    ensures { result < QUEUES }
+{
+    for index in 0..usize::from(QUEUES) {
+        if counts[index] != 0 {
+            return index;
+        }
+    }
+    0
 }

@@ -13,7 +13,7 @@ mod same;
 mod values;
 
 pub use batch::Batch;
-pub use counts::Counts;
+pub use counts::{Counts, one_count, only_count};
 pub use entry::{Told, WorkEntry};
 pub use label::{Label, OpLabel};
 pub use laws::{batches_are_ordered, worked_awaits};
