@@ -203,11 +203,11 @@ taken_item items None left t = sym t.0
 taken_item items (Some what) left t = sym t
 
 pub next_gave : (gone : ℕ) (d : Option OwnDirective) (o : OwnDirective) (os left : List Own) (next : Option OwnDirective) (item : Option (Bor Told)) (items : List HostEntry) → IsFirst gone d item (Some (read.Gave o))
-    → Takes os (option_map own next) left → unread gone d os item items ≡ Gave o.directive.now o.placed ∷ unread o.items_before next left item items
+    → Takes os (option_map own next) left → unread gone d os item items ≡ Gave o.directive.now o.answer.now ∷ unread o.items_before next left item items
 next_gave gone d o os left next item items first taken =
     ap (λ n. unread gone n os item items) first.0
     ∙ (merged_gave gone (own o) os (item_then item items) (elim first.1 [ inl low ↦ inl low | inr none ↦ inr (ap (λ i. item_then i items) none) ])
-    ∙ ap (λ ds. Gave o.directive.now o.placed ∷ entries_merged o.items_before ds (item_then item items)) (sym (taken_own os next left taken)))
+    ∙ ap (λ ds. Gave o.directive.now o.answer.now ∷ entries_merged o.items_before ds (item_then item items)) (sym (taken_own os next left taken)))
 
 had_first : (gone behind : ℕ) (d : Option OwnDirective) (os : List Own) (what : Bor Told) (items : List HostEntry) → IsLater gone d → (gone + 1 < 2 ^ 64 → behind ≡ gone + 1)
     → entries_merged gone (own_then d os) (Had what.now ∷ items) ≡ Had what.now ∷ entries_merged behind (own_then d os) items

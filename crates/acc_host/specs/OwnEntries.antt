@@ -7,10 +7,10 @@ use Rattle.acc_host.specs.declared.own_entries.OwnEntry.{OwnEntry}
 use Rattle.acc_host.specs.declared.own_entries.OwnEntry.TheVariants as read
 
 abbrev pub own : OwnDirective → Own
-own o = record { items_before = o.items_before; directive = o.directive.now; placed = o.placed }
+own o = record { items_before = o.items_before; directive = o.directive.now; placed = o.answer.now }
 
 abbrev pub entry : OwnEntry → HostEntry
-entry (read.Gave o) = Gave o.directive.now o.placed
+entry (read.Gave o) = Gave o.directive.now o.answer.now
 entry (read.Had what) = Had what.now
 
 -- The first of a list is taken, and the others are left; none is, where the list is empty.

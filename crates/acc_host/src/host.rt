@@ -1,6 +1,6 @@
 //! A host.
 
-ghost use Rattle.std.specs.Prelude.{◌≡◌, ◌+◌, ◌<◌, ◌^◌, IfErr, IfOk, map, slice_get, Some};
+ghost use Rattle.std.specs.Prelude.{◌≡◌, ◌+◌, ◌<◌, ◌^◌, IfErr, IfOk, drop, map, slice_get, Some};
 ghost use Rattle.std.specs.Option.{option_map};
 ghost use Rattle.acc_base.specs.declared.fault.Fault.TheVariants.{Memory};
 ghost use Rattle.acc_host.specs.Following.{Stands};
@@ -60,6 +60,7 @@ impl Host {
     }
 
     /// One step over an engine that serves it: at most one call of it.
+    #[inline(never)]
     pub fn next<E: Engine>(&mut self, alloc: Global, engine: &mut E) -> Reply
         requires { E.serves engine.old self.old.host }
         ensures steps { Steps E.makes E.entries (E.devices engine.old) engine.old self.old result engine.new self.new }
@@ -122,6 +123,17 @@ impl Host {
         ensures { option_map (λ s. bare s.now) result ≡ slice_get self.now.statements self.now.ended }
     {
         self.statements.get(self.ended)
+    }
+
+    /// The statements that it hasn't ended, in order.
+    pub fn remaining(&self) -> &[Statement]
+        ensures { map bare result.now ≡ drop self.now.ended self.now.statements }
+    {
+        if self.ended < self.statements.len() {
+            &self.statements[self.ended..]
+        } else {
+            &[]
+        }
     }
 
     /// How many statements it has ended.

@@ -8,7 +8,7 @@ ghost use Rattle.acc_host.specs.OwnEntries.{entry, own, Takes};
 ghost use Rattle.acc_host.specs.inner.Unread.{items_by, owned_from, IsFirst, IsOther};
 
 use acc_base::HostId;
-use acc_place::{Answer, Directive, Place, PlaceEntry, Placed};
+use acc_place::{Answer, Directive, Place, PlaceEntry};
 use acc_work::{Pages, Told, WorkEntry, WorkLog};
 use std::marker::Model;
 
@@ -17,7 +17,7 @@ use std::marker::Model;
 pub struct OwnDirective<'a> {
     pub items_before: u64,
     pub directive: &'a Directive,
-    pub placed: Placed,
+    pub answer: &'a Answer,
 }
 
 /// The directives of a host that are still to be read, in order. A contract sees them.
@@ -79,7 +79,7 @@ fn own_at<'a>(
     host: HostId,
     places: &'a [PlaceEntry],
     counts: &[u64],
-    answers: &[Answer],
+    answers: &'a [Answer],
     index: usize,
 ) -> Option<OwnDirective<'a>>
     requires { index < length places.now }
@@ -89,7 +89,7 @@ fn own_at<'a>(
     Some(OwnDirective {
         items_before: *counts.get(index)?,
         directive,
-        placed: answers.get(index)?.placed(),
+        answer: answers.get(index)?,
     })
 }
 
@@ -255,7 +255,7 @@ fn first_of<'a>(
         let own = OwnDirective {
             items_before: own.items_before,
             directive: own.directive,
-            placed: own.placed,
+            answer: own.answer,
         };
         return Some(OwnEntry::Gave { own });
     }

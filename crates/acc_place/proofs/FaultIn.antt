@@ -7,12 +7,12 @@ use Rattle.acc_base.specs.declared.fault.Fault.{Fault}
 use Rattle.acc_base.specs.declared.fault.Fault.TheVariants.{BadRange, PartlyPresent, NotPresent, DeviceFull}
 use Rattle.acc_base.specs.Configurations.{Configuration, has_range, ends_within}
 use Rattle.acc_present.specs.Drafts.{DraftView, drafted, IsDraft}
-use Rattle.acc_present.specs.declared.table.Look.{Look}
-use Rattle.acc_present.specs.declared.table.Look.TheVariants as look
+use Rattle.acc_present.specs.declared.held.Found.{Found}
+use Rattle.acc_present.specs.declared.held.Found.TheVariants as look
 use Rattle.acc_present.specs.Lifetimes.{can_open}
 use Rattle.acc_present.specs.declared.change.Change.{Change}
 use Rattle.acc_present.specs.Presences.{Presence, holder, overlaps_any, is_present, is_partly_present, used_cells}
-use Rattle.acc_present.specs.Tables.{TableView, IsLook, entry_presence}
+use Rattle.acc_present.specs.Tables.{TableView, IsFound, held_presence}
 use Rattle.acc_present.proofs.TableFilter.{none_from_absent}
 use Rattle.acc_present.proofs.Holder.{is_present-some, is_present-none}
 use Rattle.acc_place.specs.declared.directive.DataItem.{DataItem}
@@ -46,10 +46,10 @@ opens_absent None ps r absent = refl
 opens_absent (Some change) ps r absent = rw absent (and_true (can_open change))
 
 -- whether the range that was found so is present
-pub found_present : (found : Look) (ps : List Presence) (r : Range) → IsLook ps r found → is_found found ≡ is_present ps r
+pub found_present : (found : Found) (ps : List Presence) (r : Range) → IsFound ps r found → is_found found ≡ is_present ps r
 found_present look.Absent ps r looks = sym (is_present-none ps r looks.0)
 found_present look.Partly ps r looks = sym (absent_where_partly (overlaps_any ps r) (is_present ps r) looks)
-found_present (look.Present e) ps r looks = sym (is_present-some ps r (entry_presence e) looks.0)
+found_present (look.Present e) ps r looks = sym (is_present-some ps r (held_presence e) looks.0)
 
 -- the free cells are too few where the used ones would be too many
 full_is : (free capacity used len : ℕ) → used ≤ capacity → free ≡ capacity - used → nat_lt capacity (used + len) ≡ nat_lt free len
@@ -94,16 +94,16 @@ fault-absent config k ps i free inside whole absent within is =
       full_is free config.capacity (used_cells ps) i.range.len within is,
     ) refl
 
-found_alike : (config : Configuration) (k : Kind) (ps : List Presence) (i : DataItem) (found : Look) (free : ℕ) → has_range config.arrays i.range ≡ true
-    → IsLook ps i.range found
+found_alike : (config : Configuration) (k : Kind) (ps : List Presence) (i : DataItem) (found : Found) (free : ℕ) → has_range config.arrays i.range ≡ true
+    → IsFound ps i.range found
     → used_cells ps ≤ config.capacity → free ≡ config.capacity - used_cells ps → found_fault k i found free ≡ fault_in config k ps i
 found_alike config k ps i look.Absent free inside looks within is = fault-absent config k ps i free inside looks.1 (is_present-none ps i.range looks.0) within is
 found_alike config k ps i look.Partly free inside looks within is = fault-partly config k ps i inside looks
-found_alike config k ps i (look.Present e) free inside looks within is = fault-present config k ps i inside looks.1 (is_present-some ps i.range (entry_presence e) looks.0)
+found_alike config k ps i (look.Present e) free inside looks within is = fault-present config k ps i inside looks.1 (is_present-some ps i.range (held_presence e) looks.0)
 
 -- the fault of what a draft has of a range, where the cells that it doesn't use are free, is the item's
-pub found_is : (config : Configuration) (k : Kind) (t : TableView) (d : DraftView) (i : DataItem) (found : Look) (capacity used : ℕ) (fault : Option Fault)
-    → has_range config.arrays i.range ≡ true → IsLook (drafted t d) i.range found → IsDraft t d → t.capacity ≡ config.capacity
+pub found_is : (config : Configuration) (k : Kind) (t : TableView) (d : DraftView) (i : DataItem) (found : Found) (capacity used : ℕ) (fault : Option Fault)
+    → has_range config.arrays i.range ≡ true → IsFound (drafted t d) i.range found → IsDraft t d → t.capacity ≡ config.capacity
     → capacity ≡ config.capacity → used ≡ d.used → fault ≡ found_fault k i found (capacity - used) → fault_in config k (drafted t d) i ≡ fault
 found_is config k t d i found capacity used fault inside looks draft same all some is =
     let within : used_cells (drafted t d) ≤ config.capacity = omega (arith, draft.within, same) in
@@ -111,7 +111,7 @@ found_is config k t d i found capacity used fault inside looks draft same all so
     sym (is ∙ found_alike config k (drafted t d) i found (capacity - used) inside looks within free)
 
 -- the block that was found is the one that holds the range
-pub block_is : (ps : List Presence) (r : Range) (found : Look) → IsLook ps r found → block_found found ≡ block_held (holder ps r)
+pub block_is : (ps : List Presence) (r : Range) (found : Found) → IsFound ps r found → block_found found ≡ block_held (holder ps r)
 block_is ps r look.Absent looks = rw looks.0 refl
 block_is ps r look.Partly looks = rw (none_from_absent ps r (absent_where_partly (overlaps_any ps r) (is_present ps r) looks)) refl
 block_is ps r (look.Present e) looks = rw looks.0 refl

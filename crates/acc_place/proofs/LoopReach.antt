@@ -17,11 +17,11 @@ use Rattle.acc_kernel.specs.Kernels.{Loop, Reaches, IsReach, arrays_of, distinct
 use Rattle.acc_kernel.specs.Trees.{Reference}
 use Rattle.acc_batch.specs.declared.label.OpLabel.TheVariants.{Run}
 use Rattle.acc_batch.specs.Ops.{HasItsCells}
-use Rattle.acc_present.specs.declared.table.Look.{Look}
-use Rattle.acc_present.specs.declared.table.Look.TheVariants as look
+use Rattle.acc_present.specs.declared.held.Found.{Found}
+use Rattle.acc_present.specs.declared.held.Found.TheVariants as look
 use Rattle.acc_present.specs.Marks.{Mark}
 use Rattle.acc_present.specs.Presences.{Presence, presences, holder, is_present, overlaps_any}
-use Rattle.acc_present.specs.Tables.{IsLook}
+use Rattle.acc_present.specs.Tables.{IsFound}
 use Rattle.acc_present.proofs.TableFilter.{none_from_absent}
 use Rattle.acc_present.proofs.Holder.{is_present-holder}
 use Rattle.acc_place.specs.declared.directive.DataItem.{DataItem}
@@ -163,7 +163,7 @@ present_held ps r present = found (holder ps r) (sym (is_present-holder ps r) �
     found None e = cc
     found (Some p) e = (p, refl)
 
-held_none : (ps : List Presence) (r : Range) (l : Look) → IsLook ps r l → (l ≡ look.Absent) ⊎ (l ≡ look.Partly) → holder ps r ≡ None
+held_none : (ps : List Presence) (r : Range) (l : Found) → IsFound ps r l → (l ≡ look.Absent) ⊎ (l ≡ look.Partly) → holder ps r ≡ None
 held_none ps r look.Absent is which = is.0
 held_none ps r look.Partly is which =
     none_from_absent ps r (absent (is_present ps r) (and_parts (overlaps_any ps r) (not (is_present ps r)) is).1)
@@ -175,7 +175,7 @@ held_none ps r (look.Present e) is (inl same) = cc
 held_none ps r (look.Present e) is (inr same) = cc
 
 -- an item that isn't present isn't used
-pub not_used : (ps : List Presence) (items : List DataItem) (array : ℕ) (i : DataItem) (l : Look) → Some i ≡ item_of array items → IsLook ps i.range l → (l ≡ look.Absent) ⊎ (l ≡ look.Partly)
+pub not_used : (ps : List Presence) (items : List DataItem) (array : ℕ) (i : DataItem) (l : Found) → Some i ≡ item_of array items → IsFound ps i.range l → (l ≡ look.Absent) ⊎ (l ≡ look.Partly)
     → [] ≡ use_in ps (item_of array items)
 not_used ps items array i l found is which =
     sym (ap (use_in ps) (sym found) ∙ ap (λ o. map (λ b. (b, i.range)) (found_block o)) (held_none ps i.range l is which))

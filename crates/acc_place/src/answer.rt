@@ -1,11 +1,12 @@
 //! What was answered to a directive, as the place keeps it: most answers take two words, and the others a place of their own.
 
-ghost use Rattle.std.specs.Prelude.{All, ◌≡◌, ◌<◌, IfOk, IfErr, IfSome};
+ghost use Rattle.std.specs.Prelude.{All, ◌≡◌, ◌<◌, false, IfOk, IfErr, IfSome};
 ghost use Rattle.std.specs.Option.{option_map};
+ghost use Rattle.acc_base.specs.Queues.{is_nothing};
 ghost use Rattle.acc_base.specs.declared.fault.Fault.TheVariants.{Memory};
 ghost use Rattle.acc_place.specs.Batches.{counts_queues, is_answered};
 ghost use Rattle.acc_place.specs.Targets.{queue_by, queues_named};
-ghost use Rattle.acc_place.specs.inner.Forms.{placed_of};
+ghost use Rattle.acc_place.specs.inner.Forms.{placed_of, IsForm};
 ghost use Rattle.acc_place.specs.inner.Trials.{counts_in, placed_by};
 
 use crate::awaits::named_counts;
@@ -14,7 +15,7 @@ use crate::judge::Known;
 use crate::labels::Labels;
 use crate::targets::queue_by;
 use acc_base::{Boxed, DeviceId, Fault, QUEUES, QueueAt, QueueCounts, QueueId, is_nothing};
-use acc_batch::Label;
+use acc_batch::{Label, one_count, only_count};
 use acc_present::Table;
 use std::alloc::Global;
 use std::marker::Model;
@@ -29,10 +30,24 @@ pub struct Answer {
 #[derive(Drop)]
 enum Form {
     // Nothing was placed, and no count is above zero.
-    Plain { present: bool },
+    Plain {
+        present: bool,
+    },
     // A batch was placed, and nothing else is answered.
-    Batch { at: QueueAt, number: u64 },
-    Whole { placed: Boxed<Placed> },
+    Batch {
+        at: QueueAt,
+        number: u64,
+    },
+    // Nothing was placed, and one queue has so many, which aren't none.
+    One {
+        queue: QueueId,
+        count: u64,
+    },
+    // Any answer, and whether no count of it is above zero.
+    Whole {
+        counts_nothing: bool,
+        placed: Boxed<Placed>,
+    },
 }
 
 // The place keeps each.
@@ -40,11 +55,13 @@ const _: () = prove!(size_of::<Answer>() == 16);
 
 impl Model for Answer {
     ghost use Rattle.acc_place.specs.declared.directive.Placed.{Placed};
-    ghost use Rattle.acc_place.specs.inner.Forms.{placed_of};
+    ghost use Rattle.acc_place.specs.inner.Forms.{placed_of, IsForm};
 
     ghost Value = { Placed };
 
     ghost view = { λ a. placed_of a.form };
+
+    ghost invariant = { λ a. IsForm a.form };
 }
 
 impl Answer {
@@ -59,6 +76,39 @@ impl Answer {
     {
         let form = form_of(alloc, placed)?;
         Ok(Answer { form })
+    }
+
+    /// The batch that was placed, if one was.
+    pub fn batch(&self) -> Option<(QueueAt, u64)>
+        ensures { result ≡ self.now.batch }
+    {
+        match &self.form {
+            Form::Plain { .. } | Form::One { .. } => None,
+            Form::Batch { at, number } => Some((*at, *number)),
+            Form::Whole { placed, .. } => placed.get().batch,
+        }
+    }
+
+    /// Whether no count is above zero.
+    pub fn counts_nothing(&self) -> bool
+        ensures { result ≡ is_nothing self.now.counts }
+    {
+        match &self.form {
+            Form::Plain { .. } | Form::Batch { .. } => true,
+            Form::One { .. } => false,
+            Form::Whole { counts_nothing, .. } => *counts_nothing,
+        }
+    }
+
+    /// Whether all that a question asks for is present.
+    pub fn is_present(&self) -> bool
+        ensures { result ≡ self.now.present }
+    {
+        match &self.form {
+            Form::Plain { present } => *present,
+            Form::Batch { .. } | Form::One { .. } => false,
+            Form::Whole { placed, .. } => placed.get().present,
+        }
     }
 
     /// The answer. Takes no memory.
@@ -76,31 +126,42 @@ impl Answer {
                 counts: [0; QUEUES as usize],
                 present: false,
             },
-            Form::Whole { placed } => *placed.get(),
+            Form::One { queue, count } => Placed {
+                batch: None,
+                counts: one_count(*queue, *count),
+                present: false,
+            },
+            Form::Whole { placed, .. } => *placed.get(),
         }
     }
 }
 
 // How an answer is held.
 fn form_of(alloc: Global, placed: Placed) -> Result<Form, Fault>
-    ensures form { IfOk result (λ form. placed_of form ≡ placed) }
+    ensures form { IfOk result IsForm }
+    ensures placed { IfOk result (λ form. placed_of form ≡ placed) }
     ensures fault { IfErr result (λ f. f ≡ Memory) }
 {
     match short_form(&placed) {
         Some(form) => Ok(form),
         None => {
+            let counts_nothing = is_nothing(&placed.counts);
             let placed = Boxed::new(alloc, placed)?;
-            Ok(Form::Whole { placed })
+            Ok(Form::Whole {
+                counts_nothing,
+                placed,
+            })
         }
     }
 }
 
 // How an answer is held that needs no memory of its own.
 fn short_form(placed: &Placed) -> Option<Form>
-    ensures { IfSome result (λ form. placed_of form ≡ placed.now) }
+    ensures form { IfSome result IsForm }
+    ensures placed { IfSome result (λ form. placed_of form ≡ placed.now) }
 {
     if !is_nothing(&placed.counts) {
-        return None;
+        return one_form(placed);
     }
     match &placed.batch {
         None => Some(Form::Plain {
@@ -115,6 +176,21 @@ fn short_form(placed: &Placed) -> Option<Form>
                 number: *number,
             })
         }
+    }
+}
+
+// How an answer with a count above zero is held, where it needs no memory of its own.
+fn one_form(placed: &Placed) -> Option<Form>
+    requires { is_nothing placed.now.counts ≡ false }
+    ensures form { IfSome result IsForm }
+    ensures placed { IfSome result (λ form. placed_of form ≡ placed.now) }
+{
+    if placed.batch.is_some() || placed.present {
+        return None;
+    }
+    match only_count(&placed.counts) {
+        Some((queue, count)) => Some(Form::One { queue, count }),
+        None => None,
     }
 }
 

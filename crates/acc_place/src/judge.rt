@@ -4,7 +4,7 @@ ghost use Rattle.std.specs.Prelude.{All, ◌≡◌, ◌+◌, ◌<◌, ◌≤◌,
 ghost use Rattle.acc_present.specs.Drafts.{drafted, IsDraft};
 ghost use Rattle.acc_present.specs.Presences.{holder, is_present};
 ghost use Rattle.acc_present.specs.declared.table.TheConstants.{COUNTER_LIMIT};
-ghost use Rattle.acc_present.specs.Tables.{IsLook, entry_mark, presences_after};
+ghost use Rattle.acc_present.specs.Tables.{IsFound, entry_mark, presences_after};
 ghost use Rattle.acc_place.specs.Accepting.{is_deep, is_outside, wants_presence};
 ghost use Rattle.acc_base.specs.Configurations.{has_range};
 ghost use Rattle.acc_place.specs.Regions.{open_region};
@@ -18,7 +18,7 @@ use crate::labels::Labels;
 use crate::regions::{depth, open_index};
 use crate::targets::{has_bad_queue, waits_on_too_many};
 use acc_base::{BlockId, Config, Fault, HostId, QueueAt, Range};
-use acc_present::{Change, Counter, Draft, Entered, Left, Look, Table};
+use acc_present::{Change, Counter, Draft, Entered, Found, Left, Table};
 
 /// What is known where a directive is judged: the configuration, the device's table, the data constructs that the hosts
 /// are inside, how many directives were accepted and how many lifetimes opened, the labels of all batches, and the
@@ -201,19 +201,19 @@ pub(crate) fn leave_all(
 }
 
 // The fault of an item that was found so, where so many cells are free.
-fn found_fault(kind: &Kind, item: &DataItem, found: &Look, free: u64) -> Option<Fault>
+fn found_fault(kind: &Kind, item: &DataItem, found: &Found, free: u64) -> Option<Fault>
     ensures { result ≡ found_fault kind.now item.now found.now free }
 {
     match found {
-        Look::Present(_) => None,
-        Look::Partly => {
+        Found::Present(_) => None,
+        Found::Partly => {
             if matches!(kind, Kind::IsPresent) {
                 None
             } else {
                 Some(Fault::PartlyPresent)
             }
         }
-        Look::Absent => {
+        Found::Absent => {
             if wants_presence(kind, item.clause) {
                 Some(Fault::NotPresent)
             } else if can_open_by(kind.change_where(item, false))
@@ -250,19 +250,19 @@ fn can_open_by(change: Option<Change>) -> bool
 }
 
 // Whether a range that was found so is present.
-fn is_found(found: &Look) -> bool
+fn is_found(found: &Found) -> bool
     ensures { result ≡ is_found found.now }
 {
-    matches!(found, Look::Present(_))
+    matches!(found, Found::Present(_))
 }
 
 // The block that holds a range that was found so.
-fn block_found(found: &Look) -> Option<u64>
+fn block_found(found: &Found) -> Option<u64>
     ensures { result ≡ block_found found.now }
 {
     match found {
-        Look::Present(entry) => Some(entry.block.number()),
-        Look::Absent | Look::Partly => None,
+        Found::Present(held) => Some(held.block.number()),
+        Found::Absent | Found::Partly => None,
     }
 }
 
@@ -275,14 +275,14 @@ fn mark(
     draft: &mut Draft,
     change: Option<Change>,
     item: &DataItem,
-    found: &Look,
+    found: &Found,
     opened: u64,
 ) -> Marked
     requires draft { IsDraft table.now draft.old }
     requires draft_room { length draft.old.changed < draft.old.room }
     requires can { CanMark change item.now.range (drafted table.now draft.old) table.now.capacity }
     requires few { opened < COUNTER_LIMIT }
-    requires found { IsLook (drafted table.now draft.old) item.now.range found.now }
+    requires found { IsFound (drafted table.now draft.old) item.now.range found.now }
     ensures draft { IsDraft table.now draft.new }
     ensures drafted { drafted table.now draft.new ≡ presences_by change item.now.range (opened + 1) (drafted table.now draft.old) }
     ensures changed { length draft.new.changed ≤ length draft.old.changed + 1 }
@@ -325,14 +325,14 @@ fn enter(
     table: &Table,
     draft: &mut Draft,
     range: Range,
-    found: &Look,
+    found: &Found,
     counter: Counter,
     opened: u64,
 ) -> Option<u64>
     requires draft { IsDraft table.now draft.old }
     requires draft_room { length draft.old.changed < draft.old.room }
     requires can { CanEnter counter range (drafted table.now draft.old) table.now.capacity }
-    requires found { IsLook (drafted table.now draft.old) range found.now }
+    requires found { IsFound (drafted table.now draft.old) range found.now }
     requires few { opened < COUNTER_LIMIT }
     ensures draft { IsDraft table.now draft.new }
     ensures drafted { drafted table.now draft.new ≡ presences_after (entry_mark counter range) (opened + 1) (drafted table.now draft.old) }

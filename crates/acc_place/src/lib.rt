@@ -32,3 +32,4 @@ pub use laws::{
 };
 pub use place::Place;
 pub use plan::Plan;
+pub use targets::target_queue;

@@ -15,7 +15,7 @@ ghost use Rattle.acc_base.specs.Configurations.{lengths_of};
 use crate::directive::{Clause, DataItem, Directive, MAX_ITEMS, Region};
 use acc_base::{BlockId, Config, DeviceId, Fault, HostId, Range};
 use acc_kernel::{Kernel, Reach};
-use acc_present::{Draft, Look, Table};
+use acc_present::{Draft, Found, Table};
 use std::alloc::Global;
 
 /// The first item of an array.
@@ -239,7 +239,7 @@ fn use_in(table: &Table, draft: &Draft, items: &[DataItem], array: u8) -> Option
 {
     let item = item_of(items, array)?;
     match draft.look(table, item.range) {
-        Look::Present(entry) => Some((entry.block, item.range)),
-        Look::Absent | Look::Partly => None,
+        Found::Present(held) => Some((held.block, item.range)),
+        Found::Absent | Found::Partly => None,
     }
 }

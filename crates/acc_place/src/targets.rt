@@ -65,8 +65,9 @@ pub(crate) fn waits_on_too_many(waits: &Waits) -> bool
     }
 }
 
-// The queue that an async clause names.
-fn target_queue(default: i64, target: Target) -> Option<QueueId>
+/// The queue that an async clause names, for a host with this default (OpenACC API 3.0, 2.16.1, async clause); `None` where its value
+/// names no queue.
+pub fn target_queue(default: i64, target: Target) -> Option<QueueId>
     ensures { result ≡ target_queue default target }
 {
     match target {

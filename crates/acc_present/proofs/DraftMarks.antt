@@ -9,16 +9,16 @@ use Rattle.std.proofs.lemmas.List.Sums.{sum_by-cons, sum_by-append, sum_by_push,
 use Rattle.std.proofs.lemmas.Option.{slice_get-get_or}
 use Rattle.acc_base.specs.declared.range.Range.{Range}
 use Rattle.acc_base.specs.Ranges.{range_overlaps}
-use Rattle.acc_present.specs.declared.table.Entry.{Entry}
+use Rattle.acc_present.specs.declared.held.Held.{Held}
 use Rattle.acc_present.specs.Lifetimes.{can_open}
 use Rattle.acc_present.specs.Marks.{Mark}
 use Rattle.acc_present.specs.Presences.{Presence, holder, is_partly_present, overlaps_any, used_cells}
-use Rattle.acc_present.specs.Tables.{TableView, entry_presence, has_count, is_table, stepped, opening, kept_after, presences_after}
+use Rattle.acc_present.specs.Tables.{TableView, held_presence, has_count, is_table, stepped, opening, kept_after, presences_after}
 use Rattle.acc_present.specs.Drafts.{DraftView, IsDraft, beside, drafted, with_changed}
 use Rattle.acc_present.proofs.KeptAfter.{counted_at}
 use Rattle.acc_present.proofs.EnterAndExit.{no_overlap, stays}
 use Rattle.acc_present.proofs.PresencesAfter.{found_in, opens_at, counts_at, counted_once, is_table-after, used_cells-opened}
-use Rattle.acc_present.proofs.Holder.{behind, is_present-none, is_present-some, not_partly, slice_get-entry}
+use Rattle.acc_present.proofs.Holder.{behind, is_present-none, is_present-some, not_partly, slice_get-shown}
 use Rattle.acc_present.proofs.TableFilter.{kept_but_one, kept_apart, is_table-filter}
 use Rattle.acc_present.proofs.DraftShows.{drafted_sums, drafted_is, any_drafted}
 
@@ -201,41 +201,41 @@ draft_opens m b cs ps t u cells can none whole =
 -- ## The same over a draft's entries
 
 -- What the draft shows where the entry that the mark's range is part of has become this one.
-pub record CountsEntry (m : Mark) (es : List Entry) (ps qs : List Presence) (i : ℕ) (x y : Entry) : Type 0 where
-  pub seen : holder qs m.range ≡ Some (entry_presence x)
-  pub same : with_changed (map entry_presence (set es i y)) ps ≡ kept_after m qs
-  pub after : is_table (with_changed (map entry_presence (set es i y)) ps) ≡ true
-  pub used : used_cells (with_changed (map entry_presence (set es i y)) ps) + x.range.len ≡ used_cells qs + cond (has_count (entry_presence y)) x.range.len 0
+pub record CountsEntry (m : Mark) (es : List Held) (ps qs : List Presence) (i : ℕ) (x y : Held) : Type 0 where
+  pub seen : holder qs m.range ≡ Some (held_presence x)
+  pub same : with_changed (map held_presence (set es i y)) ps ≡ kept_after m qs
+  pub after : is_table (with_changed (map held_presence (set es i y)) ps) ≡ true
+  pub used : used_cells (with_changed (map held_presence (set es i y)) ps) + x.range.len ≡ used_cells qs + cond (has_count (held_presence y)) x.range.len 0
 
-pub counts_entry : (m : Mark) (es : List Entry) (ps qs : List Presence) (i : ℕ) (x y : Entry) → is_table ps ≡ true → is_table qs ≡ true → 0 < m.range.len
-    → with_changed (map entry_presence es) ps ≡ qs → slice_get (map entry_presence es) i ≡ holder qs m.range → i < length es → x ≡ get_or es i x
-    → entry_presence y ≡ stepped m.change (entry_presence x) → CountsEntry m es ps qs i x y
+pub counts_entry : (m : Mark) (es : List Held) (ps qs : List Presence) (i : ℕ) (x y : Held) → is_table ps ≡ true → is_table qs ≡ true → 0 < m.range.len
+    → with_changed (map held_presence es) ps ≡ qs → slice_get (map held_presence es) i ≡ holder qs m.range → i < length es → x ≡ get_or es i x
+    → held_presence y ≡ stepped m.change (held_presence x) → CountsEntry m es ps qs i x y
 counts_entry m es ps qs i x y t u cells same held low is step =
-    let cs = map entry_presence es in
-    let seen : holder qs m.range ≡ Some (entry_presence x) = sym held ∙ slice_get-entry es i x low is in
-    let at : entry_presence x ≡ get_or cs i (entry_presence x) = ap entry_presence is ∙ sym (get_or-map entry_presence es i x (entry_presence x) low) in
-    let k = draft_counts m cs ps i (entry_presence x) t (rw same u) cells (rw (length-map es entry_presence) low) at (rw same seen) in
-    let changed : map entry_presence (set es i y) ≡ set cs i (stepped m.change (entry_presence x)) = map-set entry_presence es i y ∙ ap (set cs i) step in
+    let cs = map held_presence es in
+    let seen : holder qs m.range ≡ Some (held_presence x) = sym held ∙ slice_get-shown held_presence es i x low is in
+    let at : held_presence x ≡ get_or cs i (held_presence x) = ap held_presence is ∙ sym (get_or-map held_presence es i x (held_presence x) low) in
+    let k = draft_counts m cs ps i (held_presence x) t (rw same u) cells (rw (length-map es held_presence) low) at (rw same seen) in
+    let changed : map held_presence (set es i y) ≡ set cs i (stepped m.change (held_presence x)) = map-set held_presence es i y ∙ ap (set cs i) step in
     record {
       seen = seen;
       same = rw changed (k.same ∙ ap (kept_after m) same);
       after = rw changed k.after;
-      used = rw changed (k.used ∙ (ap (λ l. used_cells l + cond (has_count (stepped m.change (entry_presence x))) x.range.len 0) same ∙ ap (λ p. used_cells qs + cond (has_count p) x.range.len 0) (sym step)));
+      used = rw changed (k.used ∙ (ap (λ l. used_cells l + cond (has_count (stepped m.change (held_presence x))) x.range.len 0) same ∙ ap (λ p. used_cells qs + cond (has_count p) x.range.len 0) (sym step)));
     }
 
 -- What it shows where this entry was added, which the mark opens.
-pub record OpensEntry (m : Mark) (b : ℕ) (es : List Entry) (ps qs : List Presence) (e : Entry) : Type 0 where
-  pub same : with_changed (map entry_presence (es ++ e ∷ [])) ps ≡ presences_after m b qs
-  pub after : is_table (with_changed (map entry_presence (es ++ e ∷ [])) ps) ≡ true
-  pub used : used_cells (with_changed (map entry_presence (es ++ e ∷ [])) ps) ≡ used_cells qs + m.range.len
+pub record OpensEntry (m : Mark) (b : ℕ) (es : List Held) (ps qs : List Presence) (e : Held) : Type 0 where
+  pub same : with_changed (map held_presence (es ++ e ∷ [])) ps ≡ presences_after m b qs
+  pub after : is_table (with_changed (map held_presence (es ++ e ∷ [])) ps) ≡ true
+  pub used : used_cells (with_changed (map held_presence (es ++ e ∷ [])) ps) ≡ used_cells qs + m.range.len
 
-pub opens_entry : (m : Mark) (b : ℕ) (es : List Entry) (ps qs : List Presence) (e : Entry) → is_table ps ≡ true → is_table qs ≡ true → 0 < m.range.len
-    → with_changed (map entry_presence es) ps ≡ qs → can_open m.change ≡ true → holder qs m.range ≡ None → is_partly_present qs m.range ≡ false → entry_presence e ≡ opening m b
+pub opens_entry : (m : Mark) (b : ℕ) (es : List Held) (ps qs : List Presence) (e : Held) → is_table ps ≡ true → is_table qs ≡ true → 0 < m.range.len
+    → with_changed (map held_presence es) ps ≡ qs → can_open m.change ≡ true → holder qs m.range ≡ None → is_partly_present qs m.range ≡ false → held_presence e ≡ opening m b
     → OpensEntry m b es ps qs e
 opens_entry m b es ps qs e t u cells same can none whole is =
-    let cs = map entry_presence es in
+    let cs = map held_presence es in
     let k = draft_opens m b cs ps t (rw same u) cells can (rw same none) (rw same whole) in
-    let changed : map entry_presence (es ++ e ∷ []) ≡ cs ++ opening m b ∷ [] = map_push entry_presence es e ∙ ap (λ p. cs ++ p ∷ []) is in
+    let changed : map held_presence (es ++ e ∷ []) ≡ cs ++ opening m b ∷ [] = map_push held_presence es e ∙ ap (λ p. cs ++ p ∷ []) is in
     record {
       same = rw changed (k.same ∙ ap (presences_after m b) same);
       after = rw changed k.after;
@@ -245,28 +245,28 @@ opens_entry m b es ps qs e t u cells same can none whole is =
 -- ## An exit from a draft
 
 -- The range is part of this entry, which stands at this index among the changed ones.
-pub record PlacedFor {t : TableView} {d : DraftView} (k : IsDraft t d) (r : Range) (es : List Entry) (i : ℕ) (x : Entry) : Type 0 where
-  pub same : with_changed (map entry_presence es) t.presences ≡ drafted t d
-  pub held : slice_get (map entry_presence es) i ≡ holder (drafted t d) r
+pub record PlacedFor {t : TableView} {d : DraftView} (k : IsDraft t d) (r : Range) (es : List Held) (i : ℕ) (x : Held) : Type 0 where
+  pub same : with_changed (map held_presence es) t.presences ≡ drafted t d
+  pub held : slice_get (map held_presence es) i ≡ holder (drafted t d) r
   pub low : i < length es
   pub is : x ≡ get_or es i x
-  pub seen : holder (drafted t d) r ≡ Some (entry_presence x)
+  pub seen : holder (drafted t d) r ≡ Some (held_presence x)
 
-pub placed_for : {t : TableView} {d : DraftView} (k : IsDraft t d) (r : Range) (es : List Entry) (i : ℕ) (x : Entry) → with_changed (map entry_presence es) t.presences ≡ drafted t d
-    → slice_get (map entry_presence es) i ≡ holder (drafted t d) r → i < length es → x ≡ get_or es i x → PlacedFor k r es i x
-placed_for k r es i x same held low is = record { same = same; held = held; low = low; is = is; seen = sym held ∙ slice_get-entry es i x low is }
+pub placed_for : {t : TableView} {d : DraftView} (k : IsDraft t d) (r : Range) (es : List Held) (i : ℕ) (x : Held) → with_changed (map held_presence es) t.presences ≡ drafted t d
+    → slice_get (map held_presence es) i ≡ holder (drafted t d) r → i < length es → x ≡ get_or es i x → PlacedFor k r es i x
+placed_for k r es i x same held low is = record { same = same; held = held; low = low; is = is; seen = sym held ∙ slice_get-shown held_presence es i x low is }
 
 -- a mark that leaves the entry as it was
-pub draft_stays : {t : TableView} {d : DraftView} (k : IsDraft t d) (m : Mark) (es : List Entry) (i : ℕ) (x : Entry) → PlacedFor k m.range es i x → 0 < m.range.len
-    → stepped m.change (entry_presence x) ≡ entry_presence x → with_changed (map entry_presence es) t.presences ≡ kept_after m (drafted t d)
+pub draft_stays : {t : TableView} {d : DraftView} (k : IsDraft t d) (m : Mark) (es : List Held) (i : ℕ) (x : Held) → PlacedFor k m.range es i x → 0 < m.range.len
+    → stepped m.change (held_presence x) ≡ held_presence x → with_changed (map held_presence es) t.presences ≡ kept_after m (drafted t d)
 draft_stays {t = t} {d = d} k m es i x f cells nothing =
     let counted = counts_entry m es t.presences (drafted t d) i x x k.table k.after cells f.same f.held f.low f.is (sym nothing) in
     let back : set es i x ≡ es = ap (set es i) f.is ∙ set-get_or es i x in
     rw back at counted.same
 
 -- where the entry ends, its cells are in use
-pub settled_cells : {t : TableView} {d : DraftView} (k : IsDraft t d) (m : Mark) (es : List Entry) (i : ℕ) (x y : Entry) → PlacedFor k m.range es i x → 0 < m.range.len
-    → entry_presence y ≡ stepped m.change (entry_presence x) → has_count (entry_presence y) ≡ false → y.range.len ≤ d.used
+pub settled_cells : {t : TableView} {d : DraftView} (k : IsDraft t d) (m : Mark) (es : List Held) (i : ℕ) (x y : Held) → PlacedFor k m.range es i x → 0 < m.range.len
+    → held_presence y ≡ stepped m.change (held_presence x) → has_count (held_presence y) ≡ false → y.range.len ≤ d.used
 settled_cells {t = t} {d = d} k m es i x y f cells step over =
     let counted = counts_entry m es t.presences (drafted t d) i x y k.table k.after cells f.same f.held f.low f.is step in
     let sum = rw over at counted.used in
@@ -278,15 +278,15 @@ pub record Settled (m : Mark) (t : TableView) (d e : DraftView) : Type 0 where
   pub same : drafted t e ≡ kept_after m (drafted t d)
   pub draft : IsDraft t e
 
-pub draft_settled : {t : TableView} {d : DraftView} (k : IsDraft t d) (m : Mark) (es : List Entry) (i : ℕ) (x y : Entry) (e : DraftView) → PlacedFor k m.range es i x → 0 < m.range.len
-    → entry_presence y ≡ stepped m.change (entry_presence x) → e.changed ≡ set (map entry_presence es) i (entry_presence y)
-    → e.used + cond (has_count (entry_presence y)) 0 y.range.len ≡ d.used → Settled m t d e
+pub draft_settled : {t : TableView} {d : DraftView} (k : IsDraft t d) (m : Mark) (es : List Held) (i : ℕ) (x y : Held) (e : DraftView) → PlacedFor k m.range es i x → 0 < m.range.len
+    → held_presence y ≡ stepped m.change (held_presence x) → e.changed ≡ set (map held_presence es) i (held_presence y)
+    → e.used + cond (has_count (held_presence y)) 0 y.range.len ≡ d.used → Settled m t d e
 draft_settled {t = t} {d = d} k m es i x y e f cells step changed used =
     let counted = counts_entry m es t.presences (drafted t d) i x y k.table k.after cells f.same f.held f.low f.is step in
-    let now : drafted t e ≡ with_changed (map entry_presence (set es i y)) t.presences = ap (λ cs. with_changed cs t.presences) (changed ∙ sym (map-set entry_presence es i y)) in
+    let now : drafted t e ≡ with_changed (map held_presence (set es i y)) t.presences = ap (λ cs. with_changed cs t.presences) (changed ∙ sym (map-set held_presence es i y)) in
     let cells_now = ap used_cells now in
     let len : y.range.len ≡ x.range.len = ap (λ (p : Presence). p.range.len) step in
-    let sums : (e.used ≡ used_cells (drafted t e)) × (used_cells (drafted t e) ≤ t.capacity) = elim (cases_Bool (has_count (entry_presence y))) [
+    let sums : (e.used ≡ used_cells (drafted t e)) × (used_cells (drafted t e) ≤ t.capacity) = elim (cases_Bool (has_count (held_presence y))) [
       | inl stays ↦
           let before = rw stays at used in
           let after = rw stays at counted.used in

@@ -12,12 +12,12 @@ use Rattle.std.proofs.lemmas.List.Sums.{sum_by-cons, sum_by-append, sum_by-remov
 use Rattle.std.proofs.lemmas.Option.{slice_get-map, slice_get_past, slice_get_cases}
 use Rattle.acc_base.specs.declared.range.Range.{Range}
 use Rattle.acc_base.specs.Ranges.{range_contains, range_overlaps}
-use Rattle.acc_present.specs.declared.table.Entry.{Entry}
+use Rattle.acc_present.specs.declared.held.Held.{Held}
 use Rattle.acc_present.specs.Lifetimes.{is_before}
-use Rattle.acc_present.specs.declared.table.Look.{Look}
-use Rattle.acc_present.specs.declared.table.Look.TheVariants.{Absent, Partly}
+use Rattle.acc_present.specs.declared.held.Found.{Found}
+use Rattle.acc_present.specs.declared.held.Found.TheVariants.{Absent, Partly}
 use Rattle.acc_present.specs.Presences.{Presence, holder, is_present, is_partly_present, overlaps_any}
-use Rattle.acc_present.specs.Tables.{IsLook, entry_presence, has_count, is_table, presence_inserted}
+use Rattle.acc_present.specs.Tables.{IsFound, held_presence, has_count, is_table, presence_inserted}
 use Rattle.acc_present.specs.Drafts.{beside, counted_inserted, with_changed}
 use Rattle.acc_present.proofs.SamePresences.{Alike, stands_in, one_at, one_at-self, any_alike, tables_alike}
 use Rattle.acc_present.proofs.PresencesAfter.{found_in}
@@ -151,29 +151,29 @@ none_seen ps r partly = none_from_absent ps r (not-true (is_present ps r) (and_p
 pub apart_seen : (ps : List Presence) (r : Range) → holder ps r ≡ None → is_partly_present ps r ≡ false → overlaps_any ps r ≡ false
 apart_seen ps r none whole = sym (rw (is_present-none ps r none) (and-true (overlaps_any ps r))) ∙ whole
 
-pub none_looked : (ps : List Presence) (r : Range) (overlaps : Bool) (l : Look) → holder ps r ≡ None → overlaps ≡ overlaps_any ps r → l ≡ (if overlaps then Partly else Absent) → IsLook ps r l
+pub none_looked : (ps : List Presence) (r : Range) (overlaps : Bool) (l : Found) → holder ps r ≡ None → overlaps ≡ overlaps_any ps r → l ≡ (if overlaps then Partly else Absent) → IsFound ps r l
 none_looked ps r true l none overlaps is = rw (is, is_present-none ps r none, ← overlaps) refl
 none_looked ps r false l none overlaps is = rw is (none, rw (is_present-none ps r none, ← overlaps) refl)
 
 -- ## Over the changed entries
 
-pub overlaps_any-counted : (es : List Entry) (r : Range) → overlaps_any (filter has_count (map entry_presence es)) r ≡ list_any (λ e. has_count (entry_presence e) && range_overlaps e.range r) es
+pub overlaps_any-counted : (es : List Held) (r : Range) → overlaps_any (filter has_count (map held_presence es)) r ≡ list_any (λ e. has_count (held_presence e) && range_overlaps e.range r) es
 overlaps_any-counted [] r = refl
 overlaps_any-counted (e ∷ es) r =
     let ih = overlaps_any-counted es r in
-    elim (cases_Bool (has_count (entry_presence e))) [
+    elim (cases_Bool (has_count (held_presence e))) [
       | inl counted ↦ rw counted (ap (λ b. range_overlaps e.range r || b) ih)
       | inr over ↦ rw over ih
     ]
 
-abbrev pub holds_counted : Range → Entry → Bool
-holds_counted r e = has_count (entry_presence e) && range_contains e.range r
+abbrev pub holds_counted : Range → Held → Bool
+holds_counted r e = has_count (held_presence e) && range_contains e.range r
 
-holder-counted : (es : List Entry) (r : Range) → holder (filter has_count (map entry_presence es)) r ≡ option_map entry_presence (find (λ e. has_count (entry_presence e) && range_contains e.range r) es)
+holder-counted : (es : List Held) (r : Range) → holder (filter has_count (map held_presence es)) r ≡ option_map held_presence (find (λ e. has_count (held_presence e) && range_contains e.range r) es)
 holder-counted [] r = refl
 holder-counted (e ∷ es) r =
     let ih = holder-counted es r in
-    elim (cases_Bool (has_count (entry_presence e))) [
+    elim (cases_Bool (has_count (held_presence e))) [
       | inl counted ↦ elim (cases_Bool (range_contains e.range r)) [
         | inl has ↦ rw (counted, has) refl
         | inr misses ↦ rw (counted, misses) ih
@@ -182,14 +182,14 @@ holder-counted (e ∷ es) r =
     ]
 
 -- the first changed entry with a count that contains a range, by its index
-pub counted_at_first : (es : List Entry) (r : Range) (o : Option ℕ) → o ≡ cond (nat_lt (position_or_len (holds_counted r) es) (length es)) (Some (position_or_len (holds_counted r) es)) None
-    → option_and_then (slice_get (map entry_presence es)) o ≡ holder (filter has_count (map entry_presence es)) r
+pub counted_at_first : (es : List Held) (r : Range) (o : Option ℕ) → o ≡ cond (nat_lt (position_or_len (holds_counted r) es) (length es)) (Some (position_or_len (holds_counted r) es)) None
+    → option_and_then (slice_get (map held_presence es)) o ≡ holder (filter has_count (map held_presence es)) r
 counted_at_first es r o is =
     let k = position_or_len (holds_counted r) es in
-    let found : holder (filter has_count (map entry_presence es)) r ≡ slice_get (map entry_presence es) k =
-    holder-counted es r ∙ (ap (option_map entry_presence) (find_at (holds_counted r) es) ∙ sym (slice_get-map entry_presence es k)) in
-    ap (option_and_then (slice_get (map entry_presence es))) is
+    let found : holder (filter has_count (map held_presence es)) r ≡ slice_get (map held_presence es) k =
+    holder-counted es r ∙ (ap (option_map held_presence) (find_at (holds_counted r) es) ∙ sym (slice_get-map held_presence es k)) in
+    ap (option_and_then (slice_get (map held_presence es))) is
     ∙ (elim (cases_Bool (nat_lt k (length es))) [
       | inl within ↦ rw within refl
-      | inr past ↦ rw past (sym (slice_get_past (map entry_presence es) k (omega (arith, ltb-false k (length es) past, length-map es entry_presence))))
+      | inr past ↦ rw past (sym (slice_get_past (map held_presence es) k (omega (arith, ltb-false k (length es) past, length-map es held_presence))))
     ] ∙ sym found)

@@ -21,7 +21,7 @@ use Rattle.acc_present.specs.Presences.{Presence, holder, is_present, is_partly_
 use Rattle.acc_present.specs.Tables.{entry_change, entry_mark, counter_of, changed_counter, stepped, opening, has_count, kept_after, presences_after, presence_inserted, entry_presence, left_of}
 use Rattle.acc_present.specs.inner.Invariants.{IsTable}
 use Rattle.acc_present.proofs.TableOrder.{is_table-set, is_table-remove}
-use Rattle.acc_present.proofs.Holder.{behind, slice_get-entry, is_present-some, is_present-none, holder-contains}
+use Rattle.acc_present.proofs.Holder.{behind, slice_get-shown, is_present-some, is_present-none, holder-contains}
 use Rattle.acc_present.proofs.KeptAfter.{kept_at, kept_none, counted_at}
 use Rattle.acc_present.proofs.PresenceInserted.{insert_is_placed, is_table-insert}
 
@@ -58,7 +58,7 @@ pub record FoundAt (es : List Entry) (r : Range) (i : ℕ) (x : Entry) : Type 0 
 
 pub found_at : (es : List Entry) (r : Range) (i : ℕ) (x : Entry) → holder (shown es) r ≡ slice_get (shown es) i → i < length es → x ≡ get_or es i x → FoundAt es r i x
 found_at es r i x held low is =
-    let at = slice_get-entry es i x low is in
+    let at = slice_get-shown entry_presence es i x low is in
     let seen = held ∙ at in
     record {
       low = rw (length-map es entry_presence) low;

@@ -178,10 +178,10 @@ overlaps_is-later ps r k t is some =
 
 -- ## The same over a table's entries
 
-pub slice_get-entry : (es : List Entry) (i : ℕ) (x : Entry) → i < length es → x ≡ get_or es i x → slice_get (map entry_presence es) i ≡ Some (entry_presence x)
-slice_get-entry [] i x low is = absurd (omega arith)
-slice_get-entry (e ∷ es) zero x low is = ap (λ k. Some (entry_presence k)) (sym is)
-slice_get-entry (e ∷ es) (suc i) x low is = slice_get-entry es i x (omega arith) is
+pub slice_get-shown : {X : Type 0} (shows : X → Presence) (xs : List X) (i : ℕ) (x : X) → i < length xs → x ≡ get_or xs i x → slice_get (map shows xs) i ≡ Some (shows x)
+slice_get-shown shows [] i x low is = absurd (omega arith)
+slice_get-shown shows (y ∷ xs) zero x low is = ap (λ k. Some (shows k)) (sym is)
+slice_get-shown shows (y ∷ xs) (suc i) x low is = slice_get-shown shows xs i x (omega arith) is
 
 pub holder_is-none : (ps : List Presence) (r : Range) (k : ℕ) → is_table ps ≡ true → 0 < r.len → k ≡ behind r ps → k ≡ 0 → holder ps r ≡ None
 holder_is-none ps r k t cells is none = holder_is ps r t cells ∙ ap (held_at ps r) (sym is ∙ none)
@@ -191,7 +191,7 @@ pub holder_is-later : (es : List Entry) (r : Range) (k : ℕ) (x : Entry) → is
 holder_is-later es r k x t cells is some low at =
     let ps = map entry_presence es in
     let one : suc (k - 1) ≡ k = omega arith in
-    holder_is ps r t cells ∙ (ap (held_at ps r) (sym (one ∙ is)) ∙ ap (held_by r) (slice_get-entry es (k - 1) x low at))
+    holder_is ps r t cells ∙ (ap (held_at ps r) (sym (one ∙ is)) ∙ ap (held_by r) (slice_get-shown entry_presence es (k - 1) x low at))
 
 -- ## Present, and part of a presence
 

@@ -6,6 +6,9 @@ use Rattle.acc_base.specs.Lists.{inserted_by}
 use Rattle.acc_present.specs.declared.table.Counter.{Counter}
 use Rattle.acc_present.specs.declared.table.Counter.TheVariants.{Structured, Dynamic}
 use Rattle.acc_present.specs.declared.table.Entry.{Entry}
+use Rattle.acc_present.specs.declared.held.Held.{Held}
+use Rattle.acc_present.specs.declared.held.Found.{Found}
+use Rattle.acc_present.specs.declared.held.Found.TheVariants as found
 use Rattle.acc_present.specs.declared.table.Look.{Look}
 use Rattle.acc_present.specs.declared.table.Look.TheVariants as look
 use Rattle.acc_present.specs.declared.table.Left.{Left}
@@ -115,6 +118,10 @@ LegalMarksMakeATable = (marks : List Mark) → AllLegal marks → is_table (pres
 abbrev pub entry_presence : Entry → Presence
 entry_presence e = record { range = e.range; block = e.block; s = e.s; d = e.d }
 
+-- and what a draft has of it
+abbrev pub held_presence : Held → Presence
+held_presence h = record { range = h.range; block = h.block; s = h.s; d = h.d }
+
 -- What a table shows: what is present, with which notes, the device's capacity in cells, and how many entries it has memory
 -- for.
 pub record TableView : Type 0 where
@@ -133,6 +140,12 @@ abbrev pub IsLook : List Presence → Range → Look → Type 0
 IsLook ps r look.Absent = (holder ps r ≡ None) × (is_partly_present ps r ≡ false)
 IsLook ps r look.Partly = is_partly_present ps r ≡ true
 IsLook ps r (look.Present e) = (holder ps r ≡ Some (entry_presence e)) × (is_partly_present ps r ≡ false)
+
+-- and that of a draft, without what is noted
+abbrev pub IsFound : List Presence → Range → Found → Type 0
+IsFound ps r found.Absent = (holder ps r ≡ None) × (is_partly_present ps r ≡ false)
+IsFound ps r found.Partly = is_partly_present ps r ≡ true
+IsFound ps r (found.Present h) = (holder ps r ≡ Some (held_presence h)) × (is_partly_present ps r ≡ false)
 
 -- the answer of an exit from what the range was part of: at zero it takes no action
 abbrev pub left_of : Option Presence → Change → Left

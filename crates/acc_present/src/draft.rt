@@ -1,4 +1,4 @@
-//! A draft of a table: the entries that marks changed, and the table beside them. A mark takes what a look found.
+//! A draft of a table: the present ranges that marks changed, and the table beside them. A mark takes what a look found.
 
 ghost use Rattle.std.specs.Prelude.{◌≡◌, ◌+◌, ◌<◌, ◌≤◌, [], length, map, filter, slice_get, slice_set, true, false, None, if◌then◌else◌, vec_len, vec_capacity, IfSome, IfOk, IfErr};
 ghost use Rattle.std.specs.Option.{option_map, option_and_then};
@@ -6,16 +6,16 @@ ghost use Rattle.acc_base.specs.declared.fault.Fault.TheVariants.{Memory};
 ghost use Rattle.acc_present.specs.Legality.{MeetsCondition};
 ghost use Rattle.acc_present.specs.Lifetimes.{can_open};
 ghost use Rattle.acc_present.specs.declared.change.Change.TheVariants.{DynamicZero};
-ghost use Rattle.acc_present.specs.declared.table.Look.TheVariants.{Absent, Partly};
+ghost use Rattle.acc_present.specs.declared.held.Found.TheVariants.{Absent, Partly};
 ghost use Rattle.acc_present.specs.Presences.{holder, is_present, is_partly_present, overlaps_any, used_cells};
-ghost use Rattle.acc_present.specs.Tables.{entry_mark, exit_mark, finalize_mark, exit_change, counter_of, presences_after, kept_after, has_count, entry_presence, is_table, IsLook, left_of};
+ghost use Rattle.acc_present.specs.Tables.{entry_mark, exit_mark, finalize_mark, exit_change, counter_of, presences_after, kept_after, has_count, held_presence, is_table, IsFound, left_of};
 ghost use Rattle.acc_present.specs.Drafts.{beside, with_changed, drafted, IsDraft};
 
 use crate::change::Change;
-use crate::table::{
-    COUNTER_LIMIT, Counter, Entered, Entry, Left, Look, Table, count_of, count_up, counted_down,
-    exit_change, has_count, new_entry, overlaps_one,
+use crate::held::{
+    Found, Held, count_of, count_up, counted_down, has_count, held_of, opened, overlaps_one,
 };
+use crate::table::{COUNTER_LIMIT, Counter, Entered, Left, Look, Table, exit_change};
 use acc_base::{BlockId, Fault, Range};
 use std::alloc::Global;
 use std::marker::Model;
@@ -23,19 +23,19 @@ use std::marker::Model;
 /// What marks would make of a table that doesn't have them yet.
 #[derive(Drop)]
 pub struct Draft {
-    // the entries that the marks changed, as they are after them; one that ended has no count
-    changed: Vec<Entry>,
+    // the present ranges that the marks changed, as they are after them; one that ended has no count
+    changed: Vec<Held>,
     used: u64,
 }
 
 impl Model for Draft {
     ghost use Rattle.std.specs.Prelude.{map, vec_capacity};
     ghost use Rattle.acc_present.specs.Drafts.{DraftView};
-    ghost use Rattle.acc_present.specs.Tables.{entry_presence};
+    ghost use Rattle.acc_present.specs.Tables.{held_presence};
 
     ghost Value = { DraftView };
 
-    ghost view = { λ d. record { changed = map entry_presence d.changed.items; used = d.used; room = vec_capacity d.changed } };
+    ghost view = { λ d. record { changed = map held_presence d.changed.items; used = d.used; room = vec_capacity d.changed } };
 }
 
 impl Draft {
@@ -66,14 +66,14 @@ impl Draft {
     }
 
     /// What the table would have of a range with a cell.
-    pub fn look(&self, table: &Table, range: Range) -> Look
+    pub fn look(&self, table: &Table, range: Range) -> Found
         requires draft { IsDraft table.now self.now }
         requires cells { 0 < range.len }
-        ensures { IsLook (drafted table.now self.now) range result }
+        ensures { IsFound (drafted table.now self.now) range result }
     {
         let changed = self.changed.as_slice();
         match counted_index(changed, range) {
-            Some(i) => Look::Present(changed[i]),
+            Some(i) => Found::Present(changed[i]),
             None => look_beside(changed, table, range),
         }
     }
@@ -85,13 +85,13 @@ impl Draft {
         &mut self,
         table: &Table,
         range: Range,
-        found: &Look,
+        found: &Found,
         counter: Counter,
         block: BlockId,
     ) -> Entered
         requires draft { IsDraft table.now self.old }
         requires cells { 0 < range.len }
-        requires found { IsLook (drafted table.now self.old) range found.now }
+        requires found { IsFound (drafted table.now self.old) range found.now }
         requires whole { is_partly_present (drafted table.now self.old) range ≡ false }
         requires low { IfSome (holder (drafted table.now self.old) range) (λ p. counter_of counter p < COUNTER_LIMIT) }
         requires capacity { holder (drafted table.now self.old) range ≡ None → used_cells (drafted table.now self.old) + range.len ≤ table.now.capacity }
@@ -109,7 +109,7 @@ impl Draft {
                 Entered::Counted
             }
             None => {
-                self.changed.push_reserved(new_entry(range, counter, block));
+                self.changed.push_reserved(opened(range, counter, block));
                 self.used += u64::from(range.len);
                 Entered::Opened
             }
@@ -118,10 +118,10 @@ impl Draft {
 
     /// Counts an exit from a range that was found so, by `look`, and ends its data lifetime where both counters are zero. It
     /// asks what `Table::leave` asks, as the draft shows it, and room likewise.
-    pub fn leave(&mut self, table: &Table, range: Range, found: &Look, counter: Counter) -> Left
+    pub fn leave(&mut self, table: &Table, range: Range, found: &Found, counter: Counter) -> Left
         requires draft { IsDraft table.now self.old }
         requires cells { 0 < range.len }
-        requires found { IsLook (drafted table.now self.old) range found.now }
+        requires found { IsFound (drafted table.now self.old) range found.now }
         requires condition { MeetsCondition (exit_change counter) range (drafted table.now self.old) }
         requires room { length self.old.changed < self.old.room }
         ensures draft { IsDraft table.now self.new }
@@ -135,10 +135,10 @@ impl Draft {
 
     /// Sets the dynamic counter of a range that was found so, by `look`, to zero, and ends its data lifetime where the
     /// structured one is zero too (OpenACC API 3.0, 2.6.6, Enter Data and Exit Data Directives: the `finalize` clause).
-    pub fn finalize(&mut self, table: &Table, range: Range, found: &Look) -> Left
+    pub fn finalize(&mut self, table: &Table, range: Range, found: &Found) -> Left
         requires draft { IsDraft table.now self.old }
         requires cells { 0 < range.len }
-        requires found { IsLook (drafted table.now self.old) range found.now }
+        requires found { IsFound (drafted table.now self.old) range found.now }
         requires room { length self.old.changed < self.old.room }
         ensures draft { IsDraft table.now self.new }
         ensures drafted { drafted table.now self.new ≡ kept_after (finalize_mark range) (drafted table.now self.old) }
@@ -150,10 +150,10 @@ impl Draft {
     }
 
     // Makes an exit's change to the range's counter, and ends the data lifetime where both counters are zero.
-    fn exit(&mut self, table: &Table, range: Range, found: &Look, change: Change) -> Left
+    fn exit(&mut self, table: &Table, range: Range, found: &Found, change: Change) -> Left
         requires draft { IsDraft table.now self.old }
         requires cells { 0 < range.len }
-        requires found { IsLook (drafted table.now self.old) range found.now }
+        requires found { IsFound (drafted table.now self.old) range found.now }
         requires exit { can_open change ≡ false }
         requires room { length self.old.changed < self.old.room }
         ensures draft { IsDraft table.now self.new }
@@ -175,13 +175,13 @@ impl Draft {
     }
 
     // Puts what an exit makes of the changed entry at this index.
-    fn put_or_end(&mut self, index: usize, after: Entry) -> Left
+    fn put_or_end(&mut self, index: usize, after: Held) -> Left
         requires index { index < length self.old.changed }
-        requires cells { has_count (entry_presence after) ≡ false → after.range.len ≤ self.old.used }
-        ensures changed { self.new.changed ≡ slice_set self.old.changed index (entry_presence after) }
-        ensures used { self.new.used + (if has_count (entry_presence after) then 0 else after.range.len) ≡ self.old.used }
+        requires cells { has_count (held_presence after) ≡ false → after.range.len ≤ self.old.used }
+        ensures changed { self.new.changed ≡ slice_set self.old.changed index (held_presence after) }
+        ensures used { self.new.used + (if has_count (held_presence after) then 0 else after.range.len) ≡ self.old.used }
         ensures room { self.new.room ≡ self.old.room }
-        ensures result { result ≡ (if has_count (entry_presence after) then Left.Counted else Left.Ended after.block) }
+        ensures result { result ≡ (if has_count (held_presence after) then Left.Counted else Left.Ended after.block) }
     {
         self.changed[index] = after;
         if has_count(&after) {
@@ -200,8 +200,8 @@ impl Draft {
 }
 
 // The index of the changed entry that has a count and contains the range.
-fn counted_index(changed: &[Entry], range: Range) -> Option<usize>
-    ensures held { option_and_then (slice_get (map entry_presence changed.now)) result ≡ holder (filter has_count (map entry_presence changed.now)) range }
+fn counted_index(changed: &[Held], range: Range) -> Option<usize>
+    ensures held { option_and_then (slice_get (map held_presence changed.now)) result ≡ holder (filter has_count (map held_presence changed.now)) range }
     ensures within { IfSome result (λ i. i < length changed.now) }
 {
     changed
@@ -210,11 +210,11 @@ fn counted_index(changed: &[Entry], range: Range) -> Option<usize>
 }
 
 // What the table would have of a range that no changed entry with a count contains.
-fn look_beside(changed: &[Entry], table: &Table, range: Range) -> Look
+fn look_beside(changed: &[Held], table: &Table, range: Range) -> Found
     requires cells { 0 < range.len }
-    requires after { is_table (with_changed (map entry_presence changed.now) table.now.presences) ≡ true }
-    requires none { holder (filter has_count (map entry_presence changed.now)) range ≡ None }
-    ensures { IsLook (with_changed (map entry_presence changed.now) table.now.presences) range result }
+    requires after { is_table (with_changed (map held_presence changed.now) table.now.presences) ≡ true }
+    requires none { holder (filter has_count (map held_presence changed.now)) range ≡ None }
+    ensures { IsFound (with_changed (map held_presence changed.now) table.now.presences) range result }
 {
     table.keeps();
     match table.look(range) {
@@ -222,7 +222,7 @@ fn look_beside(changed: &[Entry], table: &Table, range: Range) -> Look
             if overlaps_one(changed, entry.range) {
                 partly_or_absent(overlaps_drafted(changed, table, range))
             } else {
-                Look::Present(entry)
+                Found::Present(held_of(&entry))
             }
         }
         Look::Partly => partly_or_absent(overlaps_drafted(changed, table, range)),
@@ -231,15 +231,19 @@ fn look_beside(changed: &[Entry], table: &Table, range: Range) -> Look
 }
 
 // What is said of a range that no present one contains.
-fn partly_or_absent(overlaps: bool) -> Look
+fn partly_or_absent(overlaps: bool) -> Found
     ensures { result ≡ (if overlaps then Partly else Absent) }
 {
-    if overlaps { Look::Partly } else { Look::Absent }
+    if overlaps {
+        Found::Partly
+    } else {
+        Found::Absent
+    }
 }
 
 // Whether a changed entry that has a count overlaps the range.
-fn overlaps_counted(changed: &[Entry], range: Range) -> bool
-    ensures { result ≡ overlaps_any (filter has_count (map entry_presence changed.now)) range }
+fn overlaps_counted(changed: &[Held], range: Range) -> bool
+    ensures { result ≡ overlaps_any (filter has_count (map held_presence changed.now)) range }
 {
     changed
         .iter()
@@ -247,21 +251,21 @@ fn overlaps_counted(changed: &[Entry], range: Range) -> bool
 }
 
 // Whether the range would overlap a present one.
-fn overlaps_drafted(changed: &[Entry], table: &Table, range: Range) -> bool
-    ensures { result ≡ overlaps_any (with_changed (map entry_presence changed.now) table.now.presences) range }
+fn overlaps_drafted(changed: &[Held], table: &Table, range: Range) -> bool
+    ensures { result ≡ overlaps_any (with_changed (map held_presence changed.now) table.now.presences) range }
 {
     overlaps_counted(changed, range) || table.overlaps_beside(range, changed)
 }
 
 // The index among the changed entries of the one that contains the range, which is put there where only the table has
 // it, as was found.
-fn index_for(changed: &mut Vec<Entry>, table: &Table, range: Range, found: &Look) -> Option<usize>
+fn index_for(changed: &mut Vec<Held>, table: &Table, range: Range, found: &Found) -> Option<usize>
     requires cells { 0 < range.len }
-    requires found { IsLook (with_changed (map entry_presence changed.old.items) table.now.presences) range found.now }
-    requires after { is_table (with_changed (map entry_presence changed.old.items) table.now.presences) ≡ true }
+    requires found { IsFound (with_changed (map held_presence changed.old.items) table.now.presences) range found.now }
+    requires after { is_table (with_changed (map held_presence changed.old.items) table.now.presences) ≡ true }
     requires room { vec_len changed.old < vec_capacity changed.old }
-    ensures same { with_changed (map entry_presence changed.new.items) table.now.presences ≡ with_changed (map entry_presence changed.old.items) table.now.presences }
-    ensures held { option_and_then (slice_get (map entry_presence changed.new.items)) result ≡ holder (with_changed (map entry_presence changed.old.items) table.now.presences) range }
+    ensures same { with_changed (map held_presence changed.new.items) table.now.presences ≡ with_changed (map held_presence changed.old.items) table.now.presences }
+    ensures held { option_and_then (slice_get (map held_presence changed.new.items)) result ≡ holder (with_changed (map held_presence changed.old.items) table.now.presences) range }
     ensures within { IfSome result (λ i. i < vec_len changed.new) }
     ensures none { result ≡ None → changed.new ≡ changed.old }
     ensures longer { vec_len changed.new ≤ vec_len changed.old + 1 }
@@ -271,11 +275,11 @@ fn index_for(changed: &mut Vec<Entry>, table: &Table, range: Range, found: &Look
     match counted_index(changed.as_slice(), range) {
         Some(i) => Some(i),
         None => match found {
-            Look::Absent => None,
-            Look::Partly => None,
-            Look::Present(entry) => {
+            Found::Absent => None,
+            Found::Partly => None,
+            Found::Present(held) => {
                 let index = changed.len();
-                changed.push_reserved(*entry);
+                changed.push_reserved(*held);
                 Some(index)
             }
         },

@@ -11,11 +11,12 @@ ghost use Rattle.acc_present.specs.declared.change.Change.TheVariants.{DynamicZe
 ghost use Rattle.acc_present.specs.Presences.{holder, is_present, is_partly_present, overlaps_any, used_cells};
 ghost use Rattle.acc_present.specs.Drafts.{beside};
 ghost use Rattle.acc_present.specs.Legality.{MeetsCondition};
-ghost use Rattle.acc_present.specs.Tables.{entry_mark, exit_mark, finalize_mark, entry_change, exit_change, counter_of, changed_counter, stepped, opening, presences_after, kept_after, has_count, entry_presence, is_table, AreNoted, IsLook, left_of};
+ghost use Rattle.acc_present.specs.Tables.{entry_mark, exit_mark, finalize_mark, entry_change, exit_change, counter_of, changed_counter, stepped, opening, presences_after, kept_after, has_count, entry_presence, held_presence, is_table, AreNoted, IsLook, left_of};
 ghost use Rattle.acc_present.specs.Notes.{Note, entry_note, entry_noted, HasNotes, IsNoted, no_note, used_by, made_by, changed_at};
 
 use crate::change::Change;
 use crate::entries::Entries;
+use crate::held::{Held, overlaps_one};
 use acc_base::{BlockId, Fault, QUEUES, QueueCounts, QueueId, Range};
 use acc_raw::{Chain, Indexed};
 use std::alloc::Global;
@@ -260,9 +261,9 @@ impl Table {
         Left::Ended(after.block)
     }
 
-    // Whether the range overlaps a present one that none of these entries overlaps.
-    pub(crate) fn overlaps_beside(&self, range: Range, changed: &[Entry]) -> bool
-        ensures { result ≡ overlaps_any (beside (map entry_presence changed.now) self.now.presences) range }
+    // Whether the range overlaps a present one that none of these overlaps.
+    pub(crate) fn overlaps_beside(&self, range: Range, changed: &[Held]) -> bool
+        ensures { result ≡ overlaps_any (beside (map held_presence changed.now) self.now.presences) range }
     {
         let entries = self.entries.listed();
         let behind = index_behind(entries, self.near, range);
@@ -478,24 +479,17 @@ fn overlaps_at(entries: &Indexed<Entry>, at: usize, range: Range) -> bool
     at < entries.len() && entries.get(at).range.overlaps(&range)
 }
 
-// Whether one of the entries overlaps the range.
-pub(crate) fn overlaps_one(entries: &[Entry], range: Range) -> bool
-    ensures { result ≡ overlaps_any (map entry_presence entries.now) range }
-{
-    entries.iter().any(|entry| entry.range.overlaps(&range))
-}
-
 // Whether the range overlaps an entry that no changed one overlaps, where the first entry that begins behind the range's first
 // cell stands at this index. Goes along the entries until one begins behind the range.
 fn overlaps_beside_in(
     entries: &Indexed<Entry>,
     behind: usize,
     range: Range,
-    changed: &[Entry],
+    changed: &[Held],
 ) -> bool
     requires table { is_table (map entry_presence entries.now.items) ≡ true }
     requires index { behind ≡ position_or_len (λ p. is_before range p.range) (map entry_presence entries.now.items) }
-    ensures { result ≡ overlaps_any (beside (map entry_presence changed.now) (map entry_presence entries.now.items)) range }
+    ensures { result ≡ overlaps_any (beside (map held_presence changed.now) (map entry_presence entries.now.items)) range }
 {
     let mut at = behind.saturating_sub(1);
     while at < entries.len() {
@@ -513,7 +507,7 @@ fn overlaps_beside_in(
 }
 
 // An entry for a range that was absent, counted once.
-pub(crate) fn new_entry(range: Range, counter: Counter, block: BlockId) -> Entry
+fn new_entry(range: Range, counter: Counter, block: BlockId) -> Entry
     ensures presence { entry_presence result ≡ opening (entry_mark counter range) block }
     ensures note { entry_note result ≡ no_note }
 {
@@ -530,7 +524,7 @@ pub(crate) fn new_entry(range: Range, counter: Counter, block: BlockId) -> Entry
 }
 
 // Counts an entry to this one's range.
-pub(crate) fn count_up(entry: &mut Entry, counter: Counter)
+fn count_up(entry: &mut Entry, counter: Counter)
     requires { counter_of counter (entry_presence entry.old) < COUNTER_LIMIT }
     ensures presence { entry_presence entry.new ≡ stepped (entry_change counter) (entry_presence entry.old) }
     ensures note { entry_note entry.new ≡ entry_note entry.old }
@@ -542,7 +536,7 @@ pub(crate) fn count_up(entry: &mut Entry, counter: Counter)
 }
 
 // What an exit's change makes of an entry.
-pub(crate) fn counted_down(entry: &Entry, change: Change) -> Entry
+fn counted_down(entry: &Entry, change: Change) -> Entry
     requires exit { can_open change ≡ false }
     requires some { 0 < counter_of (changed_counter change) (entry_presence entry.now) }
     ensures presence { entry_presence result ≡ stepped change (entry_presence entry.now) }
@@ -592,7 +586,7 @@ pub(crate) fn exit_change(counter: Counter) -> Change
 }
 
 // The counter that a change is of.
-pub(crate) fn count_of(entry: &Entry, change: Change) -> u64
+fn count_of(entry: &Entry, change: Change) -> u64
     ensures { result ≡ counter_of (changed_counter change) (entry_presence entry.now) }
 {
     match change {
@@ -601,7 +595,7 @@ pub(crate) fn count_of(entry: &Entry, change: Change) -> u64
     }
 }
 
-pub(crate) fn has_count(entry: &Entry) -> bool
+fn has_count(entry: &Entry) -> bool
     ensures { result ≡ has_count (entry_presence entry.now) }
 {
     entry.s > 0 || entry.d > 0

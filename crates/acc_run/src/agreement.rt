@@ -46,7 +46,9 @@ impl<'a> Unread<'a> {
 fn is_same(own: &OwnDirective, gone: u64, directive: &Directive, placed: &Placed) -> bool
     ensures { IsTrue result ↔ own_by own.now ≡ record { items_before = gone; directive = directive.now; placed = placed.now } }
 {
-    own.items_before == gone && own.directive.is_same(directive) && own.placed.is_same(placed)
+    own.items_before == gone
+        && own.directive.is_same(directive)
+        && own.answer.placed().is_same(placed)
 }
 
 // Whether a token's list is that of its host in both histories.

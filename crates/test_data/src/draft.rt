@@ -5,8 +5,8 @@ ghost use Rattle.std.specs.Prelude.{◌≡◌, ◌+◌, ◌<◌, ◌≤◌, leng
 ghost use Rattle.acc_present.specs.Drafts.{IsDraft};
 
 use crate::fixtures::{CELLS, cells, check_same, entered_into};
-use acc_base::{BlockId, Fault, QUEUES, QueueId, Range};
-use acc_present::{Counter, Draft, Entered, Entry, Left, Look, Table};
+use acc_base::{BlockId, Fault, Range};
+use acc_present::{Counter, Draft, Entered, Found, Held, Left, Table};
 use std::process::Abort;
 use std::test::Fail;
 use tool_scarce::Hoard;
@@ -32,12 +32,12 @@ fn drafted_into(
     assert!(rt; range.len < 1_000);
     let found = draft.look(table, range);
     match &found {
-        Look::Absent => draft.enter(table, range, &found, Counter::Dynamic, BlockId::new(block)),
-        Look::Present(entry) => {
-            assert!(rt; entry.d < 1_000);
+        Found::Absent => draft.enter(table, range, &found, Counter::Dynamic, BlockId::new(block)),
+        Found::Present(held) => {
+            assert!(rt; held.d < 1_000);
             draft.enter(table, range, &found, Counter::Dynamic, BlockId::new(block))
         }
-        Look::Partly => {
+        Found::Partly => {
             assert!(rt; false, "partly present");
             Entered::Counted
         }
@@ -57,14 +57,12 @@ fn drafted_out_of(table: &Table, draft: &mut Draft, range: Range) -> Left
     draft.leave(table, range, &found, Counter::Dynamic)
 }
 
-fn entry(range: Range, block: u64, d: u64) -> Look {
-    Look::Present(Entry {
+fn entry(range: Range, block: u64, d: u64) -> Found {
+    Found::Present(Held {
         range,
         block: BlockId::new(block),
         s: 0,
         d,
-        maker: (QueueId::SYNC, 0),
-        uses: [0; QUEUES as usize],
     })
 }
 
@@ -75,19 +73,19 @@ fn ended_ranges_lie_in_no_way(rt: HostRuntime) -> Result<(), Fail> {
     let _ = entered_into(&rt, &mut table, cells(2, 2), 2);
     let mut draft = Draft::with_room(rt.alloc(), 16)?;
     draft.begin(&table);
-    check_same(&rt, draft.look(&table, cells(0, 4)), Look::Partly);
+    check_same(&rt, draft.look(&table, cells(0, 4)), Found::Partly);
     check_same(
         &rt,
         drafted_out_of(&table, &mut draft, cells(0, 2)),
         Left::Ended(BlockId::new(1)),
     );
-    check_same(&rt, draft.look(&table, cells(0, 4)), Look::Partly);
+    check_same(&rt, draft.look(&table, cells(0, 4)), Found::Partly);
     check_same(
         &rt,
         drafted_out_of(&table, &mut draft, cells(2, 2)),
         Left::Ended(BlockId::new(2)),
     );
-    check_same(&rt, draft.look(&table, cells(0, 4)), Look::Absent);
+    check_same(&rt, draft.look(&table, cells(0, 4)), Found::Absent);
     check_same(
         &rt,
         drafted_out_of(&table, &mut draft, cells(0, 4)),
@@ -115,7 +113,7 @@ fn a_range_is_opened_over_ended_ones(rt: HostRuntime) -> Result<(), Fail> {
         draft.look(&table, cells(2, 3)),
         entry(cells(1, 5), 4, 1),
     );
-    check_same(&rt, draft.look(&table, cells(0, 2)), Look::Partly);
+    check_same(&rt, draft.look(&table, cells(0, 2)), Found::Partly);
     check_same(&rt, draft.used_cells(), 5);
     check_same(&rt, table.used_cells(), 4);
     Ok(())
@@ -143,7 +141,7 @@ fn a_draft_leaves_the_table_as_it_was(rt: HostRuntime) -> Result<(), Fail> {
         drafted_out_of(&table, &mut draft, cells(8, 4)),
         Left::Ended(BlockId::new(3)),
     );
-    check_same(&rt, draft.look(&table, cells(6, 3)), Look::Absent);
+    check_same(&rt, draft.look(&table, cells(6, 3)), Found::Absent);
     check_same(&rt, draft.used_cells(), 0);
     check_same(&rt, table.used_cells(), 4);
     draft.begin(&table);

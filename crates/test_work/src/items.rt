@@ -18,12 +18,18 @@ fn counts_on(queue: u8, count: u64) -> QueueCounts
     counts
 }
 
-/// One about the first queue alone takes no memory, and one about another queue does.
+/// One about one queue alone takes no memory, and one about two queues does.
 #[test]
 fn a_question_is_refused_until_there_is_memory(rt: HostRuntime) -> Result<(), Fail> {
     let alloc = rt.alloc();
     let device = DeviceId::new(1);
-    let questions = [(counts_on(0, 3), false), (counts_on(QUEUES - 1, 3), true)];
+    let mut two = counts_on(0, 3);
+    two[usize::from(QUEUES - 1)] = 3;
+    let questions = [
+        (counts_on(0, 3), false),
+        (counts_on(QUEUES - 1, 3), false),
+        (two, true),
+    ];
     for (counts, takes_memory) in questions {
         let plain = ItemLabel::Test { device, counts };
         assert_eq!(rt; Item::test(alloc, device, counts)?.label(), plain);

@@ -11,8 +11,8 @@ use Rattle.acc_kernel.specs.Kernels.{Loop}
 use Rattle.acc_present.specs.declared.table.Counter.{Counter}
 use Rattle.acc_present.specs.declared.table.Counter.TheVariants.{Structured, Dynamic}
 use Rattle.acc_present.specs.declared.table.TheConstants.{COUNTER_LIMIT}
-use Rattle.acc_present.specs.declared.table.Look.{Look}
-use Rattle.acc_present.specs.declared.table.Look.TheVariants as look
+use Rattle.acc_present.specs.declared.held.Found.{Found}
+use Rattle.acc_present.specs.declared.held.Found.TheVariants as look
 use Rattle.acc_present.specs.declared.table.Left.{Left}
 use Rattle.acc_present.specs.declared.table.Left.TheVariants as left
 use Rattle.acc_present.specs.Legality.{IsEntered}
@@ -126,7 +126,7 @@ can_open_by None = false
 can_open_by (Some change) = can_open change
 
 -- the fault of an item that was found so, where so many cells are free
-abbrev pub found_fault : Kind → DataItem → Look → ℕ → Option Fault
+abbrev pub found_fault : Kind → DataItem → Found → ℕ → Option Fault
 found_fault k i look.Partly free = fault_where (wants_whole k) PartlyPresent
 found_fault k i (look.Present e) free = None
 found_fault k i look.Absent free =
@@ -175,12 +175,12 @@ abbrev pub block_held : Option Presence → Option ℕ
 block_held None = None
 block_held (Some p) = Some p.block
 
-abbrev pub is_found : Look → Bool
+abbrev pub is_found : Found → Bool
 is_found look.Absent = false
 is_found look.Partly = false
 is_found (look.Present e) = true
 
-abbrev pub block_found : Look → Option ℕ
+abbrev pub block_found : Found → Option ℕ
 block_found look.Absent = None
 block_found look.Partly = None
 block_found (look.Present e) = Some e.block

@@ -1,6 +1,6 @@
 use Rattle.std.proofs.Common.{◌≡◌, map, sym, ◌∙◌, Some, None}
 use Rattle.acc_present.specs.Presences.{holder}
-use Rattle.acc_present.specs.Tables.{entry_presence}
+use Rattle.acc_present.specs.Tables.{entry_presence, held_presence}
 use Rattle.acc_present.specs.Drafts.{with_changed}
 use Rattle.acc_present.proofs.DraftShows.{held_beside, beside_none, beside_hidden, beside_seen, overlaps_changed, none_seen, apart_seen, none_looked}
 use Rattle.acc_present.proofs.Holder.{is_present-some, not_partly}
@@ -8,7 +8,7 @@ use Rattle.acc_present.proofs.draft.look_beside.Goals as goal
 
 pub returns-then-overlaps_one : goal.returns-then-overlaps_one
 returns-then-overlaps_one c =
-    let cs = map entry_presence c.args.changed.now in
+    let cs = map held_presence c.args.changed.now in
     let ps = c.args.table.now.presences in
     let r = c.args.range in
     let x = entry_presence c.in-Present.entry in
@@ -19,7 +19,7 @@ returns-then-overlaps_one c =
 
 pub returns-else-overlaps_one : goal.returns-else-overlaps_one
 returns-else-overlaps_one c =
-    let cs = map entry_presence c.args.changed.now in
+    let cs = map held_presence c.args.changed.now in
     let ps = c.args.table.now.presences in
     let r = c.args.range in
     let x = entry_presence c.in-Present.entry in
@@ -27,11 +27,11 @@ returns-else-overlaps_one c =
     let rest = beside_seen cs ps r x c.keeps.ensures.table c.requires.cells some (sym c.overlaps_one.ensures ∙ c.if-overlaps_one.false) in
     let seen = sym (held_beside cs ps r (Some x) c.requires.after c.requires.cells (sym c.requires.none) (sym rest)) in
     let qs = with_changed cs ps in
-    (seen, not_partly qs r (is_present-some qs r x seen))
+    rw c.held_of.ensures (seen, not_partly qs r (is_present-some qs r x seen))
 
 pub returns-in-Partly : goal.returns-in-Partly
 returns-in-Partly c =
-    let cs = map entry_presence c.args.changed.now in
+    let cs = map held_presence c.args.changed.now in
     let ps = c.args.table.now.presences in
     let r = c.args.range in
     let rest = beside_none cs ps r (none_seen ps r (rw c.in-Partly.is at c.look.ensures.look)) in
@@ -40,7 +40,7 @@ returns-in-Partly c =
 
 pub returns-in-Absent : goal.returns-in-Absent
 returns-in-Absent c =
-    let cs = map entry_presence c.args.changed.now in
+    let cs = map held_presence c.args.changed.now in
     let ps = c.args.table.now.presences in
     let r = c.args.range in
     let absent = rw c.in-Absent.is at c.look.ensures.look in

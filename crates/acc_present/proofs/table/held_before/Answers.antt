@@ -2,7 +2,7 @@ use Rattle.std.proofs.Common.{◌≡◌, ◌-◌, true, false, map, get_or, sym,
 use Rattle.std.proofs.lemmas.Option.{get_or_from_slice_get}
 use Rattle.acc_base.specs.Ranges.{range_contains}
 use Rattle.acc_present.specs.Tables.{entry_presence}
-use Rattle.acc_present.proofs.Holder.{holder_is-none, holder_is-later, slice_get-entry}
+use Rattle.acc_present.proofs.Holder.{holder_is-none, holder_is-later, slice_get-shown}
 use Rattle.acc_present.proofs.table.held_before.Goals as goal
 
 pub returns-then-behind-eq0-clause-held : goal.returns-then-behind-eq0-clause-held
@@ -18,7 +18,7 @@ returns-then-contains-clause-held c =
     let is : x ≡ get_or es (k - 1) x = sym (get_or_from_slice_get es (k - 1) x x c.get.ensures) in
     let has : range_contains x.range c.args.range ≡ true = sym c.contains.ensures.bounds ∙ c.if-contains.true in
     holder_is-later es c.args.range k x c.requires.table c.requires.cells c.requires.index (omega arith) (omega arith) is
-    ∙ rw has (sym (slice_get-entry es (k - 1) x (omega arith) is))
+    ∙ rw has (sym (slice_get-shown entry_presence es (k - 1) x (omega arith) is))
 
 pub returns-else-contains-clause-held : goal.returns-else-contains-clause-held
 returns-else-contains-clause-held c =
