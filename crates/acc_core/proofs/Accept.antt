@@ -1,5 +1,5 @@
 -- A directive is accepted, and its batch placed on the queue.
-use Rattle.std.proofs.Common.{◌≡◌, ℕ, ◌<◌, false, List, [], ◌∷◌, ◌++◌, length, refl, sym, ap, subst, ◌∙◌, arith, Option, None, Some}
+use Rattle.std.proofs.Common.{◌≡◌, ℕ, ◌<◌, true, false, List, [], ◌∷◌, ◌++◌, length, refl, sym, ap, subst, ◌∙◌, arith, Option, None, Some}
 use Rattle.std.specs.Prelude.{◌==◌, ◌&&◌, not, All, Ok, Err}
 use Rattle.std.proofs.lemmas.Bool.{eq-eqb, ne_eqb}
 use Rattle.std.proofs.lemmas.List.{append_assoc, append-nil, length-append, length-set}
@@ -9,7 +9,8 @@ use Rattle.acc_base.specs.declared.config.TheConstants.{MAX_HOSTS}
 use Rattle.acc_place.specs.Directives.{Directive}
 use Rattle.acc_batch.specs.declared.label.Label.{Label}
 use Rattle.acc_batch.specs.declared.label.OpLabel.{OpLabel}
-use Rattle.acc_base.specs.declared.fault.Fault.TheVariants.{QueueFull}
+use Rattle.acc_base.specs.declared.fault.Fault.{Fault}
+use Rattle.acc_base.specs.declared.fault.Fault.TheVariants.{Memory, QueueFull}
 use Rattle.acc_base.specs.declared.ids.QueueAt.{QueueAt}
 use Rattle.acc_base.specs.declared.ids.TheConstants.{QUEUES}
 use Rattle.acc_base.specs.Queues.{same_queue, seat}
@@ -24,7 +25,7 @@ use Rattle.acc_core.specs.Legality.{Legal}
 use Rattle.acc_work.specs.Logs.{items_of}
 use Rattle.acc_core.specs.Machine.{State, standing_of, with_directive, fault_of_place, place_fault, queue_fault, is_empty, is_full, batches_held, labels_of}
 use Rattle.acc_place.specs.Standings.{walk_of}
-use Rattle.acc_core.specs.inner.Queues.{QueueView, no_queue, queue_in, queues_with, queue_pushed}
+use Rattle.acc_core.specs.inner.Queues.{QueueView, no_queue, queue_in, queues_with, held_with}
 use Rattle.acc_core.specs.inner.Ties.{QueueIs, Queued, IsAccelerator}
 use Rattle.acc_work.specs.Works.{WorkView, KeepsOrder, lane_at}
 use Rattle.acc_core.proofs.LegalSteps.{legal_accepted, labels_accepted}
@@ -33,7 +34,7 @@ use Rattle.acc_batch.proofs.Labels.{on_queue-append}
 use Rattle.acc_batch.proofs.Seats.{each_seat}
 use Rattle.acc_core.proofs.AddedLabels.{added}
 use Rattle.acc_place.proofs.LabelsThere.{labels_there}
-use Rattle.acc_core.proofs.Seats.{IsSeated, seated, room_changed}
+use Rattle.acc_core.proofs.Seats.{IsSeated, seated}
 use Rattle.acc_core.proofs.TakeBatch.{with_taken, held_is}
 
 -- an empty batch adds no label
@@ -68,7 +69,6 @@ queued_same w w' v queues c e q = record {
   each = λ at. subst (λ ls. QueueIs w'.config ls at (lane_at v at) (queue_in queues at)) (sym e) (subst (λ x. QueueIs x (labels_of w) at (lane_at v at) (queue_in queues at)) (sym c) (q.each at));
   count = rw c q.count;
   devices = rw c q.devices;
-  roomy = rw c q.roomy;
   filled = rw e q.filled;
   hosts = rw e q.hosts;
 }
@@ -81,19 +81,18 @@ placed_elsewhere : (labels : List Label) (b : Label) (other : QueueAt) → same_
 placed_elsewhere labels b other differ = on_queue-append other labels (b ∷ []) ∙ rw differ (append-nil (on_queue other labels))
 
 -- One more batch joins its queue.
-pub queued_more : (w w' : State) (v : WorkView) (queues : List QueueView) (b : Label) → IsSeated w.config.devices v queues b.at → Queued w v queues → w'.config ≡ w.config → labels_of w' ≡ labels_of w ++ b ∷ [] → b.host < MAX_HOSTS
-    → 0 < length b.ops → length (queue_in queues b.at).held < w.config.room → Queued w' v (queues_with queues b.at (queue_pushed (queue_in queues b.at) b))
-queued_more w w' v queues b s q c e host some fits =
+pub queued_more : (w w' : State) (v : WorkView) (queues : List QueueView) (b : Label) (new : QueueView) → new.held ≡ held_with (queue_in queues b.at) b → IsSeated w.config.devices v queues b.at → Queued w v queues → w'.config ≡ w.config → labels_of w' ≡ labels_of w ++ b ∷ [] → b.host < MAX_HOSTS
+    → 0 < length b.ops → length (queue_in queues b.at).held < w.config.room → Queued w' v (queues_with queues b.at new)
+queued_more w w' v queues b new pushed s q c e host some fits =
     let at = b.at in
     let ls = labels_of w in
     let queue = queue_in queues at in
-    let new = queue_pushed queue b in
     let h = q.each at in
     let each =
     each_seat (λ other x. QueueIs w.config ls other (lane_at v other) x) (λ other x. QueueIs w.config (ls ++ b ∷ []) other (lane_at v other) x) no_queue queues at new s.queue s.held q.each
     (record {
-      split = placed_here ls b ∙ (ap (λ r. r ++ b ∷ []) h.split ∙ append_assoc (lane_at v at).taken queue.held (b ∷ []));
-      held_low = omega (arith, fits, length-append queue.held (b ∷ []));
+      split = placed_here ls b ∙ (ap (λ r. r ++ b ∷ []) h.split ∙ (append_assoc (lane_at v at).taken queue.held (b ∷ []) ∙ ap (λ r. (lane_at v at).taken ++ r) (sym pushed)));
+      held_low = omega (arith, fits, length-append queue.held (b ∷ []), ap length pushed);
       in_place = h.in_place;
     })
     (λ other differ x same. record { split = placed_elsewhere ls b other differ ∙ same.split; held_low = same.held_low; in_place = same.in_place }) in
@@ -101,7 +100,6 @@ queued_more w w' v queues b s q c e host some fits =
       each = λ other. subst (λ x. QueueIs w'.config x other (lane_at v other) (queue_in (queues_with queues at new) other)) (sym e) (subst (λ x. QueueIs x (ls ++ b ∷ []) other (lane_at v other) (queue_in (queues_with queues at new) other)) (sym c) (each other));
       count = rw c (length-set queues (seat at) new ∙ q.count);
       devices = rw c q.devices;
-      roomy = rw c (room_changed w.config.room queues at new s.queue s.held q.roomy refl);
       filled = rw e (All-push (λ (x : Label). 0 < length x.ops) ls b q.filled some);
       hosts = rw e (All-push (λ (x : Label). x.host < MAX_HOSTS) ls b q.hosts host);
     }
@@ -155,14 +153,14 @@ placed_there w host d b l e p =
     (there.0, there.1)
 
 -- An accelerator that accepted a directive and put its batch on its queue.
-pub keeps_batch : (w w' : State) (v : WorkView) (queues : List QueueView) (b : Label) (host : ℕ) (d : Directive) → IsAccelerator w v queues → IsSeated w.config.devices v queues b.at → refusal w.config (standing_of w) host d ≡ None
-    → w' ≡ with_directive w host d → IsPlaced w host d b → host < MAX_HOSTS → length (queue_in queues b.at).held < w.config.room → IsAccelerator w' v (queues_with queues b.at (queue_pushed (queue_in queues b.at) b))
-keeps_batch w w' v queues b host d a s e is l low fits =
+pub keeps_batch : (w w' : State) (v : WorkView) (queues : List QueueView) (b : Label) (new : QueueView) (host : ℕ) (d : Directive) → new.held ≡ held_with (queue_in queues b.at) b → IsAccelerator w v queues → IsSeated w.config.devices v queues b.at → refusal w.config (standing_of w) host d ≡ None
+    → w' ≡ with_directive w host d → IsPlaced w host d b → host < MAX_HOSTS → length (queue_in queues b.at).held < w.config.room → IsAccelerator w' v (queues_with queues b.at new)
+keeps_batch w w' v queues b new host d pushed a s e is l low fits =
     let labels : labels_of (with_directive w host d) ≡ labels_of w ++ b ∷ [] = rw l.same (labels_more w host d l.some) in
     rw is (record {
       legal = legal_accepted w host d a.legal e;
       few_items = a.few_items;
-      parts = queued_more w (with_directive w host d) v queues b s a.parts refl labels (rw l.same low) (rw l.same l.some) fits;
+      parts = queued_more w (with_directive w host d) v queues b new pushed s a.parts refl labels (rw l.same low) (rw l.same l.some) fits;
       opening = a.opening;
     })
 
@@ -191,6 +189,10 @@ pub places_full : (w w' : State) (v : WorkView) (queues : List QueueView) (host 
     → IsPlaced w host d b → length (queue_in queues b.at).held ≡ w.config.room → w' ≡ with_taken w v → Places (with_taken w v) host d (Err QueueFull) w'
 places_full w w' v queues host d b q s e p full is =
     (false, fault_is w v queues host d b q s e p ∙ ap queue_fault (eq-eqb (length (queue_in queues b.at).held) w.config.room full), is)
+
+-- One that is refused memory is refused for that.
+pub places_scarce : (w w' : State) (host : ℕ) (d : Directive) (fault : Fault) → refusal w.config (standing_of w) host d ≡ None → fault ≡ Memory → w' ≡ w → Places w host d (Err fault) w'
+places_scarce w w' host d fault e memory is = (true, ap (place_fault true w host d) e ∙ ap Some (sym memory), is)
 
 -- A directive with a batch is answered with the batch's queue and number.
 pub places_batch : (w w' : State) (v : WorkView) (queues : List QueueView) (host : ℕ) (d : Directive) (b : Label) (placed : Placed) → Queued w v queues → IsSeated w.config.devices v queues b.at

@@ -18,7 +18,7 @@ use Rattle.acc_work.proofs.KeptSteps.{Advanced}
 use Rattle.acc_core.specs.Enabled.{is_left}
 use Rattle.acc_core.specs.Legality.{Legal}
 use Rattle.acc_core.specs.Machine.{State, idle, is_empty, is_there, labels_of, ops_left, step}
-use Rattle.acc_core.specs.inner.Queues.{IsEmptyQueue, QueueView, no_queue, queue_in, queue_pushed, queues_with}
+use Rattle.acc_core.specs.inner.Queues.{QueueView, empty_queue, no_queue, queue_in, held_with, queues_with}
 use Rattle.acc_core.specs.inner.Ties.{Queued, all_batches_left, batches_left}
 use Rattle.acc_core.proofs.Enabled.{left_on, none_left}
 use Rattle.acc_core.proofs.PerformOp.{performs_absent}
@@ -60,17 +60,17 @@ counts_one lane queue some = by_left lane.left some
     by_left (op ∷ left) some = refl
 
 -- One more batch is placed.
-pub one_placed : (devices : ℕ) (v : WorkView) (queues : List QueueView) (at : QueueAt) (b : Label) → IsSeated devices v queues at
-    → all_batches_left v.lanes (queues_with queues at (queue_pushed (queue_in queues at) b)) ≡ all_batches_left v.lanes queues + 1
-one_placed devices v queues at b s =
+pub one_placed : (devices : ℕ) (v : WorkView) (queues : List QueueView) (at : QueueAt) (b : Label) (new : QueueView) → new.held ≡ held_with (queue_in queues at) b → IsSeated devices v queues at
+    → all_batches_left v.lanes (queues_with queues at new) ≡ all_batches_left v.lanes queues + 1
+one_placed devices v queues at b new pushed s =
     let queue = seat_there no_queue queues at s.queue in
-    omega (arith, queue_changed v.lanes queues (seat at) (queue_pushed (queue_in queues at) b) s.lane s.held, ap (λ (q : QueueView). length q.held) queue, length-append (queue_in queues at).held (b ∷ []))
+    omega (arith, queue_changed v.lanes queues (seat at) new s.lane s.held, ap length pushed, ap (λ (q : QueueView). length q.held) queue, length-append (queue_in queues at).held (b ∷ []))
 
 -- A batch that is taken is still to be performed.
 pub one_taken : (devices : ℕ) (v : WorkView) (queues : List QueueView) (at : QueueAt) (new : LaneView) (b : Label) (more : List Label) → IsSeated devices v queues at → (lane_at v at).left ≡ [] → 0 < length new.left → (queue_in queues at).held ≡ b ∷ more
-    → all_batches_left (lanes_with v.lanes at new) (queues_with queues at (record (queue_in queues at) { held = more })) ≡ all_batches_left v.lanes queues
+    → all_batches_left (lanes_with v.lanes at new) (queues_with queues at (record { held = more; has_place = true })) ≡ all_batches_left v.lanes queues
 one_taken devices v queues at new b more s none some first =
-    let rest : QueueView = record (queue_in queues at) { held = more } in
+    let rest : QueueView = record { held = more; has_place = true } in
     let queue = seat_there no_queue queues at s.queue in
     let lane = seat_there no_lane v.lanes at s.queue in
     let queues_then = queue_changed v.lanes queues (seat at) rest s.lane s.held in
@@ -200,12 +200,12 @@ none_goes w v queues at q k same none = elim (cases_Bool (is_there w at)) [
 
 -- ## At first, and at most
 
-pub none_yet : (room : ℕ) (lanes : List LaneView) (queues : List QueueView) → All IsFresh lanes → All (IsEmptyQueue room) queues → all_batches_left lanes queues ≡ 0
-none_yet room [] queues fresh empty = refl
-none_yet room (lane ∷ lanes) [] fresh empty = refl
-none_yet room (lane ∷ lanes) (queue ∷ queues) fresh empty =
-    let held : length queue.held ≡ 0 = ap length (All-head (IsEmptyQueue room) queue queues empty).held in
-    omega (arith, counts_none lane queue (All-head IsFresh lane lanes fresh).left, held, none_yet room lanes queues (All-tail IsFresh lane lanes fresh) (All-tail (IsEmptyQueue room) queue queues empty))
+pub none_yet : (lanes : List LaneView) (queues : List QueueView) → All IsFresh lanes → All (λ (q : QueueView). q ≡ empty_queue) queues → all_batches_left lanes queues ≡ 0
+none_yet [] queues fresh empty = refl
+none_yet (lane ∷ lanes) [] fresh empty = refl
+none_yet (lane ∷ lanes) (queue ∷ queues) fresh empty =
+    let held : length queue.held ≡ 0 = ap (λ (q : QueueView). length q.held) (All-head (λ (q : QueueView). q ≡ empty_queue) queue queues empty) in
+    omega (arith, counts_none lane queue (All-head IsFresh lane lanes fresh).left, held, none_yet lanes queues (All-tail IsFresh lane lanes fresh) (All-tail (λ (q : QueueView). q ≡ empty_queue) queue queues empty))
 
 at_most : (lanes : List LaneView) (queues : List QueueView) → ((i : ℕ) → length (slice_index_or queues i no_queue).held ≤ MAX_ROOM) → all_batches_left lanes queues ≤ length queues * (MAX_ROOM + 1)
 at_most [] queues held = omega arith

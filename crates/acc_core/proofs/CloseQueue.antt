@@ -1,25 +1,32 @@
 -- A queue is closed: its last batch joins the queue, for which there is room.
-use Rattle.std.proofs.Common.{inl, inr, ◌≡◌, ℕ, ◌<◌, Bool, true, false, cond, List, [], ◌∷◌, length, refl, sym, ap, subst, ◌∙◌, arith}
-use Rattle.std.specs.Prelude.{not, nat_lt, ◌&&◌, ◌||◌, slice_index_or, slice_set}
-use Rattle.std.proofs.lemmas.Bool.{cases_Bool, lt-ltb}
+use Rattle.std.proofs.Common.{inl, inr, ◌≡◌, ℕ, zero, suc, ◌<◌, ◌≤◌, Bool, true, false, cond, List, [], ◌∷◌, drop, length, Option, None, Some, refl, sym, ap, subst, ◌∙◌, arith}
+use Rattle.std.specs.Prelude.{All, not, nat_lt, ◌&&◌, ◌||◌, slice_index_or, slice_set}
+use Rattle.std.proofs.lemmas.Bool.{and_parts, cases_Bool, le-ltb, lt-ltb}
 use Rattle.std.proofs.lemmas.List.{get_or-set_other}
+use Rattle.std.proofs.lemmas.List.Elements.{All-get_or}
 use Rattle.acc_base.specs.declared.ids.QueueAt.{QueueAt}
 use Rattle.acc_base.specs.declared.ids.TheConstants.{QUEUES}
-use Rattle.acc_base.specs.Queues.{same_queue, seat}
+use Rattle.acc_base.specs.Queues.{queue_count, same_queue, seat}
 use Rattle.acc_base.proofs.SameQueue.{same_queue_is, same_queue_itself}
 use Rattle.acc_batch.specs.declared.label.Label.{Label}
 use Rattle.acc_batch.specs.Awaits.{close_label}
-use Rattle.acc_batch.proofs.Seats.{one_seat}
+use Rattle.acc_batch.proofs.Seats.{each_seat, one_seat, seat_there}
 use Rattle.acc_place.specs.declared.directive.PlaceEntry.TheVariants as noted
-use Rattle.acc_place.specs.Closing.{place_after_begin, place_after_close, handed_out, is_at_hand, IsOut}
-use Rattle.acc_place.specs.Histories.{is_closed, standing, CanClose, IsQueue}
+use Rattle.acc_place.specs.Closing.{place_after_begin, place_after_close, handed_back, handed_out, is_at_hand, IsOut}
+use Rattle.acc_place.specs.Accepting.{refusal}
+use Rattle.acc_place.specs.declared.directive.PlaceEntry.{PlaceEntry}
+use Rattle.acc_base.specs.declared.fault.Fault.TheVariants.{Closed}
+use Rattle.acc_base.specs.Configurations.{Configuration}
+use Rattle.acc_place.specs.Standings.{Standing}
+use Rattle.acc_place.specs.Histories.{is_closed, standing, AllAccepted, CanClose, IsQueue}
+use Rattle.acc_core.specs.Legality.{Legal}
 use Rattle.acc_place.specs.Directives.{Directive}
 use Rattle.acc_place.specs.Plans.{PlaceView, standing_in}
 use Rattle.acc_work.specs.Works.{WorkView}
 use Rattle.acc_core.specs.inner.Closing.{closing_begun, can_close_now}
 use Rattle.acc_core.specs.Machine.{State, batches_held, labels_of, standing_of}
-use Rattle.acc_core.specs.inner.Queues.{QueueView, queue_in, queues_with, queue_pushed}
-use Rattle.acc_core.specs.inner.Ties.{HasCloses, Queued, IsAccelerator}
+use Rattle.acc_core.specs.inner.Queues.{QueueView, empty_queue, held_with, no_queue, queue_in, queues_with}
+use Rattle.acc_core.specs.inner.Ties.{HasCloses, HasPlaces, Queued, IsAccelerator}
 use Rattle.acc_core.proofs.ClosedState.{legal_begins, legal_closed}
 use Rattle.acc_core.proofs.Accept.{queued_more, queued_same}
 use Rattle.acc_core.proofs.Seats.{IsSeated}
@@ -27,15 +34,15 @@ use Rattle.acc_core.proofs.TakeBatch.{held_is, with_taken}
 use Rattle.acc_core.proofs.ClosesOne.{begins_labels, closed_at, labels_closed}
 
 -- An accelerator of which a queue is closed.
-pub keeps_closed : (w : State) (v : WorkView) (queues : List QueueView) (at : QueueAt) (b : Label) → IsAccelerator w v queues → IsSeated w.config.devices v queues at → CanClose w.config (standing_of w) at → b ≡ close_label at (labels_of w)
-    → length (queue_in queues at).held < w.config.room → IsAccelerator (closed_at w at) v (queues_with queues at (queue_pushed (queue_in queues at) b))
-keeps_closed w v queues at b a s can is fits =
-    rw is (record {
+pub keeps_closed : (w : State) (v : WorkView) (queues : List QueueView) (at : QueueAt) (b : Label) (new : QueueView) → new.held ≡ held_with (queue_in queues at) b → IsAccelerator w v queues → IsSeated w.config.devices v queues at → CanClose w.config (standing_of w) at → b ≡ close_label at (labels_of w)
+    → length (queue_in queues at).held < w.config.room → IsAccelerator (closed_at w at) v (queues_with queues at new)
+keeps_closed w v queues at b new pushed a s can is fits =
+    record {
       legal = legal_closed w at a.legal can;
       few_items = a.few_items;
-      parts = queued_more w (closed_at w at) v queues (close_label at (labels_of w)) s a.parts refl (labels_closed w at) (omega arith) (omega arith) fits;
+      parts = queued_more w (closed_at w at) v queues (close_label at (labels_of w)) new (pushed ∙ ap (held_with (queue_in queues at)) is) s a.parts refl (labels_closed w at) (omega arith) (omega arith) fits;
       opening = a.opening;
-    })
+    }
 
 pub keeps_begun : (w : State) (v : WorkView) (queues : List QueueView) → IsAccelerator w v queues → IsAccelerator (closing_begun w) v queues
 keeps_begun w v queues a =
@@ -101,3 +108,65 @@ can_now w v queues at s q early fits =
     let e = held_is w v queues at (queue_in queues at) s (q.each at) in
     let yes : nat_lt (batches_held (with_taken w v) (labels_of w) at) w.config.room ≡ true = lt-ltb (batches_held (with_taken w v) (labels_of w) at) w.config.room (omega (arith, e, fits)) in
     rw (early, yes) refl
+
+-- a close that comes back is at hand again, as if it had never gone
+set_back : (closes : List Bool) (i : ℕ) → slice_index_or closes i false ≡ true → slice_set (slice_set closes i false) i true ≡ closes
+set_back [] i hand = absurd cc
+set_back (b ∷ bs) zero hand = ap (λ c. c ∷ bs) (sym hand)
+set_back (b ∷ bs) (suc i) hand = ap (λ cs. b ∷ cs) (set_back bs i hand)
+
+pub handed_both : (p : PlaceView) (at : QueueAt) → is_at_hand p at ≡ true → handed_back (handed_out p at) at ≡ p
+handed_both p at hand =
+    let there = and_parts (nat_lt at.queue QUEUES) (slice_index_or p.closes (seat at) false) hand in
+    ap (λ b. record p { closes = slice_set (cond b (slice_set p.closes (seat at) false) p.closes) (seat at) true }) hand ∙ ap (λ cs. record p { closes = cs }) (set_back p.closes (seat at) there.1)
+
+pub cannot_now : (w : State) (v : WorkView) (queues : List QueueView) (at : QueueAt) → IsSeated w.config.devices v queues at → Queued w v queues → is_closed (standing_of w) at ≡ false → w.config.room ≤ length (queue_in queues at).held
+    → can_close_now (with_taken w v) at ≡ false
+cannot_now w v queues at s q early full =
+    let e = held_is w v queues at (queue_in queues at) s (q.each at) in
+    let no : nat_lt (batches_held (with_taken w v) (labels_of w) at) w.config.room ≡ false = le-ltb (batches_held (with_taken w v) (labels_of w) at) w.config.room (omega (arith, e, full)) in
+    rw (early, no) refl
+
+-- ## The places of the closes
+
+-- a place that has the same closes at hand
+pub has_same_places : (p p' : PlaceView) (queues : List QueueView) → p'.config ≡ p.config → p'.closes ≡ p.closes → HasPlaces p queues → HasPlaces p' queues
+has_same_places p p' queues config closes h = λ at there hand. h at (rw config at there) (sym (ap (λ bs. nat_lt at.queue QUEUES && slice_index_or bs (seat at) false) closes) ∙ hand)
+
+-- a queue that has a place, among others that had theirs
+pub has_place_with : (p : PlaceView) (queues : List QueueView) (at : QueueAt) (new : QueueView) → at.queue < QUEUES → seat at < length queues → new.has_place ≡ true → HasPlaces p queues → HasPlaces p (queues_with queues at new)
+has_place_with p queues at new low there has h =
+    each_seat (λ other (x : QueueView). IsQueue p.config other → is_at_hand p other ≡ true → x.has_place ≡ true) (λ other (x : QueueView). IsQueue p.config other → is_at_hand p other ≡ true → x.has_place ≡ true) no_queue queues at new low there h
+    (λ here hand. has) (λ other differ x same. same)
+
+-- one whose close was placed needs none
+pub has_place_beside : (p : PlaceView) (queues : List QueueView) (at : QueueAt) (new : QueueView) → at.queue < QUEUES → seat at < length queues → is_at_hand p at ≡ true → IsOut (handed_out p at) at → HasPlaces p queues
+    → HasPlaces (place_after_close (handed_out p at) at) (queues_with queues at new)
+has_place_beside p queues at new low there hand out h =
+    each_seat (λ other (x : QueueView). IsQueue p.config other → is_at_hand p other ≡ true → x.has_place ≡ true) (λ other (x : QueueView). IsQueue p.config other → is_at_hand (handed_out p at) other ≡ true → x.has_place ≡ true) no_queue queues at new low there h
+    (λ here back. (let w : true ≡ false = sym back ∙ out.given in cc))
+    (λ other differ x same here back. same here (sym (rw hand (at_hand_other p at other false low here differ)) ∙ back))
+
+-- where a directive is accepted no queue is closed
+refused_closing : (config : Configuration) (st : Standing) (host : ℕ) (d : Directive) → st.closing ≡ true → refusal config st host d ≡ Some Closed
+unfolding refusal
+refused_closing config st host d begun = rw begun refl
+
+none_closed : (config : Configuration) (history : List PlaceEntry) (counts : List ℕ) → AllAccepted config history counts → (standing config history counts).closing ≡ false → (standing config history counts).closed ≡ []
+unfolding standing
+none_closed config [] counts h early = refl
+none_closed config (noted.Accepted host d ∷ before) counts h early = none_closed config before (drop 1 counts) h.1 early
+none_closed config (noted.Closing ∷ before) counts h early = absurd cc
+none_closed config (noted.Closed at ∷ before) counts h early = (let w : true ≡ false = sym h.0.begun ∙ early in absurd cc)
+
+pub open_yet : (w : State) (host : ℕ) (d : Directive) (at : QueueAt) → Legal w → refusal w.config (standing_of w) host d ≡ None → is_closed (standing_of w) at ≡ false
+open_yet w host d at legal accepted = elim (cases_Bool (standing_of w).closing) [
+  | inl begun ↦ (let w : Some Closed ≡ None = sym (refused_closing w.config (standing_of w) host d begun) ∙ accepted in absurd cc)
+  | inr early ↦ rw (none_closed w.config w.history w.counts legal.accepted early) refl
+]
+
+-- at first each has one
+pub has_all_places : (p : PlaceView) (queues : List QueueView) → length queues ≡ queue_count p.config → All (λ (q : QueueView). q ≡ empty_queue) queues → HasPlaces p queues
+has_all_places p queues count empty = λ at there hand.
+    let low : seat at < length queues = omega (arith, count, there.0, there.1) in
+    ap (λ (q : QueueView). q.has_place) (seat_there no_queue queues at there.1 ∙ All-get_or (λ (q : QueueView). q ≡ empty_queue) queues (seat at) no_queue low empty)

@@ -46,7 +46,6 @@ told_item w v v' queues h item a same s few truth =
         each = λ at. subst (λ lanes. QueueIs w.config (labels_of w) at (lane_in lanes at) (queue_in queues at)) (sym s.lanes) (q.each at);
         count = q.count;
         devices = ap length s.devices ∙ q.devices;
-        roomy = q.roomy;
         filled = q.filled;
         hosts = q.hosts;
       };

@@ -2,12 +2,12 @@ mod AcceleratorNew
 mod Accept
 mod AddedLabels
 mod BatchesDone
-mod BatchesLeft
+pub mod BatchesLeft
 mod CloseQueue
 mod CloseStep
 mod ClosedState
 mod ClosesOne
-mod Enabled
+pub mod Enabled
 mod LogEntries
 mod HavingItems
 mod HostCalls

@@ -1,6 +1,6 @@
 -- A queue performs an operation.
 use Rattle.std.proofs.Common.{inl, inr, ◌≡◌, ◌<◌, ◌≤◌, Bool, true, false, List, [], ◌∷◌, length, refl, sym, ap, subst, ◌∙◌, arith}
-use Rattle.std.specs.Prelude.{not, nat_lt, ◌&&◌}
+use Rattle.std.specs.Prelude.{not, nat_lt, ◌&&◌, ◌==◌}
 use Rattle.std.proofs.lemmas.Bool.{cases_Bool, ltb-false, ltb-true}
 use Rattle.std.proofs.lemmas.List.{get_or_past}
 use Rattle.acc_base.specs.declared.ids.QueueAt.{QueueAt}
@@ -29,7 +29,7 @@ use Rattle.acc_work.proofs.KeptSteps.{Advanced, Waited, has_advanced, has_waited
 use Rattle.acc_work.proofs.RemembersWork.{can_go_on}
 use Rattle.acc_core.proofs.NextOfQueue.{next_uses_live}
 use Rattle.acc_core.proofs.Seats.{IsSeated, seated_there}
-use Rattle.acc_core.proofs.TakeBatch.{with_taken, lane_is_rest}
+use Rattle.acc_core.proofs.TakeBatch.{with_taken, lane_is_rest, no_element}
 
 -- What a work side keeps, by `Work::keeps`.
 pub record KeepsWork (v : WorkView) : Type 0 where
@@ -120,7 +120,6 @@ performed_more w v v' queues at a k same d =
         each = rw d.performed.lanes each;
         count = q.count;
         devices = d.performed.memory.devices ∙ q.devices;
-        roomy = q.roomy;
         filled = q.filled;
         hosts = q.hosts;
       };
@@ -149,3 +148,14 @@ pub keeps_performed : (w : State) (v v' : WorkView) (queues : List QueueView) (a
 keeps_performed w v v' queues at done.Op a k same p = performed_more w v v' queues at a k same (has_advanced v v' at p)
 keeps_performed w v v' queues at done.Idle a k same p =
     subst (λ x. IsAccelerator (with_work (with_taken w x) x) x queues) (sym (has_waited v v' at p).same) (subst (λ log. IsAccelerator (record (with_taken w v) { work = log }) v queues) (sym same) a)
+
+-- Where nothing is left in its lane it is idle, whether it is there or not.
+pub performs_nothing : (w : State) (v : WorkView) (queues : List QueueView) (at : QueueAt) → Queued w v queues → KeepsOrder v → v.work ≡ w.work → (length (lane_at v at).left == 0) ≡ true → step false (with_taken w v) (event.Perform at) ≡ idle (with_taken w v)
+performs_nothing w v queues at q k same none = elim (cases_Bool (is_there w at)) [
+  | inl there ↦
+      let now = with_taken w v in
+      let s = seated_there w v queues at q k there in
+      let left : ops_left now (labels_of w) at ≡ [] = lane_is_rest w v queues at (queue_in queues at) s (q.each at) k same ∙ no_element (lane_at v at).left none in
+      ap (λ x. queue_step x now (perform_step now (labels_of w) at (ops_left now (labels_of w) at))) there ∙ ap (perform_step now (labels_of w) at) left
+  | inr absent ↦ performs_absent (with_taken w v) at absent
+]

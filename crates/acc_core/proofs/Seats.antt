@@ -1,13 +1,12 @@
 -- The queues and their lanes, of which those of one queue change.
-use Rattle.std.proofs.Common.{inl, inr, ◌≡◌, ℕ, ◌<◌, ◌≤◌, true, false, List, length, sym, ap, subst, arith}
-use Rattle.std.specs.Prelude.{All, nat_lt, slice_index_or}
+use Rattle.std.proofs.Common.{inl, inr, ◌≡◌, ℕ, zero, suc, ◌<◌, true, false, List, [], ◌∷◌, length, refl, sym, ap, subst, arith}
+use Rattle.std.specs.Prelude.{nat_lt, slice_index_or, slice_set}
 use Rattle.std.proofs.lemmas.Bool.{cases_Bool, and_parts, ltb-true}
-use Rattle.std.proofs.lemmas.List.Elements.{All-get_or, All-set}
 use Rattle.acc_base.specs.declared.ids.QueueAt.{QueueAt}
 use Rattle.acc_base.specs.declared.ids.TheConstants.{QUEUES}
 use Rattle.acc_base.specs.Queues.{same_queue, seat}
 use Rattle.acc_base.proofs.SameQueue.{same_queue_is}
-use Rattle.acc_batch.proofs.Seats.{seat_kept, seat_set, seat_there}
+use Rattle.acc_batch.proofs.Seats.{seat_kept, seat_set}
 use Rattle.acc_core.specs.Machine.{State, is_there}
 use Rattle.acc_core.specs.inner.Queues.{QueueView, no_queue, queue_in, queues_with}
 use Rattle.acc_core.specs.inner.Ties.{Queued}
@@ -50,15 +49,8 @@ both_changed P Q lanes queues at lane queue low there held all mine others other
       (subst (Q other (lane_in lanes other)) (sym (seat_kept no_queue queues at other queue low differ)) (others other differ (lane_in lanes other) (queue_in queues other) (all other)))
 ]
 
--- the room of the queues, where one of them has as much as before
-pub room_changed : (room : ℕ) (queues : List QueueView) (at : QueueAt) (queue : QueueView) → at.queue < QUEUES → seat at < length queues → All (λ (q : QueueView). room ≤ q.room) queues
-    → queue.room ≡ (queue_in queues at).room → All (λ (q : QueueView). room ≤ q.room) (queues_with queues at queue)
-room_changed room queues at queue low there all same =
-    let old : room ≤ (slice_index_or queues (seat at) no_queue).room = All-get_or (λ (q : QueueView). room ≤ q.room) queues (seat at) no_queue there all in
-    All-set (λ (q : QueueView). room ≤ q.room) queues (seat at) queue (omega (arith, old, same, ap (λ (q : QueueView). q.room) (seat_there no_queue queues at low))) all
-
--- each queue has the room of the configuration
-pub room_there : (room : ℕ) (queues : List QueueView) (at : QueueAt) → at.queue < QUEUES → seat at < length queues → All (λ (q : QueueView). room ≤ q.room) queues → room ≤ (queue_in queues at).room
-room_there room queues at low there all =
-    let found : room ≤ (slice_index_or queues (seat at) no_queue).room = All-get_or (λ (q : QueueView). room ≤ q.room) queues (seat at) no_queue there all in
-    omega (arith, found, ap (λ (q : QueueView). q.room) (seat_there no_queue queues at low))
+-- what stands there already changes nothing
+pub set_found : {X : Type 0} (xs : List X) (i : ℕ) (x : X) → x ≡ slice_index_or xs i x → slice_set xs i x ≡ xs
+set_found [] i x found = refl
+set_found (y ∷ ys) zero x found = ap (λ z. z ∷ ys) found
+set_found (y ∷ ys) (suc i) x found = ap (λ zs. y ∷ zs) (set_found ys i x found)

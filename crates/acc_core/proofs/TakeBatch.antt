@@ -22,7 +22,7 @@ use Rattle.acc_work.specs.Lanes.{LaneView, no_lane, lane_with_batch, lanes_with}
 use Rattle.acc_work.specs.Logs.{performed}
 use Rattle.acc_work.specs.Works.{WorkView, KeepsOrder, lane_at, taken_counts}
 use Rattle.acc_core.proofs.Lanes.{left_is}
-use Rattle.acc_core.proofs.Seats.{IsSeated, both_changed, room_changed, seated_there}
+use Rattle.acc_core.proofs.Seats.{IsSeated, both_changed, seated_there}
 
 -- the state where the queues took what their lanes say
 abbrev pub with_taken : State → WorkView → State
@@ -69,11 +69,11 @@ taken_with w v at b low there =
     ap (λ n. slice_set (taken_counts v) (seat at) n) more ∙ sym (map-set (λ (l : LaneView). length l.taken) v.lanes (seat at) (lane_with_batch (lane_at v at) b))
 
 pub taken_more : (w : State) (v : WorkView) (queues : List QueueView) (at : QueueAt) (b : Label) (more : List Label) → IsSeated w.config.devices v queues at → Queued w v queues → (queue_in queues at).held ≡ b ∷ more
-    → Queued (with_taken w (filled_with v at b)) (filled_with v at b) (queues_with queues at (record (queue_in queues at) { held = more }))
+    → Queued (with_taken w (filled_with v at b)) (filled_with v at b) (queues_with queues at (record { held = more; has_place = true }))
 taken_more w v queues at b more s q first =
     let lane = lane_at v at in
     let queue = queue_in queues at in
-    let new : QueueView = record queue { held = more } in
+    let new : QueueView = record { held = more; has_place = true } in
     let h = q.each at in
     record {
       each = both_changed (λ other l k. QueueIs w.config (labels_of w) other l k) (λ other l k. QueueIs w.config (labels_of w) other l k) v.lanes queues at (lane_with_batch lane b) new s.queue s.lane s.held q.each
@@ -85,7 +85,6 @@ taken_more w v queues at b more s q first =
           (λ other differ l k same. same);
       count = length-set queues (seat at) new ∙ q.count;
       devices = q.devices;
-      roomy = room_changed w.config.room queues at new s.queue s.held q.roomy refl;
       filled = q.filled;
       hosts = q.hosts;
     }

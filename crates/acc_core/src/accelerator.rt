@@ -20,7 +20,7 @@ ghost use Rattle.acc_work.specs.Items.{shown_by};
 ghost use Rattle.acc_work.specs.Logs.{all_done, all_items, value};
 ghost use Rattle.acc_work.specs.Remembering.{blocks_in};
 ghost use Rattle.acc_core.specs.inner.Closing.{closing_begun, closes_one};
-ghost use Rattle.acc_core.specs.Machine.{is_there, state_at_first, step, standing_of, labels_of, can_tell, told_of, with_item};
+ghost use Rattle.acc_core.specs.Machine.{idle, is_there, state_at_first, step, standing_of, labels_of, can_tell, told_of, with_item};
 ghost use Rattle.std.specs.Option.{option_map};
 ghost use Rattle.acc_present.specs.Presences.{presences, holder};
 ghost use Rattle.acc_present.specs.Tables.{entry_presence};
@@ -51,7 +51,7 @@ impl Model for Accelerator {
     ghost use Rattle.std.specs.Coded.{codes};
     ghost use Rattle.std.specs.Prelude.{◌≡◌};
     ghost use Rattle.acc_core.specs.Machine.{State};
-    ghost use Rattle.acc_core.specs.inner.Ties.{all_batches_left, state_of_parts, HasCloses, IsAccelerator};
+    ghost use Rattle.acc_core.specs.inner.Ties.{all_batches_left, state_of_parts, HasCloses, HasPlaces, IsAccelerator};
     ghost use Rattle.acc_kernel.specs.contracts.expr.Expr as expr;
 
     ghost Value = { State };
@@ -60,7 +60,7 @@ impl Model for Accelerator {
 
     ghost view = { λ a. state_of_parts a.place a.work };
 
-    ghost invariant = { λ a. IsAccelerator (state_of_parts a.place a.work) a.work a.queues.items × HasCloses a.place × (a.unfinished ≡ all_batches_left a.work.lanes a.queues.items) };
+    ghost invariant = { λ a. IsAccelerator (state_of_parts a.place a.work) a.work a.queues.items × HasCloses a.place × (a.unfinished ≡ all_batches_left a.work.lanes a.queues.items) × HasPlaces a.place a.queues.items };
 }
 
 impl Accelerator {
@@ -105,10 +105,9 @@ impl Accelerator {
                 if config.room() as usize <= self.queues[seat].len() {
                     return Err(Fault::QueueFull);
                 }
-                let placed = self.place.accept(plan);
-                self.queues[seat].push(batch);
+                self.queues[seat].push(batch)?;
                 self.unfinished += 1;
-                Ok(placed)
+                Ok(self.place.accept(plan))
             }
         }
     }
@@ -242,6 +241,30 @@ impl Accelerator {
         self.work.all_reached(device, counts)
     }
 
+    /// Whether a queue has no batch to take. Then it takes none.
+    #[inline(always)]
+    pub(crate) fn takes_nothing(&self, at: QueueAt) -> bool
+        ensures { IsTrue result → step false self.now (event.Take at) ≡ idle self.now }
+    {
+        self.work.keeps();
+        if self.unfinished == 0 {
+            return true;
+        }
+        holds_none(self.queues.as_slice(), at)
+    }
+
+    /// Whether a queue has no operation to perform. Then it performs none.
+    #[inline(always)]
+    pub(crate) fn performs_nothing(&self, at: QueueAt) -> bool
+        ensures { IsTrue result → step false self.now (event.Perform at) ≡ idle self.now }
+    {
+        self.work.keeps();
+        if self.unfinished == 0 {
+            return true;
+        }
+        self.work.lane_empty(at)
+    }
+
     /// A queue takes a batch.
     pub(crate) fn take(&mut self, at: QueueAt) -> Reply
         ensures { step false self.old (event.Take at) ≡ record { reply = result; state = self.new } }
@@ -329,7 +352,7 @@ impl Accelerator {
                     return false;
                 }
                 self.place.close_done(QueueAt { device, queue });
-                self.queues[seat].push(batch);
+                self.queues[seat].push_last(batch);
                 self.unfinished += 1;
                 true
             }
@@ -413,15 +436,15 @@ impl Accelerator {
         self.unfinished > 0
     }
 
-    /// The place, and the work log with the latest entry last.
-    pub(crate) fn into_parts(self) -> (Place, WorkLog)
+    /// The place, and the work side.
+    pub(crate) fn into_parts(self) -> (Place, Work)
         ensures config { result.0.config ≡ self.config }
         ensures history { result.0.history ≡ self.history }
         ensures counts { result.0.counts ≡ self.counts }
-        ensures work { result.1.items ≡ reverse self.work }
+        ensures work { result.1.work ≡ self.work }
     {
         let Accelerator { place, work, .. } = self;
-        (place, work.into_log())
+        (place, work)
     }
 }
 

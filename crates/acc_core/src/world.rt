@@ -27,7 +27,7 @@ use acc_batch::OpLabel;
 use acc_host::{Event, Host, HostProgram, HostState, Outcome, Reply, hosts_follow, ready_hosts};
 use acc_place::Place;
 use acc_present::Entry;
-use acc_work::WorkLog;
+use acc_work::{Work, WorkLog};
 use std::alloc::Global;
 use std::marker::Model;
 
@@ -60,6 +60,7 @@ impl Model for World {
 
 impl World {
     ghost use Rattle.acc_base.specs.declared.fault.Fault.TheVariants.{Memory};
+    ghost use Rattle.acc_host.specs.declared.state.Reply.TheVariants as reply;
 
     /// Nothing is accepted, performed or shown yet, and each host is ready for its first statement. There is one program
     /// for each host of the configuration, in their order.
@@ -90,6 +91,7 @@ impl World {
     /// One step: a host goes on, a queue takes a batch or performs an operation, or the owner closes. `Idle` where that is
     /// not possible now, or there is no such host or queue; a close is answered by how many queues are left without their
     /// last batch, whose room is full. It takes no memory but for a host.
+    #[inline(always)]
     pub fn step(&mut self, event: Event) -> Reply
         ensures { Step self.old event result self.new }
     {
@@ -150,12 +152,27 @@ impl World {
         let _ = &self.hosts;
         let mut moves = false;
         for event in events {
+            if self.is_idle(event) {
+                continue;
+            }
             match self.step(*event) {
                 Reply::Idle => {}
                 _ => moves = true,
             }
         }
         moves
+    }
+
+    // Whether it is seen at once that an event is not possible now: its queue has nothing to take, or nothing to perform.
+    #[inline(always)]
+    fn is_idle(&self, event: &Event) -> bool
+        ensures { IsTrue result → Step self.now event.now reply.Idle self.now }
+    {
+        match event {
+            Event::Take(at) => self.accelerator.takes_nothing(*at),
+            Event::Perform(at) => self.accelerator.performs_nothing(*at),
+            Event::Host(_) | Event::Close => false,
+        }
     }
 
     /// What a cell of a host array holds, if the array has it: what the log last wrote there, or its initial value.
@@ -299,8 +316,9 @@ impl World {
         ensures follow { AllFollow self 0 self.hosts }
     {
         let alloc = self.alloc;
-        let (place, works, hosts, _) = self.into_parts();
+        let (place, work, hosts, _) = self.into_parts();
         let (config, places, counts) = place.into_histories();
+        let works = work.into_log();
         Outcome {
             config,
             places,
@@ -311,13 +329,13 @@ impl World {
         }
     }
 
-    /// What the run so far leaves, its place itself: the place, the work log with the latest entry last, where each host
-    /// stands, and the programs, in which each directive that a host came to has the ids that it was given. Takes no memory.
-    pub fn into_parts(self) -> (Place, WorkLog, Vec<HostState>, Vec<HostProgram>)
+    /// What the run so far leaves, its place and its work side themselves: these, where each host stands, and the programs, in
+    /// which each directive that a host came to has the ids that it was given. Takes no memory.
+    pub fn into_parts(self) -> (Place, Work, Vec<HostState>, Vec<HostProgram>)
         ensures config { result.0.config ≡ self.config }
         ensures history { result.0.history ≡ self.history }
         ensures counts { result.0.counts ≡ self.counts }
-        ensures works { result.1.items ≡ reverse self.work }
+        ensures works { result.1.work ≡ self.work }
         ensures hosts { result.2.items ≡ map state_of self.hosts }
         ensures programs { map bare_statements result.3.items ≡ statements_in self }
         ensures few { length self.hosts ≤ MAX_HOSTS }
@@ -336,7 +354,7 @@ impl World {
             states.push_reserved(host.state());
             programs.push_reserved(host.into_program());
         }
-        let (place, works) = accelerator.into_parts();
-        (place, works, states, programs)
+        let (place, work) = accelerator.into_parts();
+        (place, work, states, programs)
     }
 }

@@ -251,15 +251,18 @@ fn counts_on(queue: u8, count: u64) -> QueueCounts
     counts
 }
 
-/// The first queue's number takes no memory.
+/// Those of one queue take no memory.
 #[test]
 fn counts_are_refused_until_there_is_memory(rt: HostRuntime) -> Result<(), Fail> {
     let alloc = rt.alloc();
+    let mut two = counts_on(1, 1);
+    two[usize::from(QUEUES - 1)] = 1;
     let cases = [
         (counts_on(0, 0), false),
         (counts_on(0, u64::MAX), false),
-        (counts_on(1, 1), true),
-        (counts_on(QUEUES - 1, 1), true),
+        (counts_on(1, 1), false),
+        (counts_on(QUEUES - 1, u64::MAX), false),
+        (two, true),
         ([u64::MAX; QUEUES as usize], true),
     ];
     for (numbers, is_refused) in &cases {

@@ -1,5 +1,5 @@
 -- How the running parts of the core stand to its histories. Only private contracts and proofs cite it.
-use Rattle.std.specs.Prelude.{◌≡◌, ℕ, ◌+◌, ◌<◌, ◌≤◌, false, not, List, [], ◌∷◌, ◌++◌, length, All, if◌then◌else◌}
+use Rattle.std.specs.Prelude.{◌≡◌, ℕ, ◌+◌, ◌<◌, ◌≤◌, true, false, not, List, [], ◌∷◌, ◌++◌, length, All, if◌then◌else◌}
 use Rattle.acc_base.specs.declared.config.TheConstants.{MAX_HOSTS}
 use Rattle.acc_base.specs.declared.ids.QueueAt.{QueueAt}
 use Rattle.acc_base.specs.Configurations.{Configuration}
@@ -33,7 +33,6 @@ pub record Queued (w : State) (v : WorkView) (queues : List QueueView) : Type 0 
   pub each : (at : QueueAt) → QueueIs w.config (labels_of w) at (lane_at v at) (queue_in queues at)
   pub count : length queues ≡ queue_count w.config
   pub devices : length v.memory.devices ≡ w.config.devices
-  pub roomy : All (λ (queue : QueueView). w.config.room ≤ queue.room) queues
   pub filled : All (λ (l : Label). 0 < length l.ops) (labels_of w)
   pub hosts : All (λ (l : Label). l.host < MAX_HOSTS) (labels_of w)
 
@@ -51,6 +50,10 @@ all_batches_left (lane ∷ lanes) (queue ∷ queues) = batches_left lane queue +
 -- The place has the close of each queue that isn't closed.
 abbrev pub HasCloses : PlaceView → Type 0
 HasCloses p = (at : QueueAt) → IsQueue p.config at → is_at_hand p at ≡ not (is_closed (standing_in p) at)
+
+-- and its queue has a place for it
+abbrev pub HasPlaces : PlaceView → List QueueView → Type 0
+HasPlaces p queues = (at : QueueAt) → IsQueue p.config at → is_at_hand p at ≡ true → (queue_in queues at).has_place ≡ true
 
 -- What holds of an accelerator between two calls. The work side began with the configuration's arrays.
 pub record IsAccelerator (w : State) (v : WorkView) (queues : List QueueView) : Type 0 where

@@ -4,7 +4,7 @@ use Rattle.acc_base.specs.declared.ids.TheConstants.{QUEUES}
 use Rattle.acc_base.specs.Queues.{queue_count}
 use Rattle.acc_work.specs.Works.{taken_counts}
 use Rattle.acc_core.proofs.BatchesLeft.{none_yet}
-use Rattle.acc_core.proofs.CloseQueue.{has_all}
+use Rattle.acc_core.proofs.CloseQueue.{has_all, has_all_places}
 use Rattle.acc_core.proofs.AcceleratorNew.{is_opening, none_taken}
 use Rattle.acc_core.proofs.accelerator.Accelerator.new.Goals as goal
 
@@ -22,7 +22,8 @@ invariant_of-result c =
     let p = c.in_ok-new.ensures in (
       is_opening c.args.config _ c.in_ok-work.work c.in_ok-queues.queues.items (rw (p.config, p.history, p.counts, w.work, took_none c) refl) w.opening w.lanes w.devices q.count q.empty,
       has_all c.in_ok-new.field-0 p.history (λ at there. p.closes at (rw p.config at there)),
-      sym (none_yet c.args.config.room c.in_ok-work.work.lanes c.in_ok-queues.queues.items w.lanes q.empty),
+      sym (none_yet c.in_ok-work.work.lanes c.in_ok-queues.queues.items w.lanes q.empty),
+      has_all_places c.in_ok-new.field-0 c.in_ok-queues.queues.items (q.count ∙ ap queue_count (sym p.config)) q.empty,
     )
 
 pub returns-clause-opened : goal.returns-clause-opened

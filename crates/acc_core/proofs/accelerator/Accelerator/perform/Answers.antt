@@ -22,6 +22,7 @@ invariant_of-self c =
       keeps_performed w i.work c.perform.new.self i.queues.items c.args.at c.perform.result c.self.invariant.0 k refl c.perform.ensures,
       c.self.invariant.1,
       rw none.same c.self.invariant.2,
+      c.self.invariant.3,
     )
 
 pub returns-in-Idle : goal.returns-in-Idle
@@ -45,6 +46,7 @@ invariant_of-self-then-lane_empty c =
       keeps_performed w i.work c.perform.new.self i.queues.items at c.perform.result c.self.invariant.0 k refl c.perform.ensures,
       c.self.invariant.1,
       omega (arith, last, c.self.invariant.2),
+      c.self.invariant.3,
     )
 
 pub returns-then-lane_empty : goal.returns-then-lane_empty
@@ -68,6 +70,7 @@ invariant_of-self-else-lane_empty c =
       keeps_performed w i.work c.perform.new.self i.queues.items at c.perform.result c.self.invariant.0 k refl c.perform.ensures,
       c.self.invariant.1,
       c.self.invariant.2 ∙ sym other,
+      c.self.invariant.3,
     )
 
 pub returns-else-lane_empty : goal.returns-else-lane_empty

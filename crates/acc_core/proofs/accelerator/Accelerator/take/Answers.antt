@@ -5,6 +5,7 @@ use Rattle.acc_core.specs.inner.Ties.{state_of_parts}
 use Rattle.acc_work.specs.Lanes.{lane_with_batch}
 use Rattle.acc_work.specs.Works.{lane_at, taken_counts}
 use Rattle.acc_core.proofs.BatchesLeft.{none_goes, one_taken}
+use Rattle.acc_core.proofs.CloseQueue.{has_place_with}
 use Rattle.acc_core.proofs.LegalSteps.{legal_taken}
 use Rattle.acc_core.proofs.Seats.{seated_there}
 use Rattle.acc_core.proofs.TakeBatch.{can_take, filled_with, held_there, no_element, taken_more, takes_did, takes_no_batch}
@@ -53,7 +54,7 @@ invariant_of-self-in-Some c =
     let more = filled_with i.work at c.in-Some.batch in
     let none = no_element (lane_at i.work at).left (sym c.lane_empty.ensures ∙ c.if-not-lane_empty.false) in
     let can = can_take w i.work i.queues.items at c.in-Some.batch next.0 a.parts (ap (λ q. q.held) (sym queue) ∙ next.1) in
-    rw (c.offer.ensures, c.seat-seat.ensures, next.2, queue) (
+    rw (c.offer.ensures, c.seat-seat.ensures, next.2) (
       record {
         legal = legal_taken w (taken_counts more) a.legal;
         few_items = a.few_items;
@@ -62,6 +63,7 @@ invariant_of-self-in-Some c =
       },
       c.self.invariant.1,
       c.self.invariant.2 ∙ sym (one_taken w.config.devices i.work i.queues.items at (lane_with_batch (lane_at i.work at) c.in-Some.batch) c.in-Some.batch next.0 s none can.some (ap (λ q. q.held) (sym queue) ∙ next.1)),
+      has_place_with i.place i.queues.items at _ s.queue s.held refl c.self.invariant.3,
     )
 
 pub returns-in-Some : goal.returns-in-Some

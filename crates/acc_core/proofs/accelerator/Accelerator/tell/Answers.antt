@@ -37,7 +37,7 @@ invariant_of-self c =
     let k : KeepsWork i.work = record { order = c.keeps.ensures.order; kept = c.keeps.ensures.kept; memory = c.keeps.ensures.memory } in
     let can : can_tell w c.args.item ≡ true = rw (← c.self.view_is) at c.requires.item in
     let r = is_recorded w i.work c.try_item.new.self i.queues.items c.args.host c.args.item c.in-Ok.shown a k refl (rw (← c.self.view_is) at c.requires.few) can c.in-Ok.ensures.recorded in
-    rw r.taken (r.keeps, c.self.invariant.1, c.self.invariant.2 ∙ sym r.left)
+    rw r.taken (r.keeps, c.self.invariant.1, c.self.invariant.2 ∙ sym r.left, c.self.invariant.3)
 
 pub returns-in-Ok-clause-told : goal.returns-in-Ok-clause-told
 returns-in-Ok-clause-told c =
@@ -68,7 +68,7 @@ invariant_of-self-in-Ok-new c =
     let can : can_tell w c.args.item ≡ true = rw (← c.self.view_is) at c.requires.item in
     let back = c.in-Err.ensures.back in
     let r = is_recorded w i.work c.host_item.new.self i.queues.items c.args.host c.args.item c.host_item.result a k refl (rw (← c.self.view_is) at c.requires.few) can (rw (back.0, back.1) at c.host_item.ensures) in
-    rw r.taken (r.keeps, c.self.invariant.1, c.self.invariant.2 ∙ sym r.left)
+    rw r.taken (r.keeps, c.self.invariant.1, c.self.invariant.2 ∙ sym r.left, c.self.invariant.3)
 
 pub returns-in-Ok-new-clause-told : goal.returns-in-Ok-new-clause-told
 returns-in-Ok-new-clause-told c =

@@ -1,5 +1,6 @@
 use Rattle.std.proofs.Common.{◌≡◌, ◌+◌, ◌∷◌, [], ◌++◌, take, refl, sym, ◌∙◌, ap}
 use Rattle.std.proofs.lemmas.List.{take_all, take_more}
+use Rattle.acc_host.specs.declared.state.Reply.TheVariants as reply
 use Rattle.acc_core.specs.Machine.{Runs}
 use Rattle.acc_core.proofs.HostLaws.{HostLaws}
 use Rattle.acc_core.proofs.IdleSteps.{idle_keeps}
@@ -29,6 +30,21 @@ loop-event-preserved c =
                 ∙ c.loop-event.invariant.1 (sym w.moves-is ∙ still)
             | in_default w ↦ absurd (let no = sym w.moves-is ∙ still in cc)
           ],
+    )
+
+-- an event that isn't possible is answered so, and nothing has changed
+pub loop-event-preserved-then-is_idle : goal.loop-event-preserved-then-is_idle
+loop-event-preserved-then-is_idle c =
+    let events = c.args.events.now in
+    let i = c.loop-event.event-index in
+    let event = c.event-item.result in
+    let replies = c.loop-event.invariant.0.0 in
+    let further : take (i + 1) events ≡ take i events ++ event ∷ [] = take_more events i event c.loop-event-test.true ∙ ap (λ e. take i events ++ e ∷ []) (sym c.event-item.is) in (
+      (
+        replies ++ reply.Idle ∷ [],
+        rw further (Runs-more (take i events) replies c.args.self.now c.loop-event.self c.loop-event.self event reply.Idle c.loop-event.invariant.0.1 (c.is_idle.ensures c.if-is_idle.true)),
+      ),
+      c.loop-event.invariant.1,
     )
 
 pub returns-clause-ran : goal.returns-clause-ran
