@@ -1,215 +1,129 @@
--- Each step keeps states alike that are.
-use Rattle.std.proofs.Common.{◌≡◌, ℕ, ◌+◌, zero, suc, Bool, true, false, cond, ◌||◌, List, [], ◌∷◌, ◌++◌, refl, sym, ap, ◌∙◌, subst, Some, None, Option, Ok, Err, Result, ℤ, nat_lt, slice_get, slice_set}
-use Rattle.acc_base.specs.declared.fault.Fault.{Fault}
-use Rattle.acc_base.specs.declared.ids.QueueAt.{QueueAt}
-use Rattle.acc_base.specs.Queues.{at_seat, same_queue, queue_count}
-use Rattle.acc_batch.specs.declared.label.Label.{Label}
-use Rattle.acc_batch.specs.declared.label.OpLabel.{OpLabel}
-use Rattle.acc_core.specs.Machine.{State, Outcome, step, standing_of, labels_of, is_there, batches_held, ops_left, place_answer, placed_state, with_item, told_of, item_answer, item_state, wait_answer, waited_state, idle, did, host_outcome, host_step, named_step, take_step, can_perform, perform_step, with_op, can_close, closes, stay_open, with_closing, close_step, queue_step}
-use Rattle.acc_host.specs.declared.event.Event.{Event}
-use Rattle.acc_host.specs.declared.event.Event.TheVariants as event
-use Rattle.acc_host.specs.declared.state.After.{After}
-use Rattle.acc_host.specs.declared.state.After.TheVariants as go
-use Rattle.acc_host.specs.declared.state.Reply.TheVariants as reply
-use Rattle.acc_host.specs.Hosts.{HostView, wants, after_place, after_wait, after_item, host_after}
-use Rattle.acc_host.specs.Steps.{Want, stays, sets, refuses, places, awaits, records}
-use Rattle.acc_place.specs.declared.directive.PlaceEntry.{PlaceEntry}
-use Rattle.acc_place.specs.declared.directive.PlaceEntry.TheVariants as noted
-use Rattle.acc_place.specs.declared.directive.Placed.{Placed}
-use Rattle.acc_place.specs.Directives.{Directive}
-use Rattle.acc_place.specs.Histories.{is_closed}
-use Rattle.acc_place.specs.Standings.{Standing}
-use Rattle.acc_work.specs.declared.item.ItemLabel.{ItemLabel}
-use Rattle.acc_work.specs.declared.item.Shown.{Shown}
-use Rattle.acc_batch.specs.declared.entry.Told.{Told}
-use Rattle.acc_batch.specs.declared.entry.Told.TheVariants as told
+-- Each step keeps states alike that are, and being alike is an equivalence of legal states.
+use Rattle.std.proofs.Common.{◌≡◌, ℕ, Bool, List, refl, sym, ap, ◌∙◌, subst}
+use Rattle.acc_base.specs.Configurations.{Configuration}
 use Rattle.acc_batch.specs.declared.entry.WorkEntry.{WorkEntry}
-use Rattle.std.specs.Prelude.{All}
-use Rattle.std.proofs.lemmas.List.Elements.{All-nil, All-append, All-filter, All-head, All-tail}
-use Rattle.acc_base.proofs.Lists.{All-behind}
-use Rattle.acc_batch.specs.Labels.{on_queue, ops_of}
-use Rattle.acc_batch.specs.Ops.{HasItsCells}
+use Rattle.acc_batch.specs.declared.label.Label.{Label}
+use Rattle.acc_batch.specs.Labels.{ops_of}
 use Rattle.acc_core.specs.Legality.{Legal}
-use Rattle.acc_core.proofs.NextOfQueue.{next_of_all, next_uses_live}
-use Rattle.acc_work.specs.Logs.{performed}
+use Rattle.acc_core.specs.Machine.{State, labels_of, standing_of, step}
+use Rattle.acc_host.specs.declared.event.Event.{Event}
+use Rattle.acc_host.specs.Entries.{own_of}
+use Rattle.acc_place.specs.Histories.{AllAccepted, standing}
+use Rattle.acc_place.specs.Standings.{Standing}
 use Rattle.acc_work.specs.Orders.{InOrder}
-use Rattle.acc_place.specs.Sound.{HaveTheirCells}
-use Rattle.acc_place.proofs.LoopCells.{labels_have}
-use Rattle.acc_explore.specs.Alike.{Alike, AlikeLogs, AlikeOutcome, with_work}
-use Rattle.acc_explore.proofs.AlikeLogs.{same_op, same_item, same_itself, same_back, same_on}
-use Rattle.acc_explore.proofs.LogReadings.{can_perform_same, item_answer_same, items_same, ops_left_same, told_same, wait_answer_same}
+use Rattle.acc_explore.specs.Alike.{Alike, AlikeLogs, AlikeOutcome, AlikePlaces, own_directives}
+use Rattle.acc_explore.proofs.AlikeLabels.{SameByQueue}
+use Rattle.acc_explore.proofs.AlikeLogs.{same_back, same_itself, same_on}
+use Rattle.acc_explore.proofs.AlikeLogSteps.{AlikeInLog}
+use Rattle.acc_explore.proofs.AlikeLogSteps as log
+use Rattle.acc_explore.proofs.AlikePlaceSteps.{AlikeInPlaces, with_histories}
+use Rattle.acc_explore.proofs.AlikePlaceSteps as place
+use Rattle.acc_explore.proofs.LogReadings.{with_work}
 
--- The same state but for its log.
-pub same_by : (w : State) (new : List WorkEntry) → AlikeLogs w.config.arrays w.work new → Alike w (with_work w new)
-same_by w new s = record { rest = refl; work = s }
+-- ## An equivalence
 
-idle_same : (w : State) (new : List WorkEntry) → AlikeLogs w.config.arrays w.work new → AlikeOutcome (idle w) (idle (with_work w new))
-idle_same w new s = record { reply = refl; state = same_by w new s }
+places_itself : (st : Standing) → AlikePlaces st st
+places_itself st = record { placed = λ at. refl; present = λ device. refl; inside = λ host. refl; closing = refl }
 
--- Hosts go on alike.
-hosts_same : (old new : State) (h : ℕ) (host : HostView) → Alike old new → Alike (record old { hosts = slice_set old.hosts h host }) (record new { hosts = slice_set new.hosts h host })
-hosts_same old new h host s = record { rest = ap (λ (w : State). record w { hosts = slice_set w.hosts h host }) s.rest; work = s.work }
-
-outcome_same : (old new : State) (h : ℕ) (host : HostView) (goes other : Result After Fault) → goes ≡ other → Alike old new
-    → AlikeOutcome (host_outcome old h host goes) (host_outcome new h host other)
-outcome_same old new h host goes other e s =
-    subst (λ (o : Result After Fault). AlikeOutcome (host_outcome old h host goes) (host_outcome new h host o)) e
-    (record { reply = refl; state = hosts_same old new h (host_after goes host) s })
-
--- A directive is answered alike, and is accepted with the same count of items.
-placed_same : (w : State) (new : List WorkEntry) (h : ℕ) (d : Directive) → AlikeLogs w.config.arrays w.work new → (answer : Result Placed Fault)
-    → Alike (placed_state w h d answer) (placed_state (with_work w new) h d answer)
-placed_same w new h d s (Ok placed) = record {
-  rest = ap (λ n. record w { history = noted.Accepted h d ∷ w.history; counts = n ∷ w.counts; work = new }) (sym (items_same w.config.arrays w.work new s h));
-  work = s;
-}
-placed_same w new h d s (Err fault) = same_by w new s
-
--- What is told joins both logs.
-with_item_same : (w : State) (new : List WorkEntry) (h : ℕ) (what other : Told) → what ≡ other → AlikeLogs w.config.arrays w.work new
-    → Alike (with_item w h what) (with_item (with_work w new) h other)
-with_item_same w new h what other e s =
-    subst (λ (o : Told). Alike (with_item w h what) (with_item (with_work w new) h o)) e
-    (record { rest = refl; work = same_item w.config.arrays w.work new s h what })
-
-item_same : (w : State) (new : List WorkEntry) (h : ℕ) (item : ItemLabel) → AlikeLogs w.config.arrays w.work new → (answer : Result Shown Fault)
-    → Alike (item_state w h item answer) (item_state (with_work w new) h item answer)
-item_same w new h item s (Ok answer) = with_item_same w new h (told_of w item) (told_of (with_work w new) item) (told_same w new s item) s
-item_same w new h item s (Err fault) = same_by w new s
-
-waited_same : (w : State) (new : List WorkEntry) (h device : ℕ) (counts : List ℕ) → AlikeLogs w.config.arrays w.work new → (answer : Result Bool Fault)
-    → Alike (waited_state w h device counts answer) (waited_state (with_work w new) h device counts answer)
-waited_same w new h device counts s (Ok true) = with_item_same w new h (told.Seen device counts) (told.Seen device counts) refl s
-waited_same w new h device counts s (Ok false) = same_by w new s
-waited_same w new h device counts s (Err fault) = same_by w new s
-
--- The step of a host, by what it wants.
-want_same : (no_memory : Bool) (w : State) (new : List WorkEntry) (h : ℕ) (host : HostView) → AlikeLogs w.config.arrays w.work new → (want : Want)
-    → AlikeOutcome (host_step no_memory w h host want) (host_step no_memory (with_work w new) h host want)
-want_same no_memory w new h host s stays = outcome_same w (with_work w new) h host (Ok go.Idle) (Ok go.Idle) refl (same_by w new s)
-want_same no_memory w new h host s (sets ids) = outcome_same w (with_work w new) h host (Ok (go.Set ids)) (Ok (go.Set ids)) refl (same_by w new s)
-want_same no_memory w new h host s (refuses fault) = outcome_same w (with_work w new) h host (Err fault) (Err fault) refl (same_by w new s)
-want_same no_memory w new h host s (places d) =
-    let answer = place_answer no_memory w h d in
-    outcome_same (placed_state w h d answer) (placed_state (with_work w new) h d answer) h host (after_place d answer) (after_place d answer) refl (placed_same w new h d s answer)
-want_same no_memory w new h host s (awaits device counts) =
-    let answer = wait_answer no_memory w device counts in
-    let other = wait_answer no_memory (with_work w new) device counts in
-    let e = wait_answer_same no_memory w new s device counts in
-    outcome_same (waited_state w h device counts answer) (waited_state (with_work w new) h device counts other) h host (after_wait answer) (after_wait other) (ap after_wait e)
-    (subst (λ (a : Result Bool Fault). Alike (waited_state w h device counts answer) (waited_state (with_work w new) h device counts a)) e (waited_same w new h device counts s answer))
-want_same no_memory w new h host s (records item) =
-    let answer = item_answer no_memory w item in
-    let other = item_answer no_memory (with_work w new) item in
-    let e = item_answer_same no_memory w new s item in
-    outcome_same (item_state w h item answer) (item_state (with_work w new) h item other) h host (after_item answer) (after_item other) (ap after_item e)
-    (subst (λ (a : Result Shown Fault). Alike (item_state w h item answer) (item_state (with_work w new) h item a)) e (item_same w new h item s answer))
-
-named_same : (no_memory : Bool) (w : State) (new : List WorkEntry) (h : ℕ) → AlikeLogs w.config.arrays w.work new → (host : Option HostView)
-    → AlikeOutcome (named_step no_memory w h host) (named_step no_memory (with_work w new) h host)
-named_same no_memory w new h s None = idle_same w new s
-named_same no_memory w new h s (Some host) = want_same no_memory w new h host s (wants w.config.devices host)
-
--- A choice that is made alike.
-if_same : (b : Bool) (x y other_x other_y : Outcome) → AlikeOutcome x other_x → AlikeOutcome y other_y → AlikeOutcome (cond b x y) (cond b other_x other_y)
-if_same true x y other_x other_y f g = f
-if_same false x y other_x other_y f g = g
-
--- A batch is taken alike.
-take_same : (w : State) (new : List WorkEntry) (labels : List Label) (at : QueueAt) → AlikeLogs w.config.arrays w.work new → (ops : List OpLabel)
-    → AlikeOutcome (take_step w labels at ops) (take_step (with_work w new) labels at ops)
-take_same w new labels at s [] =
-    if_same (nat_lt 0 (batches_held w labels at)) _ (idle w) _ (idle (with_work w new)) (record { reply = refl; state = record { rest = refl; work = s } }) (idle_same w new s)
-take_same w new labels at s (op ∷ ops) = idle_same w new s
-
--- each loop that was placed has its cells
-ops_have : (ls : List Label) → All HaveTheirCells ls → All HasItsCells (ops_of ls)
-ops_have [] h = All-nil HasItsCells
-ops_have (l ∷ ls) h = All-append HasItsCells l.ops (ops_of ls) (All-head HaveTheirCells l ls h) (ops_have ls (All-tail HaveTheirCells l ls h))
-
-loops_stay : (w : State) → Legal w → (at : QueueAt) → All HasItsCells (ops_of (on_queue at (labels_of w)))
-loops_stay w l at =
-    ops_have (on_queue at (labels_of w))
-    (All-filter (λ (l : Label). same_queue l.at at) HaveTheirCells (labels_of w) (labels_have w.config w.history w.counts l.accepted))
-
--- An operation is performed alike.
-perform_same : (w : State) (new : List WorkEntry) (at : QueueAt) → Legal w → AlikeLogs w.config.arrays w.work new → (ops : List OpLabel) → ops_left w (labels_of w) at ≡ ops
-    → AlikeOutcome (perform_step w (labels_of w) at ops) (perform_step (with_work w new) (labels_of w) at ops)
-perform_same w new at l s [] e = idle_same w new s
-perform_same w new at l s (op ∷ ops) e =
-    let labels = labels_of w in
-    let next = next_of_all w at op ops l.kept.prefix e in
-    let behind : All HasItsCells (op ∷ next.later) = All-behind HasItsCells (performed at w.work) (op ∷ next.later) (subst (λ (all : List OpLabel). All HasItsCells all) next.split (loops_stay w l at)) in
-    let cells : HasItsCells op = All-head HasItsCells op next.later behind in
-    let uses = next_uses_live w at op ops l e in
-    subst (λ (b : Bool). AlikeOutcome (perform_step w labels at (op ∷ ops)) (cond b (did (with_op (with_work w new) at op)) (idle (with_work w new))))
-    (can_perform_same w.config.arrays labels w.work new s at op)
-    (if_same (can_perform labels w.work at op) (did (with_op w at op)) (idle w) (did (with_op (with_work w new) at op)) (idle (with_work w new))
-    (record { reply = refl; state = record { rest = refl; work = same_op w.config.arrays w.work new s at op uses cells } }) (idle_same w new s))
-
-queue_same : (there : Bool) (w : State) (new : List WorkEntry) (o other : Outcome) → AlikeLogs w.config.arrays w.work new → AlikeOutcome o other
-    → AlikeOutcome (queue_step there w o) (queue_step there (with_work w new) other)
-queue_same true w new o other s f = f
-queue_same false w new o other s f = idle_same w new s
-
--- Closing doesn't look at the log.
-closes_same : (w : State) (new : List WorkEntry) (st : Standing) (n : ℕ) → closes w st n ≡ closes (with_work w new) st n
-closes_same w new st zero = refl
-closes_same w new st (suc n) = ap (λ cs. cond (can_close w st (at_seat n)) (noted.Closed (at_seat n) ∷ cs) cs) (closes_same w new st n)
-
-stay_same : (w : State) (new : List WorkEntry) (st : Standing) (n : ℕ) → stay_open w st n ≡ stay_open (with_work w new) st n
-stay_same w new st zero = refl
-stay_same w new st (suc n) = ap (λ k. cond (is_closed st (at_seat n) || can_close w st (at_seat n)) k (k + 1)) (stay_same w new st n)
-
-close_same : (w : State) (new : List WorkEntry) (st : Standing) → AlikeLogs w.config.arrays w.work new → AlikeOutcome (close_step w st) (close_step (with_work w new) st)
-close_same w new st s = record {
-  reply = ap reply.Remaining (stay_same w new st (queue_count w.config));
-  state = record {
-    rest = ap (λ (cs : List PlaceEntry). record w { history = cs ++ with_closing st w.history; work = new }) (sym (closes_same w new st (queue_count w.config)));
-    work = s;
-  };
+places_back : (st ot : Standing) → AlikePlaces st ot → AlikePlaces ot st
+places_back st ot s = record {
+  placed = λ at. sym (s.placed at);
+  present = λ device. sym (s.present device);
+  inside = λ host. sym (s.inside host);
+  closing = sym s.closing;
 }
 
-by_event : (no_memory : Bool) (w : State) (new : List WorkEntry) → Legal w → AlikeLogs w.config.arrays w.work new → (e : Event) → AlikeOutcome (step no_memory w e) (step no_memory (with_work w new) e)
-by_event no_memory w new l s (event.Host h) = named_same no_memory w new h s (slice_get w.hosts h)
-by_event no_memory w new l s (event.Take at) =
-    queue_same (is_there w at) w new _ _ s
-    (subst (λ (ops : List OpLabel). AlikeOutcome (take_step w (labels_of w) at (ops_left w (labels_of w) at)) (take_step (with_work w new) (labels_of w) at ops))
-    (ops_left_same w new (labels_of w) at s.done) (take_same w new (labels_of w) at s (ops_left w (labels_of w) at)))
-by_event no_memory w new l s (event.Perform at) =
-    queue_same (is_there w at) w new _ _ s
-    (subst (λ (ops : List OpLabel). AlikeOutcome (perform_step w (labels_of w) at (ops_left w (labels_of w) at)) (perform_step (with_work w new) (labels_of w) at ops))
-    (ops_left_same w new (labels_of w) at s.done) (perform_same w new at l s (ops_left w (labels_of w) at) refl))
-by_event no_memory w new l s event.Close = close_same w new (standing_of w) s
+places_on : (st mid ot : Standing) → AlikePlaces st mid → AlikePlaces mid ot → AlikePlaces st ot
+places_on st mid ot s t = record {
+  placed = λ at. s.placed at ∙ t.placed at;
+  present = λ device. s.present device ∙ t.present device;
+  inside = λ host. s.inside host ∙ t.inside host;
+  closing = s.closing ∙ t.closing;
+}
 
--- States that are alike stay so.
-pub step_keeps_alike : (no_memory : Bool) (old new : State) (e : Event) → Legal old → Alike old new → AlikeOutcome (step no_memory old e) (step no_memory new e)
-step_keeps_alike no_memory old new e l s =
-    subst (λ (w : State). AlikeOutcome (step no_memory old e) (step no_memory w e)) (sym s.rest) (by_event no_memory old new.work l s.work e)
+-- what is the same but for its log is alike
+pub but_log : (w : State) (work : List WorkEntry) → AlikeLogs w.config.arrays w.work work → Alike w (with_work w work)
+but_log w work s = record { config = refl; taken = refl; hosts = refl; places = places_itself (standing_of w); own = λ host. refl; work = s }
 
--- Being alike is an equivalence of legal states.
 pub alike_itself : (w : State) → Alike w w
-alike_itself w = record { rest = refl; work = same_itself w.config.arrays w.work }
+alike_itself w = but_log w w.work (same_itself w.config.arrays w.work)
 
-labels_alike : (old new : State) → Alike old new → labels_of new ≡ labels_of old
-labels_alike old new s = ap (λ (w : State). labels_of w) s.rest
+in_order_by : (old new : List Label) (work : List WorkEntry) → SameByQueue old new → InOrder new work → InOrder old work
+in_order_by old new work s h at = (let p = h at in (p.0, p.1 ∙ ap ops_of (sym (s at))))
 
-in_order_there : (old new : State) → Alike old new → InOrder (labels_of new) new.work → InOrder (labels_of old) new.work
-in_order_there old new s h = subst (λ (labels : List Label). InOrder labels new.work) (labels_alike old new s) h
+-- a log that is in order behind the one is so behind the other
+pub in_order_there : (old new : State) → Alike old new → InOrder (labels_of new) new.work → InOrder (labels_of old) new.work
+in_order_there old new s h = in_order_by (labels_of old) (labels_of new) new.work s.places.placed h
 
 pub alike_back : (old new : State) → Legal old → Legal new → Alike old new → Alike new old
 alike_back old new a b s = record {
-  rest = sym (ap (λ (w : State). with_work w old.work) s.rest);
-  work = subst (λ (arrays : List (List ℤ)). AlikeLogs arrays new.work old.work) (sym (ap (λ (w : State). w.config.arrays) s.rest))
+  config = sym s.config;
+  taken = sym s.taken;
+  hosts = sym s.hosts;
+  places = places_back (standing_of old) (standing_of new) s.places;
+  own = λ host. sym (s.own host);
+  work = subst (λ (config : Configuration). AlikeLogs config.arrays new.work old.work) s.config
       (same_back old.config.arrays (labels_of old) old.work new.work a.kept.prefix (in_order_there old new s b.kept.prefix) s.work);
 }
 
 pub alike_on : (old mid new : State) → Legal old → Legal mid → Alike old mid → Alike mid new → Alike old new
 alike_on old mid new a b s t = record {
-  rest = t.rest ∙ ap (λ (w : State). with_work w new.work) s.rest;
+  config = s.config ∙ t.config;
+  taken = s.taken ∙ t.taken;
+  hosts = s.hosts ∙ t.hosts;
+  places = places_on (standing_of old) (standing_of mid) (standing_of new) s.places t.places;
+  own = λ host. s.own host ∙ t.own host;
   work = same_on old.config.arrays (labels_of old) old.work mid.work new.work a.kept.prefix (in_order_there old mid s b.kept.prefix) s.work
-      (subst (λ (arrays : List (List ℤ)). AlikeLogs arrays mid.work new.work) (ap (λ (w : State). w.config.arrays) s.rest) t.work);
+      (subst (λ (config : Configuration). AlikeLogs config.arrays mid.work new.work) (sym s.config) t.work);
 }
 
 pub is_equivalence : (a b c : State) → Legal a → Legal b → Legal c → Alike a a × (Alike a b → Alike b a) × (Alike a b → Alike b c → Alike a c)
 is_equivalence a b c first second third = (alike_itself a, alike_back a b first second, alike_on a b c first second)
+
+-- ## The log alone, then the place history alone
+
+-- the one with the log of the other
+abbrev pub between : State → State → State
+between old new = with_work old new.work
+
+pub behind_between : (old new : State) → Alike old new → new ≡ with_histories (between old new) new.history new.counts
+behind_between old new s = λ i. record {
+  config = sym s.config i;
+  history = new.history;
+  counts = new.counts;
+  work = new.work;
+  taken = sym s.taken i;
+  hosts = sym s.hosts i;
+}
+
+pub places_between : (old new : State) → Alike old new → AlikePlaces (standing_of old) (standing old.config new.history new.counts)
+places_between old new s = subst (λ (config : Configuration). AlikePlaces (standing_of old) (standing config new.history new.counts)) (sym s.config) s.places
+
+pub own_between : (old new : State) → Alike old new → (host : ℕ) → own_directives old host ≡ own_of old.config host new.history new.counts
+own_between old new s host = s.own host ∙ ap (λ (config : Configuration). own_of config host new.history new.counts) (sym s.config)
+
+accepted_between : (old new : State) → Alike old new → AllAccepted new.config new.history new.counts → AllAccepted old.config new.history new.counts
+accepted_between old new s h = subst (λ (config : Configuration). AllAccepted config new.history new.counts) (sym s.config) h
+
+both : (old mid new : State) → AlikeInLog old mid → AlikeInPlaces mid new → Alike old new
+both old mid new f g = record {
+  config = sym (ap (λ (w : State). w.config) f.rest) ∙ sym (ap (λ (w : State). w.config) g.rest);
+  taken = sym (ap (λ (w : State). w.taken) f.rest) ∙ sym (ap (λ (w : State). w.taken) g.rest);
+  hosts = sym (ap (λ (w : State). w.hosts) f.rest) ∙ sym (ap (λ (w : State). w.hosts) g.rest);
+  places = subst (λ (w : State). AlikePlaces (standing_of w) (standing_of new)) f.rest g.places;
+  own = λ host. sym (ap (λ (w : State). own_directives w host) f.rest) ∙ g.own host;
+  work = subst (λ (work : List WorkEntry). AlikeLogs old.config.arrays old.work work) (sym (ap (λ (w : State). w.work) g.rest)) f.work;
+}
+
+-- States that are alike stay so.
+pub step_keeps_alike : (no_memory : Bool) (old new : State) (e : Event) → Legal old → Legal new → Alike old new → AlikeOutcome (step no_memory old e) (step no_memory new e)
+step_keeps_alike no_memory old new e a b s =
+    let mid = between old new in
+    let other = with_histories mid new.history new.counts in
+    let f = log.by_event no_memory old new.work a s.work e in
+    let g = place.by_event mid new.history new.counts (places_between old new s) (own_between old new s) a.accepted (accepted_between old new s b.accepted) no_memory e in
+    subst (λ (w : State). AlikeOutcome (step no_memory old e) (step no_memory w e)) (sym (behind_between old new s))
+    (record {
+      reply = f.reply ∙ g.reply;
+      state = both (step no_memory old e).state (step no_memory mid e).state (step no_memory other e).state f.state g.state;
+    })

@@ -3,37 +3,35 @@ use Rattle.std.proofs.Common.{inl, inr, ◌≡◌, ℕ, zero, suc, ◌+◌, ◌<
 use Rattle.std.specs.Prelude.{All, Contains, slice_index_or, ◌==◌}
 use Rattle.std.proofs.lemmas.Bool.{cases_Bool, and_from, eqb-true, lt-ltb}
 use Rattle.std.proofs.lemmas.List.{length-append}
-use Rattle.std.proofs.lemmas.List.Elements.{All-contains, All-head, All-tail, Contains-push_cases}
+use Rattle.std.proofs.lemmas.List.Elements.{All-contains, Contains-push_cases}
 use Rattle.acc_base.specs.Configurations.{Configuration, has_range, ends_within}
 use Rattle.acc_base.specs.declared.ids.QueueAt.{QueueAt}
 use Rattle.acc_base.specs.declared.ids.TheConstants.{QUEUES}
 use Rattle.acc_base.specs.declared.range.Range.{Range}
-use Rattle.acc_base.specs.Queues.{at_seat, same_queue, seat, queue_count}
+use Rattle.acc_base.specs.Queues.{at_seat, seat, queue_count}
 use Rattle.acc_base.proofs.Members.{member_first, member_rest, no_member}
-use Rattle.acc_base.proofs.SameQueue.{same_queue_is}
 use Rattle.acc_batch.specs.declared.entry.WorkEntry.{WorkEntry}
 use Rattle.acc_batch.specs.declared.entry.WorkEntry.TheVariants as entry
-use Rattle.acc_batch.specs.declared.label.Label.{Label}
 use Rattle.acc_batch.specs.declared.label.OpLabel.{OpLabel}
 use Rattle.acc_batch.specs.declared.label.OpLabel.TheVariants.{Make}
 use Rattle.acc_batch.specs.Labels.{on_queue, ops_of}
 use Rattle.acc_batch.specs.Lives.{Made}
 use Rattle.acc_core.specs.Following.{AllStand}
 use Rattle.acc_core.specs.Legality.{Legal}
-use Rattle.acc_core.specs.Machine.{State, is_there, labels_of}
+use Rattle.acc_core.specs.Machine.{State, is_there, labels_of, standing_of}
 use Rattle.acc_core.specs.Progress.{IsTakenInOrder, left_by, taken_by}
 use Rattle.acc_core.specs.Worlds.{OutsideIsZero}
-use Rattle.acc_explore.specs.Alike.{Alike, IsLive, SameCells}
+use Rattle.acc_explore.specs.Alike.{Alike, AlikePlaces, IsLive, SameCells, own_directives}
 use Rattle.acc_explore.specs.Scripts.{AreOfOneScript}
 use Rattle.acc_explore.specs.inner.Comparing.{AllStandAlike, HaveSameProgress, HoldSame, HoldSameArray, HoldSameBlock, HoldSameMade, StandAlike}
+use Rattle.acc_explore.proofs.AlikeLabels.{SameByQueue}
+use Rattle.acc_explore.proofs.ComparedPlaces.{none_on}
 use Rattle.acc_explore.proofs.KnownEvents.{HasSeat, has_seat}
 use Rattle.acc_explore.proofs.LiveCells.{in_wider}
 use Rattle.acc_host.specs.Entries.{items_shown}
 use Rattle.acc_host.specs.Hosts.{HostView}
 use Rattle.acc_memory.specs.Memories.{find_block, has_cell}
 use Rattle.acc_memory.specs.Values.{Cell, Host_cell, Block_cell, is_in}
-use Rattle.acc_place.specs.declared.directive.PlaceEntry.{PlaceEntry}
-use Rattle.acc_place.specs.Histories.{standing}
 use Rattle.acc_place.proofs.LabelsThere.{labels_there}
 use Rattle.acc_work.specs.Logs.{performed, device_ops, all_items, value}
 use Rattle.acc_work.specs.Remembering.{blocks_in}
@@ -52,8 +50,8 @@ pub record IsKept (w : State) : Type 0 where
 pub record AreCompared (old new : State) : Type 0 where
   pub hosts : AllStandAlike old new
   pub progress : HaveSameProgress old new
-  pub history : old.history ≡ new.history
-  pub counts : old.counts ≡ new.counts
+  pub places : AlikePlaces (standing_of old) (standing_of new)
+  pub own : (host : ℕ) → own_directives old host ≡ own_directives new host
   pub shown : (host : ℕ) → items_shown host old.work ≡ items_shown host new.work
   pub items : all_items old.work ≡ all_items new.work
   pub arrays : (array : ℕ) → array < length old.config.arrays → HoldSameArray old new array
@@ -108,23 +106,6 @@ taken_are old new few fewer config p =
         subst (λ k. slice_index_or old.taken k 0 ≡ slice_index_or new.taken k 0) back found
 
 -- a queue that isn't there has performed nothing
-none_on : (devices : ℕ) (at : QueueAt) (labels : List Label) → (nat_lt at.device devices && nat_lt at.queue QUEUES) ≡ false
-    → All (λ (l : Label). (l.at.device < devices) × (l.at.queue < QUEUES) × (0 < length l.ops)) labels → on_queue at labels ≡ []
-none_on devices at [] none all = refl
-none_on devices at (l ∷ ls) none all =
-    let here = All-head (λ (l : Label). (l.at.device < devices) × (l.at.queue < QUEUES) × (0 < length l.ops)) l ls all in
-    let rest = none_on devices at ls none (All-tail (λ (l : Label). (l.at.device < devices) × (l.at.queue < QUEUES) × (0 < length l.ops)) l ls all) in
-    elim (cases_Bool (same_queue l.at at)) [
-      | inl same ↦
-          let is = same_queue_is l.at at same in
-          let there : (nat_lt at.device devices && nat_lt at.queue QUEUES) ≡ true =
-          subst (λ (q : QueueAt). (nat_lt q.device devices && nat_lt q.queue QUEUES) ≡ true) is
-          (and_from (nat_lt l.at.device devices) (nat_lt l.at.queue QUEUES) (lt-ltb l.at.device devices here.0) (lt-ltb l.at.queue QUEUES here.1)) in
-          let wrong : true ≡ false = sym there ∙ none in
-          absurd cc
-      | inr differ ↦ rw differ rest
-    ]
-
 none_before : (xs more : List OpLabel) → xs ++ more ≡ [] → xs ≡ []
 none_before [] more e = refl
 none_before (x ∷ xs) more e = absurd cc
@@ -136,21 +117,21 @@ none_performed w at l none =
     (p.1 ∙ ap ops_of (none_on w.config.devices at (labels_of w) none (labels_there w.config w.history w.counts l.accepted)))
 
 -- as much is left of as many batches: so as much is performed
-done_there : (old new : State) (at : QueueAt) → IsTakenInOrder old at → IsTakenInOrder new at → labels_of new ≡ labels_of old → taken_by old at ≡ taken_by new at
+done_there : (old new : State) (at : QueueAt) → IsTakenInOrder old at → IsTakenInOrder new at → on_queue at (labels_of old) ≡ on_queue at (labels_of new) → taken_by old at ≡ taken_by new at
     → length (left_by old at) ≡ length (left_by new at) → length (performed at old.work) ≡ length (performed at new.work)
 done_there old new at a b labels taken left =
     let same : length (ops_of (take (taken_by old at) (on_queue at (labels_of old)))) ≡ length (ops_of (take (taken_by new at) (on_queue at (labels_of new)))) =
-    ap (λ n. length (ops_of (take n (on_queue at (labels_of old))))) taken ∙ ap (λ ls. length (ops_of (take (taken_by new at) (on_queue at ls)))) (sym labels) in
+    ap (λ n. length (ops_of (take n (on_queue at (labels_of old))))) taken ∙ ap (λ ls. length (ops_of (take (taken_by new at) ls))) labels in
     omega (arith, same, ap length a, ap length b, left, length-append (performed at old.work) (left_by old at), length-append (performed at new.work) (left_by new at))
 
-done_are : (old new : State) → IsKept old → IsKept new → new.config ≡ old.config → labels_of new ≡ labels_of old → HaveSameProgress old new
+done_are : (old new : State) → IsKept old → IsKept new → new.config ≡ old.config → SameByQueue (labels_of old) (labels_of new) → HaveSameProgress old new
     → (at : QueueAt) → length (performed at old.work) ≡ length (performed at new.work)
 done_are old new a b config labels p at = elim (cases_Bool (is_there old at)) [
   | inl there ↦ (
       let s : HasSeat old at = has_seat old at there in
       let other : is_there new at ≡ true = ap (λ (c : Configuration). nat_lt at.device c.devices && nat_lt at.queue QUEUES) config ∙ there in
       let q = subst (λ (q : QueueAt). (taken_by old q ≡ taken_by new q) × (length (left_by old q) ≡ length (left_by new q))) s.same (p (seat at) s.low) in
-      done_there old new at (a.in_order at there) (b.in_order at other) labels q.0 q.1
+      done_there old new at (a.in_order at there) (b.in_order at other) (labels at) q.0 q.1
       )
   | inr none ↦ (
       let other : is_there new at ≡ false = ap (λ (c : Configuration). nat_lt at.device c.devices && nat_lt at.queue QUEUES) config ∙ none in
@@ -220,19 +201,16 @@ cells_are old new a b config arrays blocks = by
 -- ## All
 
 pub alike_worlds : (old new : State) → IsKept old → IsKept new → AreOfOneScript old new → AreCompared old new → Alike old new
-alike_worlds old new a b s c =
-    let labels : labels_of new ≡ labels_of old =
-    ap (λ (g : Configuration). (standing g new.history new.counts).labels) s.config
-    ∙ (ap (λ (h : List PlaceEntry). (standing old.config h new.counts).labels) (sym c.history)
-    ∙ ap (λ (n : List ℕ). (standing old.config old.history n).labels) (sym c.counts)) in
-    let taken : new.taken ≡ old.taken = taken_are old new a.taken b.taken s.config c.progress in
-    let hosts : new.hosts ≡ old.hosts = hosts_are old new 0 old.hosts new.hosts a.stand b.stand s.statements c.hosts.count c.hosts.each in
-    record {
-      rest = λ i. record { config = s.config i; history = sym c.history i; counts = sym c.counts i; work = new.work; taken = taken i; hosts = hosts i };
-      work = record {
-        done = done_are old new a b s.config labels c.progress;
-        shown = c.shown;
-        items = c.items;
-        cells = cells_are old new a b s.config c.arrays c.blocks;
-      };
-    }
+alike_worlds old new a b s c = record {
+  config = sym s.config;
+  taken = sym (taken_are old new a.taken b.taken s.config c.progress);
+  hosts = sym (hosts_are old new 0 old.hosts new.hosts a.stand b.stand s.statements c.hosts.count c.hosts.each);
+  places = c.places;
+  own = c.own;
+  work = record {
+    done = done_are old new a b s.config c.places.placed c.progress;
+    shown = c.shown;
+    items = c.items;
+    cells = cells_are old new a b s.config c.arrays c.blocks;
+  };
+}

@@ -1,6 +1,6 @@
 -- The events that lead to a state that was found.
-use Rattle.std.proofs.Common.{inl, inr, ◌≡◌, ◌+◌, ◌<◌, ◌≤◌, ℕ, zero, suc, true, false, List, [], ◌∷◌, ◌++◌, length, take, drop, reverse, refl, sym, ap, ◌∙◌, arith}
-use Rattle.std.specs.Prelude.{◌==◌, slice_index_or}
+use Rattle.std.proofs.Common.{inl, inr, ◌≡◌, ◌+◌, ◌<◌, ◌≤◌, ℕ, zero, suc, true, false, List, [], ◌∷◌, ◌++◌, length, take, drop, get_or, reverse, refl, sym, ap, ◌∙◌, arith}
+use Rattle.std.specs.Prelude.{◌==◌, Contains, slice_index_or}
 use Rattle.std.proofs.lemmas.Bool.{cases_eq, eq-eqb, ne_eqb}
 use Rattle.std.proofs.lemmas.List.{append_assoc, length-append, length-reverse, length-take, reverse-append, take-append-drop}
 use Rattle.acc_core.specs.Machine.{State, step}
@@ -26,6 +26,30 @@ pub length_found : (start : State) (arrivals : List Arrival) → length (found_b
 length_found start [] = refl
 length_found start (a ∷ before) =
     omega (arith, length-append (found_by start before) (found_behind (found_at start before a.from) a ∷ []), length_found start before)
+
+-- what is found behind so many has a number
+pub record HasNumber (start : State) (arrivals : List Arrival) (least : ℕ) (f : Found) : Type 0 where
+  pub n : ℕ
+  pub behind : least ≤ n
+  pub low : n ≤ length arrivals
+  pub is : found_at start arrivals n ≡ f
+
+pub numbered : (start : State) (arrivals : List Arrival) (least : ℕ) (f : Found) → Contains (drop least (found_by start arrivals)) f → HasNumber start arrivals least f
+numbered start arrivals least f listed =
+    let there = behind (found_by start arrivals) least f (at_once start) listed in
+    record { n = there.0; behind = there.1; low = omega (arith, there.2, length_found start arrivals); is = there.3 }
+  where
+    read : (found : List Found) (k : ℕ) (f other : Found) → k < length found → get_or found k f ≡ f → slice_index_or found k other ≡ f
+    read [] k f other low is = absurd (omega (arith, low))
+    read (g ∷ found) zero f other low is = is
+    read (g ∷ found) (suc k) f other low is = read found k f other (omega (arith, low)) is
+
+    behind : (found : List Found) (k : ℕ) (f other : Found) → Contains (drop k found) f
+        → (n : ℕ) × (k ≤ n) × (n < length found) × (slice_index_or found n other ≡ f)
+    behind found zero f other listed = (listed.0, omega arith, listed.1, read found listed.0 f other listed.1 listed.2)
+    behind [] (suc k) f other listed = absurd (omega (arith, listed.1))
+    behind (g ∷ found) (suc k) f other listed =
+        let b = behind found k f other listed in (suc b.0, omega (arith, b.1), omega (arith, b.2), b.3)
 
 pub events_lead : EventsLeadThere
 events_lead start [] zero = (refl, refl)

@@ -1,10 +1,13 @@
 -- An event that commutes with all others until it comes may go first.
-use Rattle.std.proofs.Common.{inl, inr, Bool, false, List, [], ◌∷◌, sym, subst, arith}
+use Rattle.std.proofs.Common.{inl, inr, ◌≡◌, Bool, false, List, [], ◌∷◌, sym, ap, subst, arith}
 use Rattle.std.specs.Prelude.{All, IsTrue}
 use Rattle.std.proofs.lemmas.List.Elements.{All-cons, All-head, All-tail}
 use Rattle.acc_core.specs.Legality.{Legal}
-use Rattle.acc_core.specs.Machine.{State, step}
+use Rattle.acc_core.specs.Machine.{State, Outcome, step}
+use Rattle.acc_core.proofs.IdleSteps.{idle_keeps}
 use Rattle.acc_host.specs.declared.event.Event.{Event}
+use Rattle.acc_host.specs.declared.state.Reply.{Reply}
+use Rattle.acc_host.specs.declared.state.Reply.TheVariants as reply
 use Rattle.acc_explore.specs.Alike.{Alike}
 use Rattle.acc_explore.specs.Explorations.{IsEnd}
 use Rattle.acc_explore.specs.Reductions.{Commutes, LeadsSooner, MayGoFirst}
@@ -12,6 +15,12 @@ use Rattle.acc_explore.specs.Runs.{MayCome, after}
 use Rattle.acc_explore.proofs.AlikeSteps.{alike_itself, alike_on}
 use Rattle.acc_explore.proofs.Explored.{legal_step, legal_after}
 use Rattle.acc_explore.proofs.Reduced.{alike_after}
+
+-- an event that can't come leaves the state
+pub idle_same : (w : State) (x : Event) → (step false w x).reply ≡ reply.Idle → (step false w x).state ≡ w
+idle_same w x idle =
+    let next = (step false w x).state in
+    idle_keeps w next x (false, ap (λ (answer : Reply). let o : Outcome = record { reply = answer; state = next } in o) idle)
 
 module _ (closing : Bool) (test : State → Bool) (e : Event) where
   by_events : Commutes closing test e → (events : List Event) (w : State) → Legal w → IsTrue (test w) → All (MayCome closing) events → IsEnd (after w events) → LeadsSooner closing w e events
@@ -26,7 +35,16 @@ module _ (closing : Bool) (test : State → Bool) (e : Event) where
           fewer = omega arith;
           alike = subst (λ (y : Event). Alike (after (step false w e).state events) (after (step false w y).state events)) (sym same) (alike_itself (after (step false w e).state events));
         }
-        | inr other ↦ (
+        | inr (inl idle) ↦ (
+            let s = by_events c events w l r rest_may (subst (λ (v : State). IsEnd (after v events)) (idle_same w x idle) ends) in
+            record {
+              rest = s.rest;
+              may = s.may;
+              fewer = omega (arith, s.fewer);
+              alike = subst (λ (v : State). Alike (after (step false w e).state s.rest) (after v events)) (sym (idle_same w x idle)) s.alike;
+            }
+            )
+        | inr (inr other) ↦ (
             let s = by_events c events to (legal_step w x l) other.0 rest_may ends in
             let one = (step false (step false w e).state x).state in
             let two = (step false to e).state in

@@ -41,8 +41,8 @@ idle_ends w idle e may = elim (known false w e may) [
 ]
 
 -- what is like an end is an end
-pub ends_too : (old new : State) → Legal old → Alike old new → IsEnd new → IsEnd old
-ends_too old new l s ends e may = (step_keeps_alike false old new e l s).reply ∙ ends e may
+pub ends_too : (old new : State) → Legal old → Legal new → Alike old new → IsEnd new → IsEnd old
+ends_too old new l k s ends e may = (step_keeps_alike false old new e l k s).reply ∙ ends e may
 
 -- its report is that of the one which is like it
 pub tells_end : (names : List (List ℕ)) (programs : List HostProgram) (limit : ℕ) (found : List Found) (w : State) → AllLegal found → Legal w
@@ -53,7 +53,7 @@ tells_end names programs limit found w each l h ends =
       one = h.one;
       listed = h.listed;
       soon = h.soon;
-      ends = ends_too h.one.state w first h.alike ends;
+      ends = ends_too h.one.state w first l h.alike ends;
       text_is = sym (report_same names programs h.one.state w first l h.alike);
     }
 
@@ -90,7 +90,7 @@ holds_after closing found each all (e ∷ events) w limit top low may l h =
     let mid = (step false f.state e).state in
     let next = (step false w e).state in
     let there = leads_on closing found f e h.listed (All-contains (FollowsAll closing found) found f all h.listed) (All-head (MayCome closing) e events may) in
-    let alike = (step_keeps_alike false f.state w e first h.alike).state in
+    let alike = (step_keeps_alike false f.state w e first l h.alike).state in
     holds_after closing found each all events next (limit + 1) top (omega (arith, low)) (All-tail (MayCome closing) e events may) (legal_step w e l)
     (held_on (f.depth + 1) (limit + 1) found mid next each (legal_step f.state e first) (omega (arith, h.soon)) there alike)
 

@@ -1,21 +1,22 @@
 -- What comes of an event that a search follows.
-use Rattle.std.proofs.Common.{inl, inr, ◌≡◌, ◌≤◌, ℕ, Bool, true, false, ◌&&◌, List, [], ◌∷◌, ◌++◌, length, refl, sym, ap, subst, ◌∙◌, arith}
+use Rattle.std.proofs.Common.{inl, inr, ◌≡◌, ◌≤◌, ◌+◌, ℕ, Bool, true, false, ◌&&◌, List, [], ◌∷◌, ◌++◌, length, refl, sym, ap, subst, ◌∙◌, arith}
 use Rattle.std.specs.Prelude.{All, Contains, IsTrue}
 use Rattle.std.proofs.lemmas.Bool.{and_parts}
-use Rattle.std.proofs.lemmas.List.Elements.{All-push}
+use Rattle.std.proofs.lemmas.List.Elements.{All-head, All-nil, All-push}
 use Rattle.acc_core.specs.Machine.{State, Outcome, step}
 use Rattle.acc_explore.specs.Alike.{Alike}
-use Rattle.acc_explore.specs.Arrivals.{found_at}
+use Rattle.acc_explore.specs.Arrivals.{found_at, found_by}
 use Rattle.acc_explore.specs.declared.arrival.Arrival.{Arrival}
 use Rattle.acc_explore.specs.declared.search.Course.{Course}
 use Rattle.acc_explore.specs.declared.search.Course.TheVariants.{Idle, Led, Full}
-use Rattle.acc_explore.specs.Explorations.{IsEnd}
-use Rattle.acc_explore.specs.inner.Searching.{IsAtHand, IsFollowed, IsLikeOne, IsNoted, LeavesEnd, Takes}
-use Rattle.acc_explore.specs.Runs.{events_of}
+use Rattle.acc_explore.specs.Explorations.{Found, HoldsAlike, IsEnd}
+use Rattle.acc_explore.specs.inner.Searching.{AreNear, IsFollowed, IsLikeOne, IsNoted, LeavesEnd, Takes}
+use Rattle.acc_explore.specs.Reductions.{MayGoFirst}
+use Rattle.acc_explore.specs.Runs.{MayCome, events_of}
 use Rattle.acc_explore.proofs.AlikeSteps.{alike_itself}
 use Rattle.acc_explore.proofs.FoundMore.{stays}
 use Rattle.acc_explore.proofs.SearchEvents.{IsIdleAt, may_unless_close, no_close}
-use Rattle.acc_explore.proofs.SearchSteps.{goes_on_found, goes_on_like}
+use Rattle.acc_explore.proofs.SearchSteps.{goes_on_found, goes_on_like, goes_past, near_still}
 use Rattle.acc_host.specs.declared.event.Event.{Event}
 
 -- ## What was found keeps its numbers
@@ -91,8 +92,29 @@ module _ (most : ℕ) (start : State) (old new : List Arrival) (next : ℕ) (w :
   still_busy course true true takes room says busy isnt ends = cc
   still_busy course true false takes room says busy isnt ends = ends_not course takes room (λ leaves. let wrong : false ≡ true = says leaves in cc) ends
 
--- the world is at hand again
-pub at_hand : (course : Course) (w new : State) → IsAtHand course w new → (course ≡ Full → ⊥) → new ≡ w
-at_hand Idle w new again room = again
-at_hand Led w new again room = again
-at_hand Full w new again room = absurd (room refl)
+-- ## One event alone
+
+-- a state of which an event may go first is no end
+waits_first : (closing : Bool) (w : State) (e : Event) → MayGoFirst closing w e → IsEnd w → ⊥
+waits_first closing w e first ends = absurd (omega (arith, (first [] (All-nil (MayCome closing)) ends).fewer))
+
+pub followed_alone : (closing : Bool) (most : ℕ) (start : State) (old new : List Arrival) (numbers : List ℕ) (next : ℕ) (w : State) (e : Event) (course : Course)
+    → w ≡ (found_at start old next).state → next ≤ length old → Contains (events_of closing start) e → MayGoFirst closing w e
+    → IsFollowed closing most start old numbers next [] → Takes most start old new next w e course → (course ≡ Full → ⊥)
+    → IsFollowed closing most start new numbers (next + 1) []
+followed_alone closing most start old new numbers next w e course here low listed first f takes room =
+    let at = found_at start new next in
+    let is : w ≡ at.state = here ∙ sym (ap (λ (g : Found). g.state) (still_here most start old new next w e course takes low)) in
+    let may : MayGoFirst closing at.state e = subst (λ (v : State). MayGoFirst closing v e) is first in
+    let on : IsFollowed closing most start new numbers next (e ∷ []) = goes_on most start old new next w e closing numbers [] here low listed f course takes room in
+    goes_past closing most start new numbers next (e ∷ []) on (still_there most start old new next w e course takes low)
+    (inl (record { event = e; first = may; leads = All-head (λ (x : Event). HoldsAlike (at.depth + 1) (found_by start new) (step false at.state x).state) e [] on.these }))
+    (waits_first closing at.state e may)
+
+pub near_alone : (closing : Bool) (most : ℕ) (start : State) (old new : List Arrival) (numbers : List ℕ) (next : ℕ) (w : State) (e : Event) (course : Course)
+    → w ≡ (found_at start old next).state → next ≤ length old → Contains (events_of closing start) e
+    → IsFollowed closing most start old numbers next [] → Takes most start old new next w e course → (course ≡ Full → ⊥)
+    → AreNear start old new next
+near_alone closing most start old new numbers next w e course here low listed f takes room =
+    near_still closing most start new numbers next (e ∷ []) (goes_on most start old new next w e closing numbers [] here low listed f course takes room) old
+    (ap (λ (g : Found). g.depth) (still_here most start old new next w e course takes low)) (still_there most start old new next w e course takes low)

@@ -1,5 +1,5 @@
 -- What is found stays so where more is found.
-use Rattle.std.proofs.Common.{◌≡◌, ◌≤◌, ◌+◌, ℕ, Bool, false, List, [], ◌∷◌, ◌++◌, length, sym, ap, ◌∙◌, arith}
+use Rattle.std.proofs.Common.{inl, inr, ◌≡◌, ◌≤◌, ◌+◌, ℕ, Bool, false, List, [], ◌∷◌, ◌++◌, length, sym, ap, ◌∙◌, arith}
 use Rattle.std.specs.Prelude.{Contains, slice_index_or}
 use Rattle.std.proofs.lemmas.List.Elements.{All-weaker, Contains-append_left, Contains-get_or, Contains-push}
 use Rattle.acc_core.specs.Machine.{State, step}
@@ -7,6 +7,7 @@ use Rattle.acc_base.proofs.Members.{member_first}
 use Rattle.acc_explore.specs.Arrivals.{at_once, found_at, found_behind, found_by}
 use Rattle.acc_explore.specs.declared.arrival.Arrival.{Arrival}
 use Rattle.acc_explore.specs.Explorations.{FollowsAll, Found, HoldsAlike}
+use Rattle.acc_explore.specs.Reductions.{FollowsEnough}
 use Rattle.acc_explore.specs.inner.Searching.{IsLikeOne}
 use Rattle.acc_explore.specs.Runs.{events_of}
 use Rattle.acc_explore.proofs.AlikeSteps.{alike_itself}
@@ -36,11 +37,19 @@ module _ (start : State) (a : Arrival) (arrivals : List Arrival) where
     alike = h.alike;
   }
 
-  pub follows_more : (closing : Bool) (f : Found) → FollowsAll closing (found_by start arrivals) f → FollowsAll closing (found_by start (a ∷ arrivals)) f
+  follows_more : (closing : Bool) (f : Found) → FollowsAll closing (found_by start arrivals) f → FollowsAll closing (found_by start (a ∷ arrivals)) f
   follows_more closing f all =
       All-weaker (λ (e : Event). HoldsAlike (f.depth + 1) (found_by start arrivals) (step false f.state e).state)
       (λ (e : Event). HoldsAlike (f.depth + 1) (found_by start (a ∷ arrivals)) (step false f.state e).state)
       (λ e h. holds_more (f.depth + 1) (step false f.state e).state h) (events_of closing f.state) all
+
+  pub enough_more : (closing : Bool) (f : Found) → FollowsEnough closing (found_by start arrivals) f → FollowsEnough closing (found_by start (a ∷ arrivals)) f
+  enough_more closing f (inl one) = inl (record {
+    event = one.event;
+    first = one.first;
+    leads = holds_more (f.depth + 1) (step false f.state one.event).state one.leads;
+  })
+  enough_more closing f (inr all) = inr (follows_more closing f all)
 
   -- the latest is one of them
   pub holds_newest : HoldsAlike ((found_at start arrivals a.from).depth + 1) (found_by start (a ∷ arrivals)) (step false (found_at start arrivals a.from).state a.by).state

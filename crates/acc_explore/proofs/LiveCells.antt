@@ -23,7 +23,7 @@ use Rattle.acc_work.specs.Logs.{device_ops, value, one_more}
 use Rattle.acc_work.proofs.MadeAndReleased.{made_op, op_made, op_released, released_op}
 use Rattle.acc_explore.specs.Alike.{IsLive, SameCells}
 
-if_alike : (c : Bool) (x y u v : ℤ) → (c ≡ true → x ≡ u) → (c ≡ false → y ≡ v) → cond c x y ≡ cond c u v
+pub if_alike : (c : Bool) (x y u v : ℤ) → (c ≡ true → x ≡ u) → (c ≡ false → y ≡ v) → cond c x y ≡ cond c u v
 if_alike true x y u v f g = f refl
 if_alike false x y u v f g = g refl
 
@@ -53,7 +53,7 @@ in_wider whole r cell inside e =
     and_from (nat_le whole.lo cell) (nat_lt cell (whole.lo + whole.len)) (le-leb whole.lo cell there.1) (lt-ltb cell (whole.lo + whole.len) there.2)
 
 -- the use that is found stands at an index
-find_at : (p : Use → Bool) (uses : List Use) (u : Use) → find p uses ≡ Some u → (j : ℕ) × (slice_get uses j ≡ Some u) × (p u ≡ true)
+pub find_at : (p : Use → Bool) (uses : List Use) (u : Use) → find p uses ≡ Some u → (j : ℕ) × (slice_get uses j ≡ Some u) × (p u ≡ true)
 find_at p [] u found = let never : ⊥ = cc in absurd never
 find_at p (v ∷ uses) u found = by (λ later. find_at p uses u later) (p v) refl
   where
@@ -68,17 +68,17 @@ find_at p (v ∷ uses) u found = by (λ later. find_at p uses u later) (p v) ref
         let later = ih (sym next ∙ found) in
         (suc later.0, later.1, later.2)
 
--- Two readings of the cells that agree on live ones.
-module _ (before : List OpLabel) (d : ℕ) (f g : Cell → ℤ) where
-  abbrev Agree : Type 0
-  Agree = (b i : ℕ) (r : Range) → HoldsBlock before b r → is_in r i ≡ true → f (Block_cell d b i) ≡ g (Block_cell d b i)
+-- Two readings of the cells of a device that agree on those of some blocks in some ranges.
+module _ (Holds : ℕ → Range → Type 0) (d : ℕ) (f g : Cell → ℤ) where
+  abbrev pub Agree : Type 0
+  Agree = (b i : ℕ) (r : Range) → Holds b r → is_in r i ≡ true → f (Block_cell d b i) ≡ g (Block_cell d b i)
 
   -- what a loop with these uses sees is alike where its use has the cell
-  seen_alike : (uses : List Use) (array i : ℕ) → Agree → All (λ (u : Use). HoldsBlock before u.0 u.1) uses → place_of uses array < length uses
+  seen_alike : (uses : List Use) (array i : ℕ) → Agree → All (λ (u : Use). Holds u.0 u.1) uses → place_of uses array < length uses
       → is_in (range_of uses array) i ≡ true → cells_by uses d f array (pos i) ≡ cells_by uses d g array (pos i)
   seen_alike uses array i agree held low has = agree (block_of uses array) i (range_of uses array) (held (place_of uses array) no_use low) has
 
-  reached_alike : (uses : List Use) (array : ℕ) (cell : ℤ) → Agree → All (λ (u : Use). HoldsBlock before u.0 u.1) uses → has_cell uses array cell ≡ true
+  reached_alike : (uses : List Use) (array : ℕ) (cell : ℤ) → Agree → All (λ (u : Use). Holds u.0 u.1) uses → has_cell uses array cell ≡ true
       → cells_by uses d f array cell ≡ cells_by uses d g array cell
   reached_alike uses array (negsuc n) agree held has = refl
   reached_alike uses array (pos i) agree held has =
@@ -94,7 +94,7 @@ module _ (before : List OpLabel) (d : ℕ) (f g : Cell → ℤ) where
       to a b h = omega (arith, ints)
 
   -- a loop gives a cell of its uses the same value
-  loop_same : (k : Loop) (uses : List Use) (block cell : ℕ) (u : Use) → Agree → All (λ (u : Use). HoldsBlock before u.0 u.1) uses → AreDistinct uses → HoldReached k uses
+  loop_same : (k : Loop) (uses : List Use) (block cell : ℕ) (u : Use) → Agree → All (λ (u : Use). Holds u.0 u.1) uses → AreDistinct uses → HoldReached k uses
       → use_with uses block cell ≡ Some u → value_after k (cells_by uses d f) u.1.array (pos cell) ≡ value_after k (cells_by uses d g) u.1.array (pos cell)
   loop_same k uses block cell u agree held distinct reached found =
       let at = find_at (λ (v : Use). (v.0 == block) && is_in v.1 cell) uses u found in
@@ -107,17 +107,19 @@ module _ (before : List OpLabel) (d : ℕ) (f g : Cell → ℤ) where
       (λ a c r. reached_alike uses a c agree held (reached a c r))
       (seen_alike uses u.1.array cell agree held (subst (λ n. n < length uses) (sym place) low) (ap (λ (r : Range). is_in r cell) range ∙ has))
 
-  by_use : (k : Loop) (uses : List Use) (block cell : ℕ) (o : Option Use) → Agree → All (λ (u : Use). HoldsBlock before u.0 u.1) uses → AreDistinct uses → HoldReached k uses
+  pub by_use : (k : Loop) (uses : List Use) (block cell : ℕ) (o : Option Use) → Agree → All (λ (u : Use). Holds u.0 u.1) uses → AreDistinct uses → HoldReached k uses
       → use_with uses block cell ≡ o → f (Block_cell d block cell) ≡ g (Block_cell d block cell)
       → after_loop k (cells_by uses d f) o cell (f (Block_cell d block cell)) ≡ after_loop k (cells_by uses d g) o cell (g (Block_cell d block cell))
   by_use k uses block cell None agree held distinct reached found here = here
   by_use k uses block cell (Some u) agree held distinct reached found here = loop_same k uses block cell u agree held distinct reached found
 
+-- Two that agree on live ones.
+module _ (before : List OpLabel) (d : ℕ) (f g : Cell → ℤ) where
   abbrev Hosts : Type 0
   Hosts = (array i : ℕ) → f (Host_cell array i) ≡ g (Host_cell array i)
 
   -- a cell of a block of the device
-  block_same : (arrays : List (List ℤ)) (op : OpLabel) (block cell : ℕ) (r : Range) → Hosts → Agree → UsesLive arrays op before → HasItsCells op
+  block_same : (arrays : List (List ℤ)) (op : OpLabel) (block cell : ℕ) (r : Range) → Hosts → Agree (HoldsBlock before) d f g → UsesLive arrays op before → HasItsCells op
       → HoldsBlock (before ++ op ∷ []) block r → is_in r cell ≡ true → after_op d op f (Block_cell d block cell) ≡ after_op d op g (Block_cell d block cell)
   block_same arrays op block cell r hosts agree uses cells held has = rw (eq-eqb d d refl) (by op uses cells (held_cases before op block r held))
     where
@@ -140,7 +142,7 @@ module _ (before : List OpLabel) (d : ℕ) (f g : Cell → ℤ) where
       by (Release b) uses cells (inl h) = kept h
       by (Await q n) uses cells (inl h) = kept h
       by Close uses cells (inl h) = kept h
-      by (Run k us) uses cells (inl h) = by_use k us block cell (use_with us block cell) agree uses cells.0 cells.1 refl (kept h)
+      by (Run k us) uses cells (inl h) = by_use (HoldsBlock before) d f g k us block cell (use_with us block cell) agree uses cells.0 cells.1 refl (kept h)
       by (CopyIn s b) uses cells (inr m) = let e = m.makes in let never : ⊥ = cc in absurd never
       by (CopyOut s b) uses cells (inr m) = let e = m.makes in let never : ⊥ = cc in absurd never
       by (Release b) uses cells (inr m) = let e = m.makes in let never : ⊥ = cc in absurd never
@@ -149,7 +151,7 @@ module _ (before : List OpLabel) (d : ℕ) (f g : Cell → ℤ) where
       by (Run k us) uses cells (inr m) = let e = m.makes in let never : ⊥ = cc in absurd never
 
   -- a cell of a host array
-  host_same : (arrays : List (List ℤ)) (op : OpLabel) (array cell : ℕ) → Hosts → Agree → UsesLive arrays op before
+  host_same : (arrays : List (List ℤ)) (op : OpLabel) (array cell : ℕ) → Hosts → Agree (HoldsBlock before) d f g → UsesLive arrays op before
       → after_op d op f (Host_cell array cell) ≡ after_op d op g (Host_cell array cell)
   host_same arrays (CopyOut r b) array cell hosts agree uses =
       if_alike ((array == r.array) && is_in r cell) (f (Block_cell d b cell)) (f (Host_cell array cell)) (g (Block_cell d b cell)) (g (Host_cell array cell))

@@ -21,7 +21,10 @@ use Rattle.acc_work.specs.Items.{shown_by}
 use Rattle.acc_work.specs.Logs.{performed, items_of, all_items, batches_done, all_done, await_allows, host_allows}
 use Rattle.acc_work.specs.Orders.{InOrder}
 use Rattle.acc_work.specs.Works.{item_fault}
-use Rattle.acc_explore.specs.Alike.{AlikeLogs, with_work}
+use Rattle.acc_explore.specs.Alike.{AlikeLogs}
+
+abbrev pub with_work : State → List WorkEntry → State
+with_work w work = record w { work = work }
 
 -- ## How much each queue has performed
 

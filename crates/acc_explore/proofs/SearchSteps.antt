@@ -1,17 +1,18 @@
 -- How a search goes on.
-use Rattle.std.proofs.Common.{inl, inr, ◌≡◌, ◌≤◌, ◌<◌, ◌+◌, ℕ, zero, suc, Bool, false, List, [], ◌∷◌, ◌++◌, length, refl, sym, ap, subst, ◌∙◌, arith}
+use Rattle.std.proofs.Common.{inl, inr, ◌≡◌, ◌≤◌, ◌<◌, ◌+◌, ℕ, zero, suc, Bool, false, List, [], ◌∷◌, ◌++◌, length, drop, refl, sym, ap, subst, ◌∙◌, arith}
 use Rattle.std.specs.Prelude.{All, Contains, IsTrue, slice_index_or}
-use Rattle.std.proofs.lemmas.Bool.{cases_eq}
-use Rattle.std.proofs.lemmas.List.Elements.{All-cons, All-from_get_or, All-head, All-nil, All-push, All-tail, All-weaker, Contains-append_left, Contains-push}
+use Rattle.std.proofs.lemmas.Bool.{cases_eq, cases_lt}
+use Rattle.std.proofs.lemmas.List.Elements.{All-cons, All-from_get_or, All-head, All-nil, All-push, All-tail, All-weaker, Contains-append_left, Contains-get_or, Contains-push}
 use Rattle.acc_core.specs.Machine.{State, step}
 use Rattle.acc_explore.specs.Arrivals.{at_once, found_at, found_by}
+use Rattle.acc_explore.specs.Cuts.{FollowsOrLeaves, IsCut}
 use Rattle.acc_explore.specs.declared.arrival.Arrival.{Arrival}
-use Rattle.acc_explore.specs.Explorations.{FollowsAll, Found, HoldsAlike, IsEnd, IsExplored}
-use Rattle.acc_explore.specs.inner.Searching.{AreRising, IsFollowed, IsLikeOne}
+use Rattle.acc_explore.specs.Explorations.{Found, HoldsAlike, IsEnd}
+use Rattle.acc_explore.specs.Reductions.{FollowsEnough}
+use Rattle.acc_explore.specs.inner.Searching.{AreNear, AreRising, IsFollowed, IsLikeOne}
 use Rattle.acc_explore.specs.Runs.{MayCome, events_of}
-use Rattle.acc_explore.specs.Searches.{ComeByDepth, IsSearch}
-use Rattle.acc_explore.proofs.ArrivalPaths.{length_found}
-use Rattle.acc_explore.proofs.FoundMore.{follows_more, holds_more, holds_newest, holds_one, holds_start, newest, stays}
+use Rattle.acc_explore.specs.Searches.{ComeByDepth, IsSearch, leaves_of}
+use Rattle.acc_explore.proofs.FoundMore.{enough_more, holds_more, holds_newest, holds_one, holds_start, newest, stays}
 use Rattle.acc_explore.proofs.ReachedArrivals.{all_reached}
 use Rattle.acc_explore.proofs.SearchEvents.{may_come}
 use Rattle.acc_host.specs.declared.event.Event.{Event}
@@ -145,8 +146,8 @@ module _ (closing : Bool) (most : ℕ) (start : State) (arrivals : List Arrival)
       by_depth = deeper;
       near = λ n there within. near_now n within;
       before = λ n below.
-          subst (FollowsAll closing now) (sym (stays start a arrivals n (omega (arith, below, low))))
-          (follows_more start a arrivals closing (found_at start arrivals n) (f.before n below));
+          subst (FollowsEnough closing now) (sym (stays start a arrivals n (omega (arith, below, low))))
+          (enough_more start a arrivals closing (found_at start arrivals n) (f.before n below));
       these = these_now;
       ends = All-weaker (EndBelow arrivals) (EndBelow (a ∷ arrivals)) end_kept numbers f.ends;
       every_end = λ n below ends. f.every_end n below (subst (λ (g : Found). IsEnd g.state) (stays start a arrivals n (omega (arith, below, low))) ends);
@@ -155,13 +156,13 @@ module _ (closing : Bool) (most : ℕ) (start : State) (arrivals : List Arrival)
 
   -- ## One state more
 
-  module _ (f : IsFollowed closing most start arrivals numbers next done) (low : next ≤ length arrivals) (followed : FollowsAll closing (found_by start arrivals) (found_at start arrivals next)) where
+  module _ (f : IsFollowed closing most start arrivals numbers next done) (low : next ≤ length arrivals) (followed : FollowsEnough closing (found_by start arrivals) (found_at start arrivals next)) where
     near_next : (n : ℕ) → next + 1 ≤ length arrivals → n ≤ length arrivals → depth_at start arrivals n ≤ depth_at start arrivals (next + 1) + 1
     near_next n there within = omega (arith, f.near n low within, f.by_depth next (next + 1) (omega arith) there)
 
-    before_next : (n : ℕ) → n < next + 1 → FollowsAll closing (found_by start arrivals) (found_at start arrivals n)
+    before_next : (n : ℕ) → n < next + 1 → FollowsEnough closing (found_by start arrivals) (found_at start arrivals n)
     before_next n below = elim (cases_eq n next) [
-      | inl same ↦ subst (λ (k : ℕ). FollowsAll closing (found_by start arrivals) (found_at start arrivals k)) (sym same) followed
+      | inl same ↦ subst (λ (k : ℕ). FollowsEnough closing (found_by start arrivals) (found_at start arrivals k)) (sym same) followed
       | inr other ↦ f.before n (omega (arith, below, other))
     ]
 
@@ -210,6 +211,12 @@ module _ (closing : Bool) (most : ℕ) (start : State) (arrivals : List Arrival)
       rising = rising_more numbers next f.rising (All-weaker (λ (n : ℕ). (n < next) × IsEndAt n) (λ (n : ℕ). n ≤ next) (λ n both. omega (arith, both.0)) numbers f.ends);
     }
 
+-- each is one deeper at most than the next one, which was as deep before
+pub near_still : (closing : Bool) (most : ℕ) (start : State) (arrivals : List Arrival) (numbers : List ℕ) (next : ℕ) (done : List Event)
+    → IsFollowed closing most start arrivals numbers next done → (old : List Arrival) → depth_at start arrivals next ≡ depth_at start old next → next ≤ length arrivals
+    → AreNear start old arrivals next
+near_still closing most start arrivals numbers next done f old same low n within = omega (arith, f.near n low within, same)
+
 -- ## The last step
 
 -- the events of the next state that were followed are let go
@@ -228,27 +235,42 @@ drops closing most start arrivals numbers next done f = record {
   rising = f.rising;
 }
 
-explored : (closing : Bool) (most : ℕ) (start : State) (arrivals : List Arrival) (numbers : List ℕ) (next : ℕ) → next ≡ length arrivals + 1
-    → IsFollowed closing most start arrivals numbers next [] → IsExplored closing start (found_by start arrivals)
-explored closing most start arrivals numbers next all f = record {
+-- a state behind so many is one of the others
+behind_so_many : (found : List Found) (k n : ℕ) (other : Found) → k ≤ n → n < length found → Contains (drop k found) (slice_index_or found n other)
+behind_so_many found zero n other low within = Contains-get_or found n other within
+behind_so_many [] (suc k) n other low within = absurd (omega (arith, within))
+behind_so_many (f ∷ found) (suc k) zero other low within = absurd (omega (arith, low))
+behind_so_many (f ∷ found) (suc k) (suc n) other low within = behind_so_many found k n other (omega (arith, low)) (omega (arith, within))
+
+cut : (closing : Bool) (most : ℕ) (start : State) (arrivals : List Arrival) (numbers : List ℕ) (next : ℕ)
+    → IsFollowed closing most start arrivals numbers next [] → IsCut closing (leaves_of start arrivals next) start (found_by start arrivals)
+cut closing most start arrivals numbers next f = record {
   first = holds_start start arrivals;
   reached = all_reached closing start arrivals
       (All-weaker (λ (a : Arrival). Contains (events_of closing start) a.by) (λ (a : Arrival). MayCome closing a.by) (λ a listed. may_come closing start a.by listed) arrivals f.events);
-  closed = All-from_get_or (FollowsAll closing (found_by start arrivals)) (found_by start arrivals) (at_once start)
-      (λ n low. f.before n (omega (arith, low, all, length_found start arrivals)));
+  follows = All-from_get_or (FollowsOrLeaves closing (leaves_of start arrivals next) (found_by start arrivals)) (found_by start arrivals) (at_once start)
+      (λ n low. elim (cases_lt n next) [
+        | inl below ↦ inl (f.before n below)
+        | inr behind ↦ inr (behind_so_many (found_by start arrivals) next n (at_once start) (omega (arith, behind)) low)
+      ]);
 }
 
-pub searched : (closing : Bool) (most : ℕ) (start : State) (arrivals : List Arrival) (numbers : List ℕ) (next : ℕ) (is_whole : Bool) → (IsTrue is_whole → next ≡ length arrivals + 1)
-    → (is_whole ≡ false → most ≤ length arrivals) → IsFollowed closing most start arrivals numbers next [] → IsSearch closing most start arrivals numbers is_whole
-searched closing most start arrivals numbers next is_whole all full f =
+pub searched : (closing : Bool) (most deepest : ℕ) (start : State) (arrivals : List Arrival) (numbers : List ℕ) (next : ℕ) (is_whole : Bool)
+    → (IsTrue is_whole → next ≤ length arrivals → deepest ≤ (found_at start arrivals next).depth)
+    → (is_whole ≡ false → most ≤ length arrivals) → ((n : ℕ) → n ≤ length arrivals → (found_at start arrivals n).depth ≤ deepest)
+    → IsFollowed closing most start arrivals numbers next [] → IsSearch closing most deepest start arrivals numbers next is_whole
+searched closing most deepest start arrivals numbers next is_whole deep full shallow f =
     let IsEndAt : ℕ → Type 0 = λ n. IsEnd (found_at start arrivals n).state in
     record {
       events = f.events;
       few = f.few;
+      there = f.there;
       ends = All-weaker (λ (n : ℕ). (n < next) × IsEndAt n) (λ (n : ℕ). (n ≤ length arrivals) × IsEndAt n) (λ n both. (omega (arith, both.0, f.there), both.1)) numbers f.ends;
       by_depth = come start arrivals numbers f.by_depth f.rising
           (All-weaker (λ (n : ℕ). (n < next) × IsEndAt n) (λ (n : ℕ). n ≤ length arrivals) (λ n both. omega (arith, both.0, f.there)) numbers f.ends);
-      whole = λ is. explored closing most start arrivals numbers next (all is) f;
+      cut = cut closing most start arrivals numbers next f;
+      deep = λ is n behind low. omega (arith, deep is (omega (arith, behind, low)), f.by_depth next n behind low);
+      shallow = shallow;
       stopped = λ no. omega (arith, f.few, full no);
-      every_end = λ is n low ends. f.every_end n (omega (arith, low, all is)) ends;
+      every_end = f.every_end;
     }

@@ -1,5 +1,5 @@
 -- A schedule that is spelled out is read again.
-use Rattle.std.proofs.Common.{inl, inr, ◌≡◌, ℕ, ◌+◌, ◌^◌, ◌<◌, ◌≤◌, Bool, true, false, List, [], ◌∷◌, ◌++◌, length, Result, Ok, Err, append_assoc, length-append, refl, sym, ap, subst, ◌∙◌, arith}
+use Rattle.std.proofs.Common.{inl, inr, ◌≡◌, ℕ, ◌+◌, ◌^◌, ◌<◌, ◌≤◌, Bool, true, false, List, [], ◌∷◌, ◌++◌, length, Ok, Err, append_assoc, length-append, refl, sym, ap, subst, ◌∙◌, arith}
 use Rattle.std.specs.Prelude.{◌==◌, nat_lt, ◌&&◌, All}
 use Rattle.std.specs.List.{list_all, onto_first, slice_split}
 use Rattle.std.proofs.lemmas.Bool.{and_parts, cases_Bool, eqb-true, false≢true, le-ltb, ltb-true}
@@ -16,7 +16,6 @@ use Rattle.acc_schedule.proofs.LineEvents.{few_behind}
 use Rattle.acc_schedule.proofs.RepeatedTurns.{repeated-next}
 use Rattle.acc_schedule.specs.declared.schedule.TheConstants.{MAX_EVENTS, MAX_TIMES}
 use Rattle.acc_schedule.specs.Schedules.{events_behind, events_from, is_plain, is_skipped, line_events, lines, repeated, schedule_of}
-use Rattle.acc_token.specs.declared.read_fault.ReadFault.{ReadFault}
 use Rattle.acc_token.specs.declared.text.TheConstants.{MAX_TEXT}
 use Rattle.acc_token.specs.Faults.{◌>>=◌}
 use Rattle.acc_explore.specs.Spellings.{IsNamed, SpelledIsRead, event_words, goes_on, going_on, lines_from, line_text, schedule_text, times_text}

@@ -1,25 +1,26 @@
 -- What is told of the ends that a search has found: endings, one for each report, and all of them where the search is whole.
-use Rattle.std.proofs.Common.{inl, inr, ◌≡◌, ◌≤◌, ◌<◌, ◌+◌, ◌||◌, ℕ, zero, suc, Bool, true, false, List, [], ◌∷◌, ◌++◌, length, map, take, get_or, refl, sym, ap, subst, ◌∙◌, arith}
-use Rattle.std.specs.Prelude.{All, Contains, IsTrue, ◌==◌, bytes_eq, slice_index_or, if◌then◌else◌}
+use Rattle.std.proofs.Common.{inl, inr, ◌≡◌, ◌≤◌, ◌<◌, ◌+◌, ◌||◌, ℕ, Bool, true, false, List, [], ◌∷◌, ◌++◌, length, map, take, refl, sym, ap, subst, ◌∙◌, arith}
+use Rattle.std.specs.Prelude.{All, Contains, IsTrue, ◌==◌, bytes_eq, if◌then◌else◌}
 use Rattle.std.specs.List.{list_any}
-use Rattle.std.proofs.lemmas.Bool.{cases_Bool, cases_eq, eq-eqb, ne_eqb}
-use Rattle.std.proofs.lemmas.List.{append_assoc, append-nil}
+use Rattle.std.proofs.lemmas.Bool.{cases_Bool, cases_eq, cases_lt, eq-eqb, ne_eqb}
+use Rattle.std.proofs.lemmas.List.{append_assoc, append-nil, drop_all, length-append}
 use Rattle.std.proofs.lemmas.List.Elements.{All-append, All-cons, All-contains, All-head, All-map, All-nil, All-tail, All-take, All-weaker}
 use Rattle.std.proofs.lemmas.List.Folds.{list_any-append}
 use Rattle.std.proofs.lemmas.Slice.Eq.{bytes_eq-Decides}
 use Rattle.acc_base.proofs.Members.{member_cases, member_first, member_rest, no_member}
 use Rattle.acc_core.specs.Legality.{Legal}
-use Rattle.acc_core.specs.Machine.{State}
 use Rattle.acc_host.specs.declared.event.Event.{Event}
-use Rattle.acc_explore.specs.Arrivals.{at_once, events_to, found_at, found_by}
+use Rattle.acc_explore.specs.Arrivals.{events_to, found_at, found_by}
+use Rattle.acc_explore.specs.Cuts.{FollowsOrLeaves}
 use Rattle.acc_explore.specs.declared.arrival.Arrival.{Arrival}
 use Rattle.acc_explore.specs.Endings.{AreEndings, Differ, Ending, HoldsReport, IsEnding, MissesNone, Setting}
-use Rattle.acc_explore.specs.Explorations.{Found, IsEnd, TellsEnd}
-use Rattle.acc_explore.specs.Runs.{MayCome, after, events_of, report_of}
-use Rattle.acc_explore.specs.Searches.{ComeByDepth, IsSearch}
+use Rattle.acc_explore.specs.Explorations.{Found, IsEnd}
+use Rattle.acc_explore.specs.Reductions.{FollowsEnough, IsReduced}
+use Rattle.acc_explore.specs.Runs.{events_of, report_of}
+use Rattle.acc_explore.specs.Searches.{ComeByDepth, IsSearch, leaves_of}
 use Rattle.acc_explore.specs.inner.Telling.{ending_at, new_endings, told_of}
-use Rattle.acc_explore.proofs.ArrivalPaths.{events_lead, length_found}
-use Rattle.acc_explore.proofs.Explored.{no_report_missed}
+use Rattle.acc_explore.proofs.ArrivalPaths.{events_lead, length_found, numbered}
+use Rattle.acc_explore.proofs.Reduced.{reduced_misses_none}
 
 -- ## One for each report
 
@@ -91,7 +92,7 @@ new_more seen (o ∷ endings) e = elim (cases_Bool (list_any (bytes_eq o.report)
 -- ## Each is an ending
 
 -- a path has events of arrivals alone
-path_of : (P : Event → Type 0) (arrivals : List Arrival) (n : ℕ) → All (λ (a : Arrival). P a.by) arrivals → All P (events_to arrivals n)
+pub path_of : (P : Event → Type 0) (arrivals : List Arrival) (n : ℕ) → All (λ (a : Arrival). P a.by) arrivals → All P (events_to arrivals n)
 path_of P [] n all = All-nil P
 path_of P (a ∷ before) n all =
     let Q = λ (a : Arrival). P a.by in
@@ -102,7 +103,18 @@ path_of P (a ∷ before) n all =
       | false ↦ path_of P before n (All-tail Q a before all)
     ]
 
-module _ (x : Setting) (most : ℕ) (arrivals : List Arrival) (ends : List ℕ) (whole : Bool) (s : IsSearch x.closing most x.start arrivals ends whole) where
+-- there are no more of them than arrivals
+no_longer : (arrivals : List Arrival) (n : ℕ) → length (events_to arrivals n) ≤ length arrivals
+no_longer [] n = omega arith
+no_longer (a ∷ before) n = elim (cases_eq n (length before + 1)) [
+  | inl same ↦ (
+      let here : (n == length before + 1) ≡ true = eq-eqb n (length before + 1) same in
+      rw here (omega (arith, length-append (events_to before a.from) (a.by ∷ []), no_longer before a.from))
+      )
+  | inr other ↦ (let away : (n == length before + 1) ≡ false = ne_eqb n (length before + 1) other in rw away (omega (arith, no_longer before n)))
+]
+
+module _ (x : Setting) (most deepest : ℕ) (arrivals : List Arrival) (ends : List ℕ) (followed : ℕ) (whole : Bool) (s : IsSearch x.closing most deepest x.start arrivals ends followed whole) where
   abbrev IsFoundEnd : ℕ → Type 0
   IsFoundEnd n = (n ≤ length arrivals) × IsEnd (found_at x.start arrivals n).state
 
@@ -162,29 +174,30 @@ module _ (x : Setting) (most : ℕ) (arrivals : List Arrival) (ends : List ℕ) 
         )
   ]
 
-  -- what is found has a number
-  record HasNumber (f : Found) : Type 0 where
-    n : ℕ
-    low : n ≤ length arrivals
-    is : found_at x.start arrivals n ≡ f
+  -- where no state that may be kept is so deep, all were followed
+  all_followed : most < deepest → IsTrue whole → (n : ℕ) → n ≤ length arrivals → n < followed
+  all_followed high all n low = elim (cases_lt n followed) [
+    | inl below ↦ below
+    | inr behind ↦ absurd (omega (arith, s.deep all n (omega (arith, behind)) low, (events_lead x.start arrivals n).1, no_longer arrivals n, s.few, high))
+  ]
 
-  numbered : (f : Found) → Contains (found_by x.start arrivals) f → HasNumber f
-  numbered f listed = record {
-    n = listed.0;
-    low = omega (arith, listed.1, length_found x.start arrivals);
-    is = read (found_by x.start arrivals) listed.0 f (at_once x.start) listed.1 listed.2;
-  }
-    where
-      read : (found : List Found) (k : ℕ) (f other : Found) → k < length found → get_or found k f ≡ f → slice_index_or found k other ≡ f
-      read [] k f other low is = absurd (omega (arith, low))
-      read (g ∷ found) zero f other low is = is
-      read (g ∷ found) (suc k) f other low is = read found k f other (omega (arith, low)) is
+  reduced : most < deepest → IsTrue whole → IsReduced x.closing x.start (found_by x.start arrivals)
+  reduced high all =
+      let no_leaf : leaves_of x.start arrivals followed ≡ [] =
+      drop_all followed (found_by x.start arrivals) (omega (arith, all_followed high all (length arrivals) (omega arith), length_found x.start arrivals)) in
+      record {
+        first = s.cut.first;
+        reached = s.cut.reached;
+        follows = All-weaker (FollowsOrLeaves x.closing (leaves_of x.start arrivals followed) (found_by x.start arrivals)) (FollowsEnough x.closing (found_by x.start arrivals))
+            (λ f either. elim either [ inl enough ↦ enough | inr leaf ↦ absurd (no_member f (subst (λ (leaves : List Found). Contains leaves f) no_leaf leaf)) ])
+            (found_by x.start arrivals) s.cut.follows;
+      }
 
-  none_missed : Legal x.start → IsTrue whole → MissesNone x (told_of x arrivals ends)
-  none_missed legal all events may end =
-      let t = no_report_missed x.closing x.names x.programs x.start (found_by x.start arrivals) legal (s.whole all) events may end in
-      let k = numbered t.one t.listed in
-      let listed = s.every_end all k.n k.low (subst (λ (f : Found). IsEnd f.state) (sym k.is) t.ends) in
+  none_missed : most < deepest → Legal x.start → IsTrue whole → MissesNone x (told_of x arrivals ends)
+  none_missed high legal all events may end =
+      let t = reduced_misses_none x.closing x.names x.programs x.start (found_by x.start arrivals) legal (reduced high all) events may end in
+      let k = numbered x.start arrivals 0 t.one t.listed in
+      let listed = s.every_end k.n (all_followed high all k.n k.low) (subst (λ (f : Found). IsEnd f.state) (sym k.is) t.ends) in
       let h = told [] ends k.n s.by_depth listed refl in
       let deep : depth k.n ≡ t.one.depth = ap (λ (f : Found). f.depth) k.is in
       record {
@@ -194,11 +207,11 @@ module _ (x : Setting) (most : ℕ) (arrivals : List Arrival) (ends : List ℕ) 
         report_is = h.report_is ∙ ap (λ (f : Found). report_of x.names x.programs f.state) k.is ∙ sym t.text_is;
       }
 
-  pub are_endings : Legal x.start → AreEndings x (told_of x arrivals ends) whole
-  are_endings legal = record {
+  pub are_endings : most < deepest → Legal x.start → AreEndings x (told_of x arrivals ends) whole
+  are_endings high legal = record {
     each = all_endings ends s.ends;
     differ = new_differ [] (map (ending_at x arrivals) ends);
-    none_missed = none_missed legal;
+    none_missed = none_missed high legal;
   }
 
   -- those of the first ends are too

@@ -3,14 +3,18 @@ use Rattle.std.specs.Prelude.{◌≡◌, ℕ, ℤ, Bool, IsTrue, List, length}
 use Rattle.acc_base.specs.declared.ids.QueueAt.{QueueAt}
 use Rattle.acc_base.specs.declared.range.Range.{Range}
 use Rattle.acc_batch.specs.declared.entry.WorkEntry.{WorkEntry}
+use Rattle.acc_batch.specs.Labels.{on_queue}
 use Rattle.acc_batch.specs.Lives.{HoldsBlock}
 use Rattle.acc_core.specs.Legality.{Legal}
-use Rattle.acc_core.specs.Machine.{State, Outcome, step}
+use Rattle.acc_core.specs.Machine.{State, Outcome, standing_of, step}
 use Rattle.acc_explore.specs.Runs.{report_of}
 use Rattle.acc_host.specs.declared.event.Event.{Event}
 use Rattle.acc_host.specs.declared.program.HostProgram.{HostProgram}
-use Rattle.acc_host.specs.Entries.{items_shown}
+use Rattle.acc_host.specs.Entries.{Own, items_shown, own_of}
 use Rattle.acc_memory.specs.Values.{Cell, Host_cell, Block_cell, is_in}
+use Rattle.acc_place.specs.Regions.{regions_of}
+use Rattle.acc_place.specs.Standings.{Standing}
+use Rattle.acc_present.specs.Presences.{presences}
 use Rattle.acc_work.specs.Logs.{performed, device_ops, all_items, value}
 
 -- a cell of a host array, or of a block that is live behind this log
@@ -30,12 +34,27 @@ pub record AlikeLogs (arrays : List (List ℤ)) (old new : List WorkEntry) : Typ
   pub items : all_items old ≡ all_items new
   pub cells : SameCells arrays old new
 
-abbrev pub with_work : State → List WorkEntry → State
-with_work w work = record w { work = work }
+-- Two place histories leave alike: each queue the same batches in order, each device the same present ranges with their counters and
+-- blocks, each host inside the same data constructs; and closing has begun in both, or in neither. In which order hosts and queues came
+-- is left open.
+pub record AlikePlaces (old new : Standing) : Type 0 where
+  pub placed : (at : QueueAt) → on_queue at old.labels ≡ on_queue at new.labels
+  pub present : (device : ℕ) → presences (old.marks device) ≡ presences (new.marks device)
+  pub inside : (host : ℕ) → regions_of host old.regions ≡ regions_of host new.regions
+  pub closing : old.closing ≡ new.closing
 
--- All but the work logs is equal, and these show the same.
+-- a host's own directives, with what each was answered, and behind how many items of the host
+abbrev pub own_directives : State → ℕ → List Own
+own_directives w host = own_of w.config host w.history w.counts
+
+-- Two states are of one configuration, have taken as many batches of each queue, and their hosts stand alike; what they have accepted
+-- leaves alike, and each host has the same directives of its own; and their work logs show the same.
 pub record Alike (old new : State) : Type 0 where
-  pub rest : new ≡ with_work old new.work
+  pub config : old.config ≡ new.config
+  pub taken : old.taken ≡ new.taken
+  pub hosts : old.hosts ≡ new.hosts
+  pub places : AlikePlaces (standing_of old) (standing_of new)
+  pub own : (host : ℕ) → own_directives old host ≡ own_directives new host
   pub work : AlikeLogs old.config.arrays old.work new.work
 
 -- The replies are equal, and the states alike.
@@ -46,7 +65,7 @@ pub record AlikeOutcome (old new : Outcome) : Type 0 where
 -- Each event gets one reply of both, and leads to two that are alike again, with the same choice of memory.
 abbrev pub StepKeepsAlike : Type 0
 StepKeepsAlike =
-    (no_memory : Bool) (old new : State) (e : Event) → Legal old → Alike old new
+    (no_memory : Bool) (old new : State) (e : Event) → Legal old → Legal new → Alike old new
     → AlikeOutcome (step no_memory old e) (step no_memory new e)
 
 -- Both have one report.

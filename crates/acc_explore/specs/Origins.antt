@@ -1,5 +1,4 @@
 -- Where an exploration begins.
-use Rattle.std.specs.Prelude.{ℕ, List}
 use Rattle.acc_core.specs.Machine.{State}
 use Rattle.acc_core.specs.Worlds.{first_state}
 use Rattle.acc_script.specs.Arrays.{texts}

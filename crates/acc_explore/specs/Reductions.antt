@@ -7,6 +7,7 @@ use Rattle.acc_explore.specs.Explorations.{FollowsAll, Found, HoldsAlike, IsEnd,
 use Rattle.acc_explore.specs.Runs.{MayCome, after, report_of}
 use Rattle.acc_host.specs.declared.event.Event.{Event}
 use Rattle.acc_host.specs.declared.program.HostProgram.{HostProgram}
+use Rattle.acc_host.specs.declared.state.Reply.TheVariants as reply
 
 -- Behind an event, fewer events than these lead to what they lead to.
 pub record LeadsSooner (closing : Bool) (w : State) (e : Event) (events : List Event) : Type 0 where
@@ -26,11 +27,15 @@ pub record FollowsOne (closing : Bool) (found : List Found) (f : Found) : Type 0
   pub first : MayGoFirst closing f.state event
   pub leads : HoldsAlike (f.depth + 1) found (step false f.state event).state
 
+-- One event of a state that may go first is followed, or each that can do something.
+abbrev pub FollowsEnough : Bool → List Found → Found → Type 0
+FollowsEnough closing found f = FollowsOne closing found f ⊎ FollowsAll closing found f
+
 -- What is found of a state in part: as in an exploration, where of some that are found one event is followed alone.
 pub record IsReduced (closing : Bool) (start : State) (found : List Found) : Type 0 where
   pub first : HoldsAlike 0 found start
   pub reached : All (IsReached closing start) found
-  pub follows : All (λ (f : Found). FollowsOne closing found f ⊎ FollowsAll closing found f) found
+  pub follows : All (FollowsEnough closing found) found
 
 -- No report of an end is missed, and none is found later.
 abbrev pub ReducedMissesNone : Type 0
@@ -40,10 +45,11 @@ ReducedMissesNone =
     → (events : List Event) → All (MayCome closing) events → IsEnd (after start events)
     → TellsEnd names programs (length events) found (report_of names programs (after start events))
 
--- Where a test holds, the event is still to come, and each other event keeps the test and may as well come behind it.
+-- Where a test holds, the event is still to come, and each other event can't come yet, or keeps the test and may as well come behind it.
 pub record Commutes (closing : Bool) (test : State → Bool) (e : Event) : Type 0 where
   pub kept : (w : State) (x : Event) → Legal w → IsTrue (test w) → MayCome closing x
-      → (x ≡ e) ⊎ (IsTrue (test (step false w x).state) × Alike (step false (step false w e).state x).state (step false (step false w x).state e).state)
+      → (x ≡ e) ⊎ ((step false w x).reply ≡ reply.Idle)
+      ⊎ (IsTrue (test (step false w x).state) × Alike (step false (step false w e).state x).state (step false (step false w x).state e).state)
   pub waits : (w : State) → Legal w → IsTrue (test w) → IsEnd w → ⊥
 
 -- Such an event may go first.

@@ -1,1 +1,5 @@
+pub mod ApartOperations
+pub mod Placements
 pub mod Spellings
+pub mod Takes
+pub mod UnseenOperations

@@ -8,7 +8,7 @@ ghost use Rattle.acc_explore.specs.Scripts.{AreOfOneScript};
 ghost use Rattle.acc_explore.specs.inner.Comparing.{AllStandAlike, HasSameProgress, HaveSameProgress, StandAlike};
 
 use crate::cells::hold_same_cells;
-use crate::directives::have_same_histories;
+use crate::histories::leave_alike;
 use crate::items::have_same_items;
 use acc_base::{HostId, QueueAt};
 use acc_core::World;
@@ -69,7 +69,7 @@ pub fn are_alike(old: &World, new: &World) -> bool
     new.keeps();
     if !all_stand_alike(old, new)
         || !have_same_progress(old, new)
-        || !have_same_histories(old.place(), new.place())
+        || !leave_alike(old, new)
         || !have_same_items(old.hosts(), old.log(), new.log())
     {
         return false;

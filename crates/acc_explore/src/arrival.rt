@@ -36,3 +36,19 @@ pub fn path(alloc: Global, arrivals: &[Arrival], number: u32) -> Result<Vec<Even
     events.reverse();
     Ok(events)
 }
+
+/// How many events lead to the state with this number.
+pub(crate) fn depth(arrivals: &[Arrival], number: u32) -> usize
+    requires { number ≤ length arrivals.now }
+    ensures { result ≡ length (events_to (reverse arrivals.now) number) }
+{
+    let mut depth = 0usize;
+    let mut left = number as usize;
+    while left > 0 {
+        let arrival = arrivals[left - 1];
+        depth += 1;
+        let from = arrival.from as usize;
+        left = if from < left { from } else { 0 };
+    }
+    depth
+}

@@ -2,11 +2,13 @@
 //!
 //! It only chooses which of the worlds that were found is compared: nothing is claimed of it.
 
-use acc_base::{HostId, QueueAt, Range};
-use acc_batch::{OpLabel, Values};
+ghost use Rattle.std.specs.Prelude.{◌<◌};
+
+use acc_base::{DeviceId, HostId, QueueAt, Range};
+use acc_batch::{Label, OpLabel, Values};
 use acc_core::World;
-use acc_host::{Host, OwnItems, Phase};
-use acc_place::PlaceEntry;
+use acc_host::{Host, OwnDirectives, OwnItems, Phase};
+use acc_place::Place;
 use acc_work::{Told, WorkEntry};
 use std::hash::{FoldHasher, Hasher};
 
@@ -40,36 +42,89 @@ fn write_items(hasher: &mut FoldHasher, world: &World, host: HostId) {
     }
 }
 
-// Where each host stands, and what it was shown.
+// Where each host stands, and what it was answered and shown.
 fn write_hosts(hasher: &mut FoldHasher, world: &World) {
     for number in 0..world.hosts() {
         if let Some(host) = world.host(HostId::new(number)) {
             write_host(hasher, host);
         }
+        write_directives(hasher, world, HostId::new(number));
         write_items(hasher, world, HostId::new(number));
     }
 }
 
-// How far each queue has come.
+// What a host was answered, directive by directive.
+fn write_directives(hasher: &mut FoldHasher, world: &World, host: HostId) {
+    let mut owns = OwnDirectives::new(world.place(), host);
+    while let Some(own) = owns.next() {
+        let answer = own.answer.placed();
+        hasher.write_u64(own.items_before);
+        hasher.write_u64(match answer.batch {
+            None => 0,
+            Some((_, number)) => number,
+        });
+        for count in answer.counts {
+            hasher.write_u64(count);
+        }
+        hasher.write_u8(u8::from(answer.present));
+    }
+}
+
+// An operation that was placed: of which block, or what it awaits.
+fn write_op(hasher: &mut FoldHasher, op: &OpLabel) {
+    match op {
+        OpLabel::Make { block, .. } | OpLabel::Release { block } => {
+            hasher.write_u64(block.number());
+        }
+        OpLabel::CopyIn { block, .. } | OpLabel::CopyOut { block, .. } => {
+            hasher.write_u64(block.number());
+        }
+        OpLabel::Await { queue, number } => {
+            hasher.write_u8(queue.number());
+            hasher.write_u64(*number);
+        }
+        OpLabel::Run { .. } | OpLabel::Close => hasher.write_u8(255),
+    }
+}
+
+// The batches that were placed on a queue, in order.
+fn write_labels(hasher: &mut FoldHasher, labels: &[Label]) {
+    for label in labels {
+        hasher.write_u8(label.host.number());
+        hasher.write_u64(label.items_done);
+        for op in label.ops.get().as_slice() {
+            write_op(hasher, op);
+        }
+    }
+}
+
+// What was placed on each queue, and how far it has come.
 fn write_queues(hasher: &mut FoldHasher, world: &World) {
     let config = world.place().config();
     for seat in 0..config.queue_count() {
+        write_labels(hasher, world.place().labels_on(QueueAt::at_seat(seat)));
         hasher.write_u64(world.taken(QueueAt::at_seat(seat)));
         hasher.write_usize(world.ops_left(QueueAt::at_seat(seat)));
     }
 }
 
-// In which order the hosts' directives were accepted, and the queues closed.
-fn write_history(hasher: &mut FoldHasher, entries: &[PlaceEntry]) {
-    for entry in entries {
-        match entry {
-            PlaceEntry::Accepted { host, .. } => hasher.write_u8(host.number()),
-            PlaceEntry::Closing => hasher.write_u8(254),
-            PlaceEntry::Closed { at } => {
-                hasher.write_u8(255);
-                hasher.write_usize(at.seat());
-            }
-        }
+// What is present on a device.
+fn write_device(hasher: &mut FoldHasher, place: &Place, device: DeviceId)
+    requires { device < place.now.config.devices }
+{
+    let mut index = 0;
+    while let Some(entry) = place.nth(device, index) {
+        hasher.write_u64(entry.block.number());
+        hasher.write_u64(entry.s);
+        hasher.write_u64(entry.d);
+        index += 1;
+    }
+}
+
+// What is present on each.
+fn write_devices(hasher: &mut FoldHasher, place: &Place) {
+    for device in 0..place.config().devices() {
+        write_device(hasher, place, DeviceId::new(device));
     }
 }
 
@@ -127,7 +182,8 @@ pub(crate) fn digest(world: &World) -> u64 {
     let mut hasher = FoldHasher::default();
     write_hosts(&mut hasher, world);
     write_queues(&mut hasher, world);
-    write_history(&mut hasher, world.place().history());
+    write_devices(&mut hasher, world.place());
+    hasher.write_usize(world.place().history().len());
     write_arrays(&mut hasher, world);
     hasher.write_u64(number_of_blocks(world));
     hasher.finish()

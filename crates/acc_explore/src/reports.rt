@@ -84,10 +84,10 @@ fn report_at(
         arrivals,
         number,
     )?;
-    let (place, works, hosts, _) = world.into_parts();
+    let (place, work, hosts, _) = world.into_parts();
     let run = Run {
         place: &place,
-        works: &works,
+        works: work.log(),
         hosts: hosts.as_slice(),
         discarded: &[],
     };
@@ -100,7 +100,12 @@ fn report_at(
 }
 
 // Puts a schedule, and behind an empty line the events with which it goes on.
-fn put_going_on<W: Write>(out: &mut W, failed: &mut bool, schedule: &[u8], events: &[Event])
+pub(crate) fn put_going_on<W: Write>(
+    out: &mut W,
+    failed: &mut bool,
+    schedule: &[u8],
+    events: &[Event],
+)
     ensures { Puts (sink (W.contents out.old) failed.old) (sink (W.contents out.new) failed.new) (going_on schedule.now events.now) }
 {
     match schedule {
@@ -294,10 +299,15 @@ fn whole_text(is_whole: bool) -> &'static [u8]
     }
 }
 
-// What a search finds behind the first events.
-fn search<V: Watcher>(alloc: Global, origin: &Origin, watcher: &V) -> Result<Exploration, Fault>
+// What a search finds behind the first events, where the deepest states are so deep.
+pub(crate) fn search<V: Watcher>(
+    alloc: Global,
+    origin: &Origin,
+    deepest: usize,
+    watcher: &V,
+) -> Result<Exploration, Fault>
     requires { OnePerHost origin.now.config.now origin.now.script.now.programs.items }
-    ensures found { IfOk result (λ x. IsSearch origin.now.closing origin.now.most (start_of origin.now) (reverse x.arrivals.items) x.ends.items x.whole) }
+    ensures found { IfOk result (λ x. IsSearch origin.now.closing origin.now.most deepest (start_of origin.now) (reverse x.arrivals.items) x.ends.items x.followed x.whole) }
     ensures fault { IfErr result (λ f. f ≡ fault.Memory) }
 {
     let found = explore(
@@ -307,6 +317,7 @@ fn search<V: Watcher>(alloc: Global, origin: &Origin, watcher: &V) -> Result<Exp
         origin.events,
         origin.closing,
         origin.most,
+        deepest,
         watcher,
     );
     watcher.end();
@@ -337,8 +348,9 @@ pub fn tell_reports<W: Write, V: Watcher>(
     let Exploration {
         arrivals,
         ends,
+        followed: _,
         whole,
-    } = match search(alloc, origin, watcher) {
+    } = match search(alloc, origin, usize::MAX, watcher) {
         Ok(found) => found,
         Err(fault) => return Err(fault),
     };

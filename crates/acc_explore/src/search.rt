@@ -1,20 +1,26 @@
 //! The search for all states that events lead to.
 
-ghost use Rattle.std.specs.Prelude.{◌≡◌, ◌≤◌, ◌+◌, ◌↔◌, [], IfOk, IfErr, IsTrue, false, length, reverse, if◌then◌else◌};
+ghost use Rattle.std.specs.Prelude.{◌≡◌, ◌≤◌, ◌+◌, ◌↔◌, [], IfOk, IfErr, OnOk, IsTrue, false, length, reverse, if◌then◌else◌, Contains};
 ghost use Rattle.acc_base.specs.declared.fault.Fault.TheVariants as fault;
 ghost use Rattle.acc_base.specs.Queues.{queue_count};
+ghost use Rattle.acc_core.specs.Machine.{step};
 ghost use Rattle.acc_core.specs.Worlds.{OnePerHost, first_state};
+ghost use Rattle.acc_explore.specs.Alike.{Alike};
 ghost use Rattle.acc_explore.specs.Arrivals.{found_at};
-ghost use Rattle.acc_explore.specs.Runs.{after};
+ghost use Rattle.acc_explore.specs.Reductions.{MayGoFirst};
+ghost use Rattle.acc_explore.specs.Runs.{after, events_of};
 ghost use Rattle.acc_explore.specs.Scripts.{AreOfOneScript};
 ghost use Rattle.acc_explore.specs.Searches.{IsSearch};
-ghost use Rattle.acc_explore.specs.inner.Searching.{IsAtHand, IsFollowed, IsLikeOne, IsNoted, LeavesEnd, Takes, events_in_turn, start_of};
+ghost use Rattle.acc_explore.specs.UnseenOperations.{nobody_asks};
+ghost use Rattle.acc_explore.specs.inner.Searching.{AreAtHand, AreNear, IsFollowed, IsHere, IsLikeOne, IsNoted, LeavesEnd, Takes, events_in_turn, start_of};
 
 use crate::alike::are_alike;
-use crate::arrival::Arrival;
+use crate::arrival::{Arrival, depth};
 use crate::digest::digest;
 use crate::events::{events_in_turn, is_close};
+use crate::going_first::{goes_first, nobody_asks};
 use crate::replay::{is_idle, is_scarce, world_found};
+use crate::worlds::Worlds;
 use acc_base::{Config, Fault};
 use acc_core::World;
 use acc_host::{Event, HostProgram};
@@ -53,9 +59,11 @@ const BETWEEN: usize = 4096;
 pub struct Exploration {
     /// How each state but the start was found, in the order of their numbers: no fewer events lead to a later one.
     pub arrivals: Vec<Arrival>,
-    /// The numbers of those at which no host and no queue can go on, in the same order.
+    /// The numbers of those that were followed at which no host and no queue can go on, in the same order.
     pub ends: Vec<u32>,
-    /// Whether that is all. If not, there was no room for more.
+    /// How many states were followed, in the order of their numbers. The others are leaves.
+    pub followed: usize,
+    /// Whether all leaves are as deep as the deepest states may be. If not, there was no room for more.
     pub whole: bool,
 }
 
@@ -71,6 +79,8 @@ pub(crate) struct Task<'a> {
     pub(crate) closing: bool,
     /// How many states are kept at most, without the start.
     pub(crate) most: u32,
+    /// Whether no host asks how far queues have come, now or later.
+    pub(crate) unasked: bool,
 }
 
 // What has been found so far.
@@ -80,6 +90,8 @@ struct Found {
     ends: Vec<u32>,
     // For a digest the number of a state that has it.
     numbers: HashMap<u64, u32>,
+    // Those of which the worlds are at hand.
+    worlds: Worlds,
 }
 
 // What came of an event that was followed.
@@ -93,8 +105,8 @@ enum Course {
     Full,
 }
 
-// The world that was found with a number.
-fn world_at(task: &Task, arrivals: &[Arrival], number: u32) -> Result<World, Fault>
+// The world that was found with a number, made again.
+fn world_again(task: &Task, arrivals: &[Arrival], number: u32) -> Result<World, Fault>
     requires hosts { OnePerHost task.now.config.now task.now.programs.now }
     requires there { number ≤ length arrivals.now }
     ensures world { IfOk result (λ w. w ≡ (found_at (start_of task.now) (reverse arrivals.now) number).state) }
@@ -110,22 +122,86 @@ fn world_at(task: &Task, arrivals: &[Arrival], number: u32) -> Result<World, Fau
     )
 }
 
+// The world that was found with a number: the one at hand, or one that is made again.
+fn world_at(
+    task: &Task,
+    worlds: &mut Worlds,
+    arrivals: &[Arrival],
+    number: u32,
+) -> Result<World, Fault>
+    requires hosts { OnePerHost task.now.config.now task.now.programs.now }
+    requires there { number ≤ length arrivals.now }
+    requires worlds { AreAtHand (start_of task.now) (reverse arrivals.now) worlds.old.seats.items }
+    ensures world { IfOk result (λ w. w ≡ (found_at (start_of task.now) (reverse arrivals.now) number).state) }
+    ensures worlds { AreAtHand (start_of task.now) (reverse arrivals.now) worlds.new.seats.items }
+    ensures fault { IfErr result (λ f. f ≡ fault.Memory) }
+{
+    match worlds.take(number) {
+        Some(world) => Ok(world),
+        None => world_again(task, arrivals, number),
+    }
+}
+
+// The world at hand, or where there is none the one that was found with a number, made again.
+fn world_here(
+    task: &Task,
+    arrivals: &[Arrival],
+    number: u32,
+    at_hand: Option<World>,
+) -> Result<World, Fault>
+    requires hosts { OnePerHost task.now.config.now task.now.programs.now }
+    requires there { number ≤ length arrivals.now }
+    requires here { IsHere (start_of task.now) (reverse arrivals.now) number at_hand }
+    ensures world { IfOk result (λ w. w ≡ (found_at (start_of task.now) (reverse arrivals.now) number).state) }
+    ensures fault { IfErr result (λ f. f ≡ fault.Memory) }
+{
+    match at_hand {
+        Some(world) => Ok(world),
+        None => world_again(task, arrivals, number),
+    }
+}
+
+// Whether a world is like the one that was found with a number.
+fn is_like(
+    task: &Task,
+    worlds: &Worlds,
+    arrivals: &[Arrival],
+    number: u32,
+    world: &World,
+) -> Result<bool, Fault>
+    requires hosts { OnePerHost task.now.config.now task.now.programs.now }
+    requires there { number ≤ length arrivals.now }
+    requires worlds { AreAtHand (start_of task.now) (reverse arrivals.now) worlds.now.seats.items }
+    requires script { AreOfOneScript (start_of task.now) world.now }
+    ensures like { IfOk result (λ like. IsTrue like → Alike (found_at (start_of task.now) (reverse arrivals.now) number).state world.now) }
+    ensures fault { IfErr result (λ f. f ≡ fault.Memory) }
+{
+    match worlds.get(number) {
+        Some(old) => Ok(are_alike(old, world)),
+        None => {
+            let old = world_again(task, arrivals, number)?;
+            Ok(are_alike(&old, world))
+        }
+    }
+}
+
 // Whether a world is like one that was found: the one with this number is compared, if there is one.
 fn is_like_one(
     task: &Task,
+    worlds: &Worlds,
     arrivals: &[Arrival],
     number: Option<u32>,
     world: &World,
 ) -> Result<bool, Fault>
     requires hosts { OnePerHost task.now.config.now task.now.programs.now }
+    requires worlds { AreAtHand (start_of task.now) (reverse arrivals.now) worlds.now.seats.items }
     requires script { AreOfOneScript (start_of task.now) world.now }
     ensures like { IfOk result (λ like. IsTrue like → IsLikeOne (start_of task.now) (reverse arrivals.now) world.now) }
     ensures fault { IfErr result (λ f. f ≡ fault.Memory) }
 {
     match number {
         Some(number) if number as usize <= arrivals.len() => {
-            let old = world_at(task, arrivals, number)?;
-            Ok(are_alike(&old, world))
+            is_like(task, worlds, arrivals, number, world)
         }
         _ => Ok(false),
     }
@@ -140,49 +216,65 @@ fn remember(numbers: &mut HashMap<u64, u32>, digest: u64, number: u32) -> Result
 }
 
 // Keeps how a world was found, unless it is like one that was found before. Whether there was room.
-fn note(task: &Task, found: &mut Found, world: &World, arrival: Arrival) -> Result<bool, Fault>
+fn note(task: &Task, found: &mut Found, world: World, arrival: Arrival) -> Result<bool, Fault>
     requires hosts { OnePerHost task.now.config.now task.now.programs.now }
-    requires script { AreOfOneScript (start_of task.now) world.now }
-    ensures noted { IfOk result (λ room. IsTrue room → IsNoted task.now.most (start_of task.now) (reverse found.old.arrivals.items) (reverse found.new.arrivals.items) arrival world.now) }
+    requires led { world ≡ (step false (found_at (start_of task.now) (reverse found.old.arrivals.items) arrival.from).state arrival.by).state }
+    requires script { AreOfOneScript (start_of task.now) world }
+    requires worlds { AreAtHand (start_of task.now) (reverse found.old.arrivals.items) found.old.worlds.seats.items }
+    ensures noted { IfOk result (λ room. IsTrue room → IsNoted task.now.most (start_of task.now) (reverse found.old.arrivals.items) (reverse found.new.arrivals.items) arrival world) }
     ensures full { IfOk result (λ room. room ≡ false → (found.new.arrivals.items ≡ found.old.arrivals.items) × (task.now.most ≤ length found.old.arrivals.items)) }
+    ensures worlds { OnOk result (AreAtHand (start_of task.now) (reverse found.new.arrivals.items) found.new.worlds.seats.items) }
     ensures ends { found.new.ends.items ≡ found.old.ends.items }
     ensures fault { IfErr result (λ f. f ≡ fault.Memory) }
 {
-    let digest = digest(world);
+    let digest = digest(&world);
     let number = found.numbers.get(&digest).copied();
-    if is_like_one(task, found.arrivals.as_slice(), number, world)? {
+    if is_like_one(
+        task,
+        &found.worlds,
+        found.arrivals.as_slice(),
+        number,
+        &world,
+    )? {
         return Ok(true);
     }
     let count = found.arrivals.len();
     if count >= task.most as usize {
         return Ok(false);
     }
-    remember(&mut found.numbers, digest, count as u32 + 1)?;
+    let number = count as u32 + 1;
+    remember(&mut found.numbers, digest, number)?;
     found.arrivals.push(arrival)?;
+    found.worlds.put(number, world)?;
     Ok(true)
 }
 
-// Follows an event of the state with a number. Its world is at hand, and is so again behind that, unless there is no room.
+// Follows an event of the state with a number. Its world makes the step, the one at hand if there is one, and stays at hand where that
+// does nothing.
 fn follow(
     task: &Task,
     found: &mut Found,
     number: u32,
-    world: &mut World,
+    at_hand: &mut Option<World>,
     event: Event,
 ) -> Result<Course, Fault>
     requires hosts { OnePerHost task.now.config.now task.now.programs.now }
     requires there { number ≤ length found.old.arrivals.items }
-    requires world { world.old ≡ (found_at (start_of task.now) (reverse found.old.arrivals.items) number).state }
-    ensures course { IfOk result (λ course. Takes task.now.most (start_of task.now) (reverse found.old.arrivals.items) (reverse found.new.arrivals.items) number world.old event course) }
-    ensures world { IfOk result (λ course. IsAtHand course world.old world.new) }
+    requires here { IsHere (start_of task.now) (reverse found.old.arrivals.items) number at_hand.old }
+    requires worlds { AreAtHand (start_of task.now) (reverse found.old.arrivals.items) found.old.worlds.seats.items }
+    ensures course { IfOk result (λ course. Takes task.now.most (start_of task.now) (reverse found.old.arrivals.items) (reverse found.new.arrivals.items) number (found_at (start_of task.now) (reverse found.old.arrivals.items) number).state event course) }
+    ensures here { OnOk result (IsHere (start_of task.now) (reverse found.new.arrivals.items) number at_hand.new) }
+    ensures worlds { OnOk result (AreAtHand (start_of task.now) (reverse found.new.arrivals.items) found.new.worlds.seats.items) }
     ensures ends { found.new.ends.items ≡ found.old.ends.items }
     ensures fault { IfErr result (λ f. f ≡ fault.Memory) }
 {
+    let mut world = world_here(task, found.arrivals.as_slice(), number, at_hand.take())?;
     let answer = world.step(event);
     if is_scarce(answer) {
         return Err(Fault::Memory);
     }
     if is_idle(answer) {
+        *at_hand = Some(world);
         return Ok(Course::Idle);
     }
     let arrival = Arrival {
@@ -192,7 +284,6 @@ fn follow(
     if !note(task, found, world, arrival)? {
         return Ok(Course::Full);
     }
-    *world = world_at(task, found.arrivals.as_slice(), number)?;
     Ok(Course::Led)
 }
 
@@ -220,43 +311,89 @@ fn follow_each(
     events: &[Event],
     found: &mut Found,
     number: u32,
-    world: &mut World,
+    world: World,
 ) -> Result<bool, Fault>
     requires hosts { OnePerHost task.now.config.now task.now.programs.now }
     requires events { events.now ≡ events_in_turn task.now.closing task.now.config.now.hosts (queue_count task.now.config.now) }
     requires there { number ≤ length found.old.arrivals.items }
-    requires world { world.old ≡ (found_at (start_of task.now) (reverse found.old.arrivals.items) number).state }
+    requires world { world ≡ (found_at (start_of task.now) (reverse found.old.arrivals.items) number).state }
+    requires worlds { AreAtHand (start_of task.now) (reverse found.old.arrivals.items) found.old.worlds.seats.items }
     requires followed { IsFollowed task.now.closing task.now.most (start_of task.now) (reverse found.old.arrivals.items) found.old.ends.items number [] }
     ensures followed { IfOk result (λ room. IsFollowed task.now.closing task.now.most (start_of task.now) (reverse found.new.arrivals.items) found.new.ends.items (if room then number + 1 else number) []) }
+    ensures worlds { OnOk result (AreAtHand (start_of task.now) (reverse found.new.arrivals.items) found.new.worlds.seats.items) }
+    ensures near { OnOk result (AreNear (start_of task.now) (reverse found.old.arrivals.items) (reverse found.new.arrivals.items) number) }
     ensures full { IfOk result (λ room. room ≡ false → task.now.most ≤ length found.new.arrivals.items) }
     ensures fault { IfErr result (λ f. f ≡ fault.Memory) }
 {
     let mut is_end = true;
+    let mut at_hand = Some(world);
     for event in events {
-        let course = follow(task, found, number, world, *event)?;
+        let course = follow(task, found, number, &mut at_hand, *event)?;
         if is_full(course) {
             return Ok(false);
         }
         is_end &= leaves_end(course, *event);
     }
+    drop(at_hand);
     if is_end {
         found.ends.push(number)?;
     }
     Ok(true)
 }
 
-// The same, where the world is to be made.
-fn follow_all(task: &Task, events: &[Event], found: &mut Found, number: u32) -> Result<bool, Fault>
+// Follows one event alone, where it may go first: then the state is no end. Whether there was room for what it leads to.
+fn follow_one(
+    task: &Task,
+    found: &mut Found,
+    number: u32,
+    world: World,
+    event: Event,
+) -> Result<bool, Fault>
     requires hosts { OnePerHost task.now.config.now task.now.programs.now }
-    requires events { events.now ≡ events_in_turn task.now.closing task.now.config.now.hosts (queue_count task.now.config.now) }
     requires there { number ≤ length found.old.arrivals.items }
+    requires world { world ≡ (found_at (start_of task.now) (reverse found.old.arrivals.items) number).state }
+    requires listed { Contains (events_of task.now.closing (start_of task.now)) event }
+    requires first { MayGoFirst task.now.closing world event }
+    requires worlds { AreAtHand (start_of task.now) (reverse found.old.arrivals.items) found.old.worlds.seats.items }
     requires followed { IsFollowed task.now.closing task.now.most (start_of task.now) (reverse found.old.arrivals.items) found.old.ends.items number [] }
     ensures followed { IfOk result (λ room. IsFollowed task.now.closing task.now.most (start_of task.now) (reverse found.new.arrivals.items) found.new.ends.items (if room then number + 1 else number) []) }
+    ensures worlds { OnOk result (AreAtHand (start_of task.now) (reverse found.new.arrivals.items) found.new.worlds.seats.items) }
+    ensures near { OnOk result (AreNear (start_of task.now) (reverse found.old.arrivals.items) (reverse found.new.arrivals.items) number) }
     ensures full { IfOk result (λ room. room ≡ false → task.now.most ≤ length found.new.arrivals.items) }
     ensures fault { IfErr result (λ f. f ≡ fault.Memory) }
 {
-    let mut world = world_at(task, found.arrivals.as_slice(), number)?;
-    follow_each(task, events, found, number, &mut world)
+    let mut at_hand = Some(world);
+    let course = follow(task, found, number, &mut at_hand, event)?;
+    if is_full(course) {
+        return Ok(false);
+    }
+    Ok(true)
+}
+
+// Follows enough events of the state with a number. Whether there was room for what they lead to.
+fn follow_enough(
+    task: &Task,
+    events: &[Event],
+    found: &mut Found,
+    number: u32,
+) -> Result<bool, Fault>
+    requires hosts { OnePerHost task.now.config.now task.now.programs.now }
+    requires asked { IsTrue task.now.unasked → IsTrue (nobody_asks (start_of task.now)) }
+    requires events { events.now ≡ events_in_turn task.now.closing task.now.config.now.hosts (queue_count task.now.config.now) }
+    requires there { number ≤ length found.old.arrivals.items }
+    requires worlds { AreAtHand (start_of task.now) (reverse found.old.arrivals.items) found.old.worlds.seats.items }
+    requires followed { IsFollowed task.now.closing task.now.most (start_of task.now) (reverse found.old.arrivals.items) found.old.ends.items number [] }
+    ensures followed { IfOk result (λ room. IsFollowed task.now.closing task.now.most (start_of task.now) (reverse found.new.arrivals.items) found.new.ends.items (if room then number + 1 else number) []) }
+    ensures worlds { OnOk result (AreAtHand (start_of task.now) (reverse found.new.arrivals.items) found.new.worlds.seats.items) }
+    ensures near { OnOk result (AreNear (start_of task.now) (reverse found.old.arrivals.items) (reverse found.new.arrivals.items) number) }
+    ensures full { IfOk result (λ room. room ≡ false → task.now.most ≤ length found.new.arrivals.items) }
+    ensures fault { IfErr result (λ f. f ≡ fault.Memory) }
+{
+    let world = world_at(task, &mut found.worlds, found.arrivals.as_slice(), number)?;
+    match goes_first(&world, events, task.unasked, task.closing) {
+        Some(event) => follow_one(task, found, number, world, event),
+        None => follow_each(task, events, found, number, world),
+    }
 }
 
 // Nothing but the start.
@@ -265,38 +402,47 @@ fn at_first(task: &Task) -> Result<Found, Fault>
     ensures arrivals { IfOk result (λ found. found.arrivals.items ≡ []) }
     ensures ends { IfOk result (λ found. found.ends.items ≡ []) }
     ensures fault { IfErr result (λ f. f ≡ fault.Memory) }
+    ensures worlds { IfOk result (λ found. AreAtHand (start_of task.now) [] found.worlds.seats.items) }
 {
     let arrivals = Vec::new(task.alloc);
-    let world = world_at(task, arrivals.as_slice(), 0)?;
+    let world = world_again(task, arrivals.as_slice(), 0)?;
     let mut numbers = HashMap::new(task.alloc);
     remember(&mut numbers, digest(&world), 0)?;
+    let mut worlds = Worlds::new(task.alloc);
+    worlds.put(0, world)?;
     Ok(Found {
         arrivals,
         ends: Vec::new(task.alloc),
         numbers,
+        worlds,
     })
 }
 
-// What has been found, where that is all or not.
-fn ended(found: Found, whole: bool) -> Exploration
+// What has been found, where so many were followed, and that is all or not.
+fn ended(found: Found, followed: usize, whole: bool) -> Exploration
     ensures arrivals { result.arrivals.items ≡ found.arrivals.items }
     ensures ends { result.ends.items ≡ found.ends.items }
+    ensures followed { result.followed ≡ followed }
     ensures whole { result.whole ≡ whole }
 {
     let Found {
         arrivals,
         ends,
         numbers: _,
+        worlds: _,
     } = found;
     Exploration {
         arrivals,
         ends,
+        followed,
         whole,
     }
 }
 
-/// All states that events lead to behind the one to which the first ones lead, but for what is like one that is found, where they
-/// are no more than so many without that one. Each is found as soon as it can come.
+/// States that events lead to behind the one to which the first ones lead, all ends among them, but for what is like one that is found,
+/// where they are no more than so many without that one. Where an event may go first, the others of its state aren't followed. Each end
+/// is found as soon as one that is like it can come. What so many events lead to as the deepest states are deep isn't followed: ends are
+/// among those that are less deep, and whatever else may come goes on from one of the leaves.
 ///
 /// # Errors
 ///
@@ -308,10 +454,11 @@ pub fn explore<W: Watcher>(
     before: &[Event],
     closing: bool,
     most: u32,
+    deepest: usize,
     watcher: &W,
 ) -> Result<Exploration, Fault>
     requires { OnePerHost config.now programs.now }
-    ensures found { IfOk result (λ x. IsSearch closing most (after (first_state config.now programs.now) before.now) (reverse x.arrivals.items) x.ends.items x.whole) }
+    ensures found { IfOk result (λ x. IsSearch closing most deepest (after (first_state config.now programs.now) before.now) (reverse x.arrivals.items) x.ends.items x.followed x.whole) }
     ensures fault { IfErr result (λ f. f ≡ fault.Memory) }
 {
     let task = Task {
@@ -321,18 +468,22 @@ pub fn explore<W: Watcher>(
         before,
         closing,
         most,
+        unasked: nobody_asks(programs),
     };
     let events = events_in_turn(alloc, config, closing)?;
     let mut found = at_first(&task)?;
     let mut next = 0usize;
     while next <= found.arrivals.len() {
-        if !follow_all(&task, events.as_slice(), &mut found, next as u32)? {
-            return Ok(ended(found, false));
+        if depth(found.arrivals.as_slice(), next as u32) >= deepest {
+            return Ok(ended(found, next, true));
+        }
+        if !follow_enough(&task, events.as_slice(), &mut found, next as u32)? {
+            return Ok(ended(found, next, false));
         }
         next += 1;
         if next % BETWEEN == 0 {
             watcher.found((found.arrivals.len() as u32).saturating_add(1));
         }
     }
-    Ok(ended(found, true))
+    Ok(ended(found, next, true))
 }

@@ -1,19 +1,19 @@
 //! What a host's ended statements printed.
 
-ghost use Rattle.std.specs.Prelude.{◌≡◌, ◌-◌, [], ◌∷◌, drop, pos};
+ghost use Rattle.std.specs.Prelude.{◌≡◌, ◌-◌, ◌==◌, [], ◌∷◌, drop, pos, false, if◌then◌else◌, IfNone, IfSome};
 ghost use Rattle.std.specs.List.{flat_map};
 ghost use Rattle.acc_kernel.specs.Values.{truth};
 ghost use Rattle.acc_host.specs.Engines.{Had};
-ghost use Rattle.acc_host.specs.Hosts.{owing};
-ghost use Rattle.acc_host.specs.Steps.{Owed, owed_by};
+ghost use Rattle.acc_host.specs.Steps.{nothing_owed, owed_by};
 ghost use Rattle.acc_report.specs.Lines.{line_text};
 ghost use Rattle.acc_report.specs.Prints.{answer_line, device_after, entries_taken, line_of, lines, placed_line, placed_size, shown_line, size_of, test_answer, tested};
 ghost use Rattle.acc_report.specs.Puts.{Puts, sink};
 
 use crate::bytes::{put, put_number};
 use crate::line::put_values;
-use acc_host::{Act, After, OwnEntries, OwnEntry, Statement, owed_by};
-use acc_place::{Directive, Kind, Placed};
+use acc_base::QueueId;
+use acc_host::{Act, OwnEntries, OwnEntry, Statement};
+use acc_place::{Answer, Directive, Kind};
 use acc_work::Told;
 use std::io::Write;
 
@@ -105,7 +105,7 @@ fn put_placed<W: Write>(out: &mut W, failed: &mut bool, entries: &mut OwnEntries
     ensures left { entries.new ≡ drop (placed_size entries.old) entries.old }
 {
     if let Some(OwnEntry::Gave { own }) = entries.next() {
-        put_answer(out, failed, own.directive, own.placed, entries);
+        put_answer(out, failed, own.directive, own.answer, entries);
     }
 }
 
@@ -114,34 +114,46 @@ fn put_answer<W: Write>(
     out: &mut W,
     failed: &mut bool,
     directive: &Directive,
-    placed: Placed,
+    answer: &Answer,
     entries: &mut OwnEntries,
 )
-    ensures puts { Puts (sink (W.contents out.old) failed.old) (sink (W.contents out.new) failed.new) (flat_map line_text (answer_line directive.now.kind directive.now placed entries.old)) }
-    ensures left { entries.new ≡ drop (size_of (owed_by directive.now placed) - 1) entries.old }
+    ensures puts { Puts (sink (W.contents out.old) failed.old) (sink (W.contents out.new) failed.new) (flat_map line_text (answer_line directive.now.kind directive.now answer.now entries.old)) }
+    ensures left { entries.new ≡ drop (size_of (owed_by directive.now answer.now) - 1) entries.old }
 {
-    let present = placed.present;
-    let owed = owed_by(directive, placed);
-    let answer = settle(&owed, entries);
+    let owed = is_owed(directive, answer);
     match directive.kind() {
-        Kind::IsPresent => put_truth(out, failed, present),
-        Kind::AsyncTest => put_truth(out, failed, answer),
-        _ => {}
+        Kind::AsyncTest => put_truth(out, failed, !owed || is_tested(entries)),
+        kind => {
+            if owed {
+                pass_one(entries);
+            }
+            if matches!(kind, Kind::IsPresent) {
+                put_truth(out, failed, answer.is_present());
+            }
+        }
     }
 }
 
-// Passes what settles that which is owed, and gives the answer of a test: where nothing was owed, nothing that it asks for was
-// placed.
-fn settle(owed: &After, entries: &mut OwnEntries) -> bool
-    ensures answer { (o : Owed) → owed.now ≡ owing o → truth result ≡ test_answer o entries.old }
-    ensures left { (o : Owed) → owed.now ≡ owing o → entries.new ≡ drop (size_of o - 1) entries.old }
+// Whether something is owed for a directive that was answered so, which the next item settles.
+fn is_owed(directive: &Directive, answer: &Answer) -> bool
+    ensures size { size_of (owed_by directive.now answer.now) ≡ (if result then 2 else 1) }
+    ensures none { result ≡ false → owed_by directive.now answer.now ≡ nothing_owed }
 {
-    match owed {
-        After::Waits { .. } => pass_one(entries),
-        After::Asks { .. } => return is_tested(entries),
-        _ => {}
+    match directive.kind() {
+        Kind::Wait | Kind::AsyncTest => !answer.counts_nothing(),
+        _ => is_on_sync(answer),
     }
-    true
+}
+
+// Whether a batch was placed on queue sync.
+fn is_on_sync(answer: &Answer) -> bool
+    ensures none { IfNone answer.now.batch (result ≡ false) }
+    ensures some { IfSome answer.now.batch (λ batch. result ≡ (batch.0.queue == 0)) }
+{
+    match answer.batch() {
+        Some((at, _)) => at.queue == QueueId::SYNC,
+        None => false,
+    }
 }
 
 // The answer of the test that is next.

@@ -12,7 +12,6 @@ mod picture;
 mod refusal;
 mod scene;
 mod source;
-mod target;
 mod waits;
 mod walk;
 mod words;

@@ -10,12 +10,11 @@ ghost use Rattle.acc_steps.specs.Lines.{act_reason, cells_text, host_in, limit_b
 
 use crate::found::{held_on, is_partly_present, used_cells};
 use crate::head::put_queue;
-use crate::target::target_queue;
 use crate::words::{put_counters, put_range};
-use acc_base::{DeviceId, Fault, QueueAt, Range};
+use acc_base::{DeviceId, Fault, QueueAt, QueueId, Range};
 use acc_core::World;
 use acc_host::{Act, Event, Host, Ids};
-use acc_place::{DataItem, Directive, Kind};
+use acc_place::{DataItem, Directive, Kind, target_queue};
 use acc_report::{put, put_number};
 use std::io::Write;
 
@@ -179,7 +178,7 @@ fn put_limit<W: Write>(
     }
     let at = QueueAt {
         device: ids.device,
-        queue: target_queue(ids.default, directive.target()),
+        queue: target_queue(ids.default, directive.target()).unwrap_or(QueueId::SYNC),
     };
     put_limit_of(out, failed, world, at, fault);
 }

@@ -1,7 +1,6 @@
 -- What is told of the ends that a search has found. Only private contracts and proofs cite it.
-use Rattle.std.specs.Prelude.{◌≡◌, ◌≤◌, ◌+◌, ℕ, Bool, List, [], ◌∷◌, ◌++◌, length, map, take, bytes_eq, if◌then◌else◌}
+use Rattle.std.specs.Prelude.{◌≡◌, ℕ, Bool, List, [], ◌∷◌, ◌++◌, length, map, take, bytes_eq, if◌then◌else◌}
 use Rattle.std.specs.List.{list_any}
-use Rattle.acc_core.specs.Machine.{State}
 use Rattle.acc_report.specs.Puts.{Puts, Sink}
 use Rattle.acc_explore.specs.Arrivals.{events_to, found_at}
 use Rattle.acc_explore.specs.declared.arrival.Arrival.{Arrival}

@@ -17,18 +17,17 @@ returns c = λ cells.
     let b = c.keeps-2.ensures in
     let old : IsKept v = record { legal = a.legal; stand = a.stand; taken = a.taken; in_order = a.in_order; outside = a.outside } in
     let new : IsKept w = record { legal = b.legal; stand = b.stand; taken = b.taken; in_order = b.in_order; outside = b.outside } in
-    let histories = c.have_same_histories.ensures in
-    let same = c.if-not-have_same_histories.false in
+    let same = c.if-not-leave_alike.false in
     let items = c.have_same_items.ensures in
     let shown = c.if-not-have_same_items.false in
     let one : reverse c.log.result.now.items ≡ v.work = ap reverse c.log.ensures ∙ reverse-reverse v.work in
-    let two : reverse c.log-else-not-have_same_histories.result.now.items ≡ w.work = ap reverse c.log-else-not-have_same_histories.ensures ∙ reverse-reverse w.work in
+    let two : reverse c.log-else-not-leave_alike.result.now.items ≡ w.work = ap reverse c.log-else-not-leave_alike.ensures ∙ reverse-reverse w.work in
     alike_worlds v w old new (record { config = c.requires.config; statements = c.requires.statements })
     (record {
       hosts = c.all_stand_alike.ensures c.if-not-all_stand_alike.false;
       progress = c.have_same_progress.ensures c.if-not-have_same_progress.false;
-      history = sym c.place.ensures.history ∙ (histories.history same ∙ c.place-else-not-have_same_progress.ensures.history);
-      counts = sym c.place.ensures.counts ∙ (histories.counts same ∙ c.place-else-not-have_same_progress.ensures.counts);
+      places = c.leave_alike.ensures.places same;
+      own = c.leave_alike.ensures.own same;
       shown = λ host.
           sym (ap (λ (work : List WorkEntry). items_shown host work) one) ∙ (items.shown shown host ∙ ap (λ (work : List WorkEntry). items_shown host work) two);
       items = sym (ap all_items one) ∙ (items.all shown ∙ ap all_items two);

@@ -1,4 +1,4 @@
-use Rattle.std.proofs.Common.{◌≡◌, [], arith, length, refl, reverse, take}
+use Rattle.std.proofs.Common.{◌-◌, ◌^◌, [], arith, refl, reverse, take}
 use Rattle.std.proofs.lemmas.List.{length-reverse}
 use Rattle.acc_core.specs.Legality.{Legal}
 use Rattle.acc_core.specs.Worlds.{first_state}
@@ -17,7 +17,7 @@ returns-in-Err-tell_ends-clause-begun g c =
     let arrivals = reverse found.arrivals.items in
     let s = c.in-Ok.ensures.found in
     let begun = rw (c.as_slice.ensures.value, c.as_slice-2.ensures.value) at c.in-Err-tell_ends.ensures.begun in
-    let some = are_some x o.most arrivals found.ends.items found.whole s begun.0 in
+    let some = are_some x o.most (2 ^ 64 - 1) arrivals found.ends.items found.followed found.whole s begun.0 in
     record { endings = told_of x arrivals (take begun.0 found.ends.items); each = some.0; differ = some.1; told = begun.1 }
 
 pub returns-clause-told : goal.returns-clause-told
@@ -33,7 +33,7 @@ returns-clause-told g c =
     let count = length-reverse found.arrivals.items in
     record {
       endings = told_of x arrivals found.ends.items;
-      are = are_endings x o.most arrivals found.ends.items found.whole s (legal_after o.events.now begun legal);
+      are = are_endings x o.most (2 ^ 64 - 1) arrivals found.ends.items found.followed found.whole s (omega arith) (legal_after o.events.now begun legal);
       few = omega (arith, s.few, count, c.len.ensures);
       stopped = λ not_whole. let all = s.stopped not_whole in omega (arith, all, count, c.len.ensures);
       reports = t.count_is;
