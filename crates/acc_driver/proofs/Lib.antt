@@ -1,5 +1,6 @@
 mod CheckAnswers
 mod ExploreAnswers
+mod ExploredParts
 mod KeptPrograms
 mod ReplayAnswers
 mod RunSchedule

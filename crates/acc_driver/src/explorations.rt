@@ -1,36 +1,60 @@
-//! The path from bytes to all reports of ends that runs come to.
+//! The path from bytes to all reports of ends that runs come to, or to prefixes from which others explore on.
 
-ghost use Rattle.std.specs.Prelude.{◌≡◌, ◌≤◌, IfErr, IfOk, IfSome, Err, Ok, length};
+ghost use Rattle.std.specs.Prelude.{◌≡◌, ◌≤◌, IfErr, IfOk, IfSome, OnErr, Err, Ok, length};
 ghost use Rattle.acc_base.specs.Configurations.{rows};
 ghost use Rattle.acc_base.specs.declared.config.TheConstants.{MAX_HOSTS};
+ghost use Rattle.acc_base.specs.declared.fault.Fault.TheVariants as fault;
+ghost use Rattle.acc_core.specs.Worlds.{OnePerHost};
+ghost use Rattle.acc_explore.specs.Origins.{setting_of};
 ghost use Rattle.acc_host.specs.Hosts.{AreNumbered};
+ghost use Rattle.acc_report.specs.Puts.{sink};
 ghost use Rattle.acc_schedule.specs.Schedules.{schedule_of};
 ghost use Rattle.acc_script.specs.Arrays.{IsDeclared, texts};
 ghost use Rattle.acc_script.specs.Scripts.{program_of};
-ghost use Rattle.acc_driver.specs.Explorations.{ExploreAnswer, ExploresProgram, script_alone};
+ghost use Rattle.acc_driver.specs.Explorations.{ExploreAnswer, ExploresProgram, TellsSomeOf, script_alone};
 ghost use Rattle.acc_driver.specs.Replays.{AreUsable, IsRun};
-ghost use Rattle.acc_driver.specs.inner.Explorations.{ExploresSchedule};
+ghost use Rattle.acc_driver.specs.inner.Explorations.{ExploresSchedule, TellsAllOf};
 
 use crate::fault::DriverFault;
 use crate::input::{read_text, split};
 use crate::options::Options;
 use crate::program::{config_of, hosts_of, read_script};
 use crate::replays::{INPUT_LIMIT, INPUT_TURNS, TEXT_LIMIT, TEXT_TURNS};
-use acc_explore::{Counts, Form, Origin, Watcher, endings_are_said, tell_reports};
+use acc_base::Fault;
+use acc_explore::{
+    Counts, Form, Origin, PrefixCount, Watcher, endings_are_said, prefixes_miss_none_together,
+    tell_prefixes, tell_reports,
+};
 use acc_host::Event;
 use acc_schedule::read_schedule;
 use acc_script::{ReadError, Script};
 use std::alloc::Global;
 use std::io::{Read, Write};
 
-/// How far an exploration goes, and how it is told.
+/// What is told of an exploration.
+#[derive(Clone, Copy, Debug, PartialEq, Eq)]
+pub enum Aim {
+    /// Each report, in this form.
+    Reports(Form),
+    /// Prefixes of so many events, from each of which others explore on.
+    Prefixes(u32),
+}
+
+/// How much was told of an exploration.
+#[derive(Clone, Copy, Debug, PartialEq, Eq)]
+pub enum Explored {
+    Reports(Counts),
+    Prefixes(PrefixCount),
+}
+
+/// How far an exploration goes, and what is told of it.
 #[derive(Clone, Copy, Debug, PartialEq, Eq)]
 pub struct Exploring {
     /// Whether the owner may close, at any point.
     pub closing: bool,
     /// How many states are kept at most, and one in any case.
     pub states: u32,
-    pub form: Form,
+    pub aim: Aim,
 }
 
 /// Reads a script and a schedule, each from a reader of its own, and tells each report of an end that runs can come to behind the
@@ -50,7 +74,7 @@ pub fn explore<R: Read, S: Read, W: Write, V: Watcher>(
     exploring: Exploring,
     writer: &mut W,
     watcher: &V,
-) -> Result<Counts, DriverFault>
+) -> Result<Explored, DriverFault>
     ensures answers { IfSome (R.remaining script.old) (λ script. IfSome (S.remaining schedule.old) (λ schedule. ExploreAnswer options exploring (record { script = script; schedule = schedule }) (W.contents writer.old) (W.contents writer.new) result)) }
     ensures run { AreUsable options → IfErr result (λ f. IsRun (Err f)) }
 {
@@ -92,7 +116,7 @@ pub fn explore_script<R: Read, W: Write, V: Watcher>(
     exploring: Exploring,
     writer: &mut W,
     watcher: &V,
-) -> Result<Counts, DriverFault>
+) -> Result<Explored, DriverFault>
     ensures answers { IfSome (R.remaining reader.old) (λ text. ExploreAnswer options exploring (script_alone text) (W.contents writer.old) (W.contents writer.new) result) }
     ensures run { AreUsable options → IfErr result (λ f. IsRun (Err f)) }
 {
@@ -116,7 +140,7 @@ fn explore_behind<W: Write, V: Watcher>(
     exploring: Exploring,
     writer: &mut W,
     watcher: &V,
-) -> Result<Counts, DriverFault>
+) -> Result<Explored, DriverFault>
     requires declared { IsDeclared (record { names = texts script.names.keys; cells = rows script.arrays.items }) }
     requires numbered { AreNumbered 0 script.programs.items }
     requires few { length script.programs.items ≤ MAX_HOSTS }
@@ -146,7 +170,7 @@ fn explore_events<W: Write, V: Watcher>(
     exploring: Exploring,
     writer: &mut W,
     watcher: &V,
-) -> Result<Counts, DriverFault>
+) -> Result<Explored, DriverFault>
     requires declared { IsDeclared (record { names = texts script.names.keys; cells = rows script.arrays.items }) }
     requires numbered { AreNumbered 0 script.programs.items }
     requires few { length script.programs.items ≤ MAX_HOSTS }
@@ -155,6 +179,7 @@ fn explore_events<W: Write, V: Watcher>(
     ensures run { AreUsable options → IfErr result (λ f. IsRun (Err f)) }
 {
     endings_are_said();
+    prefixes_miss_none_together();
     let Script {
         names,
         arrays,
@@ -179,14 +204,42 @@ fn explore_events<W: Write, V: Watcher>(
         most: exploring.states.saturating_sub(1),
     };
     let mut failed = false;
-    match tell_reports(alloc, writer, &mut failed, &origin, exploring.form, watcher) {
-        Ok(counts) => {
+    match tell(alloc, writer, &mut failed, &origin, exploring.aim, watcher) {
+        Ok(explored) => {
             if failed {
                 Err(DriverFault::Output)
             } else {
-                Ok(counts)
+                Ok(explored)
             }
         }
         Err(_) => Err(DriverFault::Memory),
+    }
+}
+
+// Tells what is asked for.
+fn tell<W: Write, V: Watcher>(
+    alloc: Global,
+    out: &mut W,
+    failed: &mut bool,
+    origin: &Origin,
+    aim: Aim,
+    watcher: &V,
+) -> Result<Explored, Fault>
+    requires { OnePerHost origin.now.config.now origin.now.script.now.programs.items }
+    ensures told { IfOk result (TellsAllOf aim (setting_of origin.now) origin.now.schedule.now origin.now.most (sink (W.contents out.old) failed.old) (sink (W.contents out.new) failed.new)) }
+    ensures begun { OnErr result (TellsSomeOf aim (setting_of origin.now) origin.now.schedule.now (sink (W.contents out.old) failed.old) (sink (W.contents out.new) failed.new)) }
+    ensures fault { IfErr result (λ f. f ≡ fault.Memory) }
+{
+    match aim {
+        Aim::Reports(form) => match tell_reports(alloc, out, failed, origin, form, watcher) {
+            Ok(counts) => Ok(Explored::Reports(counts)),
+            Err(fault) => Err(fault),
+        },
+        Aim::Prefixes(depth) => {
+            match tell_prefixes(alloc, out, failed, origin, depth as usize, watcher) {
+                Ok(count) => Ok(Explored::Prefixes(count)),
+                Err(fault) => Err(fault),
+            }
+        }
     }
 }

@@ -1,7 +1,10 @@
 //! Laws over the definitions.
 
+ghost use Rattle.acc_driver.specs.Explorations.{PrefixesAreParts};
 ghost use Rattle.acc_driver.specs.worked.Replays.{NothingIsReplayed, StaleCopyReport, CountedTwiceReport, OverlapReport, UnfinishedReport};
 ghost use Rattle.acc_driver.specs.worked.Splits.{SplitTexts};
+
+use acc_explore::prefixes_miss_none_together;
 
 /// Where an input is split, computed on worked texts.
 pub fn worked_splits()
@@ -16,3 +19,10 @@ pub fn worked_replays()
     ensures overlap { OverlapReport }
     ensures unfinished { UnfinishedReport }
 {}
+
+/// Explorations of a script behind prefixes that are told of it, each of which misses no report, together miss none.
+pub fn prefixes_are_parts()
+    ensures { PrefixesAreParts }
+{
+    prefixes_miss_none_together();
+}

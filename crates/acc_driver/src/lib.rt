@@ -15,15 +15,15 @@ mod replays;
 mod runs;
 mod steps;
 
-pub use acc_explore::{Counts, Form, Watcher};
+pub use acc_explore::{Counts, Form, PrefixCount, Watcher};
 pub use acc_queue::Reader;
 pub use acc_run::Gate;
 pub use acc_script::{ReadFault, ReadKind};
 pub use checks::{CheckFault, Named, check, check_one};
-pub use explorations::{Exploring, explore, explore_script};
+pub use explorations::{Aim, Explored, Exploring, explore, explore_script};
 pub use fault::{DriverFault, ReplayFault};
 pub use input::split;
-pub use laws::{worked_replays, worked_splits};
+pub use laws::{prefixes_are_parts, worked_replays, worked_splits};
 pub use monitor::{Monitor, NoMonitor};
 pub use options::{Ended, Options};
 pub use remains::Remains;

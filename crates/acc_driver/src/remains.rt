@@ -2,12 +2,12 @@
 
 use acc_host::{HostProgram, HostState, Outcome};
 use acc_place::Place;
-use acc_work::WorkLog;
+use acc_work::Work;
 use std::marker::Model;
 
-/// What a run leaves behind its report, for its caller to let go: the histories, where each host stands, and the programs.
-/// To let it go value by value takes as long as a tenth of a run; a program that ends then can leave it to the end of its
-/// process, by `ManuallyDrop`. Contracts see nothing of it.
+/// What a run leaves behind its report, for its caller to let go: the place and the work side of a replay, or the histories of
+/// threads; where each host stands, and the programs. To let it go value by value takes as long as a tenth of a run; a program that
+/// ends then can leave it to the end of its process, by `ManuallyDrop`. Contracts see nothing of it.
 #[derive(Drop)]
 pub struct Remains {
     left: Left,
@@ -19,7 +19,7 @@ enum Left {
     Nothing,
     Replay {
         place: Place,
-        works: WorkLog,
+        work: Work,
         hosts: Vec<HostState>,
         programs: Vec<HostProgram>,
     },
@@ -46,14 +46,14 @@ impl Remains {
     // What a replay left.
     pub(crate) fn of_replay(
         place: Place,
-        works: WorkLog,
+        work: Work,
         hosts: Vec<HostState>,
         programs: Vec<HostProgram>,
     ) -> Remains {
         Remains {
             left: Left::Replay {
                 place,
-                works,
+                work,
                 hosts,
                 programs,
             },

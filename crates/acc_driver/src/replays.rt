@@ -207,10 +207,10 @@ pub(crate) fn report_world<W: Write>(
     ensures follow { AllFollow world 0 world.hosts }
 {
     ids_are_not_told();
-    let (place, works, hosts, programs) = world.into_parts();
+    let (place, work, hosts, programs) = world.into_parts();
     let left = Run {
         place: &place,
-        works: &works,
+        works: work.log(),
         hosts: hosts.as_slice(),
         discarded: &[],
     };
@@ -222,7 +222,7 @@ pub(crate) fn report_world<W: Write>(
     match report_run(alloc, &left, &script, writer) {
         Ok(()) => {
             let refused = any_refused(hosts.as_slice());
-            *remains = Remains::of_replay(place, works, hosts, script.programs);
+            *remains = Remains::of_replay(place, work, hosts, script.programs);
             Ok(Ended { refused })
         }
         Err(ReportFault::Write) => Err(ReplayFault::Output),

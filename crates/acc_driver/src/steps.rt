@@ -265,8 +265,8 @@ fn draw_world<'t, W: Write>(
     if failed {
         return Err(DriverFault::Output);
     }
-    let (place, works, hosts, programs) = world.into_parts();
+    let (place, work, hosts, programs) = world.into_parts();
     let refused = any_refused(hosts.as_slice());
-    *remains = Remains::of_replay(place, works, hosts, programs);
+    *remains = Remains::of_replay(place, work, hosts, programs);
     Ok(Some(Ended { refused }))
 }

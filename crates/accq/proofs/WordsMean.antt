@@ -5,7 +5,7 @@ use Rattle.accq.specs.worked.Words.{AreAsked, AreRefused}
 
 pub are_asked : AreAsked
 unfolding clap_on_literals
-are_asked = record { names = refl; before = refl; between = refl; behind = refl; all = refl; one_name = refl; around = refl; told = refl; behind_dashes = refl; one_file = refl; two_files = refl; word = refl; lines = refl; all_lines = refl; picture = refl; all_reports = refl; reports_behind = refl; one_folder = refl; anew = refl; for_devices = refl }
+are_asked = record { names = refl; before = refl; between = refl; behind = refl; all = refl; one_name = refl; around = refl; told = refl; behind_dashes = refl; one_file = refl; two_files = refl; word = refl; lines = refl; all_lines = refl; picture = refl; all_reports = refl; reports_behind = refl; prefixes = refl; prefixes_behind = refl; one_folder = refl; anew = refl; for_devices = refl }
 
 pub are_refused : AreRefused
 unfolding clap_on_literals
@@ -39,6 +39,10 @@ are_refused = record {
   no_script = refl;
   no_states = refl;
   many_states = refl;
+  no_depth = refl;
+  great_depth = refl;
+  plus_depth = refl;
+  short_prefixes = refl;
   close_of_a_run = refl;
   no_folder = refl;
   two_folders = refl;

@@ -2,6 +2,8 @@
 use Rattle.std.specs.Prelude.{◌≡◌, ◌≢◌, ◌⊎◌, ◌==◌, ◌||◌, not, ℕ, Bool, true, false, List, [], Option, Some, None, IfSome, Result, Ok, Err, if◌then◌else◌}
 use Rattle.std.specs.Io.KnownBytes.{Appends}
 use Rattle.acc_driver.specs.declared.checks.CheckFault.{CheckFault}
+use Rattle.acc_driver.specs.declared.explorations.Explored.{Explored}
+use Rattle.acc_driver.specs.declared.explorations.Explored.TheVariants.{Prefixes, Reports}
 use Rattle.acc_driver.specs.declared.fault.DriverFault.{DriverFault}
 use Rattle.acc_driver.specs.declared.fault.DriverFault.TheVariants as fault
 use Rattle.acc_driver.specs.declared.options.Ended.{Ended}
@@ -11,7 +13,6 @@ use Rattle.acc_driver.specs.Inputs.{parts}
 use Rattle.acc_driver.specs.Replays.{Answers, IsRun, defaults}
 use Rattle.acc_driver.specs.Runs.{IsConfigured, ScriptAnswers}
 use Rattle.acc_driver.specs.Steps.{StepsAnswer}
-use Rattle.acc_explore.specs.declared.reports.Counts.{Counts}
 use Rattle.acc_cases.specs.Folders.{File}
 use Rattle.acc_cases.specs.Runs.{TestedAll}
 use Rattle.acc_cases.specs.declared.run.Tally.{Tally}
@@ -93,15 +94,17 @@ pub record StepsAnswered (asked : AskedSteps) (holds : List ℕ → Option (List
 
 -- ## Explorations
 
--- 0 where there is one report, and no host was refused in it; 1 for several, or where one was; 3 where there may be more
-abbrev pub status_explored : Result Counts DriverFault → ℕ
-status_explored (Ok counts) =
+-- 0 where there is one report, and no host was refused in it; 1 for several, or where one was; 3 where there may be more. Of prefixes 0, or 3 where some
+-- are shorter than was asked for.
+abbrev pub status_explored : Result Explored DriverFault → ℕ
+status_explored (Ok (Reports counts)) =
     if not counts.whole then 3 else (if counts.refused || not (counts.reports == 1) then 1 else 0)
+status_explored (Ok (Prefixes count)) = if count.whole then 0 else 3
 status_explored (Err f) = status_for f
 
 -- What is answered where the runs of a script are to be explored, if it is known what the files hold: its file may hold a schedule too, which is left
 -- aside where no schedule is named.
-abbrev pub ExploreOfFiles : (List ℕ → Option (List ℕ)) → AskedExplore → Option (List ℕ) → Option (List ℕ) → Option (List ℕ) → Result Counts DriverFault → Type 0
+abbrev pub ExploreOfFiles : (List ℕ → Option (List ℕ)) → AskedExplore → Option (List ℕ) → Option (List ℕ) → Option (List ℕ) → Result Explored DriverFault → Type 0
 ExploreOfFiles holds asked None old new answer =
     IfSome (holds asked.script) (λ text. ExploreAnswer asked.options asked.exploring (script_alone text) old new answer)
 ExploreOfFiles holds asked (Some schedule) old new answer =
@@ -109,8 +112,8 @@ ExploreOfFiles holds asked (Some schedule) old new answer =
     ExploreAnswer asked.options asked.exploring (record { script = script; schedule = schedule }) old new answer))
 
 -- The runs that are asked for were explored, and the status follows.
-pub record Explored (asked : AskedExplore) (holds : List ℕ → Option (List ℕ)) (opens : List ℕ → Option Bool) (old new : Option (List ℕ)) (status : ℕ) : Type 0 where
-  pub answer : Result Counts DriverFault
+pub record FilesExplored (asked : AskedExplore) (holds : List ℕ → Option (List ℕ)) (opens : List ℕ → Option Bool) (old new : Option (List ℕ)) (status : ℕ) : Type 0 where
+  pub answer : Result Explored DriverFault
   pub answers : ExploreOfFiles holds asked asked.schedule old new answer
   pub script : AsksForOpen (opens asked.script) answer
   pub schedule : IfSome asked.schedule (λ name. AsksForOpen (opens name) answer)
@@ -176,7 +179,7 @@ abbrev pub IsDone : Asked → (List ℕ → Option (List ℕ)) → (List ℕ →
 IsDone (ToReplay asked) holds opens files_in old new status = FilesReplayed asked holds opens old new status
 IsDone (ToRun asked) holds opens files_in old new status = FileRun asked holds opens old new status
 IsDone (ToShow asked) holds opens files_in old new status = StepsAnswered asked holds opens old new status
-IsDone (ToExplore asked) holds opens files_in old new status = Explored asked holds opens old new status
+IsDone (ToExplore asked) holds opens files_in old new status = FilesExplored asked holds opens old new status
 IsDone (ToCheck asked) holds opens files_in old new status = FilesChecked asked holds opens old new status
 IsDone (ToExplain word) holds opens files_in old new status = Explains (text_for word) old new status
 IsDone (ToTest asked) holds opens files_in old new status = FolderTested asked files_in status

@@ -5,6 +5,8 @@ use Rattle.std.specs.Char.{is_ascii_digit}
 use Rattle.std.specs.List.{list_all}
 use Rattle.std.specs.Str.Parse.{digits_value}
 use Rattle.acc_base.specs.declared.config.TheConstants.{MAX_DEVICES, MAX_CAPACITY, MAX_ROOM}
+use Rattle.acc_driver.specs.declared.explorations.Aim.{Aim}
+use Rattle.acc_driver.specs.declared.explorations.Aim.TheVariants.{Prefixes, Reports}
 use Rattle.acc_driver.specs.declared.explorations.Exploring.{Exploring}
 use Rattle.acc_driver.specs.declared.options.Options.{Options}
 use Rattle.acc_driver.specs.declared.steps.StepsAs.{StepsAs}
@@ -20,7 +22,7 @@ use Rattle.accq.specs.declared.command.Steps.{Steps}
 use Rattle.accq.specs.declared.command.Task.{Task}
 use Rattle.accq.specs.declared.command.Test.{Test}
 use Rattle.accq.specs.declared.command.Task.TheVariants as task
-use Rattle.accq.specs.declared.words.TheConstants.{MAX_STATES}
+use Rattle.accq.specs.declared.words.TheConstants.{MAX_DEPTH, MAX_STATES}
 use Rattle.clap.specs.Simple.{on_top}
 use Rattle.clap.specs.declared.builder.ArgAction.TheVariants.{Set, SetTrue}
 use Rattle.clap.specs.declared.builder.value_parser.ValueParser.TheVariants.{Unsigned}
@@ -31,10 +33,13 @@ use Rattle.clap.specs.declared.builder.value_parser.ValueParser.TheVariants.{Uns
 abbrev pub name_rule : Text → Rule
 name_rule id = record (new_rule id) { required = true; action = Some Set }
 
--- an option with a number from 1 to the most, and what it is where it isn't there
+-- an option with a number from 1 to the most, which may be missing
+abbrev pub optional_number_rule : Text → ℕ → Rule
+optional_number_rule id most = record (new_rule id) { long = Some id; value_names = 1; parser = Some (Unsigned 1 most) }
+
+-- such an option, and what it is where it isn't there
 abbrev pub number_rule : Text → Text → ℕ → Rule
-number_rule id default most =
-    record (new_rule id) { long = Some id; value_names = 1; defaults = default ∷ []; parser = Some (Unsigned 1 most) }
+number_rule id default most = record (optional_number_rule id most) { defaults = default ∷ [] }
 
 -- a name, which may be missing
 abbrev pub optional_rule : Text → Rule
@@ -68,11 +73,12 @@ steps_app =
     with_options (with_rule (with_rule (with_rule (with_rule (new_app (codes "steps")) (name_rule (codes "SCRIPT"))) (optional_rule (codes "SCHEDULE")))
     (flag_rule (codes "idle"))) (flag_rule (codes "picture")))
 
--- accq explore SCRIPT [SCHEDULE] [--states N] [--close] [--short], with options
+-- accq explore SCRIPT [SCHEDULE] [--states N] [--close] [--short] [--depth N], with options
 abbrev pub explore_app : App
 explore_app =
-    with_options (with_rule (with_rule (with_rule (with_rule (with_rule (new_app (codes "explore")) (name_rule (codes "SCRIPT"))) (optional_rule (codes "SCHEDULE")))
+    with_options (with_rule (with_rule (with_rule (with_rule (with_rule (with_rule (new_app (codes "explore")) (name_rule (codes "SCRIPT"))) (optional_rule (codes "SCHEDULE")))
     (number_rule (codes "states") (codes "1000000") MAX_STATES)) (flag_rule (codes "close"))) (flag_rule (codes "short")))
+    (optional_number_rule (codes "depth") MAX_DEPTH))
 
 -- accq check SCRIPT [SCHEDULE] [--devices N]
 abbrev pub check_app : App
@@ -185,9 +191,19 @@ steps_in rows =
     option_and_then (λ options. option_map (λ script. record { script = script; schedule = first_of (codes "SCHEDULE") rows; options = options; form = form_in rows })
     (first_of (codes "SCRIPT") rows)) (options_in rows)
 
+-- what is told of an exploration: each report, on one line where the short form is asked for; or, where a depth stands there, prefixes, which have no
+-- short form
+abbrev pub aim_of : Option Text → Bool → Option Aim
+aim_of None short = Some (Reports (if short then Short else Whole))
+aim_of (Some depth) false = option_map Prefixes (number_in MAX_DEPTH depth)
+aim_of (Some depth) true = None
+
+abbrev pub aim_in : List Row → Option Aim
+aim_in rows = aim_of (first_of (codes "depth") rows) (has_flag rows (codes "short"))
+
 abbrev pub exploring_in : List Row → Option Exploring
 exploring_in rows =
-    option_map (λ states. record { closing = has_flag rows (codes "close"); states = states; form = if has_flag rows (codes "short") then Short else Whole })
+    option_and_then (λ states. option_map (λ aim. record { closing = has_flag rows (codes "close"); states = states; aim = aim }) (aim_in rows))
     (number_of rows (codes "states") MAX_STATES)
 
 abbrev pub explore_in : List Row → Option AskedExplore

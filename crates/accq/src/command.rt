@@ -6,12 +6,12 @@ ghost use Rattle.std.specs.List.{list_all};
 ghost use Rattle.clap.specs.Words.{app_of, first_of, found_of, kind_of, rows_of, subcommand_rows_of};
 ghost use Rattle.clap.specs.declared.error.kind.ErrorKind.TheVariants.{OutOfMemory};
 ghost use Rattle.acc_base.specs.declared.config.TheConstants.{MAX_DEVICES};
-ghost use Rattle.accq.specs.Words.{accq_app, asked_behind, asked_by, asked_of, check_by, check_in, explore_by, explore_in, exploring_in, form_in, has_flag, number_in, number_of, options_in, replay_by, replay_in, run_by, run_in, steps_by, steps_in, test_by, test_in, IsUsable};
+ghost use Rattle.accq.specs.Words.{accq_app, aim_in, asked_behind, asked_by, asked_of, check_by, check_in, explore_by, explore_in, exploring_in, form_in, has_flag, number_in, number_of, options_in, replay_by, replay_in, run_by, run_in, steps_by, steps_in, test_by, test_in, IsUsable};
 ghost use Rattle.acc_driver.specs.Replays.{AreUsable};
 
-use crate::words::{MAX_STATES, accq_words};
+use crate::words::{MAX_DEPTH, MAX_STATES, accq_words};
 use acc_base::{MAX_CAPACITY, MAX_DEVICES, MAX_ROOM};
-use acc_driver::{Exploring, Form, Options, StepsAs};
+use acc_driver::{Aim, Exploring, Form, Options, StepsAs};
 use clap::error::ErrorKind;
 use clap::{ArgMatches, Command, Error};
 use std::alloc::Global;
@@ -210,23 +210,35 @@ fn steps_in<'a>(matches: &ArgMatches<'a>) -> Option<Steps<'a>>
     })
 }
 
-// How far it is explored, and how that is told, unless a number isn't written in digits.
+// What is told of an exploration: prefixes, where a depth stands there, which is a number in digits and stands without `--short`; else reports.
+fn aim_in(matches: &ArgMatches) -> Option<Aim>
+    ensures { result ≡ aim_in (rows_of (found_of matches.now)) }
+{
+    match (text_of(matches, "depth"), has_flag(matches, "short")) {
+        (None, false) => Some(Aim::Reports(Form::Whole)),
+        (None, true) => Some(Aim::Reports(Form::Short)),
+        (Some(text), false) => {
+            let depth = number_in(text, u64::from(MAX_DEPTH))?;
+            Some(Aim::Prefixes(depth as u32))
+        }
+        (Some(_), true) => None,
+    }
+}
+
+// How far it is explored, and what is told of that, unless a number isn't written in digits, or a depth is given for the short form.
 fn exploring_in(matches: &ArgMatches) -> Option<Exploring>
     ensures { result ≡ exploring_in (rows_of (found_of matches.now)) }
 {
     let states = number_of(matches, "states", u64::from(MAX_STATES))?;
+    let aim = aim_in(matches)?;
     Some(Exploring {
         closing: has_flag(matches, "close"),
         states: states as u32,
-        form: if has_flag(matches, "short") {
-            Form::Short
-        } else {
-            Form::Whole
-        },
+        aim,
     })
 }
 
-// The exploration that the words behind `explore` ask for, unless a number isn't written in digits.
+// The exploration that the words behind `explore` ask for, unless a number isn't written in digits, or a depth is given for the short form.
 fn explore_in<'a>(matches: &ArgMatches<'a>) -> Option<Explore<'a>>
     ensures value { option_map explore_by result ≡ explore_in (rows_of (found_of matches.now)) }
     ensures usable { IfSome result (λ e. AreUsable e.options) }
@@ -312,7 +324,7 @@ fn asked_of<'a, N: AsStr>(parser: &mut Command<'a>, words: &'a [N]) -> Result<Ta
             Some(task) => Ok(task),
             None => Err(parser.error(
                 ErrorKind::InvalidValue,
-                "a number is written in digits alone",
+                "a number is written in digits alone, and --depth stands without --short",
             )?),
         },
         Err(error) => Err(error),

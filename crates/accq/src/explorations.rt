@@ -9,7 +9,7 @@ use crate::command::Explore;
 use crate::replays::sent;
 use crate::steps::open;
 use crate::store::Store;
-use acc_driver::{Counts, DriverFault, Watcher, explore, explore_script};
+use acc_driver::{DriverFault, Explored, Watcher, explore, explore_script};
 use std::alloc::Global;
 use std::io::{Read, Write};
 
@@ -21,14 +21,14 @@ pub fn explore_files<F: Read + Drop, S: Store<F>, W: Write, V: Watcher>(
     files: &S,
     output: &mut W,
     watcher: &V,
-) -> Result<Counts, DriverFault>
+) -> Result<Explored, DriverFault>
     requires { AreUsable asked.now.options }
     ensures answers { ExploreOfFiles (S.holds files.now) (explore_by asked.now) (explore_by asked.now).schedule (W.contents output.old) (W.contents output.new) result }
     ensures script { AsksForOpen (S.opens files.now asked.now.script.now) result }
     ensures schedule { IfSome (explore_by asked.now).schedule (λ name. AsksForOpen (S.opens files.now name) result) }
 {
     match explore_opened(alloc, asked, files, output, watcher) {
-        Ok(counts) => sent(counts, output),
+        Ok(explored) => sent(explored, output),
         Err(fault) => Err(fault),
     }
 }
@@ -40,7 +40,7 @@ fn explore_opened<F: Read + Drop, S: Store<F>, W: Write, V: Watcher>(
     files: &S,
     output: &mut W,
     watcher: &V,
-) -> Result<Counts, DriverFault>
+) -> Result<Explored, DriverFault>
     requires { AreUsable asked.now.options }
     ensures answers { ExploreOfFiles (S.holds files.now) (explore_by asked.now) (explore_by asked.now).schedule (W.contents output.old) (W.contents output.new) result }
     ensures script { AsksForOpen (S.opens files.now asked.now.script.now) result }

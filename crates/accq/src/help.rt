@@ -26,7 +26,7 @@ pub const STEPS: &str =
 
 /// What stands behind the options of `explore`.
 pub const EXPLORE: &str =
-    "Hosts and queues go on in every order, from the start or from where the schedule leads, until none\ncan. Each different report is told once, with the shortest schedule that leads to it, which `replay`\ntakes; the last line tells whether these are all. A schedule in the file of the script is left aside.\nThe owner doesn't close, unless --close says that it may at any point.\n\nStatus: 0 where there is one report and no host was refused in it, 1 for more, 3 where so many states\nwere kept that there may be more.\n\nExample: accq explore question.acc --states 100000";
+    "Hosts and queues go on in every order, from the start or from where the schedule leads, until none\ncan. Each different report is told once, with the shortest schedule that leads to it, which `replay`\ntakes; the last line tells whether these are all. A schedule in the file of the script is left aside.\nThe owner doesn't close, unless --close says that it may at any point.\n\nWith --depth the schedules of N events are told, or of fewer where none can go on, behind which all\nreports come: each is a second file for an exploration of its own, on any machine.\n\nStatus: 0 where there is one report and no host was refused in it, 1 for more, 3 where so many states\nwere kept that there may be more. With --depth it is 0, or 3 where that made some shorter.\n\nExample: accq explore question.acc --states 100000";
 
 /// What stands behind the options of `check`.
 pub const CHECK: &str =

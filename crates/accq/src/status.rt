@@ -15,7 +15,7 @@ use crate::replays::{replay_files, replay_input, run_file};
 use crate::steps::show_steps;
 use crate::store::{Folders, Store};
 use acc_cases::{Folder, Tally, TestFault};
-use acc_driver::{CheckFault, Counts, DriverFault, Ended, Monitor, Remains, Watcher};
+use acc_driver::{CheckFault, DriverFault, Ended, Explored, Monitor, Remains, Watcher};
 use clap::Error;
 use clap::error::ErrorKind;
 use std::alloc::Global;
@@ -32,7 +32,9 @@ use std::thread::Threads;
 /// by the parser's own text. What a run left is put into `remains`. The words `steps SCRIPT SCHEDULE` replay two files and show what each
 /// event did, before the report or, with `--picture`, in a picture, and are answered so too. The words `explore SCRIPT`, with options, tell all reports that the script can have, or, with a schedule behind the script's name, those
 /// that it can have behind that: the answer is 0 where there is one and no host was refused in it, 1 for several or where one was, and 3
-/// where so many states were to be kept that there may be more; the meter, if there is one, is shown how many are found. The words `check SCRIPT SCHEDULE`, or `check` and one
+/// where so many states were to be kept that there may be more; the meter, if there is one, is shown how many are found. With `--depth N` among
+/// them they tell in place of reports the schedules of N events behind which these come, for others to explore on from: the answer is 0, or 3
+/// where so many states were to be kept that some are shorter. The words `check SCRIPT SCHEDULE`, or `check` and one
 /// name, run nothing: the answer is 0 where nothing is wrong with these files, and 2 where what is wrong is told to the output.
 /// With `explain` and a word it is told what the guide says of the fault that the word names; the answer is 2 where it names none.
 /// The words `test FOLDER`, with options, test all cases of a folder, and tell the output of each: the answer is 0 where none fails,
@@ -126,13 +128,15 @@ pub(crate) fn status_shown<E: Write>(
 }
 
 /// The status of an exploration, whose fault is told.
-pub(crate) fn status_explored<E: Write>(answer: Result<Counts, DriverFault>, errors: &mut E) -> u8
+pub(crate) fn status_explored<E: Write>(answer: Result<Explored, DriverFault>, errors: &mut E) -> u8
     ensures status { result ≡ status_explored answer }
     ensures quiet { result < 2 → errors.new ≡ errors.old }
 {
     match answer {
-        Ok(counts) if !counts.whole => 3,
-        Ok(counts) => u8::from(counts.refused || counts.reports != 1),
+        Ok(Explored::Reports(counts)) if !counts.whole => 3,
+        Ok(Explored::Reports(counts)) => u8::from(counts.refused || counts.reports != 1),
+        Ok(Explored::Prefixes(count)) if !count.whole => 3,
+        Ok(Explored::Prefixes(_)) => 0,
         Err(fault) => told(fault, errors),
     }
 }

@@ -116,6 +116,9 @@ impl Read for Sheet {
 const SCRIPT: &[u8] =
     b"long a[2];\nhost {\n#pragma acc enter data create(a) async(1)\n#pragma acc update device(a) async(1)\nacc_set_device_num(1);\nprint(acc_get_num_devices());\n}\n";
 
+/// Two hosts write a cell, and one of them prints it.
+const WRITERS: &[u8] = b"long a[1];\nhost {\na[0] = 1;\n}\nhost {\na[0] = 2;\nprint(a);\n}\n";
+
 /// A loop doubles an array that is present, and the array is copied out.
 const DOUBLED: &[u8] =
     b"long a[4] = {1,2,3,4};\nhost {\n#pragma acc enter data copyin(a)\n#pragma acc parallel loop present(a)\nfor (i = 0; i < 4; i++) a[i] = a[i] * 2;\n#pragma acc exit data copyout(a)\nprint(a);\n}\n";
@@ -141,6 +144,7 @@ impl Store<Sheet> for Shelf {
         match name {
             "script" => Some(Sheet::Bytes(SCRIPT)),
             "schedule" => Some(Sheet::Bytes(SCHEDULE)),
+            "writers" => Some(Sheet::Bytes(WRITERS)),
             "doubled" => Some(Sheet::Bytes(DOUBLED)),
             "faulty" => Some(Sheet::Bytes(b"long a[01];\n")),
             "empty" => Some(Sheet::Bytes(b"")),
@@ -149,6 +153,9 @@ impl Store<Sheet> for Shelf {
             "second_host" => Some(Sheet::Bytes(b"round 1\nhost 1\n")),
             "second_device" => Some(Sheet::Bytes(b"take 1 0\n")),
             "one_step" => Some(Sheet::Bytes(b"take 0 sync\n")),
+            "first_prefix" => Some(Sheet::Bytes(b"host 0\nhost 1\n")),
+            "second_prefix" => Some(Sheet::Bytes(b"host 1\nhost 0\n")),
+            "third_prefix" => Some(Sheet::Bytes(b"host 1 2\n")),
             "folder" => Some(Sheet::Unreadable),
             _ => None,
         }
@@ -486,6 +493,26 @@ const FAULTY_WORDS: &[(&[&str], &[u8])] = &[
     (
         &["accq", "run", "script", "--devices", "+1"],
         b"error: a number is written in digits alone",
+    ),
+    (
+        &["accq", "explore", "script", "--depth", "0"],
+        b"error: invalid value '0' for '--depth <N>'",
+    ),
+    (
+        &["accq", "explore", "script", "--depth=1000001"],
+        b"error: invalid value '1000001' for '--depth <N>'",
+    ),
+    (
+        &["accq", "explore", "script", "--depth", "+1"],
+        b"error: a number is written in digits alone",
+    ),
+    (
+        &["accq", "explore", "script", "--short", "--depth", "1"],
+        b"error: a number is written in digits alone, and --depth stands without --short",
+    ),
+    (
+        &["accq", "explore", "script", "--depth"],
+        b"error: a value is required for '--depth <N>'",
     ),
     (&["accq", "--version"], b"accq 0.1.0"),
 ];

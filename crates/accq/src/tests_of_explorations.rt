@@ -5,12 +5,12 @@ use std::test::Fail;
 
 /// Reports, their schedules and counts, and files that have none.
 const EXPLORATIONS: &[Told] = &[
-    // the host is refused in its third statement, wherever queue 1 stands, and three places of the one meet five of the other
+    // each event goes first: two placements, a take, the block is made, a take, the update, and the refusal
     Told {
         words: &["accq", "explore", "script"],
         input: b"",
         status: 1,
-        output: b"# schedule 1\nhost 0 3\ntake 0 1\ndo 0 1\ntake 0 1\ndo 0 1\n# report 1\nhost 0\nrefused 5 F2 BadDevice\npresent 0 a[0:2] s 0 d 1\nqueue 0 1 batches 2 operations 2 of 2\nend\n1 report, 14 states, all schedules\n",
+        output: b"# schedule 1\nhost 0 2\ntake 0 1\ndo 0 1\ntake 0 1\ndo 0 1\nhost 0\n# report 1\nhost 0\nrefused 5 F2 BadDevice\npresent 0 a[0:2] s 0 d 1\nqueue 0 1 batches 2 operations 2 of 2\nend\n1 report, 8 states, all schedules\n",
         errors: b"",
     },
     // the second batch comes before or behind the first one is taken
@@ -18,7 +18,15 @@ const EXPLORATIONS: &[Told] = &[
         words: &["accq", "explore", "--room=1", "script"],
         input: b"",
         status: 1,
-        output: b"# schedule 1\nhost 0 2\ntake 0 1\ndo 0 1\n# report 1\nhost 0\nrefused 4 F12 QueueFull\npresent 0 a[0:2] s 0 d 1\nqueue 0 1 batches 1 operations 1 of 1\nend\n# schedule 2\nhost 0\ntake 0 1\nhost 0 2\ndo 0 1\ntake 0 1\ndo 0 1\n# report 2\nhost 0\nrefused 5 F2 BadDevice\npresent 0 a[0:2] s 0 d 1\nqueue 0 1 batches 2 operations 2 of 2\nend\n2 reports, 15 states, all schedules\n",
+        output: b"# schedule 1\nhost 0 2\ntake 0 1\ndo 0 1\n# report 1\nhost 0\nrefused 4 F12 QueueFull\npresent 0 a[0:2] s 0 d 1\nqueue 0 1 batches 1 operations 1 of 1\nend\n# schedule 2\nhost 0\ntake 0 1\ndo 0 1\nhost 0\ntake 0 1\ndo 0 1\nhost 0\n# report 2\nhost 0\nrefused 5 F2 BadDevice\npresent 0 a[0:2] s 0 d 1\nqueue 0 1 batches 2 operations 2 of 2\nend\n2 reports, 11 states, all schedules\n",
+        errors: b"",
+    },
+    // who writes last is seen, and who wrote before is not: three ends with two reports
+    Told {
+        words: &["accq", "explore", "writers"],
+        input: b"",
+        status: 1,
+        output: b"# schedule 1\nhost 0\nhost 1 2\n# report 1\nhost 0\ndone\nhost 1\n2\ndone\nend\n# schedule 2\nhost 1\nhost 0\nhost 1\n# report 2\nhost 0\ndone\nhost 1\n1\ndone\nend\n2 reports, 9 states, all schedules\n",
         errors: b"",
     },
     Told {
@@ -47,7 +55,7 @@ const EXPLORATIONS: &[Told] = &[
         words: &["accq", "explore", "script", "one_step"],
         input: b"",
         status: 1,
-        output: b"# schedule 1\ntake 0 sync\n\nhost 0 3\ntake 0 1\ndo 0 1\ntake 0 1\ndo 0 1\n# report 1\nhost 0\nrefused 5 F2 BadDevice\npresent 0 a[0:2] s 0 d 1\nqueue 0 1 batches 2 operations 2 of 2\nend\n1 report, 14 states, all schedules\n",
+        output: b"# schedule 1\ntake 0 sync\n\nhost 0 2\ntake 0 1\ndo 0 1\ntake 0 1\ndo 0 1\nhost 0\n# report 1\nhost 0\nrefused 5 F2 BadDevice\npresent 0 a[0:2] s 0 d 1\nqueue 0 1 batches 2 operations 2 of 2\nend\n1 report, 8 states, all schedules\n",
         errors: b"",
     },
     // a schedule in the file of the script is left aside
@@ -60,17 +68,17 @@ const EXPLORATIONS: &[Told] = &[
     },
     // it stops at the last state that it may keep, and where that is the last one that there is it doesn't
     Told {
-        words: &["accq", "explore", "script", "--states", "13"],
+        words: &["accq", "explore", "writers", "--states", "8"],
         input: b"",
         status: 3,
-        output: b"0 reports, 13 states, stopped: there may be more\n",
+        output: b"0 reports, 8 states, stopped: there may be more\n",
         errors: b"",
     },
     Told {
-        words: &["accq", "explore", "script", "--states", "14", "--short"],
+        words: &["accq", "explore", "writers", "--states", "9", "--short"],
         input: b"",
         status: 1,
-        output: b"host 0;refused 5 F2 BadDevice;present 0 a[0:2] s 0 d 1;queue 0 1 batches 2 operations 2 of 2;end;\n",
+        output: b"host 0;done;host 1;2;done;end;\nhost 0;done;host 1;1;done;end;\n",
         errors: b"",
     },
     Told {
@@ -97,6 +105,189 @@ const EXPLORATIONS: &[Told] = &[
     },
 ];
 
+/// Prefixes of the orders in which two hosts write, one in a step and one in a step before that which prints: both may go first; behind
+/// the first host there is the other alone, and behind the other either.
+const PREFIXES: &[Told] = &[
+    Told {
+        words: &["accq", "explore", "writers", "--depth", "1"],
+        input: b"",
+        status: 0,
+        output: b"# prefix 1\nhost 0\n# prefix 2\nhost 1\n2 prefixes, all schedules\n",
+        errors: b"",
+    },
+    Told {
+        words: &["accq", "explore", "--depth=2", "writers"],
+        input: b"",
+        status: 0,
+        output: b"# prefix 1\nhost 0\nhost 1\n# prefix 2\nhost 1\nhost 0\n# prefix 3\nhost 1 2\n3 prefixes, all schedules\n",
+        errors: b"",
+    },
+    // all ends are at depth three, and none is deeper
+    Told {
+        words: &["accq", "explore", "writers", "--depth=3"],
+        input: b"",
+        status: 0,
+        output: ENDS_OF_WRITERS,
+        errors: b"",
+    },
+    Told {
+        words: &["accq", "explore", "writers", "--depth=4"],
+        input: b"",
+        status: 0,
+        output: ENDS_OF_WRITERS,
+        errors: b"",
+    },
+    Told {
+        words: &["accq", "explore", "writers", "--depth=1000000"],
+        input: b"",
+        status: 0,
+        output: ENDS_OF_WRITERS,
+        errors: b"",
+    },
+    // the start, two states behind it and three behind these; with one state fewer it stops at the second of the two
+    Told {
+        words: &["accq", "explore", "writers", "--depth=2", "--states=6"],
+        input: b"",
+        status: 0,
+        output: b"# prefix 1\nhost 0\nhost 1\n# prefix 2\nhost 1\nhost 0\n# prefix 3\nhost 1 2\n3 prefixes, all schedules\n",
+        errors: b"",
+    },
+    Told {
+        words: &["accq", "explore", "writers", "--depth=2", "--states=5"],
+        input: b"",
+        status: 3,
+        output: b"# prefix 1\nhost 1\n# prefix 2\nhost 0\nhost 1\n# prefix 3\nhost 1\nhost 0\n3 prefixes, all schedules, stopped less deep\n",
+        errors: b"",
+    },
+    // nothing but the start is kept, and its schedule says nothing
+    Told {
+        words: &["accq", "explore", "writers", "--depth=1", "--states=1"],
+        input: b"",
+        status: 3,
+        output: b"# prefix 1\n1 prefix, all schedules, stopped less deep\n",
+        errors: b"",
+    },
+    // the start is the end
+    Told {
+        words: &["accq", "explore", "both", "--depth=5", "--states=1"],
+        input: b"",
+        status: 0,
+        output: b"# prefix 1\n1 prefix, all schedules\n",
+        errors: b"",
+    },
+    // four events lead to the one end, and seven to the other
+    Told {
+        words: &["accq", "explore", "--room=1", "--depth=6", "script"],
+        input: b"",
+        status: 0,
+        output: b"# prefix 1\nhost 0 2\ntake 0 1\ndo 0 1\n# prefix 2\nhost 0\ntake 0 1\ndo 0 1\nhost 0\ntake 0 1\ndo 0 1\n2 prefixes, all schedules\n",
+        errors: b"",
+    },
+    // behind a schedule, and with other options
+    Told {
+        words: &["accq", "explore", "writers", "one_step", "--depth=1"],
+        input: b"",
+        status: 0,
+        output: b"# prefix 1\ntake 0 sync\n\nhost 0\n# prefix 2\ntake 0 sync\n\nhost 1\n2 prefixes, all schedules\n",
+        errors: b"",
+    },
+    Told {
+        words: &["accq", "explore", "script", "--depth=2", "--devices=2"],
+        input: b"",
+        status: 0,
+        output: b"# prefix 1\nhost 0 2\n1 prefix, all schedules\n",
+        errors: b"",
+    },
+    // the owner may close at first too, or what a host does
+    Told {
+        words: &["accq", "explore", "writers", "--depth=1", "--close"],
+        input: b"",
+        status: 0,
+        output: b"# prefix 1\nhost 0\n# prefix 2\nhost 1\n# prefix 3\nclose\n3 prefixes, all schedules\n",
+        errors: b"",
+    },
+    Told {
+        words: &["accq", "explore", "empty", "faulty", "--depth=1"],
+        input: b"",
+        status: 2,
+        output: b"",
+        errors: b"accq: schedule line 1: Form\n",
+    },
+    Told {
+        words: &["accq", "explore", "faulty", "--depth=1"],
+        input: b"",
+        status: 2,
+        output: b"",
+        errors: b"accq: script line 1: Form\n",
+    },
+    Told {
+        words: &["accq", "explore", "writers", "missing", "--depth=1"],
+        input: b"",
+        status: 3,
+        output: b"",
+        errors: b"accq: cannot read\n",
+    },
+];
+
+/// Who writes last, and prints: the second host behind the first, the first behind the second, and the first behind what was printed.
+const ENDS_OF_WRITERS: &[u8] =
+    b"# prefix 1\nhost 0\nhost 1 2\n# prefix 2\nhost 1\nhost 0\nhost 1\n# prefix 3\nhost 1 2\nhost 0\n3 prefixes, all schedules\n";
+
+/// The reports behind each prefix of two events: of the two that there are in all, each behind one or two of them.
+const BEHIND_PREFIXES: &[Told] = &[
+    Told {
+        words: &["accq", "explore", "writers", "--short"],
+        input: b"",
+        status: 1,
+        output: b"host 0;done;host 1;2;done;end;\nhost 0;done;host 1;1;done;end;\n",
+        errors: b"",
+    },
+    Told {
+        words: &["accq", "explore", "writers", "first_prefix", "--short"],
+        input: b"",
+        status: 0,
+        output: b"host 0;done;host 1;2;done;end;\n",
+        errors: b"",
+    },
+    Told {
+        words: &["accq", "explore", "writers", "second_prefix", "--short"],
+        input: b"",
+        status: 0,
+        output: b"host 0;done;host 1;1;done;end;\n",
+        errors: b"",
+    },
+    Told {
+        words: &["accq", "explore", "writers", "third_prefix", "--short"],
+        input: b"",
+        status: 0,
+        output: b"host 0;done;host 1;2;done;end;\n",
+        errors: b"",
+    },
+    Told {
+        words: &["accq", "explore", "writers", "second_prefix"],
+        input: b"",
+        status: 0,
+        output: b"# schedule 1\nhost 1\nhost 0\n\nhost 1\n# report 1\nhost 0\ndone\nhost 1\n1\ndone\nend\n1 report, 2 states, all schedules\n",
+        errors: b"",
+    },
+];
+
+#[test]
+fn prefixes_have_their_status(rt: HostRuntime) -> Result<(), Fail> {
+    for case in PREFIXES {
+        check_case(&rt, rt.alloc(), case);
+    }
+    Ok(())
+}
+
+#[test]
+fn reports_behind_prefixes_are_all_reports(rt: HostRuntime) -> Result<(), Fail> {
+    for case in BEHIND_PREFIXES {
+        check_case(&rt, rt.alloc(), case);
+    }
+    Ok(())
+}
+
 #[test]
 fn explorations_of_files_have_their_status(rt: HostRuntime) -> Result<(), Fail> {
     for case in EXPLORATIONS {
@@ -122,5 +313,15 @@ fn explorations_that_do_not_go_out_have_status_three(rt: HostRuntime) -> Result<
         );
     }
     check_streams(&rt, rt.alloc(), words, &mut input, &mut Stuck, CANNOT_WRITE);
+    let words: &[&str] = &["accq", "explore", "writers", "--depth=2"];
+    let mut output = Narrow { room: 30, taken: 0 };
+    check_streams(
+        &rt,
+        rt.alloc(),
+        words,
+        &mut input,
+        &mut output,
+        CANNOT_WRITE,
+    );
     Ok(())
 }

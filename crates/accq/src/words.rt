@@ -4,7 +4,7 @@ ghost use Rattle.std.specs.Prelude.{◌≡◌, ◌<◌, ◌^◌, codes, false, I
 ghost use Rattle.clap.specs.Words.{app_of, rule_of};
 ghost use Rattle.clap.specs.declared.builder.command.Command.TheViews.{out-Command as fields_of};
 ghost use Rattle.acc_base.specs.declared.config.TheConstants.{MAX_DEVICES};
-ghost use Rattle.accq.specs.Words.{accq_app, check_app, explain_app, explore_app, flag_rule, name_rule, number_rule, optional_rule, replay_app, run_app, steps_app, test_app, with_options};
+ghost use Rattle.accq.specs.Words.{accq_app, check_app, explain_app, explore_app, flag_rule, name_rule, number_rule, optional_number_rule, optional_rule, replay_app, run_app, steps_app, test_app, with_options};
 
 use crate::help;
 use acc_base::{MAX_CAPACITY, MAX_DEVICES, MAX_ROOM};
@@ -14,17 +14,28 @@ use std::alloc::{AllocError, Global};
 /// How many states an exploration may keep.
 pub(crate) const MAX_STATES: u32 = 10_000_000;
 
+/// How many events a prefix may have that an exploration tells: as many as a schedule.
+pub(crate) const MAX_DEPTH: u32 = 1_000_000;
+
 // An option with a number from 1 to the most that a run may have.
 fn number<'a>(alloc: Global, name: &'a str, help: &'a str, default: &'a str, most: u64) -> Arg<'a>
     requires { most < 2 ^ 63 }
     ensures rule { rule_of result ≡ number_rule name.entry.now default.entry.now most }
     ensures local { result.global ≡ false }
 {
+    optional_number(alloc, name, help, most).default_value(default)
+}
+
+// An option with a number from 1 to the most, which may be missing.
+fn optional_number<'a>(alloc: Global, name: &'a str, help: &'a str, most: u64) -> Arg<'a>
+    requires { most < 2 ^ 63 }
+    ensures rule { rule_of result ≡ optional_number_rule name.entry.now most }
+    ensures local { result.global ≡ false }
+{
     Arg::new(alloc, name)
         .long(name)
         .value_name("N")
         .value_parser(value_parser!(u64).range(1..=most as i64))
-        .default_value(default)
         .help(help)
 }
 
@@ -175,6 +186,12 @@ fn explore_words<'a>(alloc: Global) -> Result<Command<'a>, AllocError>
             alloc,
             "short",
             "Tells each report on one line, without a schedule, and nothing else",
+        ))?
+        .arg(optional_number(
+            alloc,
+            "depth",
+            "In place of reports tells the schedules of so many events behind which they come",
+            u64::from(MAX_DEPTH),
         ))?;
     with_options(alloc, words)
 }

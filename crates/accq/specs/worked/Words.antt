@@ -4,7 +4,8 @@ use Rattle.clap.specs.Words.{Text}
 use Rattle.acc_driver.specs.Replays.{defaults}
 use Rattle.acc_driver.specs.declared.steps.StepsAs.{StepsAs}
 use Rattle.acc_driver.specs.declared.steps.StepsAs.TheVariants.{AllLines, Lines, Picture}
-use Rattle.acc_explore.specs.declared.reports.Form.{Form}
+use Rattle.acc_driver.specs.declared.explorations.Aim.{Aim}
+use Rattle.acc_driver.specs.declared.explorations.Aim.TheVariants.{Prefixes, Reports}
 use Rattle.acc_explore.specs.declared.reports.Form.TheVariants.{Short, Whole}
 use Rattle.accq.specs.Words.{Asked, ToCheck, ToExplain, ToExplore, ToReplay, ToRun, ToShow, ToTest, asked_of}
 
@@ -30,10 +31,10 @@ asks_for_steps schedule form = Some (ToShow (record { script = codes "a"; schedu
 abbrev pub steps : List Text → Option Asked
 steps words = asked_of (codes "accq" ∷ codes "steps" ∷ words)
 
--- an exploration of the file a behind this schedule, with default options, so far and told so
-abbrev pub asks_to_explore : Option Text → Bool → ℕ → Form → Option Asked
-asks_to_explore schedule closing states form =
-    Some (ToExplore (record { script = codes "a"; schedule = schedule; options = defaults; exploring = record { closing = closing; states = states; form = form } }))
+-- an exploration of the file a behind this schedule, with default options, so far, of which this is told
+abbrev pub asks_to_explore : Option Text → Bool → ℕ → Aim → Option Asked
+asks_to_explore schedule closing states aim =
+    Some (ToExplore (record { script = codes "a"; schedule = schedule; options = defaults; exploring = record { closing = closing; states = states; aim = aim } }))
 
 -- behind `accq explore`
 abbrev pub explore : List Text → Option Asked
@@ -61,7 +62,7 @@ abbrev pub test : List Text → Option Asked
 test words = asked_of (codes "accq" ∷ codes "test" ∷ words)
 
 -- Two names behind `replay` alone, or one behind `run`, ask for the default options; one or two behind `check` for one device; one or
--- two behind `explore` for a million states and no close;
+-- two behind `explore` for each report, a million states and no close;
 -- `explain` has one word, and `test` one folder. An option stands before,
 -- between or behind them, with `=` or without; a flag stands alone.
 pub record AreAsked : Type 0 where
@@ -80,14 +81,16 @@ pub record AreAsked : Type 0 where
   pub lines : steps (codes "a" ∷ codes "b" ∷ []) ≡ asks_for_steps (Some (codes "b")) Lines
   pub all_lines : steps (codes "a" ∷ codes "--idle" ∷ []) ≡ asks_for_steps None AllLines
   pub picture : steps (codes "--picture" ∷ codes "a" ∷ codes "b" ∷ codes "--idle" ∷ []) ≡ asks_for_steps (Some (codes "b")) Picture
-  pub all_reports : explore (codes "a" ∷ []) ≡ asks_to_explore None false 1000000 Whole
-  pub reports_behind : explore (codes "--close" ∷ codes "a" ∷ codes "--states=7" ∷ codes "b" ∷ codes "--short" ∷ []) ≡ asks_to_explore (Some (codes "b")) true 7 Short
+  pub all_reports : explore (codes "a" ∷ []) ≡ asks_to_explore None false 1000000 (Reports Whole)
+  pub reports_behind : explore (codes "--close" ∷ codes "a" ∷ codes "--states=7" ∷ codes "b" ∷ codes "--short" ∷ []) ≡ asks_to_explore (Some (codes "b")) true 7 (Reports Short)
+  pub prefixes : explore (codes "a" ∷ codes "--depth=1" ∷ []) ≡ asks_to_explore None false 1000000 (Prefixes 1)
+  pub prefixes_behind : explore (codes "a" ∷ codes "--depth" ∷ codes "1000000" ∷ codes "b" ∷ codes "--close" ∷ codes "--states=7" ∷ []) ≡ asks_to_explore (Some (codes "b")) true 7 (Prefixes 1000000)
   pub one_folder : test (codes "a" ∷ []) ≡ asks_to_test 1 false
   pub anew : test (codes "--bless" ∷ codes "a" ∷ codes "--devices=2" ∷ []) ≡ asks_to_test 2 true
   pub for_devices : check (codes "--devices" ∷ codes "4" ∷ codes "a" ∷ codes "b" ∷ []) ≡ asks_to_check (Some (codes "b")) 4
 
--- What asks for nothing: an option beyond its limits, not in digits alone or written twice, a name too few or too many, a word that there isn't, and
--- requests for help or the version.
+-- What asks for nothing: an option beyond its limits, not in digits alone or written twice, a name too few or too many, a word that there isn't, a
+-- depth where the short form is asked for, and requests for help or the version.
 pub record AreRefused : Type 0 where
   pub no_device : replay (codes "a" ∷ codes "b" ∷ codes "--devices" ∷ codes "0" ∷ []) ≡ None
   pub fifth_device : replay (codes "a" ∷ codes "b" ∷ codes "--devices" ∷ codes "5" ∷ []) ≡ None
@@ -118,6 +121,10 @@ pub record AreRefused : Type 0 where
   pub no_script : explore (codes "--short" ∷ []) ≡ None
   pub no_states : explore (codes "a" ∷ codes "--states=0" ∷ []) ≡ None
   pub many_states : explore (codes "a" ∷ codes "--states" ∷ codes "10000001" ∷ []) ≡ None
+  pub no_depth : explore (codes "a" ∷ codes "--depth=0" ∷ []) ≡ None
+  pub great_depth : explore (codes "a" ∷ codes "--depth" ∷ codes "1000001" ∷ []) ≡ None
+  pub plus_depth : explore (codes "a" ∷ codes "--depth=+3" ∷ []) ≡ None
+  pub short_prefixes : explore (codes "a" ∷ codes "--depth=3" ∷ codes "--short" ∷ []) ≡ None
   pub close_of_a_run : run (codes "a" ∷ codes "--close" ∷ []) ≡ None
   pub no_folder : test (codes "--bless" ∷ []) ≡ None
   pub two_folders : test (codes "a" ∷ codes "b" ∷ []) ≡ None

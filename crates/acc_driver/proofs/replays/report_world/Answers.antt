@@ -10,7 +10,7 @@ returns-in-Ok-clause-answers g c =
     let e = c.into_parts-place.ensures in (
       λ programs is.
           let same = c.ids_are_not_told.ensures (texts c.args.names.keys) _ programs (left_in w) (e.programs ∙ sym is) in
-          rw (c.as_slice.ensures.value, e.config, e.history, e.counts, e.works, e.hosts, reverse-reverse w.work, same) at c.in-Ok.ensures,
+          rw (c.as_slice.ensures.value, e.config, e.history, e.counts, c.log.ensures, e.works, e.hosts, reverse-reverse w.work, same) at c.in-Ok.ensures,
       rw (c.as_slice-in-Ok.ensures.value, e.hosts) at c.any_refused-refused.ensures,
     )
 
@@ -20,4 +20,4 @@ returns-in-Err-Write-clause-answers g c =
     let e = c.into_parts-place.ensures in
     λ programs is.
     let same = c.ids_are_not_told.ensures (texts c.args.names.keys) _ programs (left_in w) (e.programs ∙ sym is) in
-    rw (c.in-Err-Write.field-0-is, c.as_slice.ensures.value, e.config, e.history, e.counts, e.works, e.hosts, reverse-reverse w.work, same) at c.in-Err-Write.ensures
+    rw (c.in-Err-Write.field-0-is, c.as_slice.ensures.value, e.config, e.history, e.counts, c.log.ensures, e.works, e.hosts, reverse-reverse w.work, same) at c.in-Err-Write.ensures
