@@ -11,8 +11,6 @@ mod names;
 mod piece;
 mod place;
 mod stand;
-#[cfg(test)]
-mod tests;
 mod tokens;
 mod told;
 mod words;

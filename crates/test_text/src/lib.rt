@@ -8,6 +8,8 @@ mod limits;
 #[cfg(test)]
 mod memory;
 #[cfg(test)]
+mod mistakes;
+#[cfg(test)]
 mod prefixes;
 #[cfg(test)]
 mod random;

@@ -1,6 +1,6 @@
 //! Texts with a mistake, and what is told of each.
 
-use crate::check::{check_schedule, check_script};
+use acc_check::{check_schedule, check_script};
 use std::alloc::Global;
 use std::io::Result;
 use std::process::Abort;
