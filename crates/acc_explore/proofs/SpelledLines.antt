@@ -10,7 +10,7 @@ use Rattle.acc_base.specs.declared.ids.TheConstants.{QUEUES}
 use Rattle.acc_host.specs.declared.event.Event.{Event}
 use Rattle.acc_host.specs.declared.event.Event.TheVariants.{Host, Take, Perform, Close}
 use Rattle.acc_report.specs.Lines.{queue_name}
-use Rattle.acc_schedule.specs.declared.schedule.TheConstants.{MAX_TIMES}
+use Rattle.acc_schedule.specs.declared.turn.TheConstants.{MAX_TIMES}
 use Rattle.acc_schedule.specs.Schedules.{asked_turn, close_events, events_of, is_plain, host_events, line_events, queue_events, repeated, times_of, times_word, words}
 use Rattle.acc_token.proofs.TokenSpelling.{IsNumber, is_number}
 use Rattle.acc_explore.specs.Spellings.{IsNamed, event_words, queue_words, times_text}

@@ -6,7 +6,7 @@ use Rattle.std.proofs.lemmas.List.{at_drop_all, at_drop_more}
 use Rattle.acc_host.specs.declared.event.Event.{Event}
 use Rattle.acc_report.proofs.JoinedPuts.{puts_nothing, puts_then}
 use Rattle.acc_report.specs.Puts.{Puts, Sink}
-use Rattle.acc_schedule.specs.declared.schedule.TheConstants.{MAX_TIMES}
+use Rattle.acc_schedule.specs.declared.turn.TheConstants.{MAX_TIMES}
 use Rattle.acc_explore.specs.Spellings.{goes_on, joins, line_text, lines_from}
 
 -- Of a text a beginning was put, and this is left.

@@ -14,7 +14,8 @@ use Rattle.acc_host.specs.declared.event.Event.{Event}
 use Rattle.acc_host.specs.declared.event.Event.TheVariants.{Host, Take, Perform, Close}
 use Rattle.acc_schedule.proofs.LineEvents.{few_behind}
 use Rattle.acc_schedule.proofs.RepeatedTurns.{repeated-next}
-use Rattle.acc_schedule.specs.declared.schedule.TheConstants.{MAX_EVENTS, MAX_TIMES}
+use Rattle.acc_schedule.specs.declared.schedule.TheConstants.{MAX_EVENTS}
+use Rattle.acc_schedule.specs.declared.turn.TheConstants.{MAX_TIMES}
 use Rattle.acc_schedule.specs.Schedules.{events_behind, events_from, is_plain, is_skipped, line_events, lines, repeated, schedule_of}
 use Rattle.acc_token.specs.declared.text.TheConstants.{MAX_TEXT}
 use Rattle.acc_token.specs.Faults.{◌>>=◌}

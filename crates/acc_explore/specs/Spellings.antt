@@ -8,7 +8,8 @@ use Rattle.acc_explore.specs.Runs.{events_of}
 use Rattle.acc_host.specs.declared.event.Event.{Event}
 use Rattle.acc_host.specs.declared.event.Event.TheVariants.{Host, Take, Perform, Close}
 use Rattle.acc_report.specs.Lines.{queue_name}
-use Rattle.acc_schedule.specs.declared.schedule.TheConstants.{MAX_EVENTS, MAX_TIMES}
+use Rattle.acc_schedule.specs.declared.schedule.TheConstants.{MAX_EVENTS}
+use Rattle.acc_schedule.specs.declared.turn.TheConstants.{MAX_TIMES}
 use Rattle.acc_schedule.specs.Schedules.{schedule_of}
 use Rattle.acc_token.specs.declared.text.TheConstants.{MAX_TEXT}
 

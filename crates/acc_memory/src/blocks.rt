@@ -2,16 +2,15 @@
 
 ghost use Rattle.std.specs.Prelude.{◌≡◌, ◌+◌, ◌-◌, ◌<◌, ◌≤◌, ℕ, ℤ, pos, [], length, map, replicate, is_some, true, None, Some, IfSome, IfOk, IfErr};
 ghost use Rattle.std.specs.Option.{option_copied, option_map};
-ghost use Rattle.acc_kernel.specs.Jobs.{AreDistinct, HoldReached, IsJob, computed, no_use, read_uses, shown};
+ghost use Rattle.acc_kernel.specs.Jobs.{read_uses, shown};
 ghost use Rattle.acc_memory.specs.Memories.{Row, ShowsRows, ShowsArray, HasRange, HasRanges, SameBlocks, IsCopy, made_of, blocks_after, find_row, find_block, has_cell, is_whole, row_cell, row_has};
 ghost use Rattle.acc_memory.specs.Values.{Cell, after_op, cells_by, is_in};
 ghost use Rattle.acc_memory.specs.inner.Rows.{AreWhole, HasRoom, IsSetAt, range_values, stored};
 
 use crate::buckets::Buckets;
-use crate::window::{commit_over, run_over};
 use acc_base::{BlockId, Fault, Range};
 use acc_batch::Block;
-use acc_kernel::{Job, Kernel};
+use acc_kernel::Job;
 use acc_raw::{Cells, Node};
 use std::alloc::Global;
 use std::marker::Model;
@@ -133,31 +132,6 @@ impl Blocks {
         self.buckets.remove(block.number());
     }
 
-    /// Runs the loop over the blocks that it uses. Takes no memory.
-    pub(crate) fn run(&mut self, kernel: &Kernel, uses: &[(BlockId, Range)])
-        requires held { HasRanges (map made_of self.old) uses.now }
-        requires distinct { AreDistinct uses.now }
-        requires reached { HoldReached kernel.now uses.now }
-        ensures shows { (device : ℕ) (was : Cell → ℤ) → ShowsRows device self.old was → ShowsRows device self.new (after_op device (op.Run kernel.now uses.now) was) }
-        ensures blocks { SameBlocks (map made_of self.new) (map made_of self.old) }
-    {
-        self.keeps();
-        run_over(self, uses, kernel);
-    }
-
-    /// Gives the blocks that a job uses what its loop gives them, as `run` does. Its outputs were computed, and serve where
-    /// its inputs are what the blocks show. Takes no memory.
-    pub(crate) fn commit(&mut self, job: &Job)
-        requires computed { job.now.outputs ≡ computed job.now }
-        requires held { HasRanges (map made_of self.old) job.now.uses }
-        ensures shows { (device : ℕ) (was : Cell → ℤ) → ShowsRows device self.old was → ShowsRows device self.new (after_op device (op.Run job.now.kernel job.now.uses) was) }
-        ensures blocks { SameBlocks (map made_of self.new) (map made_of self.old) }
-    {
-        self.keeps();
-        job.keeps();
-        commit_over(self, job);
-    }
-
     /// Makes a job's inputs the values of the blocks that it uses. Takes no memory.
     pub(crate) fn load(&self, job: &mut Job)
         requires { HasRanges (map made_of self.now) job.old.uses }
@@ -190,7 +164,7 @@ impl Blocks {
     }
 
     // A block that is there has as many cells as its range.
-    fn keeps(&self)
+    pub(crate) fn keeps(&self)
         ensures { AreWhole self.now }
     {
         let _ = &self.buckets;

@@ -7,6 +7,7 @@ mod device;
 mod laws;
 mod makes;
 mod memory;
+mod running;
 mod window;
 
 pub use laws::worked_runs;

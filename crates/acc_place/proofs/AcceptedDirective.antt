@@ -13,7 +13,7 @@ use Rattle.acc_base.specs.declared.ids.QueueAt.{QueueAt}
 use Rattle.acc_base.specs.declared.range.Range.{Range}
 use Rattle.acc_base.specs.Configurations.{Configuration}
 use Rattle.acc_kernel.specs.Kernels.{Loop}
-use Rattle.acc_present.specs.declared.table.TheConstants.{COUNTER_LIMIT}
+use Rattle.acc_present.specs.declared.entry.TheConstants.{COUNTER_LIMIT}
 use Rattle.acc_present.specs.Legality.{AllLegal}
 use Rattle.acc_present.specs.Marks.{Mark}
 use Rattle.acc_present.specs.Lifetimes.{opened_lifetimes}

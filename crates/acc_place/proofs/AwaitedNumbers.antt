@@ -16,9 +16,9 @@ use Rattle.acc_batch.specs.declared.label.OpLabel.{OpLabel}
 use Rattle.acc_batch.specs.declared.label.OpLabel.TheVariants.{CopyIn, CopyOut}
 use Rattle.acc_kernel.specs.Jobs.{Use}
 use Rattle.acc_present.specs.Notes.{Note}
-use Rattle.acc_place.specs.declared.judge.Marked.{Marked}
-use Rattle.acc_place.specs.declared.plan.Group.{Group}
-use Rattle.acc_place.specs.declared.plan.Group.TheVariants.{Makes, CopyIns, Updates, CopyOuts, Releases}
+use Rattle.acc_place.specs.declared.marked.Marked.{Marked}
+use Rattle.acc_place.specs.declared.ops.Group.{Group}
+use Rattle.acc_place.specs.declared.ops.Group.TheVariants.{Makes, CopyIns, Updates, CopyOuts, Releases}
 use Rattle.acc_place.specs.inner.Places.{queue_in}
 use Rattle.acc_place.specs.inner.Trials.{named_count}
 use Rattle.acc_place.specs.inner.Noting.{last_made, last_used, made_at, used_ranges}

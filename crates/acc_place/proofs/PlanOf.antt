@@ -12,9 +12,9 @@ use Rattle.acc_batch.specs.Awaits.{await_of, with_awaits}
 use Rattle.acc_batch.specs.Ops.{HasItsCells}
 use Rattle.acc_place.specs.declared.directive.Clause.{Clause}
 use Rattle.acc_place.specs.declared.directive.Clause.TheVariants.{UpdateSelf, UpdateDevice}
-use Rattle.acc_place.specs.declared.judge.Marked.{Marked}
-use Rattle.acc_place.specs.declared.plan.Group.{Group}
-use Rattle.acc_place.specs.declared.plan.Group.TheVariants.{Makes, CopyIns, Updates, CopyOuts, Releases}
+use Rattle.acc_place.specs.declared.marked.Marked.{Marked}
+use Rattle.acc_place.specs.declared.ops.Group.{Group}
+use Rattle.acc_place.specs.declared.ops.Group.TheVariants.{Makes, CopyIns, Updates, CopyOuts, Releases}
 use Rattle.acc_place.specs.Batches.{copies_in, copies_out}
 use Rattle.acc_place.specs.inner.Noting.{awaits_from}
 use Rattle.acc_place.specs.Plans.{label_for}

@@ -11,7 +11,7 @@ use Rattle.acc_present.specs.Presences.{Presence, holder}
 use Rattle.acc_place.specs.declared.directive.DataItem.{DataItem}
 use Rattle.acc_place.specs.declared.directive.Kind.{Kind}
 use Rattle.acc_place.specs.declared.directive.Kind.TheVariants as kind
-use Rattle.acc_place.specs.declared.judge.Marked.{Marked}
+use Rattle.acc_place.specs.declared.marked.Marked.{Marked}
 use Rattle.acc_place.specs.Batches.{found_block}
 use Rattle.acc_place.specs.Implicit.{item_of}
 use Rattle.acc_place.specs.Loops.{use_in, uses_among}

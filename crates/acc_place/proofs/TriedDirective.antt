@@ -14,7 +14,7 @@ use Rattle.acc_place.specs.declared.directive.Kind.TheVariants as kind
 use Rattle.acc_place.specs.declared.directive.Region.{Region}
 use Rattle.acc_place.specs.declared.directive.TheConstants.{MAX_DIRECTIVES, MAX_ITEMS}
 use Rattle.acc_place.specs.declared.judge.Known.{Known}
-use Rattle.acc_place.specs.declared.judge.Marked.{Marked}
+use Rattle.acc_place.specs.declared.marked.Marked.{Marked}
 use Rattle.acc_place.specs.Targets.{has_bad_queue, waits_on_too_many}
 use Rattle.acc_place.specs.Accepting.{first_fault, fault_where, is_deep, is_outside}
 use Rattle.acc_place.specs.Counters.{entered_ranges}

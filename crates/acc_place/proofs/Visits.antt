@@ -13,7 +13,7 @@ use Rattle.acc_base.specs.declared.fault.Fault.TheVariants.{BadRange, PartlyPres
 use Rattle.acc_base.specs.Configurations.{Configuration, has_range}
 use Rattle.acc_batch.specs.declared.label.OpLabel.{OpLabel}
 use Rattle.acc_batch.specs.declared.label.OpLabel.TheVariants as op
-use Rattle.acc_present.specs.declared.table.Counter.TheVariants.{Structured, Dynamic}
+use Rattle.acc_present.specs.declared.change.Counter.TheVariants.{Structured, Dynamic}
 use Rattle.acc_present.specs.Legality.{AllLegal}
 use Rattle.acc_present.specs.Lifetimes.{opened_lifetimes, can_open}
 use Rattle.acc_present.specs.declared.change.Change.{Change}
@@ -32,8 +32,8 @@ use Rattle.acc_place.specs.declared.directive.Clause.TheVariants.{Copy, Copyin, 
 use Rattle.acc_place.specs.declared.directive.DataItem.{DataItem}
 use Rattle.acc_place.specs.declared.directive.Kind.{Kind}
 use Rattle.acc_place.specs.declared.directive.Kind.TheVariants as kind
-use Rattle.acc_place.specs.declared.plan.Group.TheVariants.{Makes, CopyIns, Updates, CopyOuts, Releases}
-use Rattle.acc_place.specs.declared.judge.Marked.{Marked}
+use Rattle.acc_place.specs.declared.ops.Group.TheVariants.{Makes, CopyIns, Updates, CopyOuts, Releases}
+use Rattle.acc_place.specs.declared.marked.Marked.{Marked}
 use Rattle.acc_place.specs.Accepting.{fault_at, first_fault, fault_where, has_opened, wants_whole, wants_presence}
 use Rattle.acc_place.specs.Batches.{opened_block, opened_blocks, ended_blocks, found_block, holding_blocks, makes, copy_ins, updates_by, updates, copy_outs, releases, grouped, copies_in, copies_out}
 use Rattle.acc_place.specs.inner.Noting.{ended_range}

@@ -8,9 +8,9 @@ use Rattle.std.proofs.lemmas.List.Elements.{All-tail}
 use Rattle.acc_base.specs.declared.range.Range.{Range}
 use Rattle.acc_base.specs.Ranges.{range_contains}
 use Rattle.acc_base.specs.Configurations.{Configuration}
-use Rattle.acc_present.specs.declared.table.Counter.{Counter}
-use Rattle.acc_present.specs.declared.table.Counter.TheVariants.{Structured, Dynamic}
-use Rattle.acc_present.specs.declared.table.TheConstants.{COUNTER_LIMIT}
+use Rattle.acc_present.specs.declared.change.Counter.{Counter}
+use Rattle.acc_present.specs.declared.change.Counter.TheVariants.{Structured, Dynamic}
+use Rattle.acc_present.specs.declared.entry.TheConstants.{COUNTER_LIMIT}
 use Rattle.acc_present.specs.declared.change.Change.{Change}
 use Rattle.acc_present.specs.declared.change.Change.TheVariants.{StructuredUp, StructuredDown, DynamicUp, DynamicDown, DynamicZero}
 use Rattle.acc_present.specs.Marks.{Mark}
@@ -23,7 +23,7 @@ use Rattle.acc_present.proofs.Holder.{is_present-none}
 use Rattle.acc_place.specs.declared.directive.DataItem.{DataItem}
 use Rattle.acc_place.specs.declared.directive.Kind.{Kind}
 use Rattle.acc_place.specs.declared.directive.Kind.TheVariants.{Data, EndData, EnterData, ExitData, Update, Loop, Wait, AsyncTest, IsPresent}
-use Rattle.acc_place.specs.declared.judge.Marked.{Marked}
+use Rattle.acc_place.specs.declared.marked.Marked.{Marked}
 use Rattle.acc_place.specs.Standings.{asked_by, change_by, change_where, exit_by}
 use Rattle.acc_place.specs.inner.Judging.{Holding, change_in, wants_look, holding_with, holding, mark_by, opens_one, opened_after, presences_by, holding_after, holding_after_all, fault_in, fault_or, first_fault_in, block_opened, marked_in, all_marked, AllLow, HasRoomFor, CanEnter, CanMark, HasEntered, AllEntered, IsFine, AllFine}
 

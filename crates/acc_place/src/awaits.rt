@@ -16,9 +16,10 @@ ghost use Rattle.acc_place.specs.inner.Trials.{named_count, number_in};
 ghost use Rattle.acc_place.specs.inner.Judging.{group_ops, marked_ops};
 
 use crate::directive::{Directive, Waits};
-use crate::judge::{Known, Marked};
+use crate::judge::Known;
 use crate::labels::Labels;
-use crate::plan::{Group, op_of};
+use crate::marked::Marked;
+use crate::ops::{Group, op_of};
 use crate::targets::queue_of;
 use acc_base::{BlockId, DeviceId, Fault, Few, QUEUES, QueueAt, QueueCounts, QueueId, Range};
 use acc_batch::OpLabel;

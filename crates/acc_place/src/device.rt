@@ -1,21 +1,21 @@
 //! What a place keeps of a device: its table, and how many lifetimes were opened. Marks are left there.
 
-ghost use Rattle.std.specs.Prelude.{ℕ, All, not, ◌≡◌, ◌+◌, ◌*◌, ◌<◌, ◌≤◌, ◌∷◌, [], length, IfOk, IfErr, OnOk, OnErr};
+ghost use Rattle.std.specs.Prelude.{ℕ, All, not, ◌≡◌, ◌+◌, ◌*◌, ◌<◌, ◌≤◌, ◌∷◌, [], length, IfOk, IfErr, OnOk, OnErr, IfSome};
 ghost use Rattle.std.specs.List.{flat_map};
 ghost use Rattle.acc_base.specs.declared.ids.TheConstants.{QUEUES};
 ghost use Rattle.acc_base.specs.declared.range.Range.{Range};
 ghost use Rattle.acc_present.specs.Notes.{Note, used_by, HasNotes};
 ghost use Rattle.acc_present.specs.Presences.{is_present};
 ghost use Rattle.acc_present.specs.Tables.{entry_mark, presences_after};
-ghost use Rattle.acc_present.specs.declared.table.TheConstants.{COUNTER_LIMIT};
+ghost use Rattle.acc_present.specs.declared.entry.TheConstants.{COUNTER_LIMIT};
 ghost use Rattle.acc_place.specs.declared.directive.TheConstants.{MAX_ITEMS};
 ghost use Rattle.acc_place.specs.inner.Devices.{held_on, AreFresh, IsEmpty};
-ghost use Rattle.acc_place.specs.inner.Noting.{changed_all, noted_by, noted_ranges};
+ghost use Rattle.acc_place.specs.inner.Noting.{changed_all, noted_by, noted_ranges, noted_with};
 ghost use Rattle.acc_place.specs.inner.Judging.{change_in, holding_after, holding_after_all, holding_with, opened_after, AllLow, CanEnter, CanMark, HasEntered, HasRoomFor, wants_look, IsFine, AllEntered, AllFine};
 
 use crate::directive::{Clause, DataItem, Kind, MAX_ITEMS};
 use acc_base::{BlockId, Config, Fault, QueueId, Range};
-use acc_batch::OpLabel;
+use acc_batch::{Label, OpLabel};
 use acc_present::{Change, Counter, Entered, Table};
 use std::alloc::Global;
 
@@ -207,4 +207,18 @@ pub(crate) fn devices_of(alloc: Global, config: &Config) -> Result<Vec<Device>, 
         })?;
     }
     Ok(devices)
+}
+
+// Notes what a batch makes and uses, if there is one.
+pub(crate) fn note_label(device: &mut Device, label: &Option<Label>)
+    requires { IfSome label.now (λ l. (l.at.queue < QUEUES) × All (λ u. 0 < u.1.len) (flat_map noted_ranges l.ops)) }
+    ensures held { held_on device.new ≡ held_on device.old }
+    ensures notes { (notes : Range → ℕ → Note) → HasNotes notes device.old.table.notes → HasNotes (noted_with label.now notes) device.new.table.notes }
+    ensures capacity { device.new.table.capacity ≡ device.old.table.capacity }
+    ensures room { device.new.table.room ≡ device.old.table.room }
+{
+    match label {
+        None => {}
+        Some(label) => device.note_all(label.at.queue, label.number, label.ops.get().as_slice()),
+    }
 }

@@ -1,20 +1,20 @@
 //! What is known where a directive is tried; its items are judged one by one.
 
-ghost use Rattle.std.specs.Prelude.{All, ◌≡◌, ◌+◌, ◌<◌, ◌≤◌, ◌++◌, not, true, length, Some, None, IfNone, IfOk, IfErr, OnOk, vec_len, vec_capacity, is_some};
+ghost use Rattle.std.specs.Prelude.{All, ◌≡◌, ◌+◌, ◌<◌, ◌≤◌, ◌++◌, not, length, Some, None, IfNone, IfOk, IfErr, OnOk, vec_len, vec_capacity, is_some};
 ghost use Rattle.acc_present.specs.Drafts.{drafted, IsDraft};
-ghost use Rattle.acc_present.specs.Presences.{holder, is_present};
-ghost use Rattle.acc_present.specs.declared.table.TheConstants.{COUNTER_LIMIT};
+ghost use Rattle.acc_present.specs.Presences.{is_present};
+ghost use Rattle.acc_present.specs.declared.entry.TheConstants.{COUNTER_LIMIT};
 ghost use Rattle.acc_present.specs.Tables.{IsFound, entry_mark, presences_after};
 ghost use Rattle.acc_place.specs.Accepting.{is_deep, is_outside, wants_presence};
-ghost use Rattle.acc_base.specs.Configurations.{has_range};
 ghost use Rattle.acc_place.specs.Regions.{open_region};
 ghost use Rattle.acc_place.specs.declared.directive.Kind.TheVariants.{EndData};
-ghost use Rattle.acc_place.specs.inner.Judging.{change_in, is_found, holding, holding_after_all, presences_by, can_open_by, fault_in, found_fault, limit_fault, first_fault_in, block_found, block_held, block_opened, block_ended, marked_in, all_marked, opened_after, AllLow, HasEntered, AllEntered, CanEnter, CanMark};
+ghost use Rattle.acc_place.specs.inner.Judging.{change_in, is_found, holding, holding_after_all, presences_by, can_open_by, fault_in, found_fault, limit_fault, first_fault_in, block_found, block_opened, block_ended, marked_in, all_marked, opened_after, AllLow, HasEntered, AllEntered, CanEnter, CanMark};
 
 use crate::directive::{
     Clause, DataItem, Directive, Kind, MAX_DIRECTIVES, MAX_ITEMS, MAX_REGIONS, Region,
 };
 use crate::labels::Labels;
+use crate::marked::Marked;
 use crate::regions::{depth, open_index};
 use crate::targets::{has_bad_queue, waits_on_too_many};
 use acc_base::{BlockId, Config, Fault, HostId, QueueAt, Range};
@@ -32,27 +32,6 @@ pub struct Known<'a> {
     pub opened: u64,
     pub labels: &'a Labels,
     pub at: QueueAt,
-}
-
-/// What became of an item: the number of the block that held its range before, of the block of the lifetime that it
-/// opened, and of the one that it ended.
-#[derive(Clone, Copy)]
-pub struct Marked {
-    pub item: DataItem,
-    pub held: Option<u64>,
-    pub opened: Option<u64>,
-    pub ended: Option<u64>,
-}
-
-impl Marked {
-    ghost use Rattle.acc_place.specs.inner.Judging.{has_counted};
-
-    /// Whether the item was counted: its range was present, or is opened.
-    pub(crate) fn has_counted(&self) -> bool
-        ensures { result ≡ has_counted self.now }
-    {
-        self.held.is_some() || self.opened.is_some()
-    }
 }
 
 /// The first fault of a host's directive on so many items, on a device that is there, that does not depend on their

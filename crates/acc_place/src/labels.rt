@@ -1,10 +1,9 @@
 //! The labels of the batches on each queue of each device.
 
-ghost use Rattle.std.specs.Prelude.{ℕ, All, ◌≡◌, ◌<◌, ◌≤◌, ◌++◌, [], ◌∷◌, length, slice_index_or, slice_set, IfOk, IfErr, OnOk, OnErr};
+ghost use Rattle.std.specs.Prelude.{ℕ, All, ◌≡◌, ◌<◌, ◌≤◌, ◌++◌, [], ◌∷◌, length, slice_index_or, slice_set, IfOk, IfErr, OnOk, OnErr, IfSome};
 ghost use Rattle.acc_base.specs.declared.fault.Fault.TheVariants.{Memory};
-ghost use Rattle.acc_base.specs.declared.ids.TheConstants.{QUEUES};
 ghost use Rattle.acc_base.specs.Queues.{queue_count, seat};
-ghost use Rattle.acc_place.specs.inner.Places.{queue_in};
+ghost use Rattle.acc_place.specs.inner.Places.{queue_in, queues_after};
 
 use acc_base::{Config, Fault, QUEUES, QueueAt};
 use acc_batch::Label;
@@ -90,5 +89,17 @@ impl Labels {
     {
         let seat = label.at.seat();
         self.queues[seat].push_reserved(label);
+    }
+}
+
+// Adds the label of a batch, if there is one.
+pub(crate) fn push_label(labels: &mut Labels, label: Option<Label>)
+    requires { IfSome label (λ l. (seat l.at < length labels.old.queues) × (length (slice_index_or labels.old.queues (seat l.at) []) < slice_index_or labels.old.room (seat l.at) 0)) }
+    ensures queues { labels.new.queues ≡ queues_after labels.old.queues label }
+    ensures room { labels.new.room ≡ labels.old.room }
+{
+    match label {
+        None => {}
+        Some(label) => labels.push(label),
     }
 }

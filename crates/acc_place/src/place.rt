@@ -1,36 +1,28 @@
 //! The place: the devices, the regions, the place history and the labels. It plans a directive, accepts it, and closes.
 
-ghost use Rattle.std.specs.Prelude.{ℕ, All, reverse, false, ◌≡◌, ◌+◌, ◌<◌, ◌==◌, ◌++◌, [], ◌∷◌, length, true, None, IfOk, IfErr, OnOk, OnErr, OnSome, IfSome, slice_get, slice_index_or, ◌^◌, if◌then◌else◌};
-ghost use Rattle.std.specs.List.{flat_map};
-ghost use Rattle.std.specs.Option.{option_map, option_to_list};
+ghost use Rattle.std.specs.Prelude.{reverse, false, ◌≡◌, ◌+◌, ◌<◌, [], ◌∷◌, length, true, None, IfOk, IfErr, OnOk, OnErr, OnSome, slice_get, ◌^◌, if◌then◌else◌};
+ghost use Rattle.std.specs.Option.{option_map};
 ghost use Rattle.acc_base.specs.Configurations.{IsRefusal};
 ghost use Rattle.acc_base.specs.declared.fault.Fault.TheVariants.{Memory};
 ghost use Rattle.acc_base.specs.declared.ids.QueueAt.{QueueAt};
-ghost use Rattle.acc_base.specs.Queues.{seat};
 ghost use Rattle.acc_batch.specs.Labels.{on_queue};
 ghost use Rattle.acc_present.specs.Presences.{presences, holder, is_present};
 ghost use Rattle.acc_present.specs.Tables.{entry_presence};
 ghost use Rattle.acc_place.specs.Accepting.{refusal};
-ghost use Rattle.acc_base.specs.declared.ids.TheConstants.{QUEUES};
-ghost use Rattle.acc_base.specs.declared.range.Range.{Range};
-ghost use Rattle.acc_present.specs.Notes.{Note, HasNotes};
 ghost use Rattle.acc_place.specs.Answers.{answers_of, GoTogether};
 ghost use Rattle.acc_place.specs.Batches.{answer_of, next_number};
-ghost use Rattle.acc_place.specs.inner.Devices.{held_on};
-ghost use Rattle.acc_place.specs.inner.Noting.{noted_ranges, noted_with};
 ghost use Rattle.acc_place.specs.Closing.{place_after_begin, close_of, place_after_close, handed_back, handed_out, is_at_hand, ClosesQueue, IsOut};
 ghost use Rattle.acc_place.specs.declared.directive.PlaceEntry.TheVariants.{Accepted};
 ghost use Rattle.acc_place.specs.Histories.{is_closed, AllAccepted, IsQueue};
-ghost use Rattle.acc_place.specs.inner.Places.{queues_after};
 ghost use Rattle.acc_place.specs.Plans.{nth_batch, standing_in, IsPlanOf, IsRoomy, Fits, place_after, queue_for};
 ghost use Rattle.acc_place.specs.Standings.{walk_of};
 
 use crate::answer::Answer;
 use crate::closes::{Close, closes_of};
-use crate::device::{Device, devices_of};
+use crate::device::{Device, devices_of, note_label};
 use crate::directive::{Directive, Kind, PlaceEntry, Placed, Region};
 use crate::judge::Known;
-use crate::labels::Labels;
+use crate::labels::{Labels, push_label};
 use crate::plan::Plan;
 use crate::regions::{device_by, enter_or_leave, written_by};
 use crate::subject::ends_of;
@@ -501,31 +493,5 @@ impl Place {
             ..
         } = self;
         (config, history, counts)
-    }
-}
-
-// Notes what a batch makes and uses, if there is one.
-fn note_label(device: &mut Device, label: &Option<Label>)
-    requires { IfSome label.now (λ l. (l.at.queue < QUEUES) × All (λ u. 0 < u.1.len) (flat_map noted_ranges l.ops)) }
-    ensures held { held_on device.new ≡ held_on device.old }
-    ensures notes { (notes : Range → ℕ → Note) → HasNotes notes device.old.table.notes → HasNotes (noted_with label.now notes) device.new.table.notes }
-    ensures capacity { device.new.table.capacity ≡ device.old.table.capacity }
-    ensures room { device.new.table.room ≡ device.old.table.room }
-{
-    match label {
-        None => {}
-        Some(label) => device.note_all(label.at.queue, label.number, label.ops.get().as_slice()),
-    }
-}
-
-// Adds the label of a batch, if there is one.
-fn push_label(labels: &mut Labels, label: Option<Label>)
-    requires { IfSome label (λ l. (seat l.at < length labels.old.queues) × (length (slice_index_or labels.old.queues (seat l.at) []) < slice_index_or labels.old.room (seat l.at) 0)) }
-    ensures queues { labels.new.queues ≡ queues_after labels.old.queues label }
-    ensures room { labels.new.room ≡ labels.old.room }
-{
-    match label {
-        None => {}
-        Some(label) => labels.push(label),
     }
 }

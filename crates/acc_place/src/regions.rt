@@ -1,6 +1,6 @@
 //! The data constructs that the hosts are inside.
 
-ghost use Rattle.std.specs.Prelude.{List, ◌≡◌, ◌<◌, [], length, remove, slice_get, vec_len, vec_capacity, IfSome, IfOk, IfErr};
+ghost use Rattle.std.specs.Prelude.{List, ◌≡◌, ◌<◌, length, remove, slice_get, vec_len, vec_capacity, IfSome, IfOk, IfErr};
 ghost use Rattle.std.specs.Option.{option_and_then};
 ghost use Rattle.acc_place.specs.Plans.{opened_region};
 ghost use Rattle.acc_place.specs.Regions.{regions_of, open_region, without_open, regions_after};
@@ -8,7 +8,7 @@ ghost use Rattle.acc_place.specs.declared.directive.DataItem.{DataItem};
 ghost use Rattle.acc_place.specs.inner.Judging.{counted_steps, device_by, written_by};
 
 use crate::directive::{DataItem, Directive, Kind, Region};
-use crate::judge::Marked;
+use crate::marked::Marked;
 use acc_base::{DeviceId, Fault, Few, HostId};
 use std::alloc::Global;
 

@@ -14,7 +14,8 @@ ghost use Rattle.acc_place.specs.inner.Judging.{counted_steps, device_by};
 
 use crate::answer::is_answered;
 use crate::directive::{DataItem, Directive, MAX_ITEMS, Region};
-use crate::judge::{Known, Marked, judge_all, leave_all, limit_fault};
+use crate::judge::{Known, judge_all, leave_all, limit_fault};
+use crate::marked::Marked;
 use crate::plan::{Plan, plan_of};
 use crate::subject::{ends_of, past_fault, put_items, run_in};
 use acc_base::{Config, Fault, HostId};

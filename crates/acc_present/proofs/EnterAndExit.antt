@@ -8,9 +8,9 @@ use Rattle.std.proofs.lemmas.List.{map-set, length-map, set-get_or, get_or-map}
 use Rattle.std.proofs.lemmas.List.Sums.{sum_by-insert, sum_by-remove, sum_by-set}
 use Rattle.acc_base.specs.declared.range.Range.{Range}
 use Rattle.acc_base.specs.Ranges.{range_contains}
-use Rattle.acc_present.specs.declared.table.Counter.{Counter}
-use Rattle.acc_present.specs.declared.table.Counter.TheVariants.{Structured, Dynamic}
-use Rattle.acc_present.specs.declared.table.Entry.{Entry}
+use Rattle.acc_present.specs.declared.change.Counter.{Counter}
+use Rattle.acc_present.specs.declared.change.Counter.TheVariants.{Structured, Dynamic}
+use Rattle.acc_present.specs.declared.entry.Entry.{Entry}
 use Rattle.acc_present.specs.declared.table.Left.{Left}
 use Rattle.acc_present.specs.declared.table.Left.TheVariants as left
 use Rattle.acc_present.specs.declared.change.Change.{Change}

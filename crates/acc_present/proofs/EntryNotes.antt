@@ -5,7 +5,7 @@ use Rattle.std.proofs.lemmas.List.{map-set, length-map}
 use Rattle.std.proofs.lemmas.List.Elements.{All-nil, All-cons, All-head, All-tail, All-set}
 use Rattle.acc_base.specs.declared.range.Range.{Range}
 use Rattle.acc_base.specs.Ranges.{range_contains}
-use Rattle.acc_present.specs.declared.table.Entry.{Entry}
+use Rattle.acc_present.specs.declared.entry.Entry.{Entry}
 use Rattle.acc_present.specs.Notes.{Note, entry_note, Noted, entry_noted, HasNotes, changed_at}
 use Rattle.acc_present.specs.Presences.{Presence, is_present}
 use Rattle.acc_present.specs.Tables.{entry_presence, is_table, ends_before_all}

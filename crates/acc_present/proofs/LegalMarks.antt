@@ -6,7 +6,7 @@ use Rattle.std.proofs.lemmas.Bool.{cases_Bool, and_parts, and_from}
 use Rattle.std.proofs.lemmas.List.Elements.{All-nil, All-cons}
 use Rattle.acc_base.specs.declared.range.Range.{Range}
 use Rattle.acc_base.specs.Ranges.{range_contains}
-use Rattle.acc_present.specs.declared.table.Counter.TheVariants.{Dynamic}
+use Rattle.acc_present.specs.declared.change.Counter.TheVariants.{Dynamic}
 use Rattle.acc_present.specs.Legality.{IsEntered, MeetsCondition, IsLegal, AllLegal, StructuredIsTheDifference}
 use Rattle.acc_present.specs.Lifetimes.{Lifetime, opened_lifetimes, live_lifetimes, lives, opens, can_open, is_counted, marks_since, stays_counted, structured_of, entries_of, exits_of}
 use Rattle.acc_present.specs.declared.change.Change.{Change}

@@ -8,7 +8,7 @@ use Rattle.std.proofs.lemmas.List.{drop-map, drop_more}
 use Rattle.std.proofs.lemmas.Option.{slice_get_within, get_or_from_slice_get}
 use Rattle.acc_base.specs.declared.range.Range.{Range}
 use Rattle.acc_base.specs.Ranges.{range_overlaps}
-use Rattle.acc_present.specs.declared.table.Entry.{Entry}
+use Rattle.acc_present.specs.declared.entry.Entry.{Entry}
 use Rattle.acc_present.specs.Lifetimes.{is_before}
 use Rattle.acc_present.specs.Presences.{Presence, overlaps_any}
 use Rattle.acc_present.specs.Tables.{entry_presence, is_table, ends_before, ends_before_all}

@@ -3,7 +3,7 @@ use Rattle.std.specs.Prelude.{◌≡◌, ℕ, List, All, slice_set, replicate, i
 use Rattle.acc_base.specs.declared.ids.TheConstants.{QUEUES}
 use Rattle.acc_base.specs.declared.range.Range.{Range}
 use Rattle.acc_base.specs.Ranges.{range_contains}
-use Rattle.acc_present.specs.declared.table.Entry.{Entry}
+use Rattle.acc_present.specs.declared.entry.Entry.{Entry}
 use Rattle.acc_present.specs.declared.table.Look.{Look}
 use Rattle.acc_present.specs.declared.table.Look.TheVariants as look
 

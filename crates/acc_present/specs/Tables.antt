@@ -3,9 +3,9 @@ use Rattle.std.specs.Prelude.{◌≡◌, ℕ, ◌+◌, ◌-◌, Bool, true, fals
 use Rattle.std.specs.List.{list_all}
 use Rattle.acc_base.specs.declared.range.Range.{Range}
 use Rattle.acc_base.specs.Lists.{inserted_by}
-use Rattle.acc_present.specs.declared.table.Counter.{Counter}
-use Rattle.acc_present.specs.declared.table.Counter.TheVariants.{Structured, Dynamic}
-use Rattle.acc_present.specs.declared.table.Entry.{Entry}
+use Rattle.acc_present.specs.declared.change.Counter.{Counter}
+use Rattle.acc_present.specs.declared.change.Counter.TheVariants.{Structured, Dynamic}
+use Rattle.acc_present.specs.declared.entry.Entry.{Entry}
 use Rattle.acc_present.specs.declared.held.Held.{Held}
 use Rattle.acc_present.specs.declared.held.Found.{Found}
 use Rattle.acc_present.specs.declared.held.Found.TheVariants as found

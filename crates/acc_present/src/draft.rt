@@ -1,21 +1,22 @@
 //! A draft of a table: the present ranges that marks changed, and the table beside them. A mark takes what a look found.
 
 ghost use Rattle.std.specs.Prelude.{◌≡◌, ◌+◌, ◌<◌, ◌≤◌, [], length, map, filter, slice_get, slice_set, true, false, None, if◌then◌else◌, vec_len, vec_capacity, IfSome, IfOk, IfErr};
-ghost use Rattle.std.specs.Option.{option_map, option_and_then};
+ghost use Rattle.std.specs.Option.{option_and_then};
 ghost use Rattle.acc_base.specs.declared.fault.Fault.TheVariants.{Memory};
+ghost use Rattle.acc_present.specs.declared.entry.TheConstants.{COUNTER_LIMIT};
 ghost use Rattle.acc_present.specs.Legality.{MeetsCondition};
 ghost use Rattle.acc_present.specs.Lifetimes.{can_open};
 ghost use Rattle.acc_present.specs.declared.change.Change.TheVariants.{DynamicZero};
 ghost use Rattle.acc_present.specs.declared.held.Found.TheVariants.{Absent, Partly};
 ghost use Rattle.acc_present.specs.Presences.{holder, is_present, is_partly_present, overlaps_any, used_cells};
 ghost use Rattle.acc_present.specs.Tables.{entry_mark, exit_mark, finalize_mark, exit_change, counter_of, presences_after, kept_after, has_count, held_presence, is_table, IsFound, left_of};
-ghost use Rattle.acc_present.specs.Drafts.{beside, with_changed, drafted, IsDraft};
+ghost use Rattle.acc_present.specs.Drafts.{with_changed, drafted, IsDraft};
 
-use crate::change::Change;
+use crate::change::{Change, Counter, exit_change};
 use crate::held::{
     Found, Held, count_of, count_up, counted_down, has_count, held_of, opened, overlaps_one,
 };
-use crate::table::{COUNTER_LIMIT, Counter, Entered, Left, Look, Table, exit_change};
+use crate::table::{Entered, Left, Look, Table};
 use acc_base::{BlockId, Fault, Range};
 use std::alloc::Global;
 use std::marker::Model;

@@ -6,7 +6,7 @@ ghost use Rattle.std.proofs.Common.{get_or};
 ghost use Rattle.std.specs.Borrow.{sem};
 ghost use Rattle.acc_base.specs.declared.fault.Fault.TheVariants as fault;
 
-use crate::table::Entry;
+use crate::entry::Entry;
 use acc_base::{BlockId, Fault, QUEUES, QueueId, Range};
 use acc_raw::{Chain, Indexed, Node};
 use std::alloc::Global;

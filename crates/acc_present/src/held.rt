@@ -3,11 +3,11 @@
 ghost use Rattle.std.specs.Prelude.{◌≡◌, ◌<◌, false, map};
 ghost use Rattle.acc_present.specs.Presences.{overlaps_any};
 ghost use Rattle.acc_present.specs.Lifetimes.{can_open};
-ghost use Rattle.acc_present.specs.declared.table.TheConstants.{COUNTER_LIMIT};
+ghost use Rattle.acc_present.specs.declared.entry.TheConstants.{COUNTER_LIMIT};
 ghost use Rattle.acc_present.specs.Tables.{entry_mark, entry_change, counter_of, changed_counter, stepped, opening, has_count, entry_presence, held_presence};
 
-use crate::change::Change;
-use crate::table::{Counter, Entry};
+use crate::change::{Change, Counter};
+use crate::entry::Entry;
 use acc_base::{BlockId, Range};
 
 /// A present range, its block, and its structured and its dynamic counter.

@@ -1,50 +1,29 @@
 //! The table: entries in their order, searched by halves.
 
 ghost use Rattle.std.specs.Prelude.{◌≡◌, ℕ, ◌+◌, ◌^◌, ◌<◌, ◌≤◌, [], length, map, slice_get, slice_set, remove, true, false, Some, None, if◌then◌else◌, IfSome, IfErr, OnOk, OnErr, OnSome};
-ghost use Rattle.std.specs.Option.{option_map, option_map_or, option_and_then};
-ghost use Rattle.std.specs.List.{position_or_len};
+ghost use Rattle.std.specs.Option.{option_map};
 ghost use Rattle.acc_base.specs.declared.ids.TheConstants.{QUEUES};
 ghost use Rattle.acc_base.specs.declared.range.Range.{Range};
-ghost use Rattle.acc_base.specs.Ranges.{range_overlaps};
-ghost use Rattle.acc_present.specs.Lifetimes.{is_before, can_open};
+ghost use Rattle.acc_present.specs.Lifetimes.{can_open};
+ghost use Rattle.acc_present.specs.declared.entry.TheConstants.{COUNTER_LIMIT};
 ghost use Rattle.acc_present.specs.declared.change.Change.TheVariants.{DynamicZero};
 ghost use Rattle.acc_present.specs.Presences.{holder, is_present, is_partly_present, overlaps_any, used_cells};
 ghost use Rattle.acc_present.specs.Drafts.{beside};
 ghost use Rattle.acc_present.specs.Legality.{MeetsCondition};
-ghost use Rattle.acc_present.specs.Tables.{entry_mark, exit_mark, finalize_mark, entry_change, exit_change, counter_of, changed_counter, stepped, opening, presences_after, kept_after, has_count, entry_presence, held_presence, is_table, AreNoted, IsLook, left_of};
+ghost use Rattle.acc_present.specs.Tables.{entry_mark, exit_mark, finalize_mark, exit_change, counter_of, presences_after, kept_after, has_count, entry_presence, held_presence, is_table, AreNoted, IsLook, left_of};
 ghost use Rattle.acc_present.specs.Notes.{Note, entry_note, entry_noted, HasNotes, IsNoted, no_note, used_by, made_by, changed_at};
 
-use crate::change::Change;
+use crate::change::{Change, Counter, exit_change};
 use crate::entries::Entries;
-use crate::held::{Held, overlaps_one};
-use acc_base::{BlockId, Fault, QUEUES, QueueCounts, QueueId, Range};
-use acc_raw::{Chain, Indexed};
+use crate::entry::{
+    Entry, count_of, count_up, counted_down, has_count, make_by, new_entry, use_by,
+};
+use crate::held::Held;
+use crate::search::{held_before, index_behind, index_of, overlaps_around, overlaps_beside_in};
+use acc_base::{BlockId, Fault, QueueId, Range};
+use acc_raw::Chain;
 use std::alloc::Global;
 use std::marker::Model;
-
-/// A counter that is incremented is below this.
-pub const COUNTER_LIMIT: u64 = 9_223_372_036_854_775_808;
-
-/// A reference counter of present data (OpenACC API 3.0, 2.6.7, Reference Counters).
-#[derive(Clone, Copy, Debug, PartialEq, Eq)]
-pub enum Counter {
-    /// Counts the regions that were entered and not yet left.
-    Structured,
-    /// Counts `enter data` and `exit data`, and the routines that act as these.
-    Dynamic,
-}
-
-/// A present range, its block, its structured and its dynamic counter; the queue and the number of the batch that made the
-/// block; and of each queue the number of the last batch that made or used it, or 0.
-#[derive(Clone, Copy, Debug, PartialEq, Eq)]
-pub struct Entry {
-    pub range: Range,
-    pub block: BlockId,
-    pub s: u64,
-    pub d: u64,
-    pub maker: (QueueId, u64),
-    pub uses: QueueCounts,
-}
 
 /// What a table has of a range.
 #[derive(Clone, Copy, Debug, PartialEq, Eq)]
@@ -369,234 +348,4 @@ impl Table {
     {
         let _capacity = self.capacity;
     }
-}
-
-// The first range begins before the second.
-#[tactic(auto, unfolding(crate::specs::Lifetimes::is_before))]
-fn stands_before(first: Range, second: Range) -> bool
-    ensures { result ≡ is_before first second }
-{
-    first.array < second.array || (first.array == second.array && first.lo < second.lo)
-}
-
-// Whether the entry at this index begins behind the range's first cell.
-fn begins_behind(entries: &Indexed<Entry>, at: usize, range: Range) -> bool
-    requires table { is_table (map entry_presence entries.now.items) ≡ true }
-    requires within { at < length entries.now.items }
-    ensures behind { result ≡ true → position_or_len (λ p. is_before range p.range) (map entry_presence entries.now.items) ≤ at }
-    ensures before { result ≡ false → at < position_or_len (λ p. is_before range p.range) (map entry_presence entries.now.items) }
-{
-    stands_before(range, entries.get(at).range)
-}
-
-// The index of the first entry that begins behind the range's first cell, or the end: looked for near a place, then by halves.
-fn index_behind(entries: &Indexed<Entry>, near: usize, range: Range) -> usize
-    requires { is_table (map entry_presence entries.now.items) ≡ true }
-    ensures index { result ≡ position_or_len (λ p. is_before range p.range) (map entry_presence entries.now.items) }
-    ensures within { result ≤ length entries.now.items }
-{
-    let (mut low, mut high) = bounds_by(entries, near, range);
-    while low < high {
-        let middle = low + (high - low) / 2;
-        if begins_behind(entries, middle, range) {
-            high = middle;
-        } else {
-            low = middle + 1;
-        }
-    }
-    low
-}
-
-// The bounds of that index, as the entries beside a place tell: both are the same where it is the place or the one behind.
-fn bounds_by(entries: &Indexed<Entry>, near: usize, range: Range) -> (usize, usize)
-    requires { is_table (map entry_presence entries.now.items) ≡ true }
-    ensures from { result.0 ≤ position_or_len (λ p. is_before range p.range) (map entry_presence entries.now.items) }
-    ensures until { position_or_len (λ p. is_before range p.range) (map entry_presence entries.now.items) ≤ result.1 }
-    ensures within { result.1 ≤ length entries.now.items }
-{
-    let len = entries.len();
-    let near = near.min(len);
-    if near < len && !begins_behind(entries, near, range) {
-        let next = near + 1;
-        if next < len && !begins_behind(entries, next, range) {
-            return (next + 1, len);
-        }
-        return (next, next);
-    }
-    if 0 < near && begins_behind(entries, near - 1, range) {
-        return (0, near - 1);
-    }
-    (near, near)
-}
-
-// The index of the entry that contains the range. Remembers where it went.
-fn index_of(entries: &Indexed<Entry>, near: &mut usize, range: Range) -> Option<usize>
-    requires table { is_table (map entry_presence entries.now.items) ≡ true }
-    requires cells { 0 < range.len }
-    ensures held { holder (map entry_presence entries.now.items) range ≡ option_and_then (slice_get (map entry_presence entries.now.items)) result }
-    ensures within { IfSome result (λ i. i < length entries.now.items) }
-{
-    *near = index_behind(entries, *near, range);
-    held_before(entries, *near, range)
-}
-
-// The same, where the first entry that begins behind the range's first cell stands at this index: no other entry contains
-// the range than the one before.
-fn held_before(entries: &Indexed<Entry>, behind: usize, range: Range) -> Option<usize>
-    requires table { is_table (map entry_presence entries.now.items) ≡ true }
-    requires cells { 0 < range.len }
-    requires index { behind ≡ position_or_len (λ p. is_before range p.range) (map entry_presence entries.now.items) }
-    requires within { behind ≤ length entries.now.items }
-    ensures held { holder (map entry_presence entries.now.items) range ≡ option_and_then (slice_get (map entry_presence entries.now.items)) result }
-    ensures within { IfSome result (λ i. i < length entries.now.items) }
-{
-    if behind == 0 {
-        return None;
-    }
-    if entries.get(behind - 1).range.contains(&range) {
-        Some(behind - 1)
-    } else {
-        None
-    }
-}
-
-// If any entry overlaps the range, one of the two on both sides of its first cell does.
-fn overlaps_around(entries: &Indexed<Entry>, behind: usize, range: Range) -> bool
-    requires table { is_table (map entry_presence entries.now.items) ≡ true }
-    requires index { behind ≡ position_or_len (λ p. is_before range p.range) (map entry_presence entries.now.items) }
-    ensures { result ≡ overlaps_any (map entry_presence entries.now.items) range }
-{
-    if behind == 0 {
-        return overlaps_at(entries, 0, range);
-    }
-    overlaps_at(entries, behind - 1, range) || overlaps_at(entries, behind, range)
-}
-
-// Whether there is an entry at this index, and it overlaps the range.
-fn overlaps_at(entries: &Indexed<Entry>, at: usize, range: Range) -> bool
-    ensures { result ≡ option_map_or (λ p. range_overlaps p.range range) (slice_get (map entry_presence entries.now.items) at) false }
-{
-    at < entries.len() && entries.get(at).range.overlaps(&range)
-}
-
-// Whether the range overlaps an entry that no changed one overlaps, where the first entry that begins behind the range's first
-// cell stands at this index. Goes along the entries until one begins behind the range.
-fn overlaps_beside_in(
-    entries: &Indexed<Entry>,
-    behind: usize,
-    range: Range,
-    changed: &[Held],
-) -> bool
-    requires table { is_table (map entry_presence entries.now.items) ≡ true }
-    requires index { behind ≡ position_or_len (λ p. is_before range p.range) (map entry_presence entries.now.items) }
-    ensures { result ≡ overlaps_any (beside (map held_presence changed.now) (map entry_presence entries.now.items)) range }
-{
-    let mut at = behind.saturating_sub(1);
-    while at < entries.len() {
-        let entry = entries.get(at);
-        if entry.range.overlaps(&range) {
-            if !overlaps_one(changed, entry.range) {
-                return true;
-            }
-        } else if stands_before(range, entry.range) {
-            return false;
-        }
-        at += 1;
-    }
-    false
-}
-
-// An entry for a range that was absent, counted once.
-fn new_entry(range: Range, counter: Counter, block: BlockId) -> Entry
-    ensures presence { entry_presence result ≡ opening (entry_mark counter range) block }
-    ensures note { entry_note result ≡ no_note }
-{
-    let mut entry = Entry {
-        range,
-        block,
-        s: 0,
-        d: 0,
-        maker: (QueueId::SYNC, 0),
-        uses: [0; QUEUES as usize],
-    };
-    count_up(&mut entry, counter);
-    entry
-}
-
-// Counts an entry to this one's range.
-fn count_up(entry: &mut Entry, counter: Counter)
-    requires { counter_of counter (entry_presence entry.old) < COUNTER_LIMIT }
-    ensures presence { entry_presence entry.new ≡ stepped (entry_change counter) (entry_presence entry.old) }
-    ensures note { entry_note entry.new ≡ entry_note entry.old }
-{
-    match counter {
-        Counter::Structured => entry.s += 1,
-        Counter::Dynamic => entry.d += 1,
-    }
-}
-
-// What an exit's change makes of an entry.
-fn counted_down(entry: &Entry, change: Change) -> Entry
-    requires exit { can_open change ≡ false }
-    requires some { 0 < counter_of (changed_counter change) (entry_presence entry.now) }
-    ensures presence { entry_presence result ≡ stepped change (entry_presence entry.now) }
-    ensures note { entry_note result ≡ entry_note entry.now }
-{
-    match change {
-        Change::StructuredDown => Entry {
-            s: entry.s - 1,
-            ..*entry
-        },
-        Change::DynamicDown => Entry {
-            d: entry.d - 1,
-            ..*entry
-        },
-        Change::DynamicZero => Entry { d: 0, ..*entry },
-        Change::StructuredUp | Change::DynamicUp => unreachable!(),
-    }
-}
-
-// This batch of a queue used the entry's block.
-fn use_by(entry: &mut Entry, queue: QueueId, batch: u64)
-    requires { queue < QUEUES }
-    ensures presence { entry_presence entry.new ≡ entry_presence entry.old }
-    ensures note { entry_note entry.new ≡ used_by queue batch (entry_note entry.old) }
-{
-    entry.uses[usize::from(queue.number())] = batch;
-}
-
-// This batch of a queue made the entry's block.
-fn make_by(entry: &mut Entry, queue: QueueId, batch: u64)
-    requires { queue < QUEUES }
-    ensures presence { entry_presence entry.new ≡ entry_presence entry.old }
-    ensures note { entry_note entry.new ≡ made_by queue batch (entry_note entry.old) }
-{
-    entry.maker = (queue, batch);
-    use_by(entry, queue, batch);
-}
-
-pub(crate) fn exit_change(counter: Counter) -> Change
-    ensures change { result ≡ exit_change counter }
-    ensures exit { can_open result ≡ false }
-{
-    match counter {
-        Counter::Structured => Change::StructuredDown,
-        Counter::Dynamic => Change::DynamicDown,
-    }
-}
-
-// The counter that a change is of.
-fn count_of(entry: &Entry, change: Change) -> u64
-    ensures { result ≡ counter_of (changed_counter change) (entry_presence entry.now) }
-{
-    match change {
-        Change::StructuredUp | Change::StructuredDown => entry.s,
-        Change::DynamicUp | Change::DynamicDown | Change::DynamicZero => entry.d,
-    }
-}
-
-fn has_count(entry: &Entry) -> bool
-    ensures { result ≡ has_count (entry_presence entry.now) }
-{
-    entry.s > 0 || entry.d > 0
 }

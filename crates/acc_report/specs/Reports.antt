@@ -25,7 +25,7 @@ use Rattle.acc_host.specs.Entries.{entries_merged, items_shown, own_of}
 use Rattle.acc_host.specs.Hosts.{bare_statements}
 use Rattle.acc_report.specs.Lines.{each_below, line_text, presence_text, state_text, totals_text}
 use Rattle.acc_report.specs.Prints.{lines}
-use Rattle.acc_report.specs.declared.run.Run.{Run}
+use Rattle.acc_report.specs.declared.remains.Run.{Run}
 
 -- What a run leaves: the configuration, the place history with its counts and the work log, each with its latest entry first;
 -- where each host stands; and what was discarded.

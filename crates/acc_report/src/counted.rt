@@ -7,7 +7,7 @@ ghost use Rattle.acc_report.specs.Reports.{left_after};
 ghost use Rattle.acc_report.specs.inner.Counting.{AreCounted, IsCounted, counted_behind, counted_with, one_counted};
 ghost use Rattle.acc_work.specs.Logs.{performed};
 
-use crate::run::Run;
+use crate::remains::Run;
 use acc_base::{Config, Fault, QUEUES, QueueAt};
 use acc_batch::OpLabel;
 use acc_host::Discarded;

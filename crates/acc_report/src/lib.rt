@@ -8,10 +8,12 @@ mod laws;
 mod line;
 mod page;
 mod prints;
+mod remains;
 mod retold;
 mod run;
 
 pub use bytes::{ReportFault, put, put_number};
 pub use laws::{ids_are_not_told, lines_are_found};
 pub use line::put_queue_name;
-pub use run::{Run, report, report_run};
+pub use remains::Run;
+pub use run::{report, report_run};

@@ -1,9 +1,8 @@
 //! The report of a run.
 
-ghost use Rattle.std.specs.Prelude.{◌≡◌, ◌<◌, ◌≤◌, ◌*◌, length, take, slice_index_or, Some};
+ghost use Rattle.std.specs.Prelude.{◌≡◌, ◌<◌, ◌≤◌, length, take, slice_index_or};
 ghost use Rattle.acc_base.specs.Queues.{seat};
 ghost use Rattle.acc_base.specs.declared.config.TheConstants.{MAX_HOSTS};
-ghost use Rattle.acc_base.specs.declared.ids.TheConstants.{QUEUES};
 ghost use Rattle.acc_batch.specs.Labels.{on_queue, ops_of};
 ghost use Rattle.acc_place.specs.Plans.{nth_batch, standing_in};
 ghost use Rattle.acc_report.specs.Totals.{plain_batches, plain_ops};
@@ -18,25 +17,15 @@ use crate::bytes::{ReportFault, put, put_number};
 use crate::counted::{Counted, count_run};
 use crate::line::{put_presence, put_state, put_totals};
 use crate::prints::put_lines;
+use crate::remains::Run;
 use crate::retold::retell;
 use acc_base::{DeviceId, HostId, QUEUES, QueueAt, QueueId};
 use acc_batch::OpLabel;
-use acc_host::{Discarded, HostProgram, HostState, Outcome, OwnEntries, Statement};
+use acc_host::{HostProgram, HostState, Outcome, OwnEntries, Statement};
 use acc_place::Place;
 use acc_script::Script;
-use acc_work::WorkLog;
 use std::alloc::Global;
 use std::io::Write;
-
-/// A run, as its report reads it: the place that accepted its directives, its work log, where each host stands, and what was
-/// discarded.
-#[derive(Clone, Copy)]
-pub struct Run<'a> {
-    pub place: &'a Place,
-    pub works: &'a WorkLog,
-    pub hosts: &'a [HostState],
-    pub discarded: &'a [Discarded],
-}
 
 /// Writes the report of what a run of a script left, as `report_run` does. The place history is told once more for it.
 ///

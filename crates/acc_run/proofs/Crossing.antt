@@ -32,7 +32,7 @@ use Rattle.acc_place.specs.contracts.directive.Region as region
 use Rattle.acc_place.specs.contracts.directive.Placed as placed
 use Rattle.acc_place.specs.contracts.answer.Answer as answer
 use Rattle.acc_place.specs.contracts.closes.Close as close
-use Rattle.acc_present.specs.contracts.table.Entry as entry
+use Rattle.acc_present.specs.contracts.entry.Entry as entry
 use Rattle.acc_present.specs.contracts.entries.Entries as entries
 use Rattle.acc_present.specs.contracts.table.Table as table
 use Rattle.acc_present.specs.contracts.draft.Draft as draft

@@ -1,13 +1,14 @@
 //! The hosts of a run, each in a thread of its own.
 
-ghost use Rattle.std.specs.Prelude.{◌<◌, ◌≡◌, ◌∷◌, ◌++◌, [], length, vec_len, vec_capacity, IfSome, IfNone, IfOk, IfErr};
+ghost use Rattle.std.specs.Prelude.{◌<◌, ◌≡◌, ◌∷◌, ◌++◌, [], vec_len, vec_capacity, IfSome, IfNone, IfOk, IfErr};
 ghost use Rattle.acc_run.specs.Running.{CameBack, IsPaired, Paired, WentEach};
 
 use crate::calling::go;
+use crate::gate::Gate;
 use crate::marks::Marks;
-use crate::runtime::{Gate, Runtime};
+use crate::runtime::Runtime;
 use crate::token::HostToken;
-use acc_base::{Fault, HostId};
+use acc_base::Fault;
 use acc_host::{Host, hosts_follow};
 use std::alloc::Global;
 use std::snapshot::Snapshot;

@@ -6,6 +6,7 @@ mod agreement;
 mod calling;
 mod ends;
 mod finish;
+mod gate;
 mod hosts;
 pub mod laws;
 mod marks;
@@ -19,5 +20,6 @@ mod watch;
 mod work_side;
 mod workers;
 
-pub use runtime::{FinishRefused, Gate, Runtime};
+pub use gate::Gate;
+pub use runtime::{FinishRefused, Runtime};
 pub use token::{HostToken, TokenEntry};

@@ -1,9 +1,12 @@
 //! How a thread waits that found nothing to do.
 
-ghost use Rattle.std.specs.Prelude.{◌≡◌, ◌≤◌};
+ghost use Rattle.std.specs.Prelude.{◌≡◌, ◌≤◌, IfErr};
 ghost use Rattle.acc_run.specs.declared.pause.TheConstants.{LONGEST_SLEEP, SHORTEST_SLEEP};
+ghost use Rattle.acc_base.specs.declared.fault.Fault.TheVariants.{Memory};
 
+use acc_base::{Config, Fault};
 use crossbeam_utils::Backoff;
+use std::alloc::Global;
 use std::marker::Model;
 use std::sync::Wait;
 use std::thread::Parker;
@@ -82,4 +85,15 @@ impl Pause {
         }
         parker.park_timeout(rt, Duration::from_micros(LONGEST_REST));
     }
+}
+
+// A parker for each queue, at which nobody sleeps.
+pub(crate) fn parkers_of(alloc: Global, config: &Config) -> Result<Vec<Parker>, Fault>
+    ensures { IfErr result (λ f. f ≡ Memory) }
+{
+    let mut parkers = Vec::new(alloc);
+    for _ in 0..config.queue_count() {
+        parkers.push(Parker::new())?;
+    }
+    Ok(parkers)
 }

@@ -5,9 +5,10 @@ ghost use Rattle.std.specs.Prelude.{◌≡◌, IfOk, IfErr, MatchResult};
 ghost use Rattle.acc_base.specs.declared.fault.Fault.TheVariants.{Memory};
 ghost use Rattle.acc_run.specs.Running.{Paired, WentEach};
 
+use crate::gate::Gate;
 use crate::hosts::run_hosts;
 use crate::marks::Marks;
-use crate::runtime::{Gate, Runtime};
+use crate::runtime::Runtime;
 use crate::token::HostToken;
 use crate::workers::{Crew, close_all, start_workers};
 use acc_base::Fault;

@@ -1,8 +1,8 @@
 //! Two locks: directives are placed under one, performed and told under the other.
 
-ghost use Rattle.acc_base.specs.declared.config.TheConstants.{MAX_DEVICES, MAX_HOSTS};
+ghost use Rattle.acc_base.specs.declared.config.TheConstants.{MAX_DEVICES};
 ghost use Rattle.acc_base.specs.declared.ids.TheConstants.{QUEUES};
-ghost use Rattle.std.specs.Prelude.{◌<◌, ◌≤◌, ◌≡◌, ◌*◌, ◌⊎◌, ◌++◌, ◌∷◌, [], IfOk, IfErr, OnErr, false, true, is_some, length};
+ghost use Rattle.std.specs.Prelude.{◌≤◌, ◌≡◌, ◌*◌, ◌⊎◌, ◌++◌, ◌∷◌, [], IfOk, IfErr, OnErr, false, true, is_some, length};
 ghost use Rattle.acc_base.specs.declared.fault.Fault.TheVariants.{BadRange, HostsDiffer, Memory, TooMany, Unfinished};
 ghost use Rattle.acc_host.specs.Engines.{MayRecord};
 ghost use Rattle.acc_run.specs.Calling.{IsAnswerTo};
@@ -16,14 +16,15 @@ ghost use Rattle.acc_work.specs.declared.item.Shown.TheVariants as shown;
 use crate::abandon::abandon_sides;
 use crate::ends::ends_of;
 use crate::finish::{Sides, SidesRefused, finish_sides};
-use crate::pause::Pause;
+use crate::gate::Gate;
+use crate::marks::Marks;
+use crate::pause::{Pause, parkers_of};
 use crate::place_side::PlaceSide;
-use crate::token::HostToken;
+use crate::token::{HostToken, tokens_of};
 use crate::turn::{Turn, take_turn};
 use crate::watch::Watch;
 use crate::work_side::WorkSide;
-use crate::workers::Crew;
-use acc_base::{Config, DeviceId, Fault, HostId, QueueAt, QueueCounts};
+use acc_base::{Config, DeviceId, Fault, QueueAt, QueueCounts};
 use acc_host::Outcome;
 use acc_kernel::Job;
 use acc_place::{Directive, Placed};
@@ -74,19 +75,6 @@ pub struct FinishRefused {
     pub fault: Fault,
     pub runtime: Runtime,
     pub tokens: Vec<HostToken>,
-}
-
-/// What a worker passes with each batch, and a host before its first step.
-pub trait Gate {
-    /// Called after a worker took batch n of its queue and before it performs the batch's first operation, with no lock held. Where
-    /// it answers false the worker ends, and the batch stays in its lane.
-    fn pass(&self, at: QueueAt, n: u64) -> bool;
-
-    /// Called by the thread of a host before the host's first step, with no lock held.
-    fn host(&self, _host: HostId) {}
-
-    /// Called by a worker before it computes a loop of batch n of its queue, with no lock held.
-    fn work(&self, _at: QueueAt, _n: u64) {}
 }
 
 impl Runtime {
@@ -262,19 +250,19 @@ impl Runtime {
         remaining
     }
 
-    // The same, and tells whether each queue is closed then, or its worker has ended.
-    pub(crate) fn close_again<R: Wait>(&self, rt: &R, crew: &Crew) -> bool {
-        let settled = self.close_and_look(rt, crew);
+    // The same, and tells whether each queue is closed then, or the worker of its seat has ended.
+    pub(crate) fn close_again<R: Wait>(&self, rt: &R, ended: &Marks) -> bool {
+        let settled = self.close_and_look(rt, ended);
         self.wake_all();
         settled
     }
 
     // The same, under the place lock.
-    fn close_and_look<R: Wait>(&self, rt: &R, crew: &Crew) -> bool {
+    fn close_and_look<R: Wait>(&self, rt: &R, ended: &Marks) -> bool {
         let mut place = self.place.lock(rt);
         let _ = place.close(rt);
         for seat in 0..self.queues() {
-            if !place.is_closed(QueueAt::at_seat(seat)) && !crew.has_ended(seat) {
+            if !place.is_closed(QueueAt::at_seat(seat)) && !ended.has(usize::from(seat)) {
                 return false;
             }
         }
@@ -506,32 +494,4 @@ fn sides_of(
     let tokens = tokens_of(alloc, config, &mut reader)?;
     let work = WorkSide::new(alloc, config, takers, publisher)?;
     Ok((place, work, reader, tokens))
-}
-
-// A parker for each queue, at which nobody sleeps.
-fn parkers_of(alloc: Global, config: &Config) -> Result<Vec<Parker>, Fault>
-    ensures { IfErr result (λ f. f ≡ Memory) }
-{
-    let mut parkers = Vec::new(alloc);
-    for _ in 0..config.queue_count() {
-        parkers.push(Parker::new())?;
-    }
-    Ok(parkers)
-}
-
-// A token for each host, that has nothing yet.
-#[tactic(auto, using(crate::proofs::MoreTokens::tokens_more))]
-fn tokens_of(alloc: Global, config: &Config, reader: &mut Reader) -> Result<Vec<HostToken>, Fault>
-    ensures reader { reader.new ≡ reader.old }
-    ensures tokens { IfOk result (λ tokens. AreTokens 0 tokens.items) }
-    ensures count { IfOk result (λ tokens. length tokens.items ≡ config.now.hosts) }
-    ensures fault { IfErr result (λ f. f ≡ Memory) }
-{
-    config.keeps();
-    let mut tokens = Vec::new(alloc);
-    for host in 0..config.hosts() {
-        let own = reader.split()?;
-        tokens.push(HostToken::new(alloc, HostId::new(host), own))?;
-    }
-    Ok(tokens)
 }

@@ -1,13 +1,13 @@
 //! What a host has done, in its own order.
 
-ghost use Rattle.std.specs.Prelude.{◌≡◌, ◌+◌, ◌<◌, ◌++◌, ◌∷◌, [], length, IfOk, IfErr, OnOk};
+ghost use Rattle.std.specs.Prelude.{◌≡◌, ◌+◌, ◌<◌, ◌++◌, ◌∷◌, [], IfOk, IfErr, OnOk, length};
 ghost use Rattle.acc_base.specs.declared.config.TheConstants.{MAX_HOSTS};
 ghost use Rattle.acc_base.specs.declared.fault.Fault.TheVariants.{Memory};
-ghost use Rattle.acc_run.specs.Tokens.{items_in, has_room};
+ghost use Rattle.acc_run.specs.Tokens.{items_in, has_room, AreTokens};
 ghost use Rattle.acc_run.specs.declared.token.TokenEntry.TheVariants as listed;
 
 use crate::watch::are_seen;
-use acc_base::{DeviceId, Fault, HostId, QueueCounts};
+use acc_base::{Config, DeviceId, Fault, HostId, QueueCounts};
 use acc_place::{Directive, Placed};
 use acc_queue::Reader;
 use acc_work::{ItemLabel, Shown};
@@ -143,4 +143,25 @@ impl HostToken {
         self.entries
             .push_reserved(TokenEntry::Item { label, shown });
     }
+}
+
+// A token for each host, that has nothing yet.
+#[tactic(auto, using(crate::proofs::MoreTokens::tokens_more))]
+pub(crate) fn tokens_of(
+    alloc: Global,
+    config: &Config,
+    reader: &mut Reader,
+) -> Result<Vec<HostToken>, Fault>
+    ensures reader { reader.new ≡ reader.old }
+    ensures tokens { IfOk result (λ tokens. AreTokens 0 tokens.items) }
+    ensures count { IfOk result (λ tokens. length tokens.items ≡ config.now.hosts) }
+    ensures fault { IfErr result (λ f. f ≡ Memory) }
+{
+    config.keeps();
+    let mut tokens = Vec::new(alloc);
+    for host in 0..config.hosts() {
+        let own = reader.split()?;
+        tokens.push(HostToken::new(alloc, HostId::new(host), own))?;
+    }
+    Ok(tokens)
 }

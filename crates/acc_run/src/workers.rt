@@ -1,10 +1,11 @@
 //! The workers of a run: one for each queue, in a thread of its own.
 
-ghost use Rattle.std.specs.Prelude.{◌<◌, ◌≡◌};
+ghost use Rattle.std.specs.Prelude.{◌<◌};
 
+use crate::gate::Gate;
 use crate::marks::Marks;
 use crate::pause::Pause;
-use crate::runtime::{Gate, Runtime};
+use crate::runtime::Runtime;
 use acc_base::QueueAt;
 use std::sync::Wait;
 use std::sync::atomic::{AtomicBool, Ordering};
@@ -41,13 +42,6 @@ impl Crew {
     pub(crate) fn call_off(&self, runtime: &Runtime) {
         self.called_off.store(true, Ordering::SeqCst);
         self.begin(runtime);
-    }
-
-    /// Whether the worker of the queue with this seat has ended.
-    pub(crate) fn has_ended(&self, seat: u16) -> bool
-        requires { seat < 64 }
-    {
-        self.ended.has(usize::from(seat))
     }
 
     // Waits until the workers are to begin or to end, and tells whether they are to begin.
@@ -96,7 +90,7 @@ pub(crate) fn start_workers<'s, E, R: Threads + Wait + Sync, G: Gate + Sync>(
 pub(crate) fn close_all<R: Wait>(rt: &R, runtime: &Runtime, crew: &Crew) {
     let mut pause = Pause::new();
     for _ in rt.forever() {
-        if runtime.close_again(rt, crew) {
+        if runtime.close_again(rt, &crew.ended) {
             return;
         }
         pause.wait(rt);

@@ -6,7 +6,7 @@ use Rattle.std.specs.Prelude.{nat_lt}
 use Rattle.acc_host.specs.declared.event.Event.{Event}
 use Rattle.acc_token.specs.declared.read_fault.ReadKind.{ReadKind}
 use Rattle.acc_token.specs.declared.read_fault.ReadKind.TheVariants.{Limit}
-use Rattle.acc_schedule.specs.declared.schedule.ScheduleLine.{ScheduleLine}
+use Rattle.acc_schedule.specs.declared.turn.ScheduleLine.{ScheduleLine}
 use Rattle.acc_schedule.specs.declared.schedule.TheConstants.{MAX_EVENTS}
 use Rattle.acc_token.specs.Faults.{fails}
 use Rattle.acc_schedule.specs.Schedules.{is_skipped, line_events, events_behind, kept_events, all_events}

@@ -10,10 +10,11 @@ use Rattle.acc_token.specs.declared.read_fault.ReadFault.{ReadFault}
 use Rattle.acc_token.specs.declared.read_fault.ReadKind.{ReadKind}
 use Rattle.acc_token.specs.declared.read_fault.ReadKind.TheVariants.{Text, Name, Limit, Form}
 use Rattle.acc_token.specs.declared.text.TheConstants.{MAX_TEXT}
-use Rattle.acc_schedule.specs.declared.schedule.ScheduleLine.{ScheduleLine}
-use Rattle.acc_schedule.specs.declared.schedule.Turn.{Turn}
-use Rattle.acc_schedule.specs.declared.schedule.Turn.TheVariants.{One, Round}
-use Rattle.acc_schedule.specs.declared.schedule.TheConstants.{MAX_EVENTS, MAX_TIMES}
+use Rattle.acc_schedule.specs.declared.turn.ScheduleLine.{ScheduleLine}
+use Rattle.acc_schedule.specs.declared.turn.Turn.{Turn}
+use Rattle.acc_schedule.specs.declared.turn.Turn.TheVariants.{One, Round}
+use Rattle.acc_schedule.specs.declared.schedule.TheConstants.{MAX_EVENTS}
+use Rattle.acc_schedule.specs.declared.turn.TheConstants.{MAX_TIMES}
 use Rattle.acc_token.specs.Faults.{fails, ◌>>=◌}
 use Rattle.acc_token.specs.Texts.{within}
 use Rattle.acc_token.specs.Tokens.{is_digit, value_behind}

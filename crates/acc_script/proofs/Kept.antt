@@ -2,7 +2,7 @@
 use Rattle.std.proofs.Common.{◌≡◌, true, List, [], ◌∷◌, ◌++◌, refl, ◌∙◌}
 use Rattle.std.proofs.lemmas.List.Folds.{list_all-append}
 use Rattle.acc_place.specs.declared.directive.DataItem.{DataItem}
-use Rattle.acc_script.specs.declared.clause.Head.{Head}
+use Rattle.acc_script.specs.declared.head.Head.{Head}
 use Rattle.acc_script.specs.Clauses.{allows}
 use Rattle.acc_script.specs.inner.Kept.{AreAllowed}
 

@@ -9,8 +9,8 @@ use Rattle.acc_place.specs.declared.directive.Waits.{Waits}
 use Rattle.acc_place.specs.declared.directive.Waits.TheVariants.{Nothing}
 use Rattle.acc_host.specs.declared.program.Act.{Act}
 use Rattle.acc_host.specs.declared.program.Act.TheVariants.{Place}
-use Rattle.acc_script.specs.declared.clause.Head.{Head}
-use Rattle.acc_script.specs.declared.clause.Head.TheVariants as head
+use Rattle.acc_script.specs.declared.head.Head.{Head}
+use Rattle.acc_script.specs.declared.head.Head.TheVariants as head
 use Rattle.acc_script.specs.declared.clause.Clauses.{Clauses}
 use Rattle.acc_script.specs.declared.directive.TheConstants.{MAX_CONSTRUCTS}
 use Rattle.acc_token.specs.declared.read_fault.ReadFault.{ReadFault}

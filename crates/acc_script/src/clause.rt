@@ -1,30 +1,20 @@
 //! The clauses of a directive.
 
 ghost use Rattle.std.specs.Prelude.{◌≡◌, ◌+◌, ◌≤◌, ◌<◌, true, false, not, [], ◌∷◌, length, IfOk, OnOk, IfSome, if◌then◌else◌};
-ghost use Rattle.acc_script.specs.Clauses.{is_one_of, clause_named, allows, needs_item, may_be_async, may_wait, is_mark, no_clauses, is_plain, is_nothing, is_bare, is_complete, may_have_comma, target_at, ranges_at, data_clause, clause_of, ends_line, clause_turn};
+ghost use Rattle.acc_script.specs.Clauses.{is_one_of, clause_named, allows, no_clauses, is_plain, is_nothing, is_bare, is_complete, may_have_comma, target_at, ranges_at, data_clause, clause_of, ends_line, clause_turn};
 ghost use Rattle.acc_token.specs.Faults.{Gives, Reads};
 ghost use Rattle.acc_token.specs.Tokens.{spot, lexeme};
 ghost use Rattle.acc_token.specs.Turns.{turn, all_turns};
 ghost use Rattle.acc_script.specs.inner.Kept.{IsKept};
 
 use crate::arrays::Arrays;
+use crate::head::Head;
 use crate::queue::{queue_of, waits_at};
 use crate::range::items_at;
 use acc_base::Few;
-use acc_place::{Clause, DataItem, Kind, Target, Waits};
+use acc_place::{Clause, DataItem, Target, Waits};
 use acc_token::{At, ReadError, ReadFault, Token, expect, is, sign_at, token_at, unwanted_token};
 use std::alloc::Global;
-
-/// What a directive begins with.
-#[derive(Clone, Copy, PartialEq, Eq)]
-pub enum Head {
-    EnterData,
-    ExitData,
-    Update,
-    Wait,
-    Data,
-    Loop,
-}
 
 /// The clauses that have been read of a directive; `marked` tells that `finalize` or `if_present` is one of them.
 #[derive(Drop)]
@@ -68,52 +58,6 @@ fn clause_named(word: &[u8]) -> Option<Clause>
         Some(Clause::UpdateDevice)
     } else {
         None
-    }
-}
-
-impl Head {
-    // Whether the directive may have this data clause.
-    fn allows(self, clause: Clause) -> bool
-        ensures { result ≡ allows self clause }
-    {
-        match self {
-            Head::EnterData => Kind::EnterData.allows_clause(clause),
-            Head::ExitData => Kind::ExitData { finalize: false }.allows_clause(clause),
-            Head::Update => Kind::Update { if_present: false }.allows_clause(clause),
-            Head::Wait => false,
-            Head::Data => Kind::Data.allows_clause(clause),
-            Head::Loop => clause != Clause::NoCreate && Kind::Data.allows_clause(clause),
-        }
-    }
-
-    fn needs_item(self) -> bool
-        ensures { result ≡ needs_item self }
-    {
-        !matches!(self, Head::Wait | Head::Loop)
-    }
-
-    fn may_be_async(self) -> bool
-        ensures { result ≡ may_be_async self }
-    {
-        !matches!(self, Head::Data)
-    }
-
-    fn may_wait(self) -> bool
-        ensures { result ≡ may_wait self }
-    {
-        !matches!(self, Head::Data | Head::Wait)
-    }
-
-    // Whether this is the word without an argument that the directive may have.
-    fn is_mark(self, word: &[u8]) -> bool
-        ensures mark { result ≡ is_mark self word.now }
-        ensures some { result ≡ true → 0 < length word.now }
-    {
-        match self {
-            Head::ExitData => is(word, b"finalize"),
-            Head::Update => is(word, b"if_present"),
-            Head::EnterData | Head::Wait | Head::Data | Head::Loop => false,
-        }
     }
 }
 

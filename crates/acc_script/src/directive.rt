@@ -1,23 +1,23 @@
 //! Directives.
 
-ghost use Rattle.std.specs.Prelude.{◌≡◌, ◌+◌, ◌≤◌, ◌<◌, true, length, IfOk, IfErr, OnOk};
+ghost use Rattle.std.specs.Prelude.{◌≡◌, ◌≤◌, true, length, IfOk, IfErr};
 ghost use Rattle.acc_place.specs.Clauses.{is_well_formed};
 ghost use Rattle.acc_place.specs.Directives.{written_first};
 ghost use Rattle.acc_host.specs.declared.program.Act.TheVariants.{Place};
 ghost use Rattle.acc_token.specs.declared.read_fault.ReadError.TheVariants.{Memory};
-ghost use Rattle.acc_script.specs.Clauses.{is_complete, clause_turn};
+ghost use Rattle.acc_script.specs.Clauses.{is_complete};
 ghost use Rattle.acc_script.specs.Directives.{head_of, opening_at, placed_with, act_behind, directive_at};
 ghost use Rattle.acc_token.specs.Faults.{Gives, Reads};
 ghost use Rattle.acc_token.specs.Tokens.{spot, lexeme};
 ghost use Rattle.acc_script.specs.inner.Kept.{IsKept};
 
 use crate::arrays::Arrays;
-use crate::clause::{Clauses, Head, clauses_at};
+use crate::clause::{Clauses, clauses_at};
+use crate::head::Head;
 use crate::loops::loop_at;
 use crate::queue::waits_at;
 use acc_base::Shared;
 use acc_host::Act;
-use acc_kernel::Kernel;
 use acc_place::{Directive, Kind, Waits, Written};
 use acc_token::{
     At, ReadError, ReadFault, ReadKind, Token, expect, expect_word, fault, is, token_at,

@@ -6,6 +6,7 @@ mod clause;
 mod declaration;
 mod directive;
 mod expression;
+mod head;
 mod loops;
 mod queue;
 mod range;

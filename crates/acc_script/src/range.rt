@@ -1,6 +1,6 @@
 //! Ranges of arrays, and those of a clause.
 
-ghost use Rattle.std.specs.Prelude.{◌≡◌, ◌+◌, ◌≤◌, ◌<◌, true, false, length, IfOk, OnOk, IfErr};
+ghost use Rattle.std.specs.Prelude.{◌≡◌, ◌≤◌, ◌<◌, true, false, length, IfOk, OnOk, IfErr};
 ghost use Rattle.acc_script.specs.declared.range.TheConstants.{MAX_RANGES};
 ghost use Rattle.acc_token.specs.declared.read_fault.ReadError.TheVariants.{Memory};
 ghost use Rattle.acc_script.specs.Clauses.{allows};
@@ -11,8 +11,8 @@ ghost use Rattle.acc_token.specs.Turns.{turn};
 ghost use Rattle.acc_script.specs.inner.Kept.{AreAllowed};
 
 use crate::arrays::Arrays;
-use crate::clause::Head;
 use crate::declaration::array_of;
+use crate::head::Head;
 use acc_base::{Few, Range};
 use acc_place::{Clause, DataItem};
 use acc_token::{

@@ -5,7 +5,8 @@ ghost use Rattle.acc_base.specs.declared.fault.Fault.TheVariants.{Memory};
 
 use crate::counts::{Row, Since};
 use crate::head::put_queue;
-use crate::scene::{Drawn, Label, Lane, Scene};
+use crate::lane::Lane;
+use crate::scene::{Drawn, Label, Scene};
 use crate::waits::Place;
 use crate::words::put_range;
 use acc_base::{DeviceId, Fault, QueueAt, QueueId};

@@ -5,6 +5,7 @@ mod counts;
 mod deed;
 mod found;
 mod head;
+mod lane;
 mod laws;
 mod layout;
 mod line;

@@ -8,6 +8,7 @@ ghost use Rattle.acc_steps.specs.Scenes.{lines_in};
 
 use crate::counts::Counts;
 use crate::deed::{Deed, line_at, take_step};
+use crate::lane::Lane;
 use crate::line::{Telling, put_step};
 use crate::waits::Waits;
 use crate::walk::Numbered;
@@ -17,25 +18,6 @@ use acc_batch::OpLabel;
 use acc_core::World;
 use acc_host::Event;
 use std::alloc::Global;
-
-/// Whose lane it is.
-#[derive(Clone, Copy, Debug, PartialEq, Eq)]
-pub(crate) enum Lane {
-    Host(u8),
-    Queue { device: u8, queue: u8 },
-    Owner,
-}
-
-impl Lane {
-    // The lanes stand in this order: hosts, queues by device, the owner.
-    fn rank(self) -> u32 {
-        match self {
-            Lane::Host(host) => u32::from(host),
-            Lane::Queue { device, queue } => 256 + u32::from(device) * 256 + u32::from(queue),
-            Lane::Owner => u32::MAX,
-        }
-    }
-}
 
 /// What a box says.
 #[derive(Clone, Copy)]

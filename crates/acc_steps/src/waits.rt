@@ -4,7 +4,7 @@ ghost use Rattle.std.specs.Prelude.{◌≡◌, IfErr};
 ghost use Rattle.acc_base.specs.declared.fault.Fault.TheVariants.{Memory};
 
 use crate::deed::Deed;
-use crate::scene::Lane;
+use crate::lane::Lane;
 use acc_base::{Fault, QueueAt};
 use acc_batch::OpLabel;
 use acc_host::Event;

@@ -8,6 +8,8 @@ mod known;
 mod lane;
 mod laws;
 mod log;
+mod ready;
+mod record;
 mod work;
 mod work_log;
 

@@ -1,42 +1,34 @@
 //! The memory, the log, and a lane for each queue of each device.
 
-ghost use Rattle.std.specs.Prelude.{ℕ, ℤ, ◌≡◌, ◌+◌, ◌*◌, ◌<◌, ◌≤◌, ◌==◌, nat_le, All, [], ◌∷◌, length, drop, vec_capacity, ◌++◌, ◌&&◌, is_some, IfOk, IfErr, IfSome, OnSome, IfNone, OnOk, OnErr, IsTrue, ◌↔◌, true, false, Bool, Some, reverse, ◌^◌};
+ghost use Rattle.std.specs.Prelude.{ℕ, ◌≡◌, ◌+◌, ◌<◌, ◌≤◌, ◌==◌, nat_le, All, [], length, drop, ◌++◌, is_some, IfOk, IfErr, IfSome, OnSome, IfNone, OnOk, IsTrue, ◌↔◌, Some, reverse};
 ghost use Rattle.std.specs.Option.{option_map};
 ghost use Rattle.acc_base.specs.Queues.{queue_count, seat};
 ghost use Rattle.acc_base.specs.Configurations.{has_range};
 ghost use Rattle.acc_base.specs.declared.config.TheConstants.{MAX_HOSTS};
-ghost use Rattle.acc_base.specs.declared.ids.QueueAt.{QueueAt};
 ghost use Rattle.acc_base.specs.declared.ids.TheConstants.{QUEUES};
 ghost use Rattle.acc_work.specs.declared.log.TheConstants.{MAX_HOST_ITEMS};
-ghost use Rattle.acc_batch.specs.declared.entry.Told.{Told};
-ghost use Rattle.acc_work.specs.Items.{HasRoom, has_cells, label_of, shown_by};
 ghost use Rattle.acc_work.specs.Jobs.{StartsLoop, HasStarted, IsOut, Commits};
 ghost use Rattle.acc_work.specs.Kept.{IsKept};
 ghost use Rattle.acc_work.specs.Lanes.{IsFresh, awaited_next, lane_with_batch, last_of, nth_taken, lanes_with, no_lane};
-ghost use Rattle.acc_work.specs.Logs.{items_of, all_items, batches_done, all_done, await_allows, host_allows, after_item, value};
-ghost use Rattle.acc_work.specs.Orders.{ShowsTruth};
+ghost use Rattle.acc_work.specs.Logs.{items_of, all_items, batches_done, all_done, value};
 ghost use Rattle.acc_work.specs.Remembering.{Remembers, blocks_in};
 ghost use Rattle.acc_batch.specs.Labels.{on_queue};
-ghost use Rattle.acc_batch.specs.Pages.{HasRoomFor};
 ghost use Rattle.acc_batch.specs.Ops.{first_loop, op_label};
-ghost use Rattle.acc_memory.specs.Memories.{Shows, IsAllowed, PerformsOn, find_block, finds_blocks, has_array, has_cell, held_blocks, rows_on};
-ghost use Rattle.acc_memory.specs.Values.{Block_cell, Cell, Host_cell, values_of};
-ghost use Rattle.acc_work.specs.inner.Telling.{HasChanged, HasItsCells, IsTold, answer_to};
-ghost use Rattle.acc_work.specs.Works.{lane_at, taken_labels, HasQueue, goes_on, is_live, is_new, can_go, Performs, CanTell, Tells, HasRecorded, KeepsOrder};
+ghost use Rattle.acc_memory.specs.Memories.{IsAllowed, PerformsOn, find_block, has_cell, rows_on};
+ghost use Rattle.acc_memory.specs.Values.{Block_cell, Host_cell};
+ghost use Rattle.acc_work.specs.Works.{lane_at, taken_labels, HasQueue, Performs, KeepsOrder};
 
 use crate::ahead::Ahead;
-use crate::item::{Form, Item, ItemLabel, Shown};
-use crate::job::{JobOut, commit_on, has_job, start_on};
+use crate::job::{JobOut, commit_on, start_on};
 use crate::lane::Lane;
 use crate::log::{Log, MAX_HOST_ITEMS};
 use crate::work_log::WorkLog;
 use acc_base::{
-    BlockId, Boxed, Config, DeviceId, Fault, HostId, QUEUES, QueueAt, QueueCounts, QueueId, Range,
+    BlockId, Config, DeviceId, Fault, HostId, QUEUES, QueueAt, QueueCounts, QueueId, Range,
 };
-use acc_batch::{Batch, Label, Op, OpLabel, Page, Told, Values};
+use acc_batch::{Batch, Label, Op, OpLabel};
 use acc_kernel::Job;
 use acc_memory::Memory;
-use acc_raw::Node;
 use std::alloc::Global;
 use std::marker::Model;
 use std::snapshot::Snapshot;
@@ -53,10 +45,10 @@ pub enum Done {
 pub struct Work {
     // what the host arrays were at first: a contract's alone, and no bytes
     opening: Snapshot<Config>,
-    memory: Memory,
-    log: Log,
+    pub(crate) memory: Memory,
+    pub(crate) log: Log,
     // by device, then in queue order
-    lanes: Vec<Lane>,
+    pub(crate) lanes: Vec<Lane>,
 }
 
 impl Model for Work {
@@ -125,7 +117,7 @@ impl Work {
     }
 
     // The lane of a queue, if the queue is there.
-    fn lane(&self, at: QueueAt) -> Option<&Lane>
+    pub(crate) fn lane(&self, at: QueueAt) -> Option<&Lane>
         ensures lane { IfSome result (λ lane. lane.now ≡ lane_at self.now at) }
         ensures there { OnSome result ((seat at < length self.now.lanes) × HasQueue self.now at) }
         ensures none { IfNone result (lane_at self.now at ≡ no_lane) }
@@ -382,184 +374,6 @@ impl Work {
         }
     }
 
-    // Whether a job is the one that is out of its lane.
-    fn is_out(&self, job: &JobOut) -> bool
-        ensures out { IsTrue result ↔ IsOut self.now job.now }
-        ensures there { IsTrue result → (seat job.now.at < length self.now.lanes) × HasQueue self.now job.now.at }
-    {
-        self.keeps();
-        match self.lane(job.at) {
-            None => false,
-            Some(lane) => lane.is_out() && has_job(lane, job),
-        }
-    }
-
-    // Whether the next operation of a queue can be performed now: it goes on, and uses live blocks.
-    fn can_go(&self, at: QueueAt) -> bool
-        ensures can { result ≡ can_go self.now at (lane_at self.now at).left }
-        ensures there { IsTrue result → (seat at < length self.now.lanes) × HasQueue self.now at }
-    {
-        let QueueAt { device, queue } = at;
-        self.goes_on(QueueAt { device, queue }) && self.is_live(QueueAt { device, queue })
-    }
-
-    /// Whether the next operation of a queue goes on: there is one in its lane that isn't out, what it awaits is performed, and
-    /// the host of its batch has the items that stand before it.
-    pub fn goes_on(&self, at: QueueAt) -> bool
-        ensures goes { result ≡ goes_on self.now at (lane_at self.now at).left }
-        ensures there { IsTrue result → (seat at < length self.now.lanes) × HasQueue self.now at }
-    {
-        self.keeps();
-        let device = at.device;
-        match self.lane(at) {
-            None => false,
-            Some(lane) => match lane.first() {
-                None => false,
-                Some(op) => {
-                    !lane.is_out() && self.await_allows(device, op) && self.host_allows(lane)
-                }
-            },
-        }
-    }
-
-    /// Whether the next operation of a queue's lane uses live blocks: what it makes was never made, and lies in its array; what
-    /// it copies, releases or uses is there.
-    pub fn is_live(&self, at: QueueAt) -> bool
-        ensures { result ≡ is_live self.now at (lane_at self.now at).left }
-    {
-        let device = at.device;
-        match self.lane(at) {
-            None => false,
-            Some(lane) => match lane.first() {
-                None => false,
-                Some(op) => self.uses_live(device, op),
-            },
-        }
-    }
-
-    // Whether an operation uses live blocks. The one that it makes isn't looked for among those that are there: what was never made
-    // isn't.
-    fn uses_live(&self, device: DeviceId, op: &Op) -> bool
-        requires { device < length self.now.memory.devices }
-        ensures { result ≡ (finds_blocks (held_blocks self.now.memory device) (op_label op.now) && is_new self.now device (op_label op.now)) }
-    {
-        self.keeps();
-        match op {
-            Op::Make { block, .. } => {
-                let block = block.value();
-                !self.memory.was_made(device, block.block) && self.memory.has_range(block.range)
-            }
-            Op::CopyIn { .. } | Op::CopyOut { .. } | Op::Release { .. } | Op::Run { .. } => self
-                .memory
-                .finds_blocks(device, op),
-            Op::Await { .. } | Op::Close => true,
-        }
-    }
-
-    /// Whether the cells of an item are there.
-    pub fn has_cells(&self, item: ItemLabel) -> bool
-        ensures { result ≡ has_cells self.now.arrays item }
-    {
-        match item {
-            ItemLabel::Write { array, cell, .. } => self.memory.has_range(Range {
-                array,
-                lo: cell,
-                len: 1,
-            }),
-            ItemLabel::Print { range } => self.memory.has_range(range),
-            ItemLabel::Seen { .. } | ItemLabel::Test { .. } => true,
-        }
-    }
-
-    // Whether what an operation awaits on its device is performed.
-    fn await_allows(&self, device: DeviceId, op: &Op) -> bool
-        ensures { result ≡ await_allows (taken_labels self.now) self.now.work device (op_label op.now) }
-    {
-        match op {
-            Op::Await { queue, number } => {
-                let awaited = QueueAt {
-                    device,
-                    queue: *queue,
-                };
-                self.reached(awaited, *number)
-            }
-            _ => true,
-        }
-    }
-
-    // Whether the host of the last batch of a lane has the items that stand before it.
-    fn host_allows(&self, lane: &Lane) -> bool
-        requires { All (λ l. l.host < MAX_HOSTS) lane.now.taken }
-        ensures { result ≡ host_allows (last_of lane.now.taken) self.now.work }
-    {
-        match lane.last() {
-            None => false,
-            Some(label) => label.items_done <= self.items_of(label.host),
-        }
-    }
-
-    /// Records an item of a host, and answers a test. The cells of a write and of a print are there; a print has no more than
-    /// 65,536; what is noted as seen is performed, by `all_reached`. It takes no memory: the log has the page, and where it doesn't
-    /// need it frees it.
-    pub fn host_item(&mut self, host: HostId, item: Item, page: Node<Page>) -> Shown
-        requires host { host < MAX_HOSTS }
-        requires item { CanTell self.old item }
-        requires page { HasRoomFor page 1 }
-        requires few { all_items self.old.work < 2 ^ 63 }
-        ensures { HasRecorded self.old self.new host item result }
-    {
-        match self.record(host, item, Some(page)) {
-            Ok(shown) => shown,
-            Err(_) => Shown::Nothing,
-        }
-    }
-
-    /// Records an item of a host as `host_item` does, where the log has room for it, and else gives it back. It takes no memory.
-    ///
-    /// # Errors
-    ///
-    /// The item, where it needs a page; then nothing changes.
-    pub fn try_item(&mut self, host: HostId, item: Item) -> Result<Shown, Item>
-        requires host { host < MAX_HOSTS }
-        requires item { CanTell self.old item }
-        requires few { all_items self.old.work < 2 ^ 63 }
-        ensures recorded { IfOk result (λ shown. HasRecorded self.old self.new host item shown) }
-        ensures back { IfErr result (λ back. (back ≡ item) × (self.new ≡ self.old)) }
-    {
-        self.record(host, item, None)
-    }
-
-    // Records an item, with a page if there is one. Without a page it may come back.
-    fn record(&mut self, host: HostId, item: Item, page: Option<Node<Page>>) -> Result<Shown, Item>
-        requires host { host < MAX_HOSTS }
-        requires item { CanTell self.old item }
-        requires page { IfSome page (λ p. HasRoomFor p 1) }
-        requires few { all_items self.old.work < 2 ^ 63 }
-        ensures recorded { IfOk result (λ shown. HasRecorded self.old self.new host item shown) }
-        ensures back { IfErr result (λ back. (back ≡ item) × (self.new ≡ self.old)) }
-        ensures none { OnErr result (page ≡ None) }
-    {
-        let answer = self.answer_to(&item.form);
-        if !self.log.claim_one(page) {
-            return Err(item);
-        }
-        let Item { form } = item;
-        let what = tell(&mut self.memory, form, answer);
-        let shown = shown_by(&what);
-        self.log.push_item(host, what);
-        Ok(shown)
-    }
-
-    // What a test is answered; false where an item asks nothing.
-    fn answer_to(&self, form: &Form) -> bool
-        ensures { result ≡ answer_to self.now (label_of form.now) }
-    {
-        match form {
-            Form::Test { device, counts } => self.all_reached(*device, &counts.numbers()),
-            Form::Write { .. } | Form::Print { .. } | Form::Seen { .. } => false,
-        }
-    }
-
     /// The log, the latest entry last.
     pub fn into_log(self) -> WorkLog
         ensures { result.items ≡ reverse self.work }
@@ -593,44 +407,5 @@ fn perform_on(memory: &mut Memory, device: DeviceId, op: Op) -> OpLabel
         Op::Await { queue, number } => OpLabel::Await { queue, number },
         Op::Close => OpLabel::Close,
         op => memory.do_op(device, op),
-    }
-}
-
-// Does what an item is to do, with the answer to a test, and gives what the log is to tell.
-fn tell(memory: &mut Memory, form: Form, answer: bool) -> Told
-    requires room { HasRoom form }
-    requires item { HasItsCells memory.old (label_of form) }
-    ensures told { IsTold memory.old (label_of form) answer result }
-    ensures memory { HasChanged memory.old result memory.new }
-{
-    match form {
-        Form::Write { array, cell, value } => {
-            memory.host_set(array, cell, value);
-            Told::Write { array, cell, value }
-        }
-        Form::Print {
-            range,
-            room,
-            mut values,
-        } => {
-            values.set(Values::of(room, memory.host_cells(range)));
-            Told::Print { range, values }
-        }
-        Form::Seen { device, counts } => Told::Seen { device, counts },
-        Form::Test { device, counts } => Told::Test {
-            device,
-            answer,
-            counts,
-        },
-    }
-}
-
-// What a host gets back of what the log tells.
-fn shown_by(what: &Told) -> Shown
-    ensures { result ≡ shown_by what.now }
-{
-    match what {
-        Told::Test { answer, .. } => Shown::Answer(*answer),
-        Told::Write { .. } | Told::Print { .. } | Told::Seen { .. } => Shown::Nothing,
     }
 }

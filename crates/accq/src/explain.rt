@@ -10,7 +10,7 @@ use crate::explanations::{
     NAME, NO_REGION, NOT_PRESENT, OUTSIDE_RANGE, PARTLY_PRESENT, QUEUE_FULL, TEXT, TOO_MANY,
     UNFINISHED, WORDS,
 };
-use crate::status::told;
+use crate::told::told;
 use acc_driver::DriverFault;
 use std::io::{Result, Write};
 

@@ -27,11 +27,17 @@ mod tests_of_explanations;
 mod tests_of_explorations;
 #[cfg(test)]
 mod tests_of_steps;
+#[cfg(test)]
+mod tests_of_streams;
+#[cfg(test)]
+mod tests_of_words;
+mod told;
 mod words;
 
+use crate::status::status_of;
+use crate::told::{told, told_no_text};
 use acc_driver::{DriverFault, Remains};
 use meter::on_terminal;
-use status::{status_of, told, told_no_text};
 use std::env;
 use std::io::{self, BufWriter, ErrorKind};
 use std::mem::ManuallyDrop;

@@ -1,10 +1,8 @@
 //! The program between its words, its files and its streams, and the status that it ends with.
 
-ghost use Rattle.std.specs.Prelude.{◌≡◌, ◌≤◌, ◌<◌, ◌⊎◌, map, length};
-ghost use Rattle.accq.specs.Statuses.{InputReplayed, TellsWords, status_after, status_checked, status_explored, status_for, status_shown, status_tested};
+ghost use Rattle.std.specs.Prelude.{◌≡◌, ◌≤◌, ◌<◌, map, length};
+ghost use Rattle.accq.specs.Statuses.{InputReplayed, TellsWords, status_after, status_checked, status_explored, status_shown, status_tested};
 ghost use Rattle.accq.specs.Words.{asked_of};
-ghost use Rattle.clap.specs.Words.{kind_of};
-ghost use Rattle.clap.specs.declared.error.kind.ErrorKind.TheVariants.{OutOfMemory};
 
 use crate::cases::test_folder;
 use crate::checks::check_files;
@@ -14,10 +12,9 @@ use crate::explorations::explore_files;
 use crate::replays::{replay_files, replay_input, run_file};
 use crate::steps::show_steps;
 use crate::store::{Folders, Store};
+use crate::told::{told, told_words};
 use acc_cases::{Folder, Tally, TestFault};
 use acc_driver::{CheckFault, DriverFault, Ended, Explored, Monitor, Remains, Watcher};
-use clap::Error;
-use clap::error::ErrorKind;
 use std::alloc::Global;
 use std::convert::AsStr;
 use std::io::{Read, Write};
@@ -172,37 +169,4 @@ fn status_tested<E: Write>(answer: Result<Tally, TestFault>, folder: &str, error
             3
         }
     }
-}
-
-/// Tells a fault by its line, and answers its status.
-pub(crate) fn told<E: Write>(fault: DriverFault, errors: &mut E) -> u8
-    ensures { result ≡ status_for fault }
-{
-    let _ = writeln!(errors, "accq: {fault}");
-    match fault {
-        DriverFault::Script(_) | DriverFault::Schedule(_) => 2,
-        DriverFault::Input | DriverFault::Output | DriverFault::Memory | DriverFault::Runtime(_) =>
-            3,
-    }
-}
-
-/// Tells the parser's error by its own text, and answers its status.
-fn told_words<E: Write>(error: &Error, errors: &mut E) -> u8
-    ensures memory { kind_of error.now ≡ OutOfMemory → result ≡ 3 }
-    ensures told { (result ≡ 2) ⊎ (result ≡ 3) }
-    ensures words { (kind_of error.now ≡ OutOfMemory → ⊥) → result ≡ 2 }
-{
-    if error.kind() == ErrorKind::OutOfMemory {
-        return told(DriverFault::Memory, errors);
-    }
-    let _ = write!(errors, "{error}");
-    2
-}
-
-/// Tells that a word is no text, and answers the status of a fault of the words.
-pub(crate) fn told_no_text<E: Write>(errors: &mut E) -> u8
-    ensures { result ≡ 2 }
-{
-    let _ = errors.write_all(b"error: invalid UTF-8 was detected in one or more arguments\n");
-    2
 }

@@ -3,8 +3,9 @@
 ghost use Rattle.std.specs.Prelude.{None};
 
 use crate::meter::{MAX_SEATS, put_line};
-use crate::status::{status_of, told, told_no_text};
+use crate::status::status_of;
 use crate::store::Store;
+use crate::told::{told, told_no_text};
 use acc_base::QUEUES;
 use acc_driver::{DriverFault, Monitor, NoMonitor, Reader, Remains, Watcher};
 use std::alloc::Global;
@@ -73,7 +74,7 @@ impl Write for Narrow {
 }
 
 /// No meter.
-const NOBODY: Option<&NoMonitor> = None;
+pub(crate) const NOBODY: Option<&NoMonitor> = None;
 
 /// A meter that counts how often it was told that the run or the exploration is over.
 #[derive(Drop)]
@@ -99,7 +100,7 @@ impl Watcher for Ends {
 
 /// A file of bytes, or one that can be opened and not read, as a folder.
 #[derive(Drop)]
-enum Sheet {
+pub(crate) enum Sheet {
     Bytes(&'static [u8]),
     Unreadable,
 }
@@ -113,7 +114,7 @@ impl Read for Sheet {
     }
 }
 
-const SCRIPT: &[u8] =
+pub(crate) const SCRIPT: &[u8] =
     b"long a[2];\nhost {\n#pragma acc enter data create(a) async(1)\n#pragma acc update device(a) async(1)\nacc_set_device_num(1);\nprint(acc_get_num_devices());\n}\n";
 
 /// Two hosts write a cell, and one of them prints it.
@@ -123,7 +124,7 @@ const WRITERS: &[u8] = b"long a[1];\nhost {\na[0] = 1;\n}\nhost {\na[0] = 2;\npr
 const DOUBLED: &[u8] =
     b"long a[4] = {1,2,3,4};\nhost {\n#pragma acc enter data copyin(a)\n#pragma acc parallel loop present(a)\nfor (i = 0; i < 4; i++) a[i] = a[i] * 2;\n#pragma acc exit data copyout(a)\nprint(a);\n}\n";
 
-const SCHEDULE: &[u8] = b"host 0 4\nround 5\n";
+pub(crate) const SCHEDULE: &[u8] = b"host 0 4\nround 5\n";
 
 /// A script and a schedule.
 const BOTH: &[u8] = b"long a[1];\nhost {\n}\n%%\nround 1\n";
@@ -203,7 +204,7 @@ const INPUTS: &[Told] = &[
     },
 ];
 
-const ON_ONE: &[u8] =
+pub(crate) const ON_ONE: &[u8] =
     b"host 0\nrefused 5 F2 BadDevice\npresent 0 a[0:2] s 0 d 1\nqueue 0 1 batches 2 operations 2 of 2\nend\n";
 
 const ON_TWO: &[u8] =
@@ -364,159 +365,6 @@ const RUNS: &[Told] = &[
     },
 ];
 
-/// Words that are refused with the parser's text, which begins so.
-const FAULTY_WORDS: &[(&[&str], &[u8])] = &[
-    (
-        &["accq", "replay", "script", "schedule", "--room", "0"],
-        b"error: invalid value '0' for '--room <N>'",
-    ),
-    (
-        &["accq", "replay", "script", "schedule", "--room=1025"],
-        b"error: invalid value '1025' for '--room <N>'",
-    ),
-    (
-        &["accq", "replay", "script", "schedule", "--devices", "5"],
-        b"error: invalid value '5' for '--devices <N>'",
-    ),
-    (
-        &["accq", "replay", "script", "schedule", "--cells=4294967297"],
-        b"error: invalid value '4294967297' for '--cells <N>'",
-    ),
-    (
-        &["accq", "replay", "script", "schedule", "--cells", "x"],
-        b"error: invalid value 'x' for '--cells <N>'",
-    ),
-    (
-        &["accq", "replay", "script", "schedule", "--cells", "+3"],
-        b"error: a number is written in digits alone",
-    ),
-    (
-        &[
-            "accq", "replay", "script", "schedule", "--room", "1", "--room", "1",
-        ],
-        b"error: the argument '--room <N>' cannot be used multiple times",
-    ),
-    (
-        &["accq", "replay", "script", "schedule", "--room"],
-        b"error: a value is required for '--room <N>'",
-    ),
-    (
-        &["accq", "replay", "script", "schedule", "--rooms", "3"],
-        b"error: unexpected argument '--rooms' found",
-    ),
-    (
-        &["accq", "replay", "script", "schedule", "more"],
-        b"error: unexpected argument 'more' found",
-    ),
-    (
-        &["accq", "replay", "script"],
-        b"error: the following required arguments were not provided:\n  <SCHEDULE>",
-    ),
-    (
-        &["accq", "replay"],
-        b"error: the following required arguments were not provided:\n  <SCRIPT>\n  <SCHEDULE>",
-    ),
-    (
-        &["accq", "--room", "3", "replay", "script", "schedule"],
-        b"error: unexpected argument '--room' found",
-    ),
-    (
-        &["accq", "script", "schedule"],
-        b"error: unrecognized subcommand 'script'",
-    ),
-    (
-        &["accq", "question.acc"],
-        b"error: unrecognized subcommand 'question.acc'\n\nUsage: accq replay [OPTIONS] <SCRIPT> <SCHEDULE>\n       accq run [OPTIONS] <SCRIPT>\n       accq steps [OPTIONS] <SCRIPT> [SCHEDULE]\n       accq explore [OPTIONS] <SCRIPT> [SCHEDULE]\n       accq check [OPTIONS] <SCRIPT> [SCHEDULE]\n       accq explain <WORD>\n       accq test [OPTIONS] <FOLDER>\n       accq < INPUT\n       accq --help\n",
-    ),
-    (&["accq", ""], b"error: unrecognized subcommand ''"),
-    (
-        &["accq", "--help"],
-        b"accq replays a script of hosts and OpenACC directives",
-    ),
-    (
-        &["accq", "replay", "-h"],
-        b"Replays a script under a schedule",
-    ),
-    (&["accq", "run", "-h"], b"Runs a script by threads"),
-    (
-        &["accq", "steps", "-h"],
-        b"Replays a script under a schedule, and tells what each event did",
-    ),
-    (
-        &["accq", "steps", "--idle"],
-        b"error: the following required arguments were not provided:\n  <SCRIPT>",
-    ),
-    (
-        &["accq", "check", "-h"],
-        b"Tells what is wrong with a script or a schedule",
-    ),
-    (
-        &["accq", "explain", "-h"],
-        b"Tells what a fault is, and what to do about it",
-    ),
-    (
-        &["accq", "explain", "f15"],
-        b"accq: `f15` is no fault; the words are:\nF1 Closed, F2 BadDevice, ",
-    ),
-    (
-        &["accq", "explain"],
-        b"error: the following required arguments were not provided:\n  <WORD>",
-    ),
-    (
-        &["accq", "test", "-h"],
-        b"Replays all cases of a folder, and compares what comes with their reports",
-    ),
-    (
-        &["accq", "test", "--bless"],
-        b"error: the following required arguments were not provided:\n  <FOLDER>",
-    ),
-    (
-        &["accq", "check"],
-        b"error: the following required arguments were not provided:\n  <SCRIPT>",
-    ),
-    (
-        &["accq", "check", "script", "schedule", "--room", "3"],
-        b"error: unexpected argument '--room' found",
-    ),
-    (
-        &["accq", "run"],
-        b"error: the following required arguments were not provided:\n  <SCRIPT>",
-    ),
-    (
-        &["accq", "run", "script", "schedule"],
-        b"error: unexpected argument 'schedule' found",
-    ),
-    (
-        &["accq", "run", "script", "--room", "0"],
-        b"error: invalid value '0' for '--room <N>'",
-    ),
-    (
-        &["accq", "run", "script", "--devices", "+1"],
-        b"error: a number is written in digits alone",
-    ),
-    (
-        &["accq", "explore", "script", "--depth", "0"],
-        b"error: invalid value '0' for '--depth <N>'",
-    ),
-    (
-        &["accq", "explore", "script", "--depth=1000001"],
-        b"error: invalid value '1000001' for '--depth <N>'",
-    ),
-    (
-        &["accq", "explore", "script", "--depth", "+1"],
-        b"error: a number is written in digits alone",
-    ),
-    (
-        &["accq", "explore", "script", "--short", "--depth", "1"],
-        b"error: a number is written in digits alone, and --depth stands without --short",
-    ),
-    (
-        &["accq", "explore", "script", "--depth"],
-        b"error: a value is required for '--depth <N>'",
-    ),
-    (&["accq", "--version"], b"accq 0.1.0"),
-];
-
 // What the program answers and writes.
 pub(crate) fn answered<T: Threads + Wait + Sync>(
     rt: &T,
@@ -564,115 +412,6 @@ fn words_and_inputs_have_their_status(rt: HostRuntime) -> std::result::Result<()
 // The text begins so.
 pub(crate) fn check_begin(rt: &impl Abort, text: &[u8], begin: &[u8]) {
     assert!(rt; text.starts_with(begin));
-}
-
-fn check_faulty<T: Abort + Threads + Wait + Sync>(
-    rt: &T,
-    alloc: Global,
-    words: &'static [&'static str],
-    begin: &[u8],
-) {
-    let case = Told {
-        words,
-        input: b"",
-        status: 2,
-        output: b"",
-        errors: b"",
-    };
-    let (status, output, errors) = answered(rt, alloc, &case);
-    check_told(rt, status, output.as_slice(), 2, b"");
-    check_begin(rt, errors.as_slice(), begin);
-}
-
-#[test]
-fn faulty_words_are_told_by_the_parser(rt: HostRuntime) -> std::result::Result<(), Fail> {
-    for (words, begin) in FAULTY_WORDS {
-        check_faulty(&rt, rt.alloc(), words, begin);
-    }
-    Ok(())
-}
-
-const NAMED: &[&str] = &["accq", "replay", "script", "schedule"];
-
-const RUN: &[&str] = &["accq", "run", "script"];
-
-pub(crate) const CANNOT_WRITE: &[u8] = b"accq: cannot write\n";
-
-// With these words and streams the status is 3, and this is told.
-pub(crate) fn check_streams<T: Abort + Threads + Wait + Sync, R: Read, W: Write>(
-    rt: &T,
-    alloc: Global,
-    words: &[&str],
-    input: &mut R,
-    output: &mut W,
-    text: &[u8],
-) {
-    let mut errors = Vec::new(alloc);
-    let status = status_of(
-        rt,
-        alloc,
-        words,
-        &Shelf,
-        input,
-        output,
-        &mut errors,
-        NOBODY,
-        &mut Remains::nothing(),
-    );
-    check_told(rt, status, errors.as_slice(), 3, text);
-}
-
-// A writer that takes so many bytes of a report has taken them.
-fn check_narrow<T: Abort + Threads + Wait + Sync>(
-    rt: &T,
-    alloc: Global,
-    words: &[&str],
-    room: usize,
-) {
-    let mut input: &[u8] = b"";
-    let mut output = Narrow { room, taken: 0 };
-    check_streams(rt, alloc, words, &mut input, &mut output, CANNOT_WRITE);
-    assert_eq!(rt; output.taken, room);
-}
-
-/// A writer that fails at the first byte of the report, in its middle and at its last byte, one that can't send on, and a
-/// reader that fails.
-#[test]
-fn streams_that_fail_have_status_three(rt: HostRuntime) -> std::result::Result<(), Fail> {
-    for room in [0, 40, ON_ONE.len().saturating_sub(1)] {
-        check_narrow(&rt, rt.alloc(), NAMED, room);
-        check_narrow(&rt, rt.alloc(), RUN, room);
-    }
-    let mut input: &[u8] = b"";
-    for words in [NAMED, RUN, &[]] {
-        check_streams(&rt, rt.alloc(), words, &mut input, &mut Stuck, CANNOT_WRITE);
-    }
-    let mut output = Narrow { room: 0, taken: 0 };
-    let text = b"accq: cannot read\n";
-    check_streams(&rt, rt.alloc(), &[], &mut Broken, &mut output, text);
-    Ok(())
-}
-
-/// What can't be told to the errors changes no status.
-#[test]
-fn errors_that_fail_change_no_status(rt: HostRuntime) -> std::result::Result<(), Fail> {
-    const CASES: &[(&[&str], u8)] = &[(&[], 3), (&["accq", "more"], 2)];
-    let mut output = Narrow { room: 0, taken: 0 };
-    for (words, wanted) in CASES {
-        let status = status_of(
-            &rt,
-            rt.alloc(),
-            words,
-            &Shelf,
-            &mut Broken,
-            &mut output,
-            &mut Broken,
-            NOBODY,
-            &mut Remains::nothing(),
-        );
-        assert_eq!(rt; status, *wanted);
-    }
-    Ok(())
 }
 
 // A fault that no input of these tests has is told so.

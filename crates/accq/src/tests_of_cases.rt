@@ -3,7 +3,8 @@
 ghost use Rattle.std.specs.Prelude.{None};
 
 use crate::store::Folders;
-use crate::tests::{CANNOT_WRITE, Narrow, Shelf, Stuck, Told, check_case, check_streams};
+use crate::tests::{Narrow, Shelf, Stuck, Told, check_case};
+use crate::tests_of_streams::{CANNOT_WRITE, check_streams};
 use acc_cases::{Folder, FolderFault};
 use std::alloc::{AllocError, Global};
 use std::test::Fail;

@@ -1,8 +1,7 @@
 //! Tests of files that are checked.
 
-use crate::tests::{
-    CANNOT_WRITE, Narrow, Stuck, Told, answered, check_begin, check_streams, check_told,
-};
+use crate::tests::{Narrow, Stuck, Told, answered, check_begin, check_told};
+use crate::tests_of_streams::{CANNOT_WRITE, check_streams};
 use std::alloc::Global;
 use std::process::Abort;
 use std::sync::Wait;

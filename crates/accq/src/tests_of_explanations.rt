@@ -1,7 +1,8 @@
 //! Tests of what is told of faults.
 
 use crate::explain::explain;
-use crate::tests::{CANNOT_WRITE, Narrow, Stuck, check_begin, check_told};
+use crate::tests::{Narrow, Stuck, check_begin, check_told};
+use crate::tests_of_streams::CANNOT_WRITE;
 use acc_base::Fault;
 use acc_driver::ReadKind;
 use std::alloc::Global;

@@ -1,6 +1,7 @@
 //! Tests of explorations.
 
-use crate::tests::{CANNOT_WRITE, Narrow, Stuck, Told, check_case, check_streams};
+use crate::tests::{Narrow, Stuck, Told, check_case};
+use crate::tests_of_streams::{CANNOT_WRITE, check_streams};
 use std::test::Fail;
 
 /// Reports, their schedules and counts, and files that have none.

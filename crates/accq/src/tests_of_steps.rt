@@ -1,9 +1,8 @@
 //! Tests of steps.
 
 use crate::status::status_shown;
-use crate::tests::{
-    CANNOT_WRITE, Narrow, Stuck, Told, answered, check_begin, check_case, check_streams, check_told,
-};
+use crate::tests::{Narrow, Stuck, Told, answered, check_begin, check_case, check_told};
+use crate::tests_of_streams::{CANNOT_WRITE, check_streams};
 use std::alloc::Global;
 use std::process::Abort;
 use std::sync::Wait;

@@ -14,8 +14,8 @@ use Rattle.acc_place.specs.declared.directive.Target.{Target}
 use Rattle.acc_place.specs.declared.directive.Target.TheVariants.{Plain, Unvalued, Value}
 use Rattle.acc_place.specs.declared.directive.Waits.{Waits}
 use Rattle.acc_place.specs.declared.directive.Waits.TheVariants as waits
-use Rattle.acc_script.specs.declared.clause.Head.{Head}
-use Rattle.acc_script.specs.declared.clause.Head.TheVariants as head
+use Rattle.acc_script.specs.declared.head.Head.{Head}
+use Rattle.acc_script.specs.declared.head.Head.TheVariants as head
 use Rattle.acc_script.specs.declared.clause.Clauses.{Clauses}
 use Rattle.acc_script.specs.declared.queue.TheConstants.{MAX_QUEUES}
 use Rattle.acc_script.specs.declared.range.TheConstants.{MAX_INDEX, MAX_RANGES}

@@ -13,8 +13,8 @@ use Rattle.acc_place.specs.declared.directive.Waits.TheVariants as waits
 use Rattle.acc_place.specs.declared.directive.Written.{Written}
 use Rattle.acc_host.specs.declared.program.Act.{Act}
 use Rattle.acc_host.specs.declared.program.Act.TheVariants.{Place, Write, Print, SetDevice, SetAsync, ShowDevice, ShowDevices}
-use Rattle.acc_script.specs.declared.clause.Head.{Head}
-use Rattle.acc_script.specs.declared.clause.Head.TheVariants as head
+use Rattle.acc_script.specs.declared.head.Head.{Head}
+use Rattle.acc_script.specs.declared.head.Head.TheVariants as head
 use Rattle.acc_script.specs.declared.clause.Clauses.{Clauses}
 use Rattle.acc_token.specs.declared.token.Gap.TheVariants as gap
 use Rattle.acc_token.specs.declared.token.Step.TheVariants.{Stop}

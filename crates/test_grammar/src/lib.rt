@@ -1,6 +1,6 @@
 //! Laws of the grammar: worked texts, computed by the definitions that `acc_script` and `acc_schedule` read by; and
-//! programs, each read again as it is spelled. They stand in a crate of their own, so that no wrong body of the two is
-//! checked with them.
+//! programs, each read again as it is spelled. They stand in a crate of their own, which is proved
+//! beside those that stand on the two.
 #![tactic(auto)]
 
 mod spelling;

@@ -16,6 +16,8 @@ mod plans;
 #[cfg(test)]
 mod queues;
 #[cfg(test)]
+mod scarce_awaits;
+#[cfg(test)]
 mod tables;
 #[cfg(test)]
 mod values;

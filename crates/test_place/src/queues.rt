@@ -5,7 +5,6 @@ ghost use Rattle.std.specs.Prelude.{IfOk};
 ghost use Rattle.acc_place.specs.Plans.{Fits};
 
 use crate::fixtures::{answer, check_labels, check_ops, check_same, directive_with, place_with};
-use crate::memory::plan_at_each_amount;
 use crate::tables::Cells::{self, A, B};
 use crate::tables::Deed::{self, Await, In, Make, Out, Release, Run};
 use crate::tables::Named::{self, All, Nothing, These};
@@ -25,7 +24,7 @@ use tool_loops::Body;
 
 /// How a directive is answered.
 #[derive(Clone, Copy)]
-enum Answer {
+pub(crate) enum Answer {
     NoBatch,
     /// By its batch, with the queue of the directive's device and the number there.
     Placing(u8, u64),
@@ -35,20 +34,20 @@ enum Answer {
 
 /// A directive of a host, whose default async value is given, for a device; its answer, and the operations of its batch.
 #[derive(Clone, Copy)]
-struct Case {
-    host: u8,
-    device: u8,
-    default: i64,
-    target: Target,
-    waits: Named,
-    word: Word,
-    items: &'static [(Clause, Cells)],
-    answer: Answer,
-    ops: &'static [Deed],
+pub(crate) struct Case {
+    pub(crate) host: u8,
+    pub(crate) device: u8,
+    pub(crate) default: i64,
+    pub(crate) target: Target,
+    pub(crate) waits: Named,
+    pub(crate) word: Word,
+    pub(crate) items: &'static [(Clause, Cells)],
+    pub(crate) answer: Answer,
+    pub(crate) ops: &'static [Deed],
 }
 
 /// A wait of the first host for the first device, without clauses, that places nothing.
-const PLAIN: Case = Case {
+pub(crate) const PLAIN: Case = Case {
     host: 0,
     device: 0,
     default: ASYNC_NOVAL,
@@ -61,7 +60,7 @@ const PLAIN: Case = Case {
 };
 
 /// The same with an async clause.
-const ON_1: Case = Case {
+pub(crate) const ON_1: Case = Case {
     target: Target::Value { value: 1 },
     ..PLAIN
 };
@@ -76,7 +75,7 @@ const ON_3: Case = Case {
     ..PLAIN
 };
 
-fn directive_for(alloc: Global, case: &Case) -> Result<Box<Directive>, Fault> {
+pub(crate) fn directive_for(alloc: Global, case: &Case) -> Result<Box<Directive>, Fault> {
     let mut directive = directive_with(alloc, case.word, case.items, case.target, case.waits)?;
     directive.set_ids(DeviceId::new(case.device), case.default);
     Ok(directive)
@@ -102,7 +101,7 @@ fn answer_of(case: &Case) -> Placed {
 }
 
 // The batch, if there are operations, has these.
-fn check_batch(rt: &impl Abort, batch: Option<Batch>, wanted: &[Deed]) {
+pub(crate) fn check_batch(rt: &impl Abort, batch: Option<Batch>, wanted: &[Deed]) {
     match batch {
         None => assert!(rt; wanted.is_empty(), "no batch"),
         Some(batch) => {
@@ -147,7 +146,12 @@ fn check_kept(rt: &impl Abort, place: &Place, case: &Case) {
 }
 
 // Accepts a case, and looks at its batch and its answer.
-fn check_case(rt: &impl Abort, alloc: Global, place: &mut Place, case: &Case) -> Result<(), Fault> {
+pub(crate) fn check_case(
+    rt: &impl Abort,
+    alloc: Global,
+    place: &mut Place,
+    case: &Case,
+) -> Result<(), Fault> {
     let mut plan = plan_for(alloc, place, case)?;
     check_batch(rt, plan.take_batch(), case.ops);
     let answer = place.accept(plan);
@@ -158,7 +162,7 @@ fn check_case(rt: &impl Abort, alloc: Global, place: &mut Place, case: &Case) ->
 }
 
 // Accepts each of the cases in turn.
-fn accept_cases(
+pub(crate) fn accept_cases(
     rt: &impl Abort,
     alloc: Global,
     place: &mut Place,
@@ -171,7 +175,7 @@ fn accept_cases(
 }
 
 // A place of two devices and two hosts.
-fn place_of(alloc: Global) -> Result<Box<Place>, Fault> {
+pub(crate) fn place_of(alloc: Global) -> Result<Box<Place>, Fault> {
     place_with(alloc, 2, 8)
 }
 
@@ -490,77 +494,4 @@ fn a_wait_clause_needs_a_batch(rt: HostRuntime) -> Result<(), Fail> {
         },
     ];
     check_cases(&rt, rt.alloc(), CASES)
-}
-
-/// A copy out of a block that was made on queue 1.
-const USE: Case = Case {
-    word: Update,
-    items: &[(UpdateSelf, A(0, 1))],
-    ops: &[Await(3, 1), Out(1, A(0, 1))],
-    ..PLAIN
-};
-
-/// The block is made, and used on each queue behind that.
-const USES: &[Case] = &[
-    Case {
-        word: Enter,
-        items: &[(Create, A(0, 4))],
-        answer: Placing(3, 1),
-        ops: &[Make(1, A(0, 4))],
-        ..ON_1
-    },
-    Case {
-        target: Target::Value { value: 2 },
-        answer: Placing(4, 1),
-        ..USE
-    },
-    Case {
-        target: Target::Value { value: 3 },
-        answer: Placing(5, 1),
-        ..USE
-    },
-    Case {
-        target: Target::Value { value: 4 },
-        answer: Placing(6, 1),
-        ..USE
-    },
-    Case {
-        target: Target::Value { value: 5 },
-        answer: Placing(7, 1),
-        ..USE
-    },
-];
-
-// Behind the uses a case is planned once there is memory, and then accepted by a plan of its own.
-fn check_scarce(
-    rt: &impl Abort,
-    alloc: Global,
-    place: &mut Place,
-    case: &Case,
-) -> Result<(), Fault> {
-    accept_cases(rt, alloc, place, USES)?;
-    let directive = directive_for(alloc, case)?;
-    let mut plan = plan_at_each_amount(rt, alloc, place, case.host, &directive)?;
-    check_batch(rt, plan.take_batch(), case.ops);
-    check_case(rt, alloc, place, case)
-}
-
-/// A release that awaits four queues is planned once there is memory.
-#[test]
-fn a_batch_with_four_awaits_is_refused_until_there_is_memory(rt: HostRuntime) -> Result<(), Fail> {
-    const EXIT: Case = Case {
-        word: Exit,
-        items: &[(Delete, A(0, 4))],
-        answer: Placing(3, 2),
-        ops: &[
-            Await(4, 1),
-            Await(5, 1),
-            Await(6, 1),
-            Await(7, 1),
-            Release(1),
-        ],
-        ..ON_1
-    };
-    let mut place = place_of(rt.alloc())?;
-    Ok(check_scarce(&rt, rt.alloc(), &mut place, &EXIT)?)
 }

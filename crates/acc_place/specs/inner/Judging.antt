@@ -8,9 +8,9 @@ use Rattle.acc_base.specs.declared.fault.Fault.{Fault}
 use Rattle.acc_base.specs.declared.fault.Fault.TheVariants.{BadAsync, TooMany, PartlyPresent, NotPresent, DeviceFull, OutsideRange, NoRegion}
 use Rattle.acc_base.specs.Configurations.{Configuration}
 use Rattle.acc_kernel.specs.Kernels.{Loop}
-use Rattle.acc_present.specs.declared.table.Counter.{Counter}
-use Rattle.acc_present.specs.declared.table.Counter.TheVariants.{Structured, Dynamic}
-use Rattle.acc_present.specs.declared.table.TheConstants.{COUNTER_LIMIT}
+use Rattle.acc_present.specs.declared.change.Counter.{Counter}
+use Rattle.acc_present.specs.declared.change.Counter.TheVariants.{Structured, Dynamic}
+use Rattle.acc_present.specs.declared.entry.TheConstants.{COUNTER_LIMIT}
 use Rattle.acc_present.specs.declared.held.Found.{Found}
 use Rattle.acc_present.specs.declared.held.Found.TheVariants as look
 use Rattle.acc_present.specs.declared.table.Left.{Left}
@@ -32,9 +32,9 @@ use Rattle.acc_place.specs.declared.directive.Region.{Region}
 use Rattle.acc_place.specs.declared.directive.TheConstants.{MAX_ITEMS, MAX_DIRECTIVES}
 use Rattle.acc_batch.specs.declared.label.OpLabel.{OpLabel}
 use Rattle.acc_batch.specs.declared.label.OpLabel.TheVariants as op
-use Rattle.acc_place.specs.declared.plan.Group.{Group}
-use Rattle.acc_place.specs.declared.plan.Group.TheVariants.{Makes, CopyIns, Updates, CopyOuts, Releases}
-use Rattle.acc_place.specs.declared.judge.Marked.{Marked}
+use Rattle.acc_place.specs.declared.ops.Group.{Group}
+use Rattle.acc_place.specs.declared.ops.Group.TheVariants.{Makes, CopyIns, Updates, CopyOuts, Releases}
+use Rattle.acc_place.specs.declared.marked.Marked.{Marked}
 use Rattle.acc_place.specs.Accepting.{fault_where, first_fault, item_faults, wants_whole, wants_presence, is_deep, is_outside, is_past}
 use Rattle.acc_place.specs.Batches.{copies_in, copies_out}
 use Rattle.acc_place.specs.Loops.{StaysInside, uses_in}

@@ -14,7 +14,7 @@ use Rattle.acc_batch.specs.Labels.{on_queue, makes_block, touches_block, greates
 use Rattle.acc_kernel.specs.Jobs.{Use}
 use Rattle.acc_present.specs.Notes.{Note, no_note, used_by, made_by, changed_at}
 use Rattle.acc_present.specs.Presences.{Presence, holder}
-use Rattle.acc_place.specs.declared.judge.Marked.{Marked}
+use Rattle.acc_place.specs.declared.marked.Marked.{Marked}
 
 -- ## In the labels
 

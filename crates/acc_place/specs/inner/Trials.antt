@@ -13,14 +13,14 @@ use Rattle.acc_batch.specs.Awaits.{with_awaits}
 use Rattle.acc_batch.specs.Labels.{has_number}
 use Rattle.acc_batch.specs.Ops.{HasItsCells}
 use Rattle.acc_present.specs.Notes.{Note}
-use Rattle.acc_present.specs.declared.table.TheConstants.{COUNTER_LIMIT}
+use Rattle.acc_present.specs.declared.entry.TheConstants.{COUNTER_LIMIT}
 use Rattle.acc_present.specs.Drafts.{DraftView, drafted, IsDraft}
 use Rattle.acc_place.specs.Directives.{Directive}
 use Rattle.acc_place.specs.declared.directive.DataItem.{DataItem}
 use Rattle.acc_place.specs.declared.directive.Placed.{Placed}
 use Rattle.acc_place.specs.declared.directive.TheConstants.{MAX_ITEMS}
 use Rattle.acc_place.specs.declared.judge.Known.{Known}
-use Rattle.acc_place.specs.declared.judge.Marked.{Marked}
+use Rattle.acc_place.specs.declared.marked.Marked.{Marked}
 use Rattle.acc_place.specs.Batches.{counts_queues}
 use Rattle.acc_place.specs.Counters.{IsEnteredBy, entered_ranges}
 use Rattle.acc_base.specs.Configurations.{lengths_of}

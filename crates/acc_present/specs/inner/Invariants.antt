@@ -1,7 +1,7 @@
 -- What every table keeps.
 use Rattle.std.specs.Prelude.{◌≡◌, ℕ, ◌+◌, ◌≤◌, true, List, length}
 use Rattle.acc_raw.specs.Indices.{IndexedView}
-use Rattle.acc_present.specs.declared.table.Entry.{Entry}
+use Rattle.acc_present.specs.declared.entry.Entry.{Entry}
 use Rattle.acc_present.specs.Presences.{Presence, used_cells}
 use Rattle.acc_present.specs.Tables.{is_table}
 

@@ -2,8 +2,8 @@
 use Rattle.std.specs.Prelude.{ℕ, slice_set}
 use Rattle.std.specs.Borrow.{Lends, MutBor, Fml}
 use Rattle.acc_present.specs.contracts.entries.Entries.{the_row}
-use Rattle.acc_present.specs.contracts.table.Entry.{the_row as entry}
-use Rattle.acc_present.specs.declared.table.Entry.{Entry}
+use Rattle.acc_present.specs.contracts.entry.Entry.{the_row as entry}
+use Rattle.acc_present.specs.declared.entry.Entry.{Entry}
 use Rattle.acc_present.specs.inner.Invariants.{EntriesView}
 
 -- the same with e as the i-th entry

@@ -6,8 +6,8 @@ use Rattle.acc_place.specs.declared.directive.Target.{Target}
 use Rattle.acc_place.specs.declared.directive.Target.TheVariants.{Plain}
 use Rattle.acc_place.specs.declared.directive.Waits.{Waits}
 use Rattle.acc_place.specs.declared.directive.Waits.TheVariants.{Nothing}
-use Rattle.acc_script.specs.declared.clause.Head.{Head}
-use Rattle.acc_script.specs.declared.clause.Head.TheVariants as head
+use Rattle.acc_script.specs.declared.head.Head.{Head}
+use Rattle.acc_script.specs.declared.head.Head.TheVariants as head
 use Rattle.acc_script.specs.declared.clause.Clauses.{Clauses}
 use Rattle.acc_script.specs.Clauses.{allows, may_be_async, may_wait}
 

@@ -5,7 +5,8 @@ use Rattle.acc_host.specs.declared.event.Event.{Event}
 use Rattle.acc_host.specs.declared.event.Event.TheVariants.{Host, Take, Perform, Close}
 use Rattle.acc_token.specs.declared.read_fault.ReadKind.{ReadKind}
 use Rattle.acc_token.specs.declared.read_fault.ReadKind.TheVariants.{Text, Name, Limit, Form}
-use Rattle.acc_schedule.specs.declared.schedule.TheConstants.{MAX_EVENTS, MAX_TIMES}
+use Rattle.acc_schedule.specs.declared.schedule.TheConstants.{MAX_EVENTS}
+use Rattle.acc_schedule.specs.declared.turn.TheConstants.{MAX_TIMES}
 use Rattle.acc_token.specs.Faults.{fails, ◌>>=◌}
 use Rattle.acc_schedule.specs.Schedules.{schedule_of}
 

@@ -1,7 +1,7 @@
 use Rattle.std.proofs.Common.{◌≤◌, drop}
 use Rattle.acc_explore.specs.Spellings.{lines_from}
 use Rattle.acc_report.specs.Puts.{sink}
-use Rattle.acc_schedule.specs.declared.schedule.TheConstants.{MAX_TIMES}
+use Rattle.acc_schedule.specs.declared.turn.TheConstants.{MAX_TIMES}
 use Rattle.acc_explore.proofs.SpelledPuts.{IsPutUpTo}
 use Rattle.acc_explore.proofs.schedule.put_lines.Given as goal
 

@@ -4,7 +4,7 @@ use Rattle.acc_base.specs.Queues.{every_queue}
 use Rattle.acc_base.specs.declared.range.Range.{Range}
 use Rattle.acc_present.specs.Notes.{Note}
 use Rattle.acc_place.specs.declared.directive.Clause.TheVariants.{Copy}
-use Rattle.acc_place.specs.declared.judge.Marked.{Marked}
+use Rattle.acc_place.specs.declared.marked.Marked.{Marked}
 use Rattle.acc_place.specs.inner.Noting.{ended_range, last_used, note_found}
 use Rattle.acc_place.proofs.AwaitedNumbers.{first_and_rest, used_both, same_for}
 use Rattle.acc_place.proofs.awaits.+raise_ended.Goals as goal

@@ -7,7 +7,7 @@ use Rattle.acc_base.specs.declared.range.Range.{Range}
 use Rattle.acc_batch.specs.declared.label.OpLabel.{OpLabel}
 use Rattle.acc_present.specs.Notes.{Note}
 use Rattle.acc_place.specs.declared.directive.Clause.TheVariants.{Copy}
-use Rattle.acc_place.specs.declared.judge.Marked.{Marked}
+use Rattle.acc_place.specs.declared.marked.Marked.{Marked}
 use Rattle.acc_place.specs.inner.Noting.{last_made, note_found, used_ranges}
 use Rattle.acc_place.specs.inner.Judging.{group_ops}
 use Rattle.acc_place.proofs.AwaitedNumbers.{first_and_rest, made_both, same_for}

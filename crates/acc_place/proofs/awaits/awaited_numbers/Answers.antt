@@ -4,8 +4,8 @@ use Rattle.std.specs.Option.{option_to_list}
 use Rattle.acc_base.specs.Queues.{every_queue}
 use Rattle.acc_base.specs.declared.range.Range.{Range}
 use Rattle.acc_present.specs.Notes.{Note}
-use Rattle.acc_place.specs.declared.plan.Group.{Group}
-use Rattle.acc_place.specs.declared.plan.Group.TheVariants.{CopyIns, Updates, CopyOuts}
+use Rattle.acc_place.specs.declared.ops.Group.{Group}
+use Rattle.acc_place.specs.declared.ops.Group.TheVariants.{CopyIns, Updates, CopyOuts}
 use Rattle.acc_place.specs.inner.Noting.{ended_range, last_made, last_used, note_found, used_ranges}
 use Rattle.acc_place.specs.Targets.{queues_named}
 use Rattle.acc_place.specs.inner.Trials.{named_count, number_in}

@@ -1,10 +1,10 @@
 use Rattle.std.proofs.Common.{◌≡◌, List, [], ◌∷◌, ◌++◌, length, get_or, drop, Option, Some, None, sym, ap, ◌∙◌, arith, rules, append_assoc}
 use Rattle.std.specs.Prelude.{is_some, IfNone}
 use Rattle.acc_present.specs.Drafts.{drafted}
-use Rattle.acc_present.specs.declared.table.TheConstants.{COUNTER_LIMIT}
+use Rattle.acc_present.specs.declared.entry.TheConstants.{COUNTER_LIMIT}
 use Rattle.acc_place.specs.declared.directive.Clause.TheVariants.{Copy}
 use Rattle.acc_place.specs.declared.directive.DataItem.{DataItem}
-use Rattle.acc_place.specs.declared.judge.Marked.{Marked}
+use Rattle.acc_place.specs.declared.marked.Marked.{Marked}
 use Rattle.acc_present.specs.Presences.{Presence}
 use Rattle.acc_place.specs.inner.Judging.{Holding, change_in, holding, holding_with, holding_after_all, first_fault_in, marked_in, all_marked, AllEntered, AllLow}
 use Rattle.acc_place.proofs.WalkItem.{rest_of, rest_is, length-rest, holding_is, holding-next, first_fault-next, all_marked-next, entered-next, AllLow-fewer, low_rest, opened-most}

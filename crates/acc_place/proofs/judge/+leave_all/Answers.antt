@@ -4,7 +4,7 @@ use Rattle.acc_present.specs.declared.change.Change.TheVariants.{StructuredDown}
 use Rattle.acc_place.specs.declared.directive.Clause.TheVariants.{Copy}
 use Rattle.acc_place.specs.declared.directive.DataItem.{DataItem}
 use Rattle.acc_place.specs.declared.directive.Kind.TheVariants.{EndData}
-use Rattle.acc_place.specs.declared.judge.Marked.{Marked}
+use Rattle.acc_place.specs.declared.marked.Marked.{Marked}
 use Rattle.acc_place.specs.inner.Judging.{holding, holding_with, marked_in, all_marked, AllEntered}
 use Rattle.acc_place.proofs.WalkItem.{rest_of, rest_is, length-rest, left_is, all_rest, all_marked-next, entered-next}
 use Rattle.acc_place.proofs.judge.+leave_all.Goals as goal

@@ -7,7 +7,7 @@ use Rattle.acc_place.specs.declared.trial.Trial.TheInside.{Inside}
 use Rattle.acc_place.specs.Batches.{is_answered}
 use Rattle.acc_place.specs.Plans.{label_for, opened_region}
 use Rattle.acc_place.specs.Standings.{loop_of}
-use Rattle.acc_place.specs.declared.judge.Marked.{Marked}
+use Rattle.acc_place.specs.declared.marked.Marked.{Marked}
 use Rattle.acc_place.specs.inner.Trials.{behind_noted, held_by, items_by, next_in, placed_by, IsTried, TrialView}
 use Rattle.acc_place.specs.inner.Judging.{counted_steps, holding_between, ends_of, marked_ops, all_steps, run_in}
 use Rattle.acc_place.proofs.AcceptedDirective.{length-ends}

@@ -1,7 +1,7 @@
 use Rattle.std.proofs.Common.{List, [], ◌∷◌, map, refl, ap, subst}
 use Rattle.std.specs.Prelude.{ℕ}
 use Rattle.acc_base.specs.declared.range.Range.{Range}
-use Rattle.acc_present.specs.declared.table.Entry.{Entry}
+use Rattle.acc_present.specs.declared.entry.Entry.{Entry}
 use Rattle.acc_present.specs.Notes.{entry_noted}
 use Rattle.acc_present.specs.Tables.{TableView, AreNoted, entry_presence}
 use Rattle.acc_present.proofs.table.Table.keeps.Goals as goal
