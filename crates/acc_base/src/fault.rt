@@ -1,7 +1,7 @@
 //! The fourteen faults.
 
 ghost use Rattle.std.specs.Prelude.{◌≡◌};
-ghost use Rattle.acc_base.specs.Faults.{number_of, name_of};
+ghost use Rattle.acc_base.specs.Faults.{fault_number, fault_name};
 
 use std::alloc::{AllocError, AllocFailed};
 use std::error::Error;
@@ -43,7 +43,7 @@ pub enum Fault {
 impl Fault {
     /// From 1 to 14.
     pub fn number(&self) -> u8
-        ensures { result ≡ number_of self.now }
+        ensures { result ≡ fault_number self.now }
     {
         match self {
             Fault::Closed => 1,
@@ -65,7 +65,7 @@ impl Fault {
 
     /// The name behind the number, as in `F6 PartlyPresent`.
     pub fn name(&self) -> &'static str
-        ensures { result.now ≡ name_of self.now }
+        ensures { result.now ≡ fault_name self.now }
     {
         match self {
             Fault::Closed => "Closed",

@@ -15,7 +15,7 @@ use Rattle.acc_batch.specs.declared.label.Label.{Label}
 use Rattle.acc_batch.specs.declared.label.OpLabel.{OpLabel}
 use Rattle.acc_batch.specs.declared.label.OpLabel.TheVariants.{Await, Close}
 use Rattle.acc_batch.specs.Labels.{on_queue, made_blocks, used_blocks, released_blocks, has_number, makes_block, touches_block, greatest, last_number}
-use Rattle.acc_batch.specs.Awaits.{awaited_number, await_of, number_awaited, awaits, behind_awaits, is_await, AwaitsFirst, Needs, uses_made, releases_made, releases_used, StandsBehind, one_queue, awaited, IsOrdered, AllOrdered, IsNumbered, label_behind, close_label}
+use Rattle.acc_batch.specs.Awaits.{awaited_number, await_of, number_awaited, awaits, behind_awaits, is_await, AwaitsFirst, Needs, uses_made, releases_made, releases_used, StandsBehind, one_queue, awaited, IsOrdered, AllOrdered, AreNumberedLabels, label_behind, close_label}
 use Rattle.acc_batch.proofs.AwaitedNumber.{numbers_low, awaited_placed}
 
 -- a member that passes a test is one of those that do
@@ -153,7 +153,7 @@ touched_used : (b : ℕ) (m : Label) → Contains (flat_map used_blocks m.ops) b
 touched_used b m c = or_right (has_number (flat_map made_blocks m.ops) b) (has_number (flat_map used_blocks m.ops) b) (has_it (flat_map used_blocks m.ops) b c)
 
 -- A batch that is behind its awaits stands behind each that it needs.
-pub label_ordered : (alone : Bool) (named : List ℕ) (own : QueueAt) (labels : List Label) (host items_done : ℕ) (ops : List OpLabel) → IsNumbered labels → AllOrdered [] labels → All (λ op. is_await op ≡ false) ops
+pub label_ordered : (alone : Bool) (named : List ℕ) (own : QueueAt) (labels : List Label) (host items_done : ℕ) (ops : List OpLabel) → AreNumberedLabels labels → AllOrdered [] labels → All (λ op. is_await op ≡ false) ops
     → IsOrdered labels (label_behind alone named own labels host items_done ops)
 label_ordered alone named own labels host items_done ops known ordered none = record {
   numbered = refl;

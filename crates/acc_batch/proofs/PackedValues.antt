@@ -16,7 +16,7 @@ use Rattle.std.specs.List.{flat_map}
 use Rattle.std.specs.Simd.{first_chunks}
 use Rattle.acc_batch.specs.declared.values.Width.{Width}
 use Rattle.acc_batch.specs.declared.values.Width.TheVariants.{One, Two, Four, Eight}
-use Rattle.acc_batch.specs.Values.{integer, byte_count, FitsIn, bytes_of, value_of, values_in, IsLeastFor, IsPacked}
+use Rattle.acc_batch.specs.Values.{integer, byte_count, FitsIn, bytes_of, value_in_bytes, values_in, IsLeastFor, IsPacked}
 
 -- a value has some bytes
 some_bytes : (width : Width) → 0 < byte_count width
@@ -32,7 +32,7 @@ length-bytes_of Four value = refl
 length-bytes_of Eight value = refl
 
 -- a value that fits comes back from its bytes
-value_back : (width : Width) (value : ℤ) → FitsIn width value → value_of width (bytes_of width value) ≡ value
+value_back : (width : Width) (value : ℤ) → FitsIn width value → value_in_bytes width (bytes_of width value) ≡ value
 value_back One value fits = ap (cast_signed w8) (mod-eq_of_lt (Fits-of_z fits).fits) ∙ to_z-of_z w8 value fits
 value_back Two value fits = ap (cast_signed w16) (from_le_bytes-to_le_bytes_2 _ (Fits-of_z fits).fits) ∙ to_z-of_z w16 value fits
 value_back Four value fits = ap (cast_signed w32) (from_le_bytes-to_le_bytes_4 _ (Fits-of_z fits).fits) ∙ to_z-of_z w32 value fits
@@ -40,21 +40,21 @@ value_back Eight value fits = ap (cast_signed w64) (from_le_bytes-to_le_bytes_8 
 
 -- the value of the first bytes is the first
 values_in-append : (width : Width) (front rest : List ℕ) → length front ≡ byte_count width
-    → values_in width (front ++ rest) ≡ value_of width front ∷ values_in width rest
+    → values_in width (front ++ rest) ≡ value_in_bytes width front ∷ values_in width rest
 values_in-append width front rest long =
     let size = byte_count width in let behind = length rest / size in let both = front ++ rest in
     let some = some_bytes width in let sum = length-append front rest in
     let enough : size ≤ length both = omega arith in
     let left : length both - size ≡ length rest = omega arith in
     let more : length both / size ≡ suc behind = div-eq-sub-div some enough ∙ add-one _ ∙ ap (λ n. suc (n / size)) left in
-    ap (λ n. map (value_of width) (first_chunks size n both)) more
-    ∙ ap (λ bytes. value_of width bytes ∷ map (value_of width) (first_chunks size behind (drop size both))) (take_at front rest size long)
-    ∙ ap (λ bytes. value_of width front ∷ map (value_of width) (first_chunks size behind bytes)) (drop_at front rest size long)
+    ap (λ n. map (value_in_bytes width) (first_chunks size n both)) more
+    ∙ ap (λ bytes. value_in_bytes width bytes ∷ map (value_in_bytes width) (first_chunks size behind (drop size both))) (take_at front rest size long)
+    ∙ ap (λ bytes. value_in_bytes width front ∷ map (value_in_bytes width) (first_chunks size behind bytes)) (drop_at front rest size long)
 
 -- values that fit come back from their bytes
 pub values_back : (width : Width) (values : List ℤ) → All (FitsIn width) values
     → values_in width (flat_map (bytes_of width) values) ≡ values
-values_back width [] fit = ap (λ n. map (value_of width) (first_chunks (byte_count width) n [])) (div-eq_of_lt (some_bytes width))
+values_back width [] fit = ap (λ n. map (value_in_bytes width) (first_chunks (byte_count width) n [])) (div-eq_of_lt (some_bytes width))
 values_back width (value ∷ values) fit =
     let rest = flat_map (bytes_of width) values in
     values_in-append width (bytes_of width value) rest (length-bytes_of width value)

@@ -83,14 +83,14 @@ abbrev pub close_label : QueueAt → List Label → Label
 close_label at labels = record { at = at; number = length (on_queue at labels) + 1; host = 0; items_done = 0; ops = Close ∷ [] }
 
 -- each is numbered from 1, on a queue of a device
-abbrev pub IsNumbered : List Label → Type 0
-IsNumbered labels = (m : Label) → Contains labels m → (0 < m.number) × (m.at.queue < QUEUES)
+abbrev pub AreNumberedLabels : List Label → Type 0
+AreNumberedLabels labels = (m : Label) → Contains labels m → (0 < m.number) × (m.at.queue < QUEUES)
 
 -- A batch behind its awaits stands behind every batch that it needs, whichever queues are named beside them.
 abbrev pub BatchesAreOrdered : Type 0
 BatchesAreOrdered =
     (alone : Bool) (named : List ℕ) (own : QueueAt) (labels : List Label) (host items_done : ℕ) (ops : List OpLabel)
-    → IsNumbered labels → AllOrdered [] labels → All (λ op. is_await op ≡ false) ops
+    → AreNumberedLabels labels → AllOrdered [] labels → All (λ op. is_await op ≡ false) ops
     → IsOrdered labels (label_behind alone named own labels host items_done ops)
 
 -- So does the close of a queue, behind whatever was placed.

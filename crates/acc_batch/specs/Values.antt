@@ -27,12 +27,12 @@ FitsIn width value = FitsSigned (integer width) value
 abbrev pub bytes_of : Width → ℤ → List ℕ
 bytes_of width value = to_le_bytes (integer width) (cast_unsigned (integer width) value)
 
-abbrev pub value_of : Width → List ℕ → ℤ
-value_of width bytes = cast_signed (integer width) (from_le_bytes (integer width) bytes)
+abbrev pub value_in_bytes : Width → List ℕ → ℤ
+value_in_bytes width bytes = cast_signed (integer width) (from_le_bytes (integer width) bytes)
 
 -- the values that bytes hold, one behind the other
 abbrev pub values_in : Width → List ℕ → List ℤ
-values_in width bytes = map (value_of width) (first_chunks (byte_count width) (length bytes / byte_count width) bytes)
+values_in width bytes = map (value_in_bytes width) (first_chunks (byte_count width) (length bytes / byte_count width) bytes)
 
 -- Each value is an integer of that many bytes, and not each is one of fewer.
 pub record IsLeastFor (width : Width) (values : List ℤ) : Type 0 where
@@ -45,11 +45,11 @@ pub record IsPacked (width : Width) (bytes : List ℕ) (values : List ℤ) : Typ
   pub whole : bytes ≡ flat_map (bytes_of width) values
 
 -- the values that are kept so
-abbrev pub values_of : Form → List ℤ
-values_of (Few width count bytes) = values_in width (take count bytes)
-values_of (Many width bytes) = values_in width bytes.items
+abbrev pub values_kept : Form → List ℤ
+values_kept (Few width count bytes) = values_in width (take count bytes)
+values_kept (Many width bytes) = values_in width bytes.items
 
 -- A few have all their bytes in place.
-abbrev pub IsKept : Form → Type 0
-IsKept (Few width count bytes) = IsPacked width (take count bytes) (values_in width (take count bytes)) × (count ≤ FEW)
-IsKept (Many width bytes) = IsPacked width bytes.items (values_in width bytes.items)
+abbrev pub HasItsBytes : Form → Type 0
+HasItsBytes (Few width count bytes) = IsPacked width (take count bytes) (values_in width (take count bytes)) × (count ≤ FEW)
+HasItsBytes (Many width bytes) = IsPacked width bytes.items (values_in width bytes.items)

@@ -4,7 +4,7 @@ ghost use Rattle.std.specs.Prelude.{◌≡◌, ◌*◌, ◌≤◌, [], ◌∷◌
 ghost use Rattle.std.specs.Int.Signed.{mag};
 ghost use Rattle.std.specs.Iterator.{YieldsFirst, item_count};
 ghost use Rattle.std.specs.List.{flat_map};
-ghost use Rattle.acc_batch.specs.Values.{byte_count, bytes_of, values_in, values_of, FitsIn, IsKept, IsLeastFor};
+ghost use Rattle.acc_batch.specs.Values.{byte_count, bytes_of, values_in, values_kept, FitsIn, HasItsBytes, IsLeastFor};
 ghost use Rattle.acc_batch.specs.declared.values.TheConstants.{FEW};
 
 use std::alloc::Global;
@@ -45,13 +45,13 @@ enum Width {
 
 impl Model for Values {
     ghost use Rattle.std.specs.Prelude.{List, ℤ};
-    ghost use Rattle.acc_batch.specs.Values.{values_of, IsKept};
+    ghost use Rattle.acc_batch.specs.Values.{values_kept, HasItsBytes};
 
     ghost Value = { List ℤ };
 
-    ghost view = { λ v. values_of v.form };
+    ghost view = { λ v. values_kept v.form };
 
-    ghost invariant = { λ v. IsKept v.form };
+    ghost invariant = { λ v. HasItsBytes v.form };
 }
 
 impl Values {
@@ -108,8 +108,8 @@ fn few(width: Width, count: usize, cells: &[i64]) -> Form
     requires least { IsLeastFor width cells.now }
     requires count { count ≡ length cells.now * byte_count width }
     requires room { count ≤ FEW }
-    ensures kept { IsKept result }
-    ensures values { values_of result ≡ cells.now }
+    ensures kept { HasItsBytes result }
+    ensures values { values_kept result ≡ cells.now }
 {
     let mut bytes = [0; FEW];
     write_all(&mut bytes[..count], width, cells);
@@ -125,8 +125,8 @@ fn many(room: Vec<u8>, width: Width, count: usize, cells: &[i64]) -> Form
     requires least { IsLeastFor width cells.now }
     requires count { count ≡ length cells.now * byte_count width }
     requires room { count ≤ vec_capacity room }
-    ensures kept { IsKept result }
-    ensures values { values_of result ≡ cells.now }
+    ensures kept { HasItsBytes result }
+    ensures values { values_kept result ≡ cells.now }
 {
     let mut bytes = room;
     let _ = bytes.resize(count, 0);

@@ -5,7 +5,7 @@ use Rattle.acc_cases.specs.declared.options.Given.{Given}
 use Rattle.acc_base.specs.declared.config.TheConstants.{MAX_CAPACITY, MAX_DEVICES, MAX_ROOM}
 use Rattle.acc_driver.specs.Replays.{AreUsable}
 use Rattle.acc_driver.specs.declared.options.Options.{Options}
-use Rattle.acc_cases.specs.Options.{AreWithin, IsWithin, given_by, given_with, options_with}
+use Rattle.acc_cases.specs.Options.{AreWithin, IsFromOneTo, given_by, given_with, options_with}
 
 -- the first two words, beside the others
 pub given_turn : (given more : Given) (words : List (Bor (List ℕ))) (d : Bor (List ℕ)) → 2 ≤ length words
@@ -16,7 +16,7 @@ given_turn given more (w ∷ []) d two gives = absurd (omega arith)
 given_turn given more (v ∷ w ∷ words) d two gives =
     ap (λ (o : Option Given). option_and_then (λ g. given_by g (map (λ w. w.now) words)) o) (sym gives)
 
-within : (most : ℕ) (given : Option ℕ) (common : ℕ) → IsWithin most given → (1 ≤ common) × (common ≤ most) → (1 ≤ unwrap_or given common) × (unwrap_or given common ≤ most)
+within : (most : ℕ) (given : Option ℕ) (common : ℕ) → IsFromOneTo most given → (1 ≤ common) × (common ≤ most) → (1 ≤ unwrap_or given common) × (unwrap_or given common ≤ most)
 within most None common given usable = usable
 within most (Some n) common given usable = given
 

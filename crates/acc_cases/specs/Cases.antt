@@ -10,7 +10,7 @@ use Rattle.acc_cases.specs.declared.fault.CaseFault.{CaseFault}
 use Rattle.acc_cases.specs.declared.fault.CaseFault.TheVariants as fault
 use Rattle.acc_cases.specs.declared.fault.Kind.{Kind}
 use Rattle.acc_cases.specs.declared.fault.Kind.TheVariants.{Script, Schedule, Line, Report}
-use Rattle.acc_cases.specs.Folders.{File, bytes_of}
+use Rattle.acc_cases.specs.Folders.{File, file_bytes}
 use Rattle.acc_cases.specs.Options.{options_in}
 
 -- ## The files of a case
@@ -23,18 +23,18 @@ ending_of Report = codes ".report"
 
 -- what a case's file of a kind holds, if there is one
 abbrev pub held : List File → List ℕ → Kind → Option (List ℕ)
-held fs name kind = bytes_of fs (name ++ ending_of kind)
+held fs name kind = file_bytes fs (name ++ ending_of kind)
 
 -- What a case is asked with: its script, maybe with a schedule behind it, the schedule of its own, the line of its options, and the options that all cases
 -- have in common.
-pub record Asked : Type 0 where
+pub record AskedCase : Type 0 where
   pub script : List ℕ
   pub schedule : Option (List ℕ)
   pub line : Option (List ℕ)
   pub common : Options
 
 -- a case of this name is asked with what its files hold
-abbrev pub asked_in : List File → List ℕ → Options → List ℕ → Asked
+abbrev pub asked_in : List File → List ℕ → Options → List ℕ → AskedCase
 asked_in fs name common script = record { script = script; schedule = held fs name Schedule; line = held fs name Line; common = common }
 
 -- ## What it says
@@ -56,14 +56,14 @@ options_by common (Some line) = options_in common line
 -- ## What comes
 
 -- The line that tells why there is no report.
-pub record IsTold (line : List ℕ) : Type 0 where
+pub record IsFaultLine (line : List ℕ) : Type 0 where
   pub text : List ℕ
   pub told : line ≡ (codes "accq: " ++ text) ++ codes "\n"
 
 -- What came is the report, or where there is none the line that tells why.
 abbrev pub CameFrom : Result Ended DriverFault → List ℕ → List ℕ → Type 0
 CameFrom (Ok ended) written came = came ≡ written
-CameFrom (Err f) written came = IsTold came
+CameFrom (Err f) written came = IsFaultLine came
 
 -- What comes of two texts is what a replay answers and writes.
 pub record Came (options : Options) (texts : Parts) (came : List ℕ) : Type 0 where
@@ -73,7 +73,7 @@ pub record Came (options : Options) (texts : Parts) (came : List ℕ) : Type 0 w
   pub from : CameFrom answer written came
 
 -- What comes of a case.
-pub record Comes (asked : Asked) (came : List ℕ) : Type 0 where
+pub record AskedComes (asked : AskedCase) (came : List ℕ) : Type 0 where
   pub texts : Parts
   pub options : Options
   pub says : texts_of asked.script asked.schedule ≡ Some texts
@@ -100,21 +100,21 @@ IsLineFault common line fault.TwoSchedules = ⊥
 IsLineFault common line fault.Unwritten = ⊥
 
 -- Why nothing comes of a case.
-abbrev pub IsFaultOf : Asked → CaseFault → Type 0
+abbrev pub IsFaultOf : AskedCase → CaseFault → Type 0
 IsFaultOf asked f = IsTextsFault asked.script asked.schedule f ⊎ IsLineFault asked.common asked.line f
 
 -- Why a case isn't read: there is no script, or no memory.
 abbrev pub IsUnread : List File → List ℕ → CaseFault → Type 0
 IsUnread fs name f = ((f ≡ fault.Unread Script) × (held fs name Script ≡ None)) ⊎ (f ≡ fault.Memory)
 
-abbrev pub asked_of : Case → Asked
-asked_of case = record { script = case.script.items; schedule = option_map (λ v. v.items) case.schedule; line = option_map (λ v. v.items) case.line; common = case.common }
+abbrev pub asked_case : Case → AskedCase
+asked_case case = record { script = case.script.items; schedule = option_map (λ v. v.items) case.schedule; line = option_map (λ v. v.items) case.line; common = case.common }
 
 -- The case of a name comes to this.
 pub record CaseComes (fs : List File) (name : List ℕ) (common : Options) (came : List ℕ) : Type 0 where
   pub script : List ℕ
   pub read : held fs name Script ≡ Some script
-  pub comes : Comes (asked_in fs name common script) came
+  pub comes : AskedComes (asked_in fs name common script) came
 
 -- Why nothing comes of the case of a name.
 pub record IsAskedFault (fs : List File) (name : List ℕ) (common : Options) (f : CaseFault) : Type 0 where

@@ -26,5 +26,5 @@ abbrev pub came_in : List Line → List ℕ
 came_in lines = flat_map (λ l. if is_of_came l.mark then l.bytes.now else []) lines
 
 -- lines, one behind the other
-abbrev pub joined : List (Bor (List ℕ)) → List ℕ
-joined lines = flat_map (λ l. l.now) lines
+abbrev pub joined_lines : List (Bor (List ℕ)) → List ℕ
+joined_lines lines = flat_map (λ l. l.now) lines

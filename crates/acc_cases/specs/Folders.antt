@@ -10,9 +10,9 @@ pub record File : Type 0 where
   pub bytes : List ℕ
 
 -- what the file of a name holds, if there is one
-abbrev pub bytes_of : List File → List ℕ → Option (List ℕ)
-bytes_of [] name = None
-bytes_of (f ∷ fs) name = if bytes_eq f.name name then Some f.bytes else bytes_of fs name
+abbrev pub file_bytes : List File → List ℕ → Option (List ℕ)
+file_bytes [] name = None
+file_bytes (f ∷ fs) name = if bytes_eq f.name name then Some f.bytes else file_bytes fs name
 
 -- the files with one of this name and these bytes, in the place of the one of this name if there is one
 abbrev pub with_file : List File → List ℕ → List ℕ → List File
@@ -24,15 +24,15 @@ abbrev pub Known : Option (List File) → (List File → Type 0) → Type 0
 Known known P = (fs : List File) → known ≡ Some fs → P fs
 
 -- The names are those of the files.
-abbrev pub Lists : List File → Result (Vec (prelude.String Global)) FolderFault → Type 0
-Lists fs (Ok names) = map string_bytes names.items ≡ map (λ f. f.name) fs
-Lists fs (Err Memory) = Unit {0}
-Lists fs (Err Missing) = ⊥
-Lists fs (Err Unusable) = ⊥
+abbrev pub ListsFiles : List File → Result (Vec (prelude.String Global)) FolderFault → Type 0
+ListsFiles fs (Ok names) = map string_bytes names.items ≡ map (λ f. f.name) fs
+ListsFiles fs (Err Memory) = Unit {0}
+ListsFiles fs (Err Missing) = ⊥
+ListsFiles fs (Err Unusable) = ⊥
 
 -- The bytes are those of the file of this name.
-abbrev pub Reads : List File → List ℕ → Result (Vec ℕ) FolderFault → Type 0
-Reads fs name (Ok bytes) = bytes_of fs name ≡ Some bytes.items
-Reads fs name (Err Missing) = bytes_of fs name ≡ None
-Reads fs name (Err Memory) = Unit {0}
-Reads fs name (Err Unusable) = ⊥
+abbrev pub ReadsFile : List File → List ℕ → Result (Vec ℕ) FolderFault → Type 0
+ReadsFile fs name (Ok bytes) = file_bytes fs name ≡ Some bytes.items
+ReadsFile fs name (Err Missing) = file_bytes fs name ≡ None
+ReadsFile fs name (Err Memory) = Unit {0}
+ReadsFile fs name (Err Unusable) = ⊥

@@ -12,16 +12,16 @@ use Rattle.acc_cases.specs.declared.options.OptionsFault.TheVariants.{Word, Memo
 -- ## Words
 
 -- a space, a tabulator, a carriage return, a line feed
-abbrev pub is_blank : ℕ → Bool
-is_blank b = (b == 32) || ((b == 9) || ((b == 13) || (b == 10)))
+abbrev pub is_gap : ℕ → Bool
+is_gap b = (b == 32) || ((b == 9) || ((b == 13) || (b == 10)))
 
-abbrev pub is_word : List ℕ → Bool
-is_word [] = false
-is_word (b ∷ bs) = true
+abbrev pub is_not_empty : List ℕ → Bool
+is_not_empty [] = false
+is_not_empty (b ∷ bs) = true
 
 -- what stands between blanks
-abbrev pub words_of : List ℕ → List (List ℕ)
-words_of text = filter is_word (slice_split is_blank text)
+abbrev pub words_in : List ℕ → List (List ℕ)
+words_in text = filter is_not_empty (slice_split is_gap text)
 
 -- ## What they say
 
@@ -60,7 +60,7 @@ options_with common given =
 
 -- the options that a line says beside the common ones; nothing where it has a fault
 abbrev pub options_in : Options → List ℕ → Option Options
-options_in common text = option_map (options_with common) (given_by no_options (words_of text))
+options_in common text = option_map (options_with common) (given_by no_options (words_in text))
 
 -- It is a fault of the line.
 abbrev pub IsWord : OptionsFault → Type 0
@@ -68,12 +68,12 @@ IsWord (Word w) = Unit {0}
 IsWord Memory = ⊥
 
 -- a number that is from 1 to the most, if there is one
-abbrev pub IsWithin : ℕ → Option ℕ → Type 0
-IsWithin most None = Unit {0}
-IsWithin most (Some n) = (1 ≤ n) × (n ≤ most)
+abbrev pub IsFromOneTo : ℕ → Option ℕ → Type 0
+IsFromOneTo most None = Unit {0}
+IsFromOneTo most (Some n) = (1 ≤ n) × (n ≤ most)
 
 -- What is given is within the limits.
 pub record AreWithin (given : Given) : Type 0 where
-  pub devices : IsWithin MAX_DEVICES given.devices
-  pub cells : IsWithin MAX_CAPACITY given.cells
-  pub room : IsWithin MAX_ROOM given.room
+  pub devices : IsFromOneTo MAX_DEVICES given.devices
+  pub cells : IsFromOneTo MAX_CAPACITY given.cells
+  pub room : IsFromOneTo MAX_ROOM given.room

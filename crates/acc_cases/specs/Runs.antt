@@ -31,20 +31,20 @@ pub record IsDifferent (fs : List File) (name : List ℕ) (common : Options) (re
   pub other : report ≢ came
 
 -- Why the case of a name is neither: nothing comes of it, or it has no report, and none was to be written, or none could be.
-abbrev pub Fails : List File → List ℕ → Options → Bool → Option (List File) → CaseFault → Type 0
-Fails fs name common bless new fault.Memory = (bless ≡ true) ⊎ (new ≡ Some fs)
-Fails fs name common bless new fault.Unwritten = bless ≡ true
-Fails fs name common bless new (fault.Unread Report) = (bless ≡ false) × (held fs name Report ≡ None) × (new ≡ Some fs)
-Fails fs name common bless new (fault.Unread kind) = IsCaseFault fs name common (fault.Unread kind) × (new ≡ Some fs)
-Fails fs name common bless new fault.TwoSchedules = IsCaseFault fs name common fault.TwoSchedules × (new ≡ Some fs)
-Fails fs name common bless new (fault.Options word) = IsCaseFault fs name common (fault.Options word) × (new ≡ Some fs)
+abbrev pub CaseFails : List File → List ℕ → Options → Bool → Option (List File) → CaseFault → Type 0
+CaseFails fs name common bless new fault.Memory = (bless ≡ true) ⊎ (new ≡ Some fs)
+CaseFails fs name common bless new fault.Unwritten = bless ≡ true
+CaseFails fs name common bless new (fault.Unread Report) = (bless ≡ false) × (held fs name Report ≡ None) × (new ≡ Some fs)
+CaseFails fs name common bless new (fault.Unread kind) = IsCaseFault fs name common (fault.Unread kind) × (new ≡ Some fs)
+CaseFails fs name common bless new fault.TwoSchedules = IsCaseFault fs name common fault.TwoSchedules × (new ≡ Some fs)
+CaseFails fs name common bless new (fault.Options word) = IsCaseFault fs name common (fault.Options word) × (new ≡ Some fs)
 
 -- What is told of the case of a name, and what the folder then holds.
 abbrev pub Tests : List File → List ℕ → Options → Bool → Option (List File) → Outcome → Type 0
 Tests fs name common bless new Passed = Passes fs name common × (new ≡ Some fs)
 Tests fs name common bless new Changed = (bless ≡ true) × Changes fs name common new
 Tests fs name common bless new (Differs wanted came) = (bless ≡ false) × IsDifferent fs name common wanted.items came.items × (new ≡ Some fs)
-Tests fs name common bless new (Faulty f) = Fails fs name common bless new f
+Tests fs name common bless new (Faulty f) = CaseFails fs name common bless new f
 
 -- So it is of cases, one behind the other.
 abbrev pub AllTested : Option (List File) → Options → Bool → List (List ℕ) → List Outcome → Option (List File) → Type 0

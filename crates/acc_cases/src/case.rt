@@ -3,7 +3,7 @@
 ghost use Rattle.std.specs.Prelude.{◌≡◌, ◌++◌, IfOk, IfErr, Some, codes, option_map, string_bytes};
 ghost use Rattle.acc_cases.specs.declared.fault.CaseFault.TheVariants.{Memory};
 ghost use Rattle.acc_cases.specs.declared.fault.Kind.TheVariants.{Script};
-ghost use Rattle.acc_cases.specs.Cases.{Came, Comes, IsFaultOf, IsLineFault, IsTextsFault, IsTold, IsUnread, asked_in, asked_of, ending_of, held, options_by, texts_of};
+ghost use Rattle.acc_cases.specs.Cases.{Came, AskedComes, IsFaultOf, IsLineFault, IsTextsFault, IsFaultLine, IsUnread, asked_in, asked_case, ending_of, held, options_by, texts_of};
 ghost use Rattle.acc_cases.specs.Folders.{Known};
 
 use crate::fault::{CaseFault, Kind};
@@ -61,8 +61,8 @@ pub(crate) fn read_case<F: Folder>(
     name: &str,
     common: Options,
 ) -> Result<Case, CaseFault>
-    ensures read { Known (F.files folder.now) (λ fs. IfOk result (λ case. held fs name.now Script ≡ Some (asked_of case).script)) }
-    ensures asked { Known (F.files folder.now) (λ fs. IfOk result (λ case. asked_of case ≡ asked_in fs name.now common (asked_of case).script)) }
+    ensures read { Known (F.files folder.now) (λ fs. IfOk result (λ case. held fs name.now Script ≡ Some (asked_case case).script)) }
+    ensures asked { Known (F.files folder.now) (λ fs. IfOk result (λ case. asked_case case ≡ asked_in fs name.now common (asked_case case).script)) }
     ensures fault { Known (F.files folder.now) (λ fs. IfErr result (λ f. IsUnread fs name.now f)) }
 {
     let script = match read_file(alloc, folder, name, Kind::Script) {
@@ -89,8 +89,8 @@ pub(crate) fn read_case<F: Folder>(
 impl Case {
     /// What comes of the case: the report, or the line that tells why there is none.
     pub(crate) fn came(&self, alloc: Global) -> Result<Vec<u8>, CaseFault>
-        ensures came { IfOk result (λ came. Comes (asked_of self.now) came.items) }
-        ensures fault { IfErr result (λ f. IsFaultOf (asked_of self.now) f) }
+        ensures came { IfOk result (λ came. AskedComes (asked_case self.now) came.items) }
+        ensures fault { IfErr result (λ f. IsFaultOf (asked_case self.now) f) }
     {
         let (script, schedule) = match texts_of(self.script.as_slice(), &self.schedule) {
             Ok(texts) => texts,
@@ -165,7 +165,7 @@ fn replayed(
 
 // The line that tells a fault.
 fn line_of(alloc: Global, fault: ReplayFault) -> Result<Vec<u8>, AllocError>
-    ensures { IfOk result (λ line. IsTold line.items) }
+    ensures { IfOk result (λ line. IsFaultLine line.items) }
 {
     let text = format!(in alloc; "{fault}")?;
     let mut line = Vec::from_slice(alloc, b"accq: ")?;

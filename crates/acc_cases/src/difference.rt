@@ -1,7 +1,7 @@
 //! Where two texts differ, line by line.
 
 ghost use Rattle.std.specs.Prelude.{◌≡◌, ◌<◌, ◌≤◌, ◌-◌, ◌++◌, ◌↔◌, [], IsTrue, IfOk, OnOk, if◌then◌else◌, length, take, drop};
-ghost use Rattle.acc_cases.specs.Differences.{came_in, is_of_came, is_wanted, joined, wanted_in};
+ghost use Rattle.acc_cases.specs.Differences.{came_in, is_of_came, is_wanted, joined_lines, wanted_in};
 
 use std::alloc::{AllocError, Global};
 
@@ -36,7 +36,7 @@ fn first_line(text: &[u8]) -> (&[u8], &[u8])
 
 // The lines of a text.
 fn lines_of(alloc: Global, text: &[u8]) -> Result<Vec<&[u8]>, AllocError>
-    ensures { IfOk result (λ lines. joined lines.items ≡ text.now) }
+    ensures { IfOk result (λ lines. joined_lines lines.items ≡ text.now) }
 {
     let mut lines = Vec::new(alloc);
     let mut rest = text;
@@ -60,7 +60,7 @@ fn is_same(line: &[u8], other: &[u8]) -> bool
 fn common_start(wanted: &[&[u8]], came: &[&[u8]]) -> usize
     ensures wanted { result ≤ length wanted.now }
     ensures came { result ≤ length came.now }
-    ensures common { joined (take result wanted.now) ≡ joined (take result came.now) }
+    ensures common { joined_lines (take result wanted.now) ≡ joined_lines (take result came.now) }
 {
     let mut common = 0;
     while common < wanted.len() && common < came.len() && is_same(wanted[common], came[common]) {
@@ -74,7 +74,7 @@ fn common_start(wanted: &[&[u8]], came: &[&[u8]]) -> usize
 fn common_end(wanted: &[&[u8]], came: &[&[u8]]) -> usize
     ensures wanted { result ≤ length wanted.now }
     ensures came { result ≤ length came.now }
-    ensures common { joined (drop (length wanted.now - result) wanted.now) ≡ joined (drop (length came.now - result) came.now) }
+    ensures common { joined_lines (drop (length wanted.now - result) wanted.now) ≡ joined_lines (drop (length came.now - result) came.now) }
 {
     let mut common = 0;
     while common < wanted.len()
@@ -100,8 +100,8 @@ fn put<'a>(lines: &mut Vec<Line<'a>>, mark: Mark, bytes: &'a [u8]) -> Result<(),
 
 // Puts lines of one mark behind others.
 fn put_all<'a>(lines: &mut Vec<Line<'a>>, mark: Mark, all: &[&'a [u8]]) -> Result<(), AllocError>
-    ensures wanted { OnOk result (wanted_in lines.new.items ≡ wanted_in lines.old.items ++ (if is_wanted mark then joined all.now else [])) }
-    ensures came { OnOk result (came_in lines.new.items ≡ came_in lines.old.items ++ (if is_of_came mark then joined all.now else [])) }
+    ensures wanted { OnOk result (wanted_in lines.new.items ≡ wanted_in lines.old.items ++ (if is_wanted mark then joined_lines all.now else [])) }
+    ensures came { OnOk result (came_in lines.new.items ≡ came_in lines.old.items ++ (if is_of_came mark then joined_lines all.now else [])) }
 {
     for bytes in all {
         put(lines, mark, bytes)?;
@@ -172,8 +172,8 @@ fn put_middle<'a>(
     came: &[&'a [u8]],
     table: &[Vec<u32>],
 ) -> Result<(), AllocError>
-    ensures wanted { OnOk result (wanted_in lines.new.items ≡ wanted_in lines.old.items ++ joined wanted.now) }
-    ensures came { OnOk result (came_in lines.new.items ≡ came_in lines.old.items ++ joined came.now) }
+    ensures wanted { OnOk result (wanted_in lines.new.items ≡ wanted_in lines.old.items ++ joined_lines wanted.now) }
+    ensures came { OnOk result (came_in lines.new.items ≡ came_in lines.old.items ++ joined_lines came.now) }
 {
     let mut at = 0;
     let mut to = 0;
@@ -199,8 +199,8 @@ fn put_rest<'a>(
     wanted: &[&'a [u8]],
     came: &[&'a [u8]],
 ) -> Result<(), AllocError>
-    ensures wanted { OnOk result (wanted_in lines.new.items ≡ wanted_in lines.old.items ++ joined wanted.now) }
-    ensures came { OnOk result (came_in lines.new.items ≡ came_in lines.old.items ++ joined came.now) }
+    ensures wanted { OnOk result (wanted_in lines.new.items ≡ wanted_in lines.old.items ++ joined_lines wanted.now) }
+    ensures came { OnOk result (came_in lines.new.items ≡ came_in lines.old.items ++ joined_lines came.now) }
 {
     put_all(lines, Mark::Wanted, wanted)?;
     put_all(lines, Mark::Came, came)
@@ -240,8 +240,8 @@ fn put_difference<'a>(
     wanted: &[&'a [u8]],
     came: &[&'a [u8]],
 ) -> Result<(), AllocError>
-    ensures wanted { OnOk result (wanted_in lines.new.items ≡ wanted_in lines.old.items ++ joined wanted.now) }
-    ensures came { OnOk result (came_in lines.new.items ≡ came_in lines.old.items ++ joined came.now) }
+    ensures wanted { OnOk result (wanted_in lines.new.items ≡ wanted_in lines.old.items ++ joined_lines wanted.now) }
+    ensures came { OnOk result (came_in lines.new.items ≡ came_in lines.old.items ++ joined_lines came.now) }
 {
     let start = common_start(wanted, came);
     let (front, wanted) = wanted.split_at(start);

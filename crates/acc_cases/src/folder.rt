@@ -1,7 +1,7 @@
 //! A folder of files.
 
 ghost use Rattle.std.specs.Prelude.{◌≡◌, ℕ, List, Option, OnOk, Some};
-ghost use Rattle.acc_cases.specs.Folders.{File, Known, Lists, Reads, with_file};
+ghost use Rattle.acc_cases.specs.Folders.{File, Known, ListsFiles, ReadsFile, with_file};
 
 use std::alloc::Global;
 
@@ -26,7 +26,7 @@ pub trait Folder {
     ///
     /// `Unusable` where the folder can't be listed, and `Memory` for want of memory.
     fn names(&self, alloc: Global) -> Result<Vec<String>, FolderFault>
-        ensures { Known (files self.now) (λ fs. Lists fs result) };
+        ensures { Known (files self.now) (λ fs. ListsFiles fs result) };
 
     /// The bytes of a file.
     ///
@@ -34,7 +34,7 @@ pub trait Folder {
     ///
     /// `Missing` where there is none of this name, `Unusable` where it can't be read to its end, and `Memory` for want of memory.
     fn read(&self, alloc: Global, name: &str) -> Result<Vec<u8>, FolderFault>
-        ensures { Known (files self.now) (λ fs. Reads fs name.now result) };
+        ensures { Known (files self.now) (λ fs. ReadsFile fs name.now result) };
 
     /// Makes a file of these bytes, in the place of the one of this name if there is one.
     ///

@@ -23,6 +23,6 @@ pub use disk::DiskFolder;
 pub use fault::{CaseFault, Kind};
 pub use folder::{Folder, FolderFault};
 pub use laws::{worked_options, worked_texts};
-pub use options::{OptionsFault, options_of};
+pub use options::{OptionsFault, number_in, options_of};
 pub use outcome::{Outcome, test_case};
 pub use run::{Tally, TestFault, test_all};

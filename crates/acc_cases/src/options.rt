@@ -5,7 +5,7 @@ ghost use Rattle.std.specs.Char.{is_ascii_digit};
 ghost use Rattle.std.specs.List.{list_all, slice_split};
 ghost use Rattle.acc_base.specs.declared.config.TheConstants.{MAX_CAPACITY, MAX_DEVICES, MAX_ROOM};
 ghost use Rattle.acc_driver.specs.Replays.{AreUsable};
-ghost use Rattle.acc_cases.specs.Options.{AreWithin, IsWithin, IsWord, first_number, given_by, given_with, is_blank, is_word, no_options, number_in, options_in, options_with, words_of};
+ghost use Rattle.acc_cases.specs.Options.{AreWithin, IsFromOneTo, IsWord, first_number, given_by, given_with, is_gap, is_not_empty, no_options, number_in, options_in, options_with, words_in};
 
 use acc_base::{MAX_CAPACITY, MAX_DEVICES, MAX_ROOM};
 use acc_driver::Options;
@@ -29,14 +29,14 @@ pub(crate) struct Given {
 
 // Whether words are parted by this byte.
 fn is_blank(byte: u8) -> bool
-    ensures { result ≡ is_blank byte }
+    ensures { result ≡ is_gap byte }
 {
     matches!(byte, b' ' | b'\t' | b'\r' | b'\n')
 }
 
 // The words of a line.
 fn words_of(alloc: Global, text: &[u8]) -> Result<Vec<&[u8]>, AllocError>
-    ensures { IfOk result (λ words. map (λ w. w.now) words.items ≡ words_of text.now) }
+    ensures { IfOk result (λ words. map (λ w. w.now) words.items ≡ words_in text.now) }
 {
     let pieces = pieces_of(alloc, text)?;
     without_empty(alloc, pieces.as_slice())
@@ -44,7 +44,7 @@ fn words_of(alloc: Global, text: &[u8]) -> Result<Vec<&[u8]>, AllocError>
 
 // The pieces that aren't empty.
 fn without_empty<'a>(alloc: Global, pieces: &[&'a [u8]]) -> Result<Vec<&'a [u8]>, AllocError>
-    ensures { IfOk result (λ words. map (λ w. w.now) words.items ≡ filter is_word (map (λ p. p.now) pieces.now)) }
+    ensures { IfOk result (λ words. map (λ w. w.now) words.items ≡ filter is_not_empty (map (λ p. p.now) pieces.now)) }
 {
     let mut words = Vec::new(alloc);
     for piece in pieces {
@@ -57,7 +57,7 @@ fn without_empty<'a>(alloc: Global, pieces: &[&'a [u8]]) -> Result<Vec<&'a [u8]>
 
 // What blanks part, empty or not.
 fn pieces_of(alloc: Global, text: &[u8]) -> Result<Vec<&[u8]>, AllocError>
-    ensures { IfOk result (λ pieces. map (λ p. p.now) pieces.items ≡ slice_split is_blank text.now) }
+    ensures { IfOk result (λ pieces. map (λ p. p.now) pieces.items ≡ slice_split is_gap text.now) }
 {
     text.split(|byte| is_blank(*byte)).collect(alloc)
 }
@@ -69,10 +69,10 @@ fn is_digits(word: &[u8]) -> bool
     word.iter().all(|byte| byte.is_ascii_digit())
 }
 
-// A number that is written in digits alone, and is from 1 to the most.
-fn number_in(word: &[u8], most: u64) -> Option<u64>
+/// A number that is written in digits alone, and is from 1 to the most.
+pub fn number_in(word: &[u8], most: u64) -> Option<u64>
     ensures value { result ≡ number_in most word.now }
-    ensures bounds { IsWithin most result }
+    ensures bounds { IsFromOneTo most result }
 {
     if !is_digits(word) {
         return None;
@@ -87,7 +87,7 @@ fn number_in(word: &[u8], most: u64) -> Option<u64>
 fn number_of(text: &str, most: u64) -> Option<u64>
     requires { list_all is_ascii_digit text.now ≡ true }
     ensures value { result ≡ number_in most text.now }
-    ensures bounds { IsWithin most result }
+    ensures bounds { IsFromOneTo most result }
 {
     match text.parse::<u64>() {
         Ok(value) => (1 <= value && value <= most).then_some(value),
@@ -98,7 +98,7 @@ fn number_of(text: &str, most: u64) -> Option<u64>
 // A number for an option that has none yet.
 fn first_number(given: Option<u64>, most: u64, word: &[u8]) -> Option<u64>
     ensures value { result ≡ first_number given most word.now }
-    ensures bounds { IsWithin most result }
+    ensures bounds { IsFromOneTo most result }
 {
     match given {
         Some(_) => None,

@@ -6,7 +6,7 @@ use Rattle.acc_token.specs.Tokens.{gap_at, token_at, token_len}
 use Rattle.acc_schedule.specs.Schedules.{schedule_of, events_behind}
 use Rattle.acc_check.specs.declared.language.Language.{Language}
 use Rattle.acc_check.specs.declared.language.Language.TheVariants.{Script, Schedule}
-use Rattle.acc_check.specs.Languages.{goes_on, schedule_fault, schedule_goes_on, script_fault}
+use Rattle.acc_check.specs.Languages.{may_go_on, schedule_fault, schedule_goes_on, script_fault}
 use Rattle.acc_check.specs.Places.{ends_from, piece_len}
 
 ends_from-next : (n at : ℕ) (rest : List ℕ) → 0 < length rest
@@ -34,11 +34,11 @@ one_more so_far all past rest behind more some within back parts =
     ∙ sym (append_assoc so_far ((all - length behind) ∷ []) (ends_from (all - (past + 1)) (all - length behind) behind))
 
 -- nothing is a script, and a schedule
-pub nothing_goes_on : (language : Language) → goes_on language [] ≡ true
+pub nothing_goes_on : (language : Language) → may_go_on language [] ≡ true
 unfolding script_fault schedule_fault schedule_goes_on script_of script_at array_turn host_turn token_at gap_at token_len schedule_of events_behind
 nothing_goes_on Script = refl
 nothing_goes_on (Schedule hosts devices) = refl
 
-pub stops_somewhere : (language : Language) (text : List ℕ) → goes_on language text ≡ false → 0 < length text
+pub stops_somewhere : (language : Language) (text : List ℕ) → may_go_on language text ≡ false → 0 < length text
 stops_somewhere language [] stops = absurd (true≢false (sym (nothing_goes_on language) ∙ stops))
 stops_somewhere language (b ∷ bs) stops = omega arith

@@ -7,7 +7,7 @@ use Rattle.acc_check.specs.declared.finding.Finding.{Finding}
 use Rattle.acc_check.specs.declared.language.Language.{Language}
 use Rattle.acc_check.specs.declared.language.Language.TheVariants.{Script, Schedule}
 use Rattle.acc_check.specs.declared.words.TheConstants.{WORDS, SCHEDULE_WORDS}
-use Rattle.acc_check.specs.Findings.{Tells}
+use Rattle.acc_check.specs.Findings.{TellsFault}
 use Rattle.acc_check.specs.Told.{finding_text}
 
 abbrev pub words_of : Language → List (List ℕ)
@@ -15,15 +15,15 @@ words_of Script = map (λ w. w.now) WORDS.now
 words_of (Schedule hosts devices) = map (λ w. w.now) SCHEDULE_WORDS.now
 
 -- The lines tell a finding of the text.
-pub record IsTold (language : Language) (name : List ℕ) (first_line : ℕ) (text : List ℕ) (lines : List ℕ) : Type 0 where
+pub record TellsFinding (language : Language) (name : List ℕ) (first_line : ℕ) (text : List ℕ) (lines : List ℕ) : Type 0 where
   pub finding : Finding
-  pub tells : Tells language text (words_of language) finding
+  pub tells : TellsFault language text (words_of language) finding
   pub told : lines ≡ finding_text name first_line text finding
 
 -- What a check writes: nothing of a text that is one of its language, or where memory is refused, and else the lines that tell
 -- of it. Where the writer fails nothing is said.
 abbrev pub Checks : Option (List ℕ) → Option (List ℕ) → Result Bool CheckFault → (List ℕ → Type 0) → Type 0
-Checks old new (Ok true) IsTold = new ≡ old
-Checks old new (Ok false) IsTold = (lines : List ℕ) × IsTold lines × Appends old new lines
-Checks old new (Err Memory) IsTold = new ≡ old
-Checks old new (Err Write) IsTold = Unit {0}
+Checks old new (Ok true) TellsFinding = new ≡ old
+Checks old new (Ok false) TellsFinding = (lines : List ℕ) × TellsFinding lines × Appends old new lines
+Checks old new (Err Memory) TellsFinding = new ≡ old
+Checks old new (Err Write) TellsFinding = Unit {0}

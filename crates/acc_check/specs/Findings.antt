@@ -6,7 +6,7 @@ use Rattle.acc_check.specs.declared.finding.Finding.{Finding}
 use Rattle.acc_check.specs.declared.language.Language.{Language}
 use Rattle.acc_check.specs.declared.place.Place.{Place}
 use Rattle.acc_check.specs.declared.place.Place.TheVariants.{AtEnd, AtPiece}
-use Rattle.acc_check.specs.Languages.{fault_of}
+use Rattle.acc_check.specs.Languages.{text_fault}
 use Rattle.acc_check.specs.Places.{could_stand, stands, IsPlace}
 
 -- what stands behind the last line feed of a text
@@ -40,8 +40,8 @@ told_words false words = words
 
 -- What is told: what is wrong, the place, its line and column from 1, and which of these words, a name, a number, and the end of
 -- the line could stand there. A `@` could in a comment alone.
-pub record Tells (language : Language) (text : List ℕ) (words : List (List ℕ)) (f : Finding) : Type 0 where
-  pub fault : fault_of language text ≡ Some f.fault
+pub record TellsFault (language : Language) (text : List ℕ) (words : List (List ℕ)) (f : Finding) : Type 0 where
+  pub fault : text_fault language text ≡ Some f.fault
   pub place : IsPlace language text f.place
   pub token : f.token.now ≡ token_in text f.place
   pub start : f.start ≡ start_in text f.place

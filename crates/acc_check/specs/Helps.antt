@@ -5,9 +5,9 @@ use Rattle.std.specs.List.{list_any}
 use Rattle.acc_token.specs.Tokens.{is_letter}
 
 -- a word begins with a letter
-abbrev pub is_word : List ℕ → Bool
-is_word [] = false
-is_word (b ∷ bs) = is_letter b
+abbrev pub begins_with_letter : List ℕ → Bool
+begins_with_letter [] = false
+begins_with_letter (b ∷ bs) = is_letter b
 
 abbrev pub has_name : List (Bor (List ℕ)) → List ℕ → Bool
 has_name names name = list_any (λ other. bytes_eq other.now name) names

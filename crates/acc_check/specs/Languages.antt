@@ -20,12 +20,12 @@ unfoldable pub schedule_fault : ℕ → ℕ → List ℕ → Option ReadFault
 schedule_fault hosts devices text = fault_in (schedule_of hosts devices text)
 
 -- what is wrong with a text, if it is none of its language
-abbrev pub fault_of : Language → List ℕ → Option ReadFault
-fault_of Script text = script_fault text
-fault_of (Schedule hosts devices) text = schedule_fault hosts devices text
+abbrev pub text_fault : Language → List ℕ → Option ReadFault
+text_fault Script text = script_fault text
+text_fault (Schedule hosts devices) text = schedule_fault hosts devices text
 
-abbrev pub is_whole : Language → List ℕ → Bool
-is_whole language text = is_none (fault_of language text)
+abbrev pub is_faultless : Language → List ℕ → Bool
+is_faultless language text = is_none (text_fault language text)
 
 abbrev pub needs_more : ReadKind → Bool
 needs_more Text = false
@@ -44,9 +44,9 @@ tails = [] ∷ codes " 0" ∷ codes " 1" ∷ codes " sync" ∷ codes " 0 sync" �
 
 -- A schedule goes on where it is whole with a tail behind it.
 unfoldable pub schedule_goes_on : ℕ → ℕ → List ℕ → Bool
-schedule_goes_on hosts devices text = list_any (λ tail. is_whole (Schedule hosts devices) (text ++ tail)) tails
+schedule_goes_on hosts devices text = list_any (λ tail. is_faultless (Schedule hosts devices) (text ++ tail)) tails
 
 -- A script goes on where it is whole, or ends where one needs more.
-abbrev pub goes_on : Language → List ℕ → Bool
-goes_on Script text = is_begun (script_fault text)
-goes_on (Schedule hosts devices) text = schedule_goes_on hosts devices text
+abbrev pub may_go_on : Language → List ℕ → Bool
+may_go_on Script text = is_begun (script_fault text)
+may_go_on (Schedule hosts devices) text = schedule_goes_on hosts devices text

@@ -6,7 +6,7 @@ use Rattle.acc_check.specs.declared.language.Language.{Language}
 use Rattle.acc_check.specs.declared.place.Piece.{Piece}
 use Rattle.acc_check.specs.declared.place.Place.{Place}
 use Rattle.acc_check.specs.declared.place.Place.TheVariants.{AtEnd, AtPiece}
-use Rattle.acc_check.specs.Languages.{goes_on}
+use Rattle.acc_check.specs.Languages.{may_go_on}
 
 -- ## The pieces of a text
 
@@ -33,9 +33,9 @@ unfoldable pub ends_of : List ℕ → List ℕ
 ends_of text = ends_from (length text) 0 text
 
 -- where the piece of this number begins: where the one before it ends
-abbrev pub start_of : List ℕ → ℕ → ℕ
-start_of ends zero = 0
-start_of ends (suc i) = slice_index_or ends i 0
+abbrev pub piece_start : List ℕ → ℕ → ℕ
+piece_start ends zero = 0
+piece_start ends (suc i) = slice_index_or ends i 0
 
 abbrev pub end_of : List ℕ → ℕ → ℕ
 end_of ends i = slice_index_or ends i 0
@@ -43,25 +43,25 @@ end_of ends i = slice_index_or ends i 0
 -- A text stops at this piece: before it the text goes on, and with it it doesn't.
 pub record Stops (language : Language) (text : List ℕ) (i : ℕ) : Type 0 where
   pub there : i < length (ends_of text)
-  pub before : goes_on language (take (start_of (ends_of text) i) text) ≡ true
-  pub behind : goes_on language (take (end_of (ends_of text) i) text) ≡ false
+  pub before : may_go_on language (take (piece_start (ends_of text) i) text) ≡ true
+  pub behind : may_go_on language (take (end_of (ends_of text) i) text) ≡ false
 
 -- The piece at which a text stops.
 pub record IsStop (language : Language) (text : List ℕ) (p : Piece) : Type 0 where
   pub number : Stops language text p.number
-  pub start : p.start ≡ start_of (ends_of text) p.number
+  pub start : p.start ≡ piece_start (ends_of text) p.number
   pub end : p.end ≡ end_of (ends_of text) p.number
   pub within : (p.start ≤ length text) × (p.end ≤ length text)
 
 -- Where a text stops: at its end where it goes on, or else at a piece.
 abbrev pub IsPlace : Language → List ℕ → Place → Type 0
-IsPlace language text AtEnd = goes_on language text ≡ true
+IsPlace language text AtEnd = may_go_on language text ≡ true
 IsPlace language text (AtPiece p) = IsStop language text p
 
 -- ## What could stand there
 
 abbrev pub stands : Language → List ℕ → List ℕ → Bool
-stands language before word = goes_on language (before ++ 32 ∷ word)
+stands language before word = may_go_on language (before ++ 32 ∷ word)
 
 abbrev pub could_stand : Language → List ℕ → List (List ℕ) → List (List ℕ)
 could_stand language before words = filter (stands language before) words

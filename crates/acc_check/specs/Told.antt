@@ -2,6 +2,7 @@
 use Rattle.std.specs.Prelude.{ℕ, ◌+◌, ◌-◌, ◌/◌, ◌%◌, Bool, true, false, ◌&&◌, ◌||◌, not, ◌==◌, nat_lt, List, [], ◌∷◌, ◌++◌, length, map, take, drop, Option, Some, None, codes, decimal, if◌then◌else◌}
 use Rattle.std.specs.Borrow.{Bor}
 use Rattle.std.specs.List.{flat_map, prefix_len}
+use Rattle.acc_schedule.specs.Schedules.{is_space}
 use Rattle.acc_token.specs.Tokens.{front}
 use Rattle.acc_token.specs.declared.read_fault.ReadKind.{ReadKind}
 use Rattle.acc_token.specs.declared.read_fault.ReadKind.TheVariants.{Text, End, Name, Limit, Form}
@@ -91,16 +92,13 @@ fault_line f = token_text f.token.now ++ (complaint f.lack ++ (remedy f ++ codes
 
 -- ## The line of the place
 
-abbrev pub is_blank : ℕ → Bool
-is_blank b = b == 32 || b == 9
-
 -- whether a line is a directive's
-abbrev pub is_directive : List ℕ → Bool
-is_directive line = front (drop (prefix_len is_blank line) line) == 35
+abbrev pub is_directive_line : List ℕ → Bool
+is_directive_line line = front (drop (prefix_len is_space line) line) == 35
 
 -- a byte as it is shown: `?` for one that isn't printed, but for a tab
-abbrev pub shown : ℕ → ℕ
-shown b = if nat_lt b 32 && not (b == 9) || b == 127 then 63 else b
+abbrev pub shown_byte : ℕ → ℕ
+shown_byte b = if nat_lt b 32 && not (b == 9) || b == 127 then 63 else b
 
 -- as much room as a byte takes: none where it goes on with a character
 abbrev pub room_of : ℕ → List ℕ
@@ -109,7 +107,7 @@ room_of b = if b == 9 then codes "\t" else (if nat_lt 127 b && nat_lt b 192 then
 -- a line, and a mark below its place, behind what stands before it
 unfoldable pub marked_line : List ℕ → List ℕ → List ℕ
 marked_line begun rest =
-    codes "  " ++ (map shown begun ++ (map shown rest ++ (codes "\n  " ++ (flat_map room_of begun ++ codes "^\n"))))
+    codes "  " ++ (map shown_byte begun ++ (map shown_byte rest ++ (codes "\n  " ++ (flat_map room_of begun ++ codes "^\n"))))
 
 -- ## What could stand there, and what helps
 
@@ -166,4 +164,4 @@ ways_text f in_directive = stand_text f in_directive ++ help_text f
 unfoldable pub finding_text : List ℕ → ℕ → List ℕ → Finding → List ℕ
 finding_text name first_line text f =
     fault_text name first_line f (begun_line (take f.start text)) (rest_of_line (drop f.start text))
-    ++ ways_text f (is_directive (begun_line (take f.start text)))
+    ++ ways_text f (is_directive_line (begun_line (take f.start text)))

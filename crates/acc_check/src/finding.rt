@@ -3,8 +3,8 @@
 ghost use Rattle.std.specs.Prelude.{◌≡◌, ◌+◌, ◌≤◌, ◌==◌, not, map, length, decimal, true, false, None, Some, IfOk, IfErr, IfSome};
 ghost use Rattle.std.specs.List.{suffix_len};
 ghost use Rattle.acc_base.specs.declared.fault.Fault.TheVariants.{Memory};
-ghost use Rattle.acc_check.specs.Findings.{begun_line, name_stands, number_stands, start_in, token_in, told_words, Tells};
-ghost use Rattle.acc_check.specs.Languages.{fault_of};
+ghost use Rattle.acc_check.specs.Findings.{begun_line, name_stands, number_stands, start_in, token_in, told_words, TellsFault};
+ghost use Rattle.acc_check.specs.Languages.{text_fault};
 ghost use Rattle.acc_check.specs.Places.{IsPlace, stands};
 ghost use Rattle.acc_token.specs.Texts.{line_feeds};
 
@@ -289,9 +289,9 @@ fn finding_at<'a>(
     fault: ReadFault,
     place: Place,
 ) -> Result<Finding<'a>, Fault>
-    requires fault { fault_of language text.now ≡ Some fault }
+    requires fault { text_fault language text.now ≡ Some fault }
     requires place { IsPlace language text.now place }
-    ensures told { IfOk result (λ f. Tells language text.now (map (λ w. w.now) words.now) f) }
+    ensures told { IfOk result (λ f. TellsFault language text.now (map (λ w. w.now) words.now) f) }
     ensures fault { IfErr result (λ fault. fault ≡ Memory) }
 {
     let start = start_in(language, text, place);
@@ -341,8 +341,8 @@ pub fn finding_of<'a>(
     text: &'a [u8],
     words: &[&'a [u8]],
 ) -> Result<Option<Finding<'a>>, Fault>
-    ensures whole { IfOk result (λ found. found ≡ None → fault_of language text.now ≡ None) }
-    ensures told { IfOk result (λ found. IfSome found (λ f. Tells language text.now (map (λ w. w.now) words.now) f)) }
+    ensures whole { IfOk result (λ found. found ≡ None → text_fault language text.now ≡ None) }
+    ensures told { IfOk result (λ found. IfSome found (λ f. TellsFault language text.now (map (λ w. w.now) words.now) f)) }
     ensures fault { IfErr result (λ fault. fault ≡ Memory) }
 {
     let Some(fault) = fault_of(alloc, language, text)? else {

@@ -3,7 +3,7 @@
 ghost use Rattle.std.specs.Prelude.{◌≡◌, ◌++◌, IfOk, IfErr};
 ghost use Rattle.std.specs.List.{list_any};
 ghost use Rattle.acc_base.specs.declared.fault.Fault.TheVariants.{Memory};
-ghost use Rattle.acc_check.specs.Languages.{fault_of, goes_on, is_begun, is_whole, schedule_fault, schedule_goes_on, script_fault};
+ghost use Rattle.acc_check.specs.Languages.{text_fault, may_go_on, is_begun, is_faultless, schedule_fault, schedule_goes_on, script_fault};
 
 use acc_base::Fault;
 use acc_schedule::Schedule;
@@ -59,7 +59,7 @@ pub(crate) fn fault_of(
     language: Language,
     text: &[u8],
 ) -> Result<Option<ReadFault>, Fault>
-    ensures found { IfOk result (λ found. found ≡ fault_of language text.now) }
+    ensures found { IfOk result (λ found. found ≡ text_fault language text.now) }
     ensures fault { IfErr result (λ fault. fault ≡ Memory) }
 {
     match language {
@@ -79,7 +79,7 @@ fn is_begun(found: &Option<ReadFault>) -> bool
 
 // Whether a text with a tail behind it is whole.
 fn is_whole_with(alloc: Global, language: Language, text: &[u8], tail: &[u8]) -> Result<bool, Fault>
-    ensures answer { IfOk result (λ r. r ≡ is_whole language (text.now ++ tail.now)) }
+    ensures answer { IfOk result (λ r. r ≡ is_faultless language (text.now ++ tail.now)) }
     ensures fault { IfErr result (λ fault. fault ≡ Memory) }
 {
     let mut whole = Vec::from_slice(alloc, text)?;
@@ -95,7 +95,7 @@ fn is_whole_with_some(
     text: &[u8],
     tails: &[&[u8]],
 ) -> Result<bool, Fault>
-    ensures answer { IfOk result (λ r. r ≡ list_any (λ tail. is_whole language (text.now ++ tail.now)) tails.now) }
+    ensures answer { IfOk result (λ r. r ≡ list_any (λ tail. is_faultless language (text.now ++ tail.now)) tails.now) }
     ensures fault { IfErr result (λ fault. fault ≡ Memory) }
 {
     for tail in tails {
@@ -124,7 +124,7 @@ fn schedule_goes_on(alloc: Global, hosts: u8, devices: u8, text: &[u8]) -> Resul
 ///
 /// `Memory` where memory is refused.
 pub(crate) fn goes_on(alloc: Global, language: Language, text: &[u8]) -> Result<bool, Fault>
-    ensures answer { IfOk result (λ r. r ≡ goes_on language text.now) }
+    ensures answer { IfOk result (λ r. r ≡ may_go_on language text.now) }
     ensures fault { IfErr result (λ fault. fault ≡ Memory) }
 {
     match language {

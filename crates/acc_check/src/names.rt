@@ -2,7 +2,7 @@
 
 ghost use Rattle.std.specs.Prelude.{◌≡◌, IfErr};
 ghost use Rattle.acc_base.specs.declared.fault.Fault.TheVariants.{Memory};
-ghost use Rattle.acc_check.specs.Helps.{has_name, is_word};
+ghost use Rattle.acc_check.specs.Helps.{has_name, begins_with_letter};
 
 use acc_base::Fault;
 use acc_token::{MAX_NAME, is, is_letter};
@@ -14,7 +14,7 @@ const NEAR: usize = 2;
 
 /// Whether a token is a word: it begins with a letter.
 pub(crate) fn is_word(token: &[u8]) -> bool
-    ensures { result ≡ is_word token.now }
+    ensures { result ≡ begins_with_letter token.now }
 {
     match token {
         [] => false,

@@ -2,8 +2,8 @@
 
 ghost use Rattle.std.specs.Prelude.{◌≡◌, ◌<◌, ◌≤◌, ◌-◌, All, false, true, length, take, IfOk, IfErr, Some};
 ghost use Rattle.acc_base.specs.declared.fault.Fault.TheVariants.{Memory};
-ghost use Rattle.acc_check.specs.Languages.{goes_on};
-ghost use Rattle.acc_check.specs.Places.{ends_of, end_of, start_of, IsPlace, IsStop, Stops};
+ghost use Rattle.acc_check.specs.Languages.{may_go_on};
+ghost use Rattle.acc_check.specs.Places.{ends_of, end_of, piece_start, IsPlace, IsStop, Stops};
 
 use crate::language::{Language, goes_on};
 use crate::piece::ends_of;
@@ -50,7 +50,7 @@ fn number_of_stop(
     requires ends { ends.now ≡ ends_of text.now }
     requires some { 0 < length ends.now }
     requires last { end_of ends.now (length ends.now - 1) ≡ length text.now }
-    requires stops { goes_on language text.now ≡ false }
+    requires stops { may_go_on language text.now ≡ false }
     ensures stop { IfOk result (λ i. Stops language text.now i) }
     ensures fault { IfErr result (λ fault. fault ≡ Memory) }
 {

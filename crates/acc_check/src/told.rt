@@ -3,8 +3,9 @@
 ghost use Rattle.std.specs.Prelude.{◌≡◌, ◌≤◌, ◌++◌, decimal, length, map, OnOk, IfOk, IfErr};
 ghost use Rattle.std.specs.List.{prefix_len, flat_map};
 ghost use Rattle.acc_base.specs.declared.fault.Fault.TheVariants.{Memory};
+ghost use Rattle.acc_schedule.specs.Schedules.{is_space};
 ghost use Rattle.acc_check.specs.Findings.{begun_line};
-ghost use Rattle.acc_check.specs.Told.{answer, answers, byte_text, complaint, finding_text, fault_line, fault_text, help_text, hex_digit, holds, is_blank, is_directive, is_printed, kind_mark, kind_text, marked_line, most_text, names_text, near_text, numbered, other_names, others_text, place_text, quoted, remedy, room_of, shown, stand_text, token_text, tokens_text, ways_text, words_text};
+ghost use Rattle.acc_check.specs.Told.{answer, answers, byte_text, complaint, finding_text, fault_line, fault_text, help_text, hex_digit, holds, is_directive_line, is_printed, kind_mark, kind_text, marked_line, most_text, names_text, near_text, numbered, other_names, others_text, place_text, quoted, remedy, room_of, shown_byte, stand_text, token_text, tokens_text, ways_text, words_text};
 
 use crate::finding::{Finding, Lack, begun_line};
 use acc_base::Fault;
@@ -256,14 +257,14 @@ fn put_token_fault(lines: &mut Vec<u8>, finding: &Finding) -> Result<(), AllocEr
 }
 
 fn is_blank(byte: u8) -> bool
-    ensures { result ≡ is_blank byte }
+    ensures { result ≡ is_space byte }
 {
     byte == b' ' || byte == b'\t'
 }
 
 // How many blanks a line begins with.
 fn blanks_len(line: &[u8]) -> usize
-    ensures value { result ≡ prefix_len is_blank line.now }
+    ensures value { result ≡ prefix_len is_space line.now }
     ensures within { result ≤ length line.now }
 {
     line.iter().take_while(|byte| is_blank(**byte)).count()
@@ -271,7 +272,7 @@ fn blanks_len(line: &[u8]) -> usize
 
 // Whether a directive begins there: its line ends where it does.
 fn is_directive(line: &[u8]) -> bool
-    ensures { result ≡ is_directive line.now }
+    ensures { result ≡ is_directive_line line.now }
 {
     let (_, rest) = line.split_at(blanks_len(line));
     front(rest) == b'#'
@@ -279,7 +280,7 @@ fn is_directive(line: &[u8]) -> bool
 
 // A byte of a line as it is shown.
 fn shown(byte: u8) -> u8
-    ensures { result ≡ shown byte }
+    ensures { result ≡ shown_byte byte }
 {
     if byte < b' ' && byte != b'\t' || byte == 127 {
         b'?'
@@ -289,7 +290,7 @@ fn shown(byte: u8) -> u8
 }
 
 fn put_shown(lines: &mut Vec<u8>, bytes: &[u8]) -> Result<(), AllocError>
-    ensures { OnOk result (lines.new.items ≡ lines.old.items ++ map shown bytes.now) }
+    ensures { OnOk result (lines.new.items ≡ lines.old.items ++ map shown_byte bytes.now) }
 {
     for byte in bytes {
         lines.push(shown(*byte))?;

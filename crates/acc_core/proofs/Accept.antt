@@ -21,7 +21,7 @@ use Rattle.acc_place.specs.Batches.{batch_of, answer_of, next_number, walk_at}
 use Rattle.acc_place.specs.Histories.{standing}
 use Rattle.acc_place.specs.Plans.{PlaceView, PlanView, standing_in, Fits, label_for, label_in}
 use Rattle.acc_batch.specs.Labels.{on_queue}
-use Rattle.acc_core.specs.Legality.{Legal}
+use Rattle.acc_core.specs.Legality.{IsLegalState}
 use Rattle.acc_work.specs.Logs.{items_of}
 use Rattle.acc_core.specs.Machine.{State, standing_of, with_directive, fault_of_place, place_fault, queue_fault, is_empty, is_full, batches_held, labels_of}
 use Rattle.acc_place.specs.Standings.{walk_of}
@@ -144,7 +144,7 @@ last_has : (P : Label → Type 0) (ls : List Label) (l : Label) → All P (ls ++
 last_has P ls l h = All-head P l [] (All-behind P ls (l ∷ []) h)
 
 -- its queue is there
-pub placed_there : (w : State) (host : ℕ) (d : Directive) (b : Label) → Legal w → refusal w.config (standing_of w) host d ≡ None → IsPlaced w host d b → (b.at.device < w.config.devices) × (b.at.queue < QUEUES)
+pub placed_there : (w : State) (host : ℕ) (d : Directive) (b : Label) → IsLegalState w → refusal w.config (standing_of w) host d ≡ None → IsPlaced w host d b → (b.at.device < w.config.devices) × (b.at.queue < QUEUES)
 placed_there w host d b l e p =
     let new = with_directive w host d in
     let all = labels_there new.config new.history new.counts (legal_accepted w host d l e).accepted in

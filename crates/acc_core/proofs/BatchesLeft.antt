@@ -16,7 +16,7 @@ use Rattle.acc_work.specs.Lanes.{IsFresh, LaneView, lane_in, lane_with_left, lan
 use Rattle.acc_work.specs.Works.{WorkView, KeepsOrder, lane_at}
 use Rattle.acc_work.proofs.KeptSteps.{Advanced}
 use Rattle.acc_core.specs.Enabled.{is_left}
-use Rattle.acc_core.specs.Legality.{Legal}
+use Rattle.acc_core.specs.Legality.{IsLegalState}
 use Rattle.acc_core.specs.Machine.{State, idle, is_empty, is_there, labels_of, ops_left, step}
 use Rattle.acc_core.specs.inner.Queues.{QueueView, empty_queue, no_queue, queue_in, held_with, queues_with}
 use Rattle.acc_core.specs.inner.Ties.{Queued, all_batches_left, batches_left}
@@ -166,7 +166,7 @@ some_of (lane ∷ lanes) (queue ∷ queues) some = elim (cases_Bool (nat_lt 0 (l
     few (op ∷ left) = omega arith
 
 -- An operation is left exactly while a batch is.
-pub left_counted : (w : State) (v : WorkView) (queues : List QueueView) → Legal w → Queued w v queues → KeepsOrder v → v.work ≡ w.work → is_left w ≡ nat_lt 0 (all_batches_left v.lanes queues)
+pub left_counted : (w : State) (v : WorkView) (queues : List QueueView) → IsLegalState w → Queued w v queues → KeepsOrder v → v.work ≡ w.work → is_left w ≡ nat_lt 0 (all_batches_left v.lanes queues)
 left_counted w v queues legal q k same = elim (cases_Bool (nat_lt 0 (all_batches_left v.lanes queues))) [
   | inl some ↦
       let s = some_of v.lanes queues (ltb-true 0 (all_batches_left v.lanes queues) some) in

@@ -1,5 +1,5 @@
 -- A queue is closed: its last batch joins the queue, for which there is room.
-use Rattle.std.proofs.Common.{inl, inr, ◌≡◌, ℕ, zero, suc, ◌<◌, ◌≤◌, Bool, true, false, cond, List, [], ◌∷◌, drop, length, Option, None, Some, refl, sym, ap, subst, ◌∙◌, arith}
+use Rattle.std.proofs.Common.{inl, inr, ◌≡◌, ℕ, zero, suc, ◌<◌, ◌≤◌, Bool, true, false, cond, List, [], ◌∷◌, length, None, Some, refl, sym, ap, subst, ◌∙◌, arith}
 use Rattle.std.specs.Prelude.{All, not, nat_lt, ◌&&◌, ◌||◌, slice_index_or, slice_set}
 use Rattle.std.proofs.lemmas.Bool.{and_parts, cases_Bool, le-ltb, lt-ltb}
 use Rattle.std.proofs.lemmas.List.{get_or-set_other}
@@ -12,16 +12,15 @@ use Rattle.acc_batch.specs.declared.label.Label.{Label}
 use Rattle.acc_batch.specs.Awaits.{close_label}
 use Rattle.acc_batch.proofs.Seats.{each_seat, one_seat, seat_there}
 use Rattle.acc_place.specs.declared.directive.PlaceEntry.TheVariants as noted
-use Rattle.acc_place.specs.Closing.{place_after_begin, place_after_close, handed_back, handed_out, is_at_hand, IsOut}
+use Rattle.acc_place.specs.Closing.{place_after_begin, place_after_close, handed_back, handed_out, is_at_hand, IsCloseOut}
 use Rattle.acc_place.specs.Accepting.{refusal}
-use Rattle.acc_place.specs.declared.directive.PlaceEntry.{PlaceEntry}
 use Rattle.acc_base.specs.declared.fault.Fault.TheVariants.{Closed}
-use Rattle.acc_base.specs.Configurations.{Configuration}
-use Rattle.acc_place.specs.Standings.{Standing}
-use Rattle.acc_place.specs.Histories.{is_closed, standing, AllAccepted, CanClose, IsQueue}
-use Rattle.acc_core.specs.Legality.{Legal}
+use Rattle.acc_place.specs.Histories.{is_closed, standing, CanClose, IsQueue}
+use Rattle.acc_core.specs.Legality.{IsLegalState}
 use Rattle.acc_place.specs.Directives.{Directive}
 use Rattle.acc_place.specs.Plans.{PlaceView, standing_in}
+use Rattle.acc_place.proofs.AcceptedDirective.{refused_closing}
+use Rattle.acc_place.proofs.LastClose.{none_closed}
 use Rattle.acc_work.specs.Works.{WorkView}
 use Rattle.acc_core.specs.inner.Closing.{closing_begun, can_close_now}
 use Rattle.acc_core.specs.Machine.{State, batches_held, labels_of, standing_of}
@@ -95,7 +94,7 @@ at_hand_other p at other b low there differ =
     ap (λ x. nat_lt other.queue QUEUES && x) (get_or-set_other p.closes (seat at) (seat other) b false apart)
 
 -- and one that is placed isn't
-pub has_closed : (p : PlaceView) (at : QueueAt) → IsQueue p.config at → is_at_hand p at ≡ true → IsOut (handed_out p at) at → HasCloses p → HasCloses (place_after_close (handed_out p at) at)
+pub has_closed : (p : PlaceView) (at : QueueAt) → IsQueue p.config at → is_at_hand p at ≡ true → IsCloseOut (handed_out p at) at → HasCloses p → HasCloses (place_after_close (handed_out p at) at)
 unfolding standing
 has_closed p at there hand out h = λ other here. elim (cases_Bool (same_queue at other)) [
   | inl same ↦ subst (λ q. is_at_hand (handed_out p at) q ≡ not (same_queue at q || standing_shown p q)) (same_queue_is at other same) (rw (same_queue_itself at) out.given)
@@ -140,7 +139,7 @@ has_place_with p queues at new low there has h =
     (λ here hand. has) (λ other differ x same. same)
 
 -- one whose close was placed needs none
-pub has_place_beside : (p : PlaceView) (queues : List QueueView) (at : QueueAt) (new : QueueView) → at.queue < QUEUES → seat at < length queues → is_at_hand p at ≡ true → IsOut (handed_out p at) at → HasPlaces p queues
+pub has_place_beside : (p : PlaceView) (queues : List QueueView) (at : QueueAt) (new : QueueView) → at.queue < QUEUES → seat at < length queues → is_at_hand p at ≡ true → IsCloseOut (handed_out p at) at → HasPlaces p queues
     → HasPlaces (place_after_close (handed_out p at) at) (queues_with queues at new)
 has_place_beside p queues at new low there hand out h =
     each_seat (λ other (x : QueueView). IsQueue p.config other → is_at_hand p other ≡ true → x.has_place ≡ true) (λ other (x : QueueView). IsQueue p.config other → is_at_hand (handed_out p at) other ≡ true → x.has_place ≡ true) no_queue queues at new low there h
@@ -148,18 +147,7 @@ has_place_beside p queues at new low there hand out h =
     (λ other differ x same here back. same here (sym (rw hand (at_hand_other p at other false low here differ)) ∙ back))
 
 -- where a directive is accepted no queue is closed
-refused_closing : (config : Configuration) (st : Standing) (host : ℕ) (d : Directive) → st.closing ≡ true → refusal config st host d ≡ Some Closed
-unfolding refusal
-refused_closing config st host d begun = rw begun refl
-
-none_closed : (config : Configuration) (history : List PlaceEntry) (counts : List ℕ) → AllAccepted config history counts → (standing config history counts).closing ≡ false → (standing config history counts).closed ≡ []
-unfolding standing
-none_closed config [] counts h early = refl
-none_closed config (noted.Accepted host d ∷ before) counts h early = none_closed config before (drop 1 counts) h.1 early
-none_closed config (noted.Closing ∷ before) counts h early = absurd cc
-none_closed config (noted.Closed at ∷ before) counts h early = (let w : true ≡ false = sym h.0.begun ∙ early in absurd cc)
-
-pub open_yet : (w : State) (host : ℕ) (d : Directive) (at : QueueAt) → Legal w → refusal w.config (standing_of w) host d ≡ None → is_closed (standing_of w) at ≡ false
+pub open_yet : (w : State) (host : ℕ) (d : Directive) (at : QueueAt) → IsLegalState w → refusal w.config (standing_of w) host d ≡ None → is_closed (standing_of w) at ≡ false
 open_yet w host d at legal accepted = elim (cases_Bool (standing_of w).closing) [
   | inl begun ↦ (let w : Some Closed ≡ None = sym (refused_closing w.config (standing_of w) host d begun) ∙ accepted in absurd cc)
   | inr early ↦ rw (none_closed w.config w.history w.counts legal.accepted early) refl

@@ -12,7 +12,7 @@ use Rattle.acc_host.specs.Hosts.{HostView}
 use Rattle.acc_place.specs.declared.directive.PlaceEntry.TheVariants as noted
 use Rattle.acc_place.specs.Histories.{is_closed, standing, CanClose, IsQueue}
 use Rattle.acc_work.proofs.Extended.{extends_behind, kept_more}
-use Rattle.acc_core.specs.Legality.{Legal, entries_of}
+use Rattle.acc_core.specs.Legality.{IsLegalState, host_entries}
 use Rattle.acc_core.specs.inner.Closing.{closing_begun, can_close_now, closed_state, closes_one, closes_all}
 use Rattle.acc_core.specs.Machine.{State, batches_held, labels_of, standing_of}
 
@@ -22,7 +22,7 @@ place_there config n low = (omega (arith, low), omega arith)
 
 -- ## Legal
 
-legal_begun : (w : State) → Legal w → (standing_of w).closing ≡ false → Legal (record w { history = noted.Closing ∷ w.history })
+legal_begun : (w : State) → IsLegalState w → (standing_of w).closing ≡ false → IsLegalState (record w { history = noted.Closing ∷ w.history })
 unfolding standing
 legal_begun w l early = record {
   accepted = (early, l.accepted);
@@ -31,7 +31,7 @@ legal_begun w l early = record {
   behind = l.behind;
 }
 
-pub legal_closed : (w : State) (at : QueueAt) → Legal w → CanClose w.config (standing_of w) at → Legal (record w { history = noted.Closed at ∷ w.history })
+pub legal_closed : (w : State) (at : QueueAt) → IsLegalState w → CanClose w.config (standing_of w) at → IsLegalState (record w { history = noted.Closed at ∷ w.history })
 unfolding standing
 legal_closed w at l can =
     let labels = labels_of w in
@@ -44,13 +44,13 @@ legal_closed w at l can =
       behind = l.behind;
     }
 
-same_history : (w : State) → Legal w → Legal (record w { history = w.history })
+same_history : (w : State) → IsLegalState w → IsLegalState (record w { history = w.history })
 same_history w l = record { accepted = l.accepted; counts = l.counts; kept = l.kept; behind = l.behind }
 
-pub legal_begins : (w : State) → Legal w → Legal (closing_begun w)
+pub legal_begins : (w : State) → IsLegalState w → IsLegalState (closing_begun w)
 legal_begins w l = by_closing (standing_of w).closing refl
   where
-    by_closing : (b : Bool) → (standing_of w).closing ≡ b → Legal (record w { history = cond b w.history (noted.Closing ∷ w.history) })
+    by_closing : (b : Bool) → (standing_of w).closing ≡ b → IsLegalState (record w { history = cond b w.history (noted.Closing ∷ w.history) })
     by_closing true e = same_history w l
     by_closing false e = legal_begun w l e
 
@@ -72,10 +72,10 @@ closes_can w at there begun can =
     not_true false e = refl
     not_true true e = absurd cc
 
-pub legal_closes : (w : State) (at : QueueAt) → Legal w → IsQueue w.config at → (standing_of w).closing ≡ true → Legal (closes_one w at)
+pub legal_closes : (w : State) (at : QueueAt) → IsLegalState w → IsQueue w.config at → (standing_of w).closing ≡ true → IsLegalState (closes_one w at)
 legal_closes w at l there begun = by_room (can_close_now w at) refl
   where
-    by_room : (b : Bool) → can_close_now w at ≡ b → Legal (record w { history = cond b (noted.Closed at ∷ w.history) w.history })
+    by_room : (b : Bool) → can_close_now w at ≡ b → IsLegalState (record w { history = cond b (noted.Closed at ∷ w.history) w.history })
     by_room true e = legal_closed w at l (closes_can w at there begun e)
     by_room false e = same_history w l
 
@@ -95,14 +95,14 @@ pub all_closing : (w : State) (n : ℕ) → (standing_of w).closing ≡ true →
 all_closing w zero begun = begun
 all_closing w (suc n) begun = closes_closing (closes_all w n) (at_seat n) (all_closing w n begun)
 
-legal_all : (w : State) (n : ℕ) → n ≤ queue_count w.config → Legal w → (standing_of w).closing ≡ true → Legal (closes_all w n)
+legal_all : (w : State) (n : ℕ) → n ≤ queue_count w.config → IsLegalState w → (standing_of w).closing ≡ true → IsLegalState (closes_all w n)
 legal_all w zero low l begun = l
 legal_all w (suc n) low l begun =
     let before = closes_all w n in
     let there : IsQueue before.config (at_seat n) = subst (λ c. IsQueue c (at_seat n)) (sym (all_config w n)) (place_there w.config n (omega (arith, low))) in
     legal_closes before (at_seat n) (legal_all w n (omega (arith, low)) l begun) there (all_closing w n begun)
 
-pub legal_close : (w : State) → Legal w → Legal (closed_state w)
+pub legal_close : (w : State) → IsLegalState w → IsLegalState (closed_state w)
 legal_close w l = legal_all (closing_begun w) (queue_count w.config) (omega arith) (legal_begins w l) (begins_closing w)
 
 pub close_config : (w : State) → (closed_state w).config ≡ w.config
@@ -111,17 +111,17 @@ close_config w = all_config (closing_begun w) (queue_count w.config)
 -- ## Hosts
 
 -- no host's entries change
-entries_begin : (w : State) (h : ℕ) → entries_of (closing_begun w) h ≡ entries_of w h
-entries_begin w h = elim (standing_of w).closing as (λ b. entries_of (record w { history = cond b w.history (noted.Closing ∷ w.history) }) h ≡ entries_of w h) [ true ↦ refl | false ↦ refl ]
+entries_begin : (w : State) (h : ℕ) → host_entries (closing_begun w) h ≡ host_entries w h
+entries_begin w h = elim (standing_of w).closing as (λ b. host_entries (record w { history = cond b w.history (noted.Closing ∷ w.history) }) h ≡ host_entries w h) [ true ↦ refl | false ↦ refl ]
 
-entries_close : (w : State) (at : QueueAt) (h : ℕ) → entries_of (closes_one w at) h ≡ entries_of w h
-entries_close w at h = elim (can_close_now w at) as (λ b. entries_of (record w { history = cond b (noted.Closed at ∷ w.history) w.history }) h ≡ entries_of w h) [ true ↦ refl | false ↦ refl ]
+entries_close : (w : State) (at : QueueAt) (h : ℕ) → host_entries (closes_one w at) h ≡ host_entries w h
+entries_close w at h = elim (can_close_now w at) as (λ b. host_entries (record w { history = cond b (noted.Closed at ∷ w.history) w.history }) h ≡ host_entries w h) [ true ↦ refl | false ↦ refl ]
 
-entries_all : (w : State) (n h : ℕ) → entries_of (closes_all w n) h ≡ entries_of w h
+entries_all : (w : State) (n h : ℕ) → host_entries (closes_all w n) h ≡ host_entries w h
 entries_all w zero h = refl
 entries_all w (suc n) h = entries_close (closes_all w n) (at_seat n) h ∙ entries_all w n h
 
-pub entries_closed : (w : State) (h : ℕ) → entries_of (closed_state w) h ≡ entries_of w h
+pub entries_closed : (w : State) (h : ℕ) → host_entries (closed_state w) h ≡ host_entries w h
 entries_closed w h = entries_all (closing_begun w) (queue_count w.config) h ∙ entries_begin w h
 
 all_hosts : (w : State) (n : ℕ) → (closes_all w n).hosts ≡ w.hosts

@@ -20,7 +20,7 @@ use Rattle.acc_work.specs.Logs.{performed}
 use Rattle.acc_work.specs.Works.{WorkView, KeepsOrder, goes_on, lane_at}
 use Rattle.acc_work.proofs.NeverStuck.{passing, passes, never_stuck}
 use Rattle.acc_core.specs.Enabled.{is_did, is_enabled, is_left, SomeEnabled}
-use Rattle.acc_core.specs.Legality.{Legal}
+use Rattle.acc_core.specs.Legality.{IsLegalState}
 use Rattle.acc_core.specs.Machine.{State, is_there, labels_of, taken_on, batches_held, ops_left, take_step, perform_step, can_perform, did, idle, with_op}
 use Rattle.acc_core.specs.inner.Queues.{QueueView, queue_in}
 use Rattle.acc_core.specs.inner.Ties.{Queued}
@@ -51,7 +51,7 @@ enabled_filled w v queues at s q now k same there some =
     by_left (op ∷ ops) e = goes_next (with_taken w v) v queues at op ops now k e same
 
 -- Some queue goes on.
-pub some_enabled : (w : State) → Legal w → is_left w ≡ true → SomeEnabled w
+pub some_enabled : (w : State) → IsLegalState w → is_left w ≡ true → SomeEnabled w
 some_enabled w legal left =
     let labels = labels_of w in
     let sound = labels_sound w.config w.history w.counts legal.accepted in
@@ -89,7 +89,7 @@ left_on w at left =
     passes (λ (l : Label). has_left (labels_of w) w.work l.at) (labels_of w) f.label f.member (rw f.here left)
 
 -- and none where none of any queue is
-pub none_left : (w : State) → Legal w → ((n : ℕ) → n < queue_count w.config → has_left (labels_of w) w.work (at_seat n) ≡ false) → is_left w ≡ false
+pub none_left : (w : State) → IsLegalState w → ((n : ℕ) → n < queue_count w.config → has_left (labels_of w) w.work (at_seat n) ≡ false) → is_left w ≡ false
 none_left w legal none =
     none_passes (λ (l : Label). has_left (labels_of w) w.work l.at) (labels_of w)
     (All-weaker (λ (l : Label). (l.at.device < w.config.devices) × (l.at.queue < QUEUES) × (0 < length l.ops)) (λ (l : Label). has_left (labels_of w) w.work l.at ≡ false) (λ l there. here l.at there.0 there.1) (labels_of w)

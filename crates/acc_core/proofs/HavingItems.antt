@@ -16,7 +16,7 @@ use Rattle.acc_place.specs.declared.directive.PlaceEntry.TheVariants as noted
 use Rattle.acc_batch.specs.declared.entry.WorkEntry.{WorkEntry}
 use Rattle.acc_work.specs.Enabled.{HaveItems}
 use Rattle.acc_work.specs.Logs.{one_more, items_of}
-use Rattle.acc_core.specs.Legality.{AllRise, Rise}
+use Rattle.acc_core.specs.Legality.{CountsRise, Rise}
 use Rattle.acc_host.specs.Entries.{Own, own_of, own_after}
 use Rattle.acc_core.specs.Machine.{State, labels_of}
 use Rattle.acc_core.proofs.Merged.{items_length}
@@ -55,5 +55,5 @@ have_in config (noted.Closed at ∷ before) counts work rise =
     All-append (λ (l : Label). l.items_done ≤ items_of l.host work) st.labels (close_label at st.labels ∷ []) (have_in config before counts work rise)
     (All-cons (λ (l : Label). l.items_done ≤ items_of l.host work) (close_label at st.labels) [] (omega arith) (All-nil (λ (l : Label). l.items_done ≤ items_of l.host work)))
 
-pub have_items : (w : State) → AllRise w → HaveItems (labels_of w) w.work
+pub have_items : (w : State) → CountsRise w → HaveItems (labels_of w) w.work
 have_items w rise = have_in w.config w.history w.counts w.work (λ h. subst (λ n. Rise 0 (own_of w.config h w.history w.counts) n) (items_length h w.work) (rise h))

@@ -2,7 +2,7 @@
 use Rattle.std.proofs.Common.{◌≡◌, ℕ, ◌<◌, Bool, true, false, List, [], ◌∷◌, ◌++◌, refl, sym, ap, ◌∙◌, subst, Result, Ok, Err, Option, Some, None}
 use Rattle.acc_base.specs.declared.config.TheConstants.{MAX_HOSTS}
 use Rattle.acc_base.specs.declared.fault.Fault.{Fault}
-use Rattle.acc_host.specs.Engines.{Gave, Call, Place, Wait, Record, Tells, Lists, Keeps}
+use Rattle.acc_host.specs.Engines.{Gave, Call, Place, Wait, Record, MayTell, Lists, Keeps}
 use Rattle.acc_place.specs.declared.directive.Placed.{Placed}
 use Rattle.acc_place.specs.Batches.{answer_of}
 use Rattle.acc_place.specs.Directives.{Directive}
@@ -15,7 +15,7 @@ use Rattle.acc_batch.specs.declared.entry.Told.TheVariants as told
 use Rattle.acc_work.specs.Items.{shown_by}
 use Rattle.acc_work.specs.Works.{item_fault}
 use Rattle.acc_core.specs.inner.Answers.{Makes, Places}
-use Rattle.acc_core.specs.Legality.{AllRise, entries_of}
+use Rattle.acc_core.specs.Legality.{CountsRise, host_entries}
 use Rattle.acc_core.specs.Machine.{State, standing_of, unless, fault_of_place, placed_state, told_of, can_tell, with_item, waited_state, item_state}
 use Rattle.acc_core.proofs.LogEntries.{entries_accept, entries_accept_other, entries_item, entries_item_other}
 
@@ -24,29 +24,29 @@ given : {A : Type 0} (fault : Option Fault) (defined answer : A) → Ok answer �
 given None defined answer e = cc
 given (Some fault) defined answer e = cc
 
-tells_of : (w : State) (item : ItemLabel) → Tells item (told_of w item)
+tells_of : (w : State) (item : ItemLabel) → MayTell item (told_of w item)
 tells_of w (to_record.Write array cell new_value) = refl
 tells_of w (to_record.Print range) = (_, refl)
 tells_of w (to_record.Seen device counts) = refl
 tells_of w (to_record.Test device counts) = (_, refl)
 
 -- What a call leaves of its host's entries.
-pub Makes-lists : (old : State) (h : ℕ) (call : Call) (new : State) → AllRise old → Makes old h call new → Lists call (entries_of old h) (entries_of new h)
+pub Makes-lists : (old : State) (h : ℕ) (call : Call) (new : State) → CountsRise old → Makes old h call new → Lists call (host_entries old h) (host_entries new h)
 Makes-lists old h (Place d (Ok placed)) new rise m =
     let answer = answer_of (standing_of old) d (walk_of (standing_of old) h d) in
     let is : placed ≡ answer = given (fault_of_place m.0 old h d) answer placed m.1 in
-    ap (λ w. entries_of w h) m.2 ∙ (entries_accept old h d rise ∙ ap (λ a. entries_of old h ++ Gave d a ∷ []) (sym is))
-Makes-lists old h (Place d (Err fault)) new rise m = ap (λ w. entries_of w h) m.2
-Makes-lists old h (Wait device counts (Ok true)) new rise m = ap (λ w. entries_of w h) m.2 ∙ entries_item old h (told.Seen device counts) rise
-Makes-lists old h (Wait device counts (Ok false)) new rise m = ap (λ w. entries_of w h) m.2
-Makes-lists old h (Wait device counts (Err fault)) new rise m = ap (λ w. entries_of w h) m.2
+    ap (λ w. host_entries w h) m.2 ∙ (entries_accept old h d rise ∙ ap (λ a. host_entries old h ++ Gave d a ∷ []) (sym is))
+Makes-lists old h (Place d (Err fault)) new rise m = ap (λ w. host_entries w h) m.2
+Makes-lists old h (Wait device counts (Ok true)) new rise m = ap (λ w. host_entries w h) m.2 ∙ entries_item old h (told.Seen device counts) rise
+Makes-lists old h (Wait device counts (Ok false)) new rise m = ap (λ w. host_entries w h) m.2
+Makes-lists old h (Wait device counts (Err fault)) new rise m = ap (λ w. host_entries w h) m.2
 Makes-lists old h (Record item (Ok answer)) new rise m = (
   told_of old item,
   tells_of old item,
   given (item_fault m.0 old.work (can_tell old item)) (shown_by (told_of old item)) answer m.1,
-  ap (λ w. entries_of w h) m.2 ∙ entries_item old h (told_of old item) rise,
+  ap (λ w. host_entries w h) m.2 ∙ entries_item old h (told_of old item) rise,
 )
-Makes-lists old h (Record item (Err fault)) new rise m = ap (λ w. entries_of w h) m.2
+Makes-lists old h (Record item (Err fault)) new rise m = ap (λ w. host_entries w h) m.2
 
 abbrev pub devices_of : State → ℕ
 devices_of w = w.config.devices
@@ -55,7 +55,7 @@ abbrev pub Serves : State → ℕ → Type 0
 Serves w h = h < MAX_HOSTS
 
 abbrev pub KeepsOthers : ℕ → State → State → Type 0
-KeepsOthers h old new = Keeps devices_of Serves entries_of h old new
+KeepsOthers h old new = Keeps devices_of Serves host_entries h old new
 
 pub keeps_all : (old : State) (h : ℕ) → KeepsOthers h old old
 keeps_all old h = record { same_devices = refl; still_serves = λ k s. s; others = λ k ne. refl }

@@ -7,7 +7,7 @@ use Rattle.acc_host.specs.declared.state.After.{After}
 use Rattle.acc_host.specs.declared.state.After.TheVariants as go
 use Rattle.acc_host.specs.declared.state.Reply.{Reply}
 use Rattle.acc_host.specs.declared.state.Reply.TheVariants as reply
-use Rattle.acc_host.specs.Hosts.{HostView, Asks, Steps, wants, after_place, after_wait, after_item, reply_to}
+use Rattle.acc_host.specs.Hosts.{HostView, Asks, Steps, wants, after_place, after_wait, after_answer, reply_to}
 use Rattle.acc_host.specs.Steps.{Want, stays, sets, refuses, places, awaits, records}
 use Rattle.acc_place.specs.declared.directive.Placed.{Placed}
 use Rattle.acc_place.specs.Directives.{Directive}
@@ -15,7 +15,7 @@ use Rattle.acc_work.specs.declared.item.ItemLabel.{ItemLabel}
 use Rattle.acc_work.specs.declared.item.Shown.{Shown}
 use Rattle.acc_host.specs.declared.event.Event.TheVariants as event
 use Rattle.acc_core.specs.inner.Answers.{Makes}
-use Rattle.acc_core.specs.Legality.{entries_of}
+use Rattle.acc_core.specs.Legality.{host_entries}
 use Rattle.acc_core.specs.Machine.{State, Outcome, Step, placed_state, waited_state, item_state, host_outcome, host_step, named_step}
 
 abbrev with_hosts : List HostView → State → State
@@ -69,14 +69,14 @@ asks_steps (records item) old new h host goes hosts (inr a) =
     let answer = a.0 in
     let w = with_hosts hosts old in (
       a.1.0,
-      ap (λ x. host_outcome (item_state w h item x) h host (after_item x)) (sym a.1.1)
-          ∙ (ap (λ x. host_outcome x h host (after_item answer)) (item_hosts old hosts h item answer)
-          ∙ went_same hosts h host (after_item answer) goes (item_state old h item answer) new a.2 a.1.2),
+      ap (λ x. host_outcome (item_state w h item x) h host (after_answer x)) (sym a.1.1)
+          ∙ (ap (λ x. host_outcome x h host (after_answer answer)) (item_hosts old hosts h item answer)
+          ∙ went_same hosts h host (after_answer answer) goes (item_state old h item answer) new a.2 a.1.2),
     )
 
 -- The step of `Host::next` over the accelerator is the machine's.
 pub host_steps : (old new : State) (hosts : List HostView) (h : ℕ) (host after : HostView) (answer : Reply)
-    → slice_get hosts h ≡ Some host → host.host ≡ h → Steps Makes entries_of old.config.devices old host answer new after
+    → slice_get hosts h ≡ Some host → host.host ≡ h → Steps Makes host_entries old.config.devices old host answer new after
     → Step (with_hosts hosts old) (event.Host h) answer (with_hosts (slice_set hosts h after) new)
 host_steps old new hosts h host after answer here is s =
     let asks : Asks Makes old h (wants old.config.devices host) s.goes new = subst (λ n. Asks Makes old n (wants old.config.devices host) s.goes new) is s.asks in

@@ -14,7 +14,7 @@ use Rattle.acc_host.specs.declared.event.Event.TheVariants as event
 use Rattle.acc_host.specs.declared.state.After.{After}
 use Rattle.acc_host.specs.declared.state.After.TheVariants as go
 use Rattle.acc_host.specs.declared.state.Reply.TheVariants as reply
-use Rattle.acc_host.specs.Hosts.{HostView, wants, after_place, after_wait, after_item, owing}
+use Rattle.acc_host.specs.Hosts.{HostView, wants, after_place, after_wait, after_answer, owing}
 use Rattle.acc_host.specs.Steps.{Owed, nothing_owed, owes_seen, owes_test, owed_by, Want, stays, sets, refuses, places, awaits, records}
 use Rattle.acc_core.specs.Machine.{State, Outcome, Step, labels_of, is_there, batches_held, ops_left, can_perform, place_answer, placed_state, wait_answer, waited_state, item_answer, item_state, host_outcome, host_step, named_step, take_step, perform_step, queue_step, step}
 
@@ -60,7 +60,7 @@ wait_keeps w h device counts host (Ok true) at is = absurd cc
 wait_keeps w h device counts host (Ok false) at is = stays_put w h host at refl
 wait_keeps w h device counts host (Err fault) at is = absurd cc
 
-item_keeps : (w : State) (h : ℕ) (host : HostView) (item : ItemLabel) (answer : Result Shown Fault) → Keeps w (host_outcome (item_state w h item answer) h host (after_item answer))
+item_keeps : (w : State) (h : ℕ) (host : HostView) (item : ItemLabel) (answer : Result Shown Fault) → Keeps w (host_outcome (item_state w h item answer) h host (after_answer answer))
 item_keeps w h host item (Ok shown) is = absurd cc
 item_keeps w h host item (Err fault) is = absurd cc
 

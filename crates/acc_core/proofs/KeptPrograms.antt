@@ -15,7 +15,7 @@ use Rattle.acc_host.specs.declared.program.Statement.{Statement}
 use Rattle.acc_host.specs.declared.state.After.{After}
 use Rattle.acc_host.specs.declared.state.After.TheVariants as go
 use Rattle.acc_host.specs.declared.state.Reply.{Reply}
-use Rattle.acc_host.specs.Hosts.{HostView, wants, host_after, after_place, after_wait, after_item}
+use Rattle.acc_host.specs.Hosts.{HostView, wants, host_after, after_place, after_wait, after_answer}
 use Rattle.acc_host.specs.Steps.{Want, stays, sets, refuses, places, awaits, records}
 use Rattle.acc_core.specs.Machine.{State, Outcome, Step, Runs, labels_of, is_there, batches_held, ops_left, can_perform, place_answer, placed_state, wait_answer, waited_state, item_answer, item_state, host_outcome, host_step, named_step, take_step, perform_step, queue_step, step}
 use Rattle.acc_core.specs.Worlds.{statements_in}
@@ -59,7 +59,7 @@ host_kept b w h host (places d) at =
 host_kept b w h host (awaits device counts) at =
     outcome_kept w (waited_state w h device counts (wait_answer b w device counts)) h host (after_wait (wait_answer b w device counts)) (waited_hosts w h device counts (wait_answer b w device counts)) at
 host_kept b w h host (records item) at =
-    outcome_kept w (item_state w h item (item_answer b w item)) h host (after_item (item_answer b w item)) (item_hosts w h item (item_answer b w item)) at
+    outcome_kept w (item_state w h item (item_answer b w item)) h host (after_answer (item_answer b w item)) (item_hosts w h item (item_answer b w item)) at
 
 named_kept : (b : Bool) (w : State) (h : ℕ) (named : Option HostView) → slice_get w.hosts h ≡ named → statements_in (named_step b w h named).state ≡ statements_in w
 named_kept b w h None at = refl

@@ -16,7 +16,7 @@ use Rattle.acc_place.specs.Batches.{batch_of, next_number, walk_at}
 use Rattle.acc_place.specs.Histories.{standing}
 use Rattle.acc_batch.specs.Labels.{on_queue, batch_at}
 use Rattle.acc_work.specs.Orders.{ShowsTruth}
-use Rattle.acc_core.specs.Legality.{Legal}
+use Rattle.acc_core.specs.Legality.{IsLegalState}
 use Rattle.acc_work.specs.Logs.{performed, items_of, await_allows, host_allows}
 use Rattle.acc_work.proofs.Extended.{extends_behind, kept_more}
 use Rattle.acc_work.proofs.KeptSteps.{kept_first, kept_next, kept_told}
@@ -31,7 +31,7 @@ use Rattle.acc_core.proofs.NextOfQueue.{next_of_all, next_uses_live}
 use Rattle.acc_core.proofs.AddedLabels.{added, added_filled, labelled_is}
 
 -- the histories are legal before the first event
-pub legal_start : (w : State) → w.history ≡ [] → w.work ≡ [] → Legal w
+pub legal_start : (w : State) → w.history ≡ [] → w.work ≡ [] → IsLegalState w
 legal_start w no_history no_work = record {
   accepted = rw no_history tt;
   counts = λ h. rw (no_history, no_work) (omega arith);
@@ -40,15 +40,15 @@ legal_start w no_history no_work = record {
 }
 
 -- other hosts leave them legal
-pub legal_hosts : (w : State) (hosts : List HostView) → Legal w → Legal (record w { hosts = hosts })
+pub legal_hosts : (w : State) (hosts : List HostView) → IsLegalState w → IsLegalState (record w { hosts = hosts })
 legal_hosts w hosts l = record { accepted = l.accepted; counts = l.counts; kept = l.kept; behind = l.behind }
 
 -- so do other counts of batches that were taken
-pub legal_taken : (w : State) (taken : List ℕ) → Legal w → Legal (record w { taken = taken })
+pub legal_taken : (w : State) (taken : List ℕ) → IsLegalState w → IsLegalState (record w { taken = taken })
 legal_taken w taken l = record { accepted = l.accepted; counts = l.counts; kept = l.kept; behind = l.behind }
 
 -- so does one more item that shows what is so
-pub legal_item : (w : State) (h : ℕ) (s : Told) → Legal w → ShowsTruth w.config.arrays (standing_of w).labels s w.work → Legal (with_item w h s)
+pub legal_item : (w : State) (h : ℕ) (s : Told) → IsLegalState w → ShowsTruth w.config.arrays (standing_of w).labels s w.work → IsLegalState (with_item w h s)
 legal_item w h s l truth = record { accepted = l.accepted; counts = rise_item w h s l.counts; kept = kept_told w.config.arrays (standing_of w).labels w.work h s l.kept truth; behind = l.behind }
 
 -- the labels that a directive adds
@@ -63,7 +63,7 @@ labels_accepted w h d =
     labelled_is (walk_at (walk_of (standing_of w) h d)) h (items_of h w.work) (standing_of w).labels (batch_of (standing_of w) (walk_of (standing_of w) h d))
 
 -- one more directive, without a fault, leaves the histories legal
-pub legal_accepted : (w : State) (h : ℕ) (d : Directive) → Legal w → refusal w.config (standing_of w) h d ≡ None → Legal (with_directive w h d)
+pub legal_accepted : (w : State) (h : ℕ) (d : Directive) → IsLegalState w → refusal w.config (standing_of w) h d ≡ None → IsLegalState (with_directive w h d)
 legal_accepted w h d l e =
     let labels = (standing_of w).labels in
     let same = labels_accepted w h d in
@@ -87,7 +87,7 @@ none_behind (o ∷ done) op later h = All-cons (λ (o : OpLabel). is_close o ≡
     goes o xs last = elim (cases_Bool (is_close o)) [ inl closes ↦ absurd (no_end xs op later (last closes)) | inr goes_on ↦ goes_on ]
 
 -- so does one more operation, the next of its queue, that can be performed
-pub legal_performed : (w : State) (at : QueueAt) (op : OpLabel) (ops : List OpLabel) → Legal w → ops_left w (standing_of w).labels at ≡ op ∷ ops → can_perform (standing_of w).labels w.work at op ≡ true → Legal (with_op w at op)
+pub legal_performed : (w : State) (at : QueueAt) (op : OpLabel) (ops : List OpLabel) → IsLegalState w → ops_left w (standing_of w).labels at ≡ op ∷ ops → can_perform (standing_of w).labels w.work at op ≡ true → IsLegalState (with_op w at op)
 legal_performed w at op ops l e allowed =
     let labels = (standing_of w).labels in
     let next = next_of_all w at op ops l.kept.prefix e in
@@ -100,9 +100,9 @@ legal_performed w at op ops l e allowed =
     }
 
 -- Each step keeps the histories legal.
-pub Step-legal : (old new : State) (e : Event) (r : Reply) → Legal old → Step old e r new → Legal new
+pub Step-legal : (old new : State) (e : Event) (r : Reply) → IsLegalState old → Step old e r new → IsLegalState new
 Step-legal old new e r l s =
-    Step-by Legal old new e r
+    Step-by IsLegalState old new e r
     (record {
       stays = l;
       hosts = λ hosts. legal_hosts old hosts l;
@@ -115,7 +115,7 @@ Step-legal old new e r l s =
     s
 
 -- Each run keeps the histories legal.
-pub runs_legal : (events : List Event) (replies : List Reply) (old new : State) → Legal old → Runs old events replies new → Legal new
+pub runs_legal : (events : List Event) (replies : List Reply) (old new : State) → IsLegalState old → Runs old events replies new → IsLegalState new
 runs_legal [] [] old new l h = rw h l
 runs_legal [] (r ∷ replies) old new l h = absurd h
 runs_legal (e ∷ events) [] old new l h = absurd h

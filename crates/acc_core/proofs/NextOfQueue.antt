@@ -5,7 +5,7 @@ use Rattle.acc_batch.specs.declared.label.Label.{Label}
 use Rattle.acc_batch.specs.declared.label.OpLabel.{OpLabel}
 use Rattle.acc_batch.specs.Labels.{on_queue, ops_of}
 use Rattle.acc_work.specs.Orders.{IsPrefix, InOrder}
-use Rattle.acc_core.specs.Legality.{Legal}
+use Rattle.acc_core.specs.Legality.{IsLegalState}
 use Rattle.acc_batch.specs.Lives.{UsesLive}
 use Rattle.acc_work.specs.Logs.{performed, device_ops}
 use Rattle.acc_core.specs.Machine.{State, standing_of, taken_on, ops_left}
@@ -28,7 +28,7 @@ pub next_of_all : (w : State) (at : QueueAt) (op : OpLabel) (ops : List OpLabel)
 next_of_all w at op ops h e = next_of_taken (on_queue at (standing_of w).labels) (taken_on w at) (performed at w.work) op ops (h at) e
 
 -- The next operation of a queue uses live blocks, whatever the queues have performed.
-pub next_uses_live : (w : State) (at : QueueAt) (op : OpLabel) (ops : List OpLabel) → Legal w → ops_left w (standing_of w).labels at ≡ op ∷ ops → UsesLive w.config.arrays op (device_ops at.device w.work)
+pub next_uses_live : (w : State) (at : QueueAt) (op : OpLabel) (ops : List OpLabel) → IsLegalState w → ops_left w (standing_of w).labels at ≡ op ∷ ops → UsesLive w.config.arrays op (device_ops at.device w.work)
 next_uses_live w at op ops l e =
     let next = next_of_all w at op ops l.kept.prefix e in
     any_order w.config.arrays (standing_of w).labels w.work at op next.later (labels_sound w.config w.history w.counts l.accepted) l.kept.prefix l.kept.awaited next.split

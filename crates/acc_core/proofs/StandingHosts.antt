@@ -13,7 +13,7 @@ use Rattle.acc_host.specs.declared.state.After.TheVariants as go
 use Rattle.acc_host.specs.declared.state.Reply.{Reply}
 use Rattle.acc_host.specs.Engines.{HostEntry, Place, Wait, Record, Lists}
 use Rattle.acc_host.specs.Following.{Stands}
-use Rattle.acc_host.specs.Hosts.{HostView, ready, Adds, wants, host_after, after_place, after_wait, after_item}
+use Rattle.acc_host.specs.Hosts.{HostView, ready, Adds, wants, host_after, after_place, after_wait, after_answer}
 use Rattle.acc_host.specs.Steps.{Want, stays, sets, refuses, places, awaits, records}
 use Rattle.acc_place.specs.declared.directive.Placed.{Placed}
 use Rattle.acc_place.specs.Directives.{Directive}
@@ -22,7 +22,7 @@ use Rattle.acc_work.specs.declared.item.Shown.{Shown}
 use Rattle.acc_host.specs.declared.event.Event.{Event}
 use Rattle.acc_host.specs.declared.event.Event.TheVariants as event
 use Rattle.acc_core.specs.Following.{StandsIn, AllStand}
-use Rattle.acc_core.specs.Legality.{AllRise, Legal, entries_of, AllFollow}
+use Rattle.acc_core.specs.Legality.{CountsRise, IsLegalState, host_entries, AllFollow}
 use Rattle.acc_core.specs.inner.Closing.{closed_state}
 use Rattle.acc_core.specs.Machine.{State, Outcome, Step, Runs, labels_of, is_there, taken_on, batches_held, ops_left, place_answer, placed_state, wait_answer, waited_state, item_answer, item_state, can_perform, host_outcome, host_step, named_step, take_step, perform_step, queue_step, with_op, step}
 use Rattle.acc_host.specs.Hosts.{AreNumbered}
@@ -75,18 +75,18 @@ stand_same old new first [] stay a = tt
 stand_same old new first (x ∷ hosts) stay a = (stay first x a.0, stand_same old new (first + 1) hosts stay a.1)
 
 -- a host stands as it stood where the number of devices and its entries are what they were
-still_stands : (old new : State) (k : ℕ) (host : HostView) → new.config.devices ≡ old.config.devices → entries_of new k ≡ entries_of old k → StandsIn old k host → StandsIn new k host
+still_stands : (old new : State) (k : ℕ) (host : HostView) → new.config.devices ≡ old.config.devices → host_entries new k ≡ host_entries old k → StandsIn old k host → StandsIn new k host
 still_stands old new k host devices entries s =
-    (s.0, subst (λ d. Stands d host (entries_of new k)) (sym devices) (subst (λ es. Stands old.config.devices host es) (sym entries) s.1))
+    (s.0, subst (λ d. Stands d host (host_entries new k)) (sym devices) (subst (λ es. Stands old.config.devices host es) (sym entries) s.1))
 
 -- A host goes on.
 stand_goes : (laws : HostLaws) (w new : State) (h : ℕ) (host : HostView) (goes : Result After Fault) → HostsStand w → slice_get w.hosts h ≡ Some host → new.hosts ≡ w.hosts → KeepsOthers h w new
-    → Adds (wants w.config.devices host) goes (entries_of w h) (entries_of new h) → HostsStand (host_outcome new h host goes).state
+    → Adds (wants w.config.devices host) goes (host_entries w h) (host_entries new h) → HostsStand (host_outcome new h host goes).state
 stand_goes laws w new h host goes a here same keeps adds =
     let at = stands_at w 0 h h w.hosts host (omega arith) here a in
     let after = host_after goes host in
-    let stands : Stands w.config.devices after (entries_of new h) = laws.steps w.config.devices host goes (entries_of w h) (entries_of new h) adds at.1 in
-    let there : StandsIn new h after = (at.0, subst (λ d. Stands d after (entries_of new h)) (sym keeps.same_devices) stands) in
+    let stands : Stands w.config.devices after (host_entries new h) = laws.steps w.config.devices host goes (host_entries w h) (host_entries new h) adds at.1 in
+    let there : StandsIn new h after = (at.0, subst (λ d. Stands d after (host_entries new h)) (sym keeps.same_devices) stands) in
     let others : OthersStay w new h = λ k other ne s. still_stands w new k other keeps.same_devices (keeps.others k (λ (e : k ≡ h). ne (sym e))) s in
     subst (λ hosts. AllStand new 0 (slice_set hosts h after)) (sym same) (stand_set w new h 0 h w.hosts after (omega arith) others there a)
 
@@ -100,7 +100,7 @@ adds_waited device counts (Ok true) old new l = inr (refl, l)
 adds_waited device counts (Ok false) old new l = inl (refl, l)
 adds_waited device counts (Err fault) old new l = l
 
-adds_recorded : (item : ItemLabel) (answer : Result Shown Fault) (old new : List HostEntry) → Lists (Record item answer) old new → Adds (records item) (after_item answer) old new
+adds_recorded : (item : ItemLabel) (answer : Result Shown Fault) (old new : List HostEntry) → Lists (Record item answer) old new → Adds (records item) (after_answer answer) old new
 adds_recorded item (Ok answer) old new l = (refl, l.0, l.1, l.3)
 adds_recorded item (Err fault) old new l = l
 
@@ -119,38 +119,38 @@ recorded_hosts w h item (Ok answer) = refl
 recorded_hosts w h item (Err fault) = refl
 
 -- the step of a host, by what it wants
-stand_want : (laws : HostLaws) (no_memory : Bool) (w : State) (h : ℕ) (host : HostView) (want : Want) → AllRise w → HostsStand w → slice_get w.hosts h ≡ Some host → wants w.config.devices host ≡ want
+stand_want : (laws : HostLaws) (no_memory : Bool) (w : State) (h : ℕ) (host : HostView) (want : Want) → CountsRise w → HostsStand w → slice_get w.hosts h ≡ Some host → wants w.config.devices host ≡ want
     → HostsStand (host_step no_memory w h host want).state
 stand_want laws no_memory w h host stays rise a here is =
     stand_goes laws w w h host (Ok go.Idle) a here refl (keeps_all w h)
-    (subst (λ x. Adds x (Ok go.Idle) (entries_of w h) (entries_of w h)) (sym is) (refl, refl))
+    (subst (λ x. Adds x (Ok go.Idle) (host_entries w h) (host_entries w h)) (sym is) (refl, refl))
 stand_want laws no_memory w h host (sets ids) rise a here is =
     stand_goes laws w w h host (Ok (go.Set ids)) a here refl (keeps_all w h)
-    (subst (λ x. Adds x (Ok (go.Set ids)) (entries_of w h) (entries_of w h)) (sym is) (refl, refl))
+    (subst (λ x. Adds x (Ok (go.Set ids)) (host_entries w h) (host_entries w h)) (sym is) (refl, refl))
 stand_want laws no_memory w h host (refuses fault) rise a here is =
     stand_goes laws w w h host (Err fault) a here refl (keeps_all w h)
-    (subst (λ x. Adds x (Err fault) (entries_of w h) (entries_of w h)) (sym is) (refl, refl))
+    (subst (λ x. Adds x (Err fault) (host_entries w h) (host_entries w h)) (sym is) (refl, refl))
 stand_want laws no_memory w h host (places d) rise a here is =
     let answer = place_answer no_memory w h d in
     let new = placed_state w h d answer in
     stand_goes laws w new h host (after_place d answer) a here (placed_hosts w h d answer) (keeps_placed w h d answer)
-    (subst (λ x. Adds x (after_place d answer) (entries_of w h) (entries_of new h)) (sym is)
-    (adds_placed d answer (entries_of w h) (entries_of new h) (Makes-lists w h (Place d answer) new rise (no_memory, refl, refl))))
+    (subst (λ x. Adds x (after_place d answer) (host_entries w h) (host_entries new h)) (sym is)
+    (adds_placed d answer (host_entries w h) (host_entries new h) (Makes-lists w h (Place d answer) new rise (no_memory, refl, refl))))
 stand_want laws no_memory w h host (awaits device counts) rise a here is =
     let answer = wait_answer no_memory w device counts in
     let new = waited_state w h device counts answer in
     stand_goes laws w new h host (after_wait answer) a here (waited_hosts w h device counts answer) (keeps_waited w h device counts answer)
-    (subst (λ x. Adds x (after_wait answer) (entries_of w h) (entries_of new h)) (sym is)
-    (adds_waited device counts answer (entries_of w h) (entries_of new h) (Makes-lists w h (Wait device counts answer) new rise (no_memory, refl, refl))))
+    (subst (λ x. Adds x (after_wait answer) (host_entries w h) (host_entries new h)) (sym is)
+    (adds_waited device counts answer (host_entries w h) (host_entries new h) (Makes-lists w h (Wait device counts answer) new rise (no_memory, refl, refl))))
 stand_want laws no_memory w h host (records item) rise a here is =
     let answer = item_answer no_memory w item in
     let new = item_state w h item answer in
-    stand_goes laws w new h host (after_item answer) a here (recorded_hosts w h item answer) (keeps_recorded w h item answer)
-    (subst (λ x. Adds x (after_item answer) (entries_of w h) (entries_of new h)) (sym is)
-    (adds_recorded item answer (entries_of w h) (entries_of new h) (Makes-lists w h (Record item answer) new rise (no_memory, refl, refl))))
+    stand_goes laws w new h host (after_answer answer) a here (recorded_hosts w h item answer) (keeps_recorded w h item answer)
+    (subst (λ x. Adds x (after_answer answer) (host_entries w h) (host_entries new h)) (sym is)
+    (adds_recorded item answer (host_entries w h) (host_entries new h) (Makes-lists w h (Record item answer) new rise (no_memory, refl, refl))))
 
 -- the step of the host with a number, if it is there
-stand_named_step : (laws : HostLaws) (no_memory : Bool) (w : State) (h : ℕ) (found : Option HostView) → AllRise w → HostsStand w → slice_get w.hosts h ≡ found → HostsStand (named_step no_memory w h found).state
+stand_named_step : (laws : HostLaws) (no_memory : Bool) (w : State) (h : ℕ) (found : Option HostView) → CountsRise w → HostsStand w → slice_get w.hosts h ≡ found → HostsStand (named_step no_memory w h found).state
 stand_named_step laws no_memory w h None rise a e = a
 stand_named_step laws no_memory w h (Some host) rise a e = stand_want laws no_memory w h host (wants w.config.devices host) rise a e refl
 
@@ -186,7 +186,7 @@ stand_close w a =
     rw (close_hosts w) (stand_same w (closed_state w) 0 w.hosts (λ k host s. still_stands w (closed_state w) k host (ap (λ (c : Configuration). c.devices) (close_config w)) (entries_closed w k) s) a)
 
 -- Each step keeps each host where it stands in its program.
-stand_step : (laws : HostLaws) (no_memory : Bool) (w : State) (e : Event) → AllRise w → AllStand w 0 w.hosts → AllStand (step no_memory w e).state 0 (step no_memory w e).state.hosts
+stand_step : (laws : HostLaws) (no_memory : Bool) (w : State) (e : Event) → CountsRise w → AllStand w 0 w.hosts → AllStand (step no_memory w e).state 0 (step no_memory w e).state.hosts
 stand_step laws no_memory w (event.Host h) rise a = stand_named_step laws no_memory w h (slice_get w.hosts h) rise a refl
 stand_step laws no_memory w (event.Take at) rise a =
     stand_queue_step (is_there w at) w (take_step w (labels_of w) at (ops_left w (labels_of w) at)) a (stand_take_step w (labels_of w) at (ops_left w (labels_of w) at) a)
@@ -195,11 +195,11 @@ stand_step laws no_memory w (event.Perform at) rise a =
 stand_step laws no_memory w event.Close rise a = subst (λ (o : Outcome). HostsStand o.state) (sym (close_is w)) (stand_close w a)
 
 -- a step that the machine may make keeps them
-pub Step-stands : (laws : HostLaws) (old new : State) (e : Event) (r : Reply) → AllRise old → AllStand old 0 old.hosts → Step old e r new → AllStand new 0 new.hosts
+pub Step-stands : (laws : HostLaws) (old new : State) (e : Event) (r : Reply) → CountsRise old → AllStand old 0 old.hosts → Step old e r new → AllStand new 0 new.hosts
 Step-stands laws old new e r rise a s = subst (λ (o : Outcome). AllStand o.state 0 o.state.hosts) s.1 (stand_step laws s.0 old e rise a)
 
 -- and so does a run
-pub runs_stand : (laws : HostLaws) (events : List Event) (replies : List Reply) (old new : State) → Legal old → AllStand old 0 old.hosts → Runs old events replies new → AllStand new 0 new.hosts
+pub runs_stand : (laws : HostLaws) (events : List Event) (replies : List Reply) (old new : State) → IsLegalState old → AllStand old 0 old.hosts → Runs old events replies new → AllStand new 0 new.hosts
 runs_stand laws [] [] old new legal a h = rw h a
 runs_stand laws [] (r ∷ replies) old new legal a h = absurd h
 runs_stand laws (e ∷ events) [] old new legal a h = absurd h
@@ -218,7 +218,7 @@ stands_start laws config programs numbered = stand_first laws (first_state confi
 -- Where each host stands in its program, each host's entries follow it.
 all_follow : (laws : HostLaws) (w : State) (h : ℕ) (hosts : List HostView) → AllStand w h hosts → AllFollow w h hosts
 all_follow laws w h [] a = tt
-all_follow laws w h (host ∷ hosts) a = (laws.follow w.config.devices host (entries_of w h) a.0.1, all_follow laws w (h + 1) hosts a.1)
+all_follow laws w h (host ∷ hosts) a = (laws.follow w.config.devices host (host_entries w h) a.0.1, all_follow laws w (h + 1) hosts a.1)
 
 pub AllStand-follow : (laws : HostLaws) (w : State) → AllStand w 0 w.hosts → AllFollow w 0 w.hosts
 AllStand-follow laws w a = all_follow laws w 0 w.hosts a

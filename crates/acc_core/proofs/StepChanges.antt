@@ -9,7 +9,7 @@ use Rattle.acc_place.specs.Directives.{Directive}
 use Rattle.acc_host.specs.declared.event.Event.{Event}
 use Rattle.acc_host.specs.declared.event.Event.TheVariants as event
 use Rattle.acc_host.specs.declared.state.Reply.{Reply}
-use Rattle.acc_host.specs.Hosts.{HostView, wants, after_place, after_wait, after_item}
+use Rattle.acc_host.specs.Hosts.{HostView, wants, after_place, after_wait, after_answer}
 use Rattle.acc_host.specs.Steps.{Want, stays, sets, refuses, places, awaits, records}
 use Rattle.acc_work.specs.declared.item.ItemLabel.{ItemLabel}
 use Rattle.acc_work.specs.declared.item.ItemLabel.TheVariants as to_record
@@ -72,7 +72,7 @@ tells_truth w (to_record.Test device counts) e = refl
 
 -- it joins the log, or the host is refused
 by_item : (P : State → Type 0) (w : State) (h : ℕ) (host : HostView) (item : ItemLabel) (fault : Option Fault) (answer : Shown) → Changes P w
-    → (fault ≡ None → can_tell w item ≡ true) → P (host_outcome (item_state w h item (unless fault answer)) h host (after_item (unless fault answer))).state
+    → (fault ≡ None → can_tell w item ≡ true) → P (host_outcome (item_state w h item (unless fault answer)) h host (after_answer (unless fault answer))).state
 by_item P w h host item None answer c fine = c.item _ h (told_of w item) (tells_truth w item (fine refl))
 by_item P w h host item (Some fault) answer c fine = c.hosts _
 

@@ -15,7 +15,7 @@ use Rattle.acc_host.specs.Hosts.{HostView}
 use Rattle.acc_host.specs.declared.event.Event.{Event}
 use Rattle.acc_host.specs.declared.event.Event.TheVariants as event
 use Rattle.acc_core.specs.Following.{AllStand}
-use Rattle.acc_core.specs.Legality.{Legal}
+use Rattle.acc_core.specs.Legality.{IsLegalState}
 use Rattle.acc_base.specs.Queues.{queue_count}
 use Rattle.acc_host.specs.declared.state.Reply.TheVariants as reply
 use Rattle.acc_core.specs.Machine.{State, Outcome, Step, Runs, standing_of, labels_of, is_there, batches_held, ops_left, can_perform, take_step, perform_step, queue_step, step}
@@ -98,7 +98,7 @@ closes_world w new hosts answer e =
     )
 
 -- a run of a world is legal wherever it is cut
-pub has_run : (laws : HostLaws) (old new : State) (events : List Event) (replies : List Reply) → Legal old → AllStand old 0 old.hosts → Runs old events replies new → Ran old events replies new
+pub has_run : (laws : HostLaws) (old new : State) (events : List Event) (replies : List Reply) → IsLegalState old → AllStand old 0 old.hosts → Runs old events replies new → Ran old events replies new
 has_run laws old new events replies legal stand runs = record {
   runs = runs;
   cuts = λ first second same.

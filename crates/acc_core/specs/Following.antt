@@ -2,12 +2,12 @@
 use Rattle.std.specs.Prelude.{◌≡◌, ℕ, ◌+◌, List, [], ◌∷◌}
 use Rattle.acc_host.specs.Following.{Stands}
 use Rattle.acc_host.specs.Hosts.{HostView}
-use Rattle.acc_core.specs.Legality.{entries_of}
+use Rattle.acc_core.specs.Legality.{host_entries}
 use Rattle.acc_core.specs.Machine.{State}
 
 -- A host has this number, and stands in its program with its entries.
 abbrev pub StandsIn : State → ℕ → HostView → Type 0
-StandsIn w h host = (host.host ≡ h) × Stands w.config.devices host (entries_of w h)
+StandsIn w h host = (host.host ≡ h) × Stands w.config.devices host (host_entries w h)
 
 -- Each host stands so, from number h on.
 abbrev pub AllStand : State → ℕ → List HostView → Type 0

@@ -13,27 +13,27 @@ use Rattle.acc_core.specs.Machine.{State, Runs}
 abbrev pub histories : State → Histories
 histories w = record { config = w.config; history = w.history; counts = w.counts; work = w.work }
 
-abbrev pub AllRise : State → Type 0
-AllRise w = run.AllRise (histories w)
+abbrev pub CountsRise : State → Type 0
+CountsRise w = run.AllRise (histories w)
 
 -- A state is legal where its histories are.
-abbrev pub Legal : State → Type 0
-Legal w = run.Legal (histories w)
+abbrev pub IsLegalState : State → Type 0
+IsLegalState w = run.Legal (histories w)
 
 -- a host's own list: its directives with their answers, and its items
-abbrev pub entries_of : State → ℕ → List HostEntry
-entries_of w host = run.entries_of (histories w) host
+abbrev pub host_entries : State → ℕ → List HostEntry
+host_entries w host = run.entries_of (histories w) host
 
 -- Each host's entries follow its program, as far as the host has come.
 abbrev pub AllFollow : State → ℕ → List HostView → Type 0
 AllFollow w h [] = Unit {0}
 AllFollow w h (host ∷ hosts) =
-    Follows w.config.devices host.statements (state_of host) (entries_of w h) × AllFollow w (h + 1) hosts
+    Follows w.config.devices host.statements (state_of host) (host_entries w h) × AllFollow w (h + 1) hosts
 
 -- A run is cut behind its first events, and the state there is legal.
 pub record LegalCut (old : State) (first second : List Event) (replies : List Reply) (new : State) : Type 0 where
   pub mid : State
   pub before : Runs old first (take (length first) replies) mid
-  pub legal : Legal mid
+  pub legal : IsLegalState mid
   pub follow : AllFollow mid 0 mid.hosts
   pub after : Runs mid second (drop (length first) replies) new

@@ -16,7 +16,7 @@ use Rattle.acc_host.specs.declared.state.After.{After}
 use Rattle.acc_host.specs.declared.state.After.TheVariants as go
 use Rattle.acc_host.specs.declared.state.Reply.{Reply}
 use Rattle.acc_host.specs.declared.state.Reply.TheVariants as reply
-use Rattle.acc_host.specs.Hosts.{HostView, wants, after_place, after_wait, after_item, host_after, reply_to}
+use Rattle.acc_host.specs.Hosts.{HostView, wants, after_place, after_wait, after_answer, host_after, reply_to}
 use Rattle.acc_host.specs.Steps.{Want, stays, sets, refuses, places, awaits, records}
 use Rattle.acc_work.specs.declared.item.ItemLabel.{ItemLabel}
 use Rattle.acc_work.specs.declared.item.ItemLabel.TheVariants as to_record
@@ -176,7 +176,7 @@ host_step no_memory w h host (awaits device counts) =
     host_outcome (waited_state w h device counts (wait_answer no_memory w device counts)) h host
     (after_wait (wait_answer no_memory w device counts))
 host_step no_memory w h host (records item) =
-    host_outcome (item_state w h item (item_answer no_memory w item)) h host (after_item (item_answer no_memory w item))
+    host_outcome (item_state w h item (item_answer no_memory w item)) h host (after_answer (item_answer no_memory w item))
 
 abbrev pub named_step : Bool → State → ℕ → Option HostView → Outcome
 named_step no_memory w h None = idle w

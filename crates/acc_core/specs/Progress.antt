@@ -11,12 +11,12 @@ abbrev pub taken_by : State → QueueAt → ℕ
 taken_by w at = if is_there w at then taken_on w at else 0
 
 -- what a queue has taken and not performed; one that isn't there nothing
-abbrev pub left_by : State → QueueAt → List OpLabel
-left_by w at = if is_there w at then ops_left w (labels_of w) at else []
+abbrev pub left_there : State → QueueAt → List OpLabel
+left_there w at = if is_there w at then ops_left w (labels_of w) at else []
 
 -- What a queue has performed, and what is left, are the operations of the batches that it has taken, in order and once.
 abbrev pub IsTakenInOrder : State → QueueAt → Type 0
-IsTakenInOrder w at = performed at w.work ++ left_by w at ≡ ops_of (take (taken_by w at) (on_queue at (labels_of w)))
+IsTakenInOrder w at = performed at w.work ++ left_there w at ≡ ops_of (take (taken_by w at) (on_queue at (labels_of w)))
 
 -- what a queue performs next, of what it has taken
 abbrev pub next_by : State → QueueAt → Option OpLabel

@@ -9,7 +9,7 @@ use Rattle.acc_host.specs.declared.state.HostState.{HostState}
 use Rattle.acc_host.specs.declared.program.Statement.{Statement}
 use Rattle.acc_host.specs.Hosts.{HostView, AreNumbered, ready}
 use Rattle.acc_core.specs.Following.{AllStand}
-use Rattle.acc_core.specs.Legality.{AllFollow, Legal, LegalCut}
+use Rattle.acc_core.specs.Legality.{AllFollow, IsLegalState, LegalCut}
 use Rattle.acc_core.specs.Machine.{State, state_at_first, Runs}
 use Rattle.acc_memory.specs.Values.{Host_cell}
 use Rattle.acc_work.specs.Logs.{value}
@@ -34,7 +34,7 @@ ProgramsStay = (events : List Event) (replies : List Reply) (old new : State) �
 -- What holds of a world between two steps; `states` has room for a state of each host, and `programs` for its program.
 pub record IsWorld (w : State) (states : List HostState) (room : ℕ) (programs : List HostProgram) (programs_room : ℕ) : Type 0 where
   pub few_hosts : length w.hosts ≤ MAX_HOSTS
-  pub legal : Legal w
+  pub legal : IsLegalState w
   pub stand : AllStand w 0 w.hosts
   pub no_states : states ≡ []
   pub has_room : length w.hosts ≤ room
@@ -57,4 +57,4 @@ pub record Ran (old : State) (events : List Event) (replies : List Reply) (new :
 abbrev pub RunsAreLegal : Type 0
 RunsAreLegal =
     (config : Configuration) (programs : List HostProgram) (events : List Event) (replies : List Reply) (new : State)
-    → AreNumbered 0 programs → Runs (first_state config programs) events replies new → Legal new × AllFollow new 0 new.hosts
+    → AreNumbered 0 programs → Runs (first_state config programs) events replies new → IsLegalState new × AllFollow new 0 new.hosts

@@ -7,9 +7,9 @@ ghost use Rattle.acc_base.specs.declared.config.TheConstants.{MAX_HOSTS};
 ghost use Rattle.acc_host.specs.Engines.{Wait, Record, MayRecord, without_item};
 ghost use Rattle.acc_core.specs.inner.Answers.{Makes, Places};
 ghost use Rattle.acc_core.specs.Enabled.{is_enabled, is_left, SomeEnabled};
-ghost use Rattle.acc_core.specs.Progress.{IsTakenInOrder, left_by, next_by, taken_by};
+ghost use Rattle.acc_core.specs.Progress.{IsTakenInOrder, left_there, next_by, taken_by};
 ghost use Rattle.acc_core.specs.Worlds.{OutsideIsZero};
-ghost use Rattle.acc_core.specs.Legality.{AllRise};
+ghost use Rattle.acc_core.specs.Legality.{CountsRise};
 ghost use Rattle.acc_place.specs.Histories.{is_closed, IsQueue};
 ghost use Rattle.acc_base.specs.Configurations.{has_range};
 ghost use Rattle.acc_memory.specs.Memories.{find_block, has_cell};
@@ -114,7 +114,7 @@ impl Accelerator {
 
     // The counts of items that go with the directives rise.
     fn keeps(&self)
-        ensures { AllRise self.now }
+        ensures { CountsRise self.now }
     {
         let _ = &self.work;
     }
@@ -383,7 +383,7 @@ impl Accelerator {
 
     /// How many operations are left of the batches that a queue has taken.
     pub(crate) fn ops_left(&self, at: QueueAt) -> usize
-        ensures { result ≡ length (left_by self.now at) }
+        ensures { result ≡ length (left_there self.now at) }
     {
         let QueueAt { device, queue } = at;
         if !self.place.config().has_queue(QueueAt { device, queue }) {
@@ -459,13 +459,13 @@ impl Engine for Accelerator {
     ghost use Rattle.std.specs.Prelude.{◌≡◌, ◌<◌};
     ghost use Rattle.acc_base.specs.declared.config.TheConstants.{MAX_HOSTS};
     ghost use Rattle.acc_core.specs.inner.Answers.{Makes};
-    ghost use Rattle.acc_core.specs.Legality.{entries_of};
+    ghost use Rattle.acc_core.specs.Legality.{host_entries};
 
     ghost devices = { λ w. w.config.devices };
 
     ghost serves = { λ w h. h < MAX_HOSTS };
 
-    ghost entries = { entries_of };
+    ghost entries = { host_entries };
 
     ghost makes = { Makes };
 

@@ -6,9 +6,9 @@ ghost use Rattle.acc_present.specs.Presences.{presences, holder};
 ghost use Rattle.acc_present.specs.Tables.{entry_presence};
 ghost use Rattle.acc_base.specs.declared.config.TheConstants.{MAX_HOSTS};
 ghost use Rattle.acc_core.specs.Enabled.{is_enabled, is_left, SomeEnabled};
-ghost use Rattle.acc_core.specs.Legality.{AllFollow, Legal};
+ghost use Rattle.acc_core.specs.Legality.{AllFollow, IsLegalState};
 ghost use Rattle.acc_core.specs.Machine.{Step, is_there, labels_of, standing_of};
-ghost use Rattle.acc_core.specs.Progress.{IsTakenInOrder, left_by, next_by, taken_by};
+ghost use Rattle.acc_core.specs.Progress.{IsTakenInOrder, left_there, next_by, taken_by};
 ghost use Rattle.acc_base.specs.declared.ids.QueueAt.{QueueAt};
 ghost use Rattle.acc_base.specs.Queues.{queue_count};
 ghost use Rattle.acc_core.specs.Following.{AllStand};
@@ -114,7 +114,7 @@ impl World {
     /// Its state is legal, and each host stands in its program; each queue has its count of batches that it has taken, which it
     /// performs in order; and a cell that no host array has is zero.
     pub fn keeps(&self)
-        ensures legal { Legal self.now }
+        ensures legal { IsLegalState self.now }
         ensures stand { AllStand self.now 0 self.now.hosts }
         ensures taken { length self.now.taken ≡ queue_count self.now.config }
         ensures in_order { (at : QueueAt) → is_there self.now at ≡ true → IsTakenInOrder self.now at }
@@ -259,7 +259,7 @@ impl World {
 
     /// How many operations are left of the batches that a queue has taken; none where there is no such queue.
     pub fn ops_left(&self, at: QueueAt) -> usize
-        ensures { result ≡ length (left_by self.now at) }
+        ensures { result ≡ length (left_there self.now at) }
     {
         self.accelerator.ops_left(at)
     }
@@ -312,7 +312,7 @@ impl World {
         ensures discarded { result.discarded.items ≡ [] }
         ensures few { length self.hosts ≤ MAX_HOSTS }
         ensures counted { length self.counts ≡ (standing_of self).accepted }
-        ensures legal { Legal self }
+        ensures legal { IsLegalState self }
         ensures follow { AllFollow self 0 self.hosts }
     {
         let alloc = self.alloc;
@@ -339,7 +339,7 @@ impl World {
         ensures hosts { result.2.items ≡ map state_of self.hosts }
         ensures programs { map bare_statements result.3.items ≡ statements_in self }
         ensures few { length self.hosts ≤ MAX_HOSTS }
-        ensures legal { Legal self }
+        ensures legal { IsLegalState self }
         ensures follow { AllFollow self 0 self.hosts }
     {
         hosts_follow();

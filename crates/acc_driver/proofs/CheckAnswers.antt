@@ -4,7 +4,7 @@ use Rattle.std.specs.Prelude.{◌↔◌, Bool, IfOk, IfErr, IsNone, IsTrue, is_s
 use Rattle.std.proofs.lemmas.List.{append-nil}
 use Rattle.std.specs.Io.KnownBytes.{Appends}
 use Rattle.acc_check.specs.Checks.{Checks}
-use Rattle.acc_check.specs.Languages.{fault_in, fault_of, schedule_fault}
+use Rattle.acc_check.specs.Languages.{fault_in, text_fault, schedule_fault}
 use Rattle.acc_check.specs.declared.language.Language.TheVariants.{Schedule}
 use Rattle.acc_host.specs.declared.event.Event.{Event}
 use Rattle.acc_token.specs.declared.read_fault.ReadFault.{ReadFault}
@@ -30,7 +30,7 @@ read_whole : (hosts devices : ℕ) (text : List ℕ) (read : Result (List Event)
 read_whole hosts devices text (Ok events) is none = (events, is)
 read_whole hosts devices text (Err f) is none = absurd (true≢false none)
 
-pub schedule_told : (hosts devices : ℕ) (text : List ℕ) (whole : Bool) → (IsTrue whole ↔ IsNone (fault_of (Schedule hosts devices) text)) → IsScheduleFor hosts devices text whole
+pub schedule_told : (hosts devices : ℕ) (text : List ℕ) (whole : Bool) → (IsTrue whole ↔ IsNone (text_fault (Schedule hosts devices) text)) → IsScheduleFor hosts devices text whole
 unfolding schedule_fault
 schedule_told hosts devices text true tells = read_whole hosts devices text (schedule_of hosts devices text) refl (tells.0 refl)
 schedule_told hosts devices text false tells = λ said. true≢false (sym (tells.1 (ap (λ r. is_some (fault_in r)) said.1)))

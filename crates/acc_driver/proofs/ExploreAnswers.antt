@@ -5,7 +5,7 @@ use Rattle.std.specs.Io.KnownBytes.{Appends}
 use Rattle.std.proofs.lemmas.List.Elements.{All-weaker}
 use Rattle.acc_explore.specs.Endings.{Ending, EndingsAreSaid, IsEnding, Setting}
 use Rattle.acc_explore.specs.Prefixes.{PrefixesAreSaid}
-use Rattle.acc_explore.specs.Runs.{events_of}
+use Rattle.acc_explore.specs.Runs.{open_events}
 use Rattle.acc_host.specs.declared.event.Event.{Event}
 use Rattle.acc_report.specs.Puts.{Sink, sink}
 use Rattle.acc_report.proofs.JoinedPuts.{appends_nothing, puts_nothing}
@@ -46,7 +46,7 @@ was_told endings_said prefixes_said (aim.Prefixes depth) options exploring sched
     let x = setting_of options exploring program first in
     record {
       told = told;
-      said = All-weaker (λ (events : List Event). All (λ (e : Event). Contains (events_of x.closing x.start) e) events) (SaysEvents options program schedule first)
+      said = All-weaker (λ (events : List Event). All (λ (e : Event). Contains (open_events x.closing x.start) e) events) (SaysEvents options program schedule first)
           (λ (events : List Event) may short few. prefixes_said x (configured options program) schedule first events refl hosts devices says may short few)
           told.prefixes told.are.events;
     }

@@ -9,7 +9,7 @@ use Rattle.acc_host.specs.Hosts.{HostView, bare_statements, ready}
 use Rattle.acc_core.specs.Machine.{State, Runs}
 use Rattle.acc_core.specs.Worlds.{ProgramsStay, first_state, statements_in}
 use Rattle.std.specs.Prelude.{Option, Result, Ok, Err}
-use Rattle.acc_core.specs.Legality.{AllFollow, Legal}
+use Rattle.acc_core.specs.Legality.{AllFollow, IsLegalState}
 use Rattle.acc_script.specs.Scripts.{Program}
 use Rattle.acc_driver.specs.declared.fault.DriverFault.{DriverFault}
 use Rattle.acc_driver.specs.declared.fault.DriverFault.TheVariants as fault
@@ -30,7 +30,7 @@ statements_stay stay config programs events replies w runs = sym (stay events re
 
 -- What is answered to the world in which a run ends is answered to its program and events.
 pub run_reported : ProgramsStay → (options : Options) (program : Program) (events : List Event) (replies : List Reply) (w : State) (old new : Option (List ℕ)) (result : Result Ended DriverFault)
-    → Runs (first_state (configured options program) program.programs) events replies w → Legal w → AllFollow w 0 w.hosts
+    → Runs (first_state (configured options program) program.programs) events replies w → IsLegalState w → AllFollow w 0 w.hosts
     → ReportsWorld program.names w old new result → RunAnswers options program events old new result
 run_reported stay options program events replies w old new (Ok ended) runs legal follow answer = record {
   final = w;

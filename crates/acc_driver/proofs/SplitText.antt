@@ -7,7 +7,7 @@ use Rattle.acc_token.specs.declared.read_fault.ReadFault.{ReadFault}
 use Rattle.acc_token.specs.declared.read_fault.ReadKind.TheVariants.{Limit}
 use Rattle.acc_token.specs.Faults.{fails}
 use Rattle.acc_token.specs.Texts.{line_feeds, within}
-use Rattle.acc_driver.specs.Inputs.{Parts, line_of, behind_line, is_split_line, with_front, parts_from, parts}
+use Rattle.acc_driver.specs.Inputs.{Parts, first_line, behind_line, is_split_line, with_front, parts_from, parts}
 use Rattle.acc_schedule.proofs.LinesAndWords.{line_len}
 
 -- ## The line `%%`
@@ -29,20 +29,20 @@ behind_split (a ∷ []) split = absurd (let no = too_short (a ∷ []) (omega ari
 behind_split (a ∷ b ∷ bs) split = first (a == 10) split
   where
     third : (c : ℕ) (cs : List ℕ) (w : Bool)
-        → bytes_eq (a ∷ b ∷ (if w then [] else c ∷ line_of cs)) (codes "%%") ≡ true
+        → bytes_eq (a ∷ b ∷ (if w then [] else c ∷ first_line cs)) (codes "%%") ≡ true
         → (if w then cs else behind_line cs) ≡ cs
     third c cs true h = refl
     third c cs false h = absurd (let off = (and_parts (b == 37) false (and_parts (a == 37) (b == 37 && false) h).1).1 in cc)
 
     second : (ds : List ℕ) (v : Bool)
-        → bytes_eq (a ∷ (if v then [] else b ∷ line_of ds)) (codes "%%") ≡ true
+        → bytes_eq (a ∷ (if v then [] else b ∷ first_line ds)) (codes "%%") ≡ true
         → (if v then ds else behind_line ds) ≡ drop 1 ds
     second ds true h = absurd (let off = (and_parts (a == 37) false h).1 in cc)
     second [] false h = refl
     second (c ∷ cs) false h = third c cs (c == 10) h
 
     first : (u : Bool)
-        → bytes_eq (if u then [] else a ∷ line_of (b ∷ bs)) (codes "%%") ≡ true
+        → bytes_eq (if u then [] else a ∷ first_line (b ∷ bs)) (codes "%%") ≡ true
         → (if u then b ∷ bs else behind_line (b ∷ bs)) ≡ drop 1 bs
     first true h = cc
     first false h = second bs (b == 10) h
@@ -50,11 +50,11 @@ behind_split (a ∷ b ∷ bs) split = first (a == 10) split
 -- three bytes say whether the line is `%%`
 three_decide : (a b c : ℕ) (cs ds : List ℕ) → is_split_line (a ∷ b ∷ c ∷ cs) ≡ is_split_line (a ∷ b ∷ c ∷ ds)
 three_decide a b c cs ds =
-    elim (a == 10) as (λ u. bytes_eq (if u then [] else a ∷ line_of (b ∷ c ∷ cs)) (codes "%%") ≡ bytes_eq (if u then [] else a ∷ line_of (b ∷ c ∷ ds)) (codes "%%")) [
+    elim (a == 10) as (λ u. bytes_eq (if u then [] else a ∷ first_line (b ∷ c ∷ cs)) (codes "%%") ≡ bytes_eq (if u then [] else a ∷ first_line (b ∷ c ∷ ds)) (codes "%%")) [
       | true ↦ refl
-      | false ↦ elim (b == 10) as (λ v. bytes_eq (a ∷ (if v then [] else b ∷ line_of (c ∷ cs))) (codes "%%") ≡ bytes_eq (a ∷ (if v then [] else b ∷ line_of (c ∷ ds))) (codes "%%")) [
+      | false ↦ elim (b == 10) as (λ v. bytes_eq (a ∷ (if v then [] else b ∷ first_line (c ∷ cs))) (codes "%%") ≡ bytes_eq (a ∷ (if v then [] else b ∷ first_line (c ∷ ds))) (codes "%%")) [
         | true ↦ refl
-        | false ↦ elim (c == 10) as (λ w. bytes_eq (a ∷ b ∷ (if w then [] else c ∷ line_of cs)) (codes "%%") ≡ bytes_eq (a ∷ b ∷ (if w then [] else c ∷ line_of ds)) (codes "%%")) [ true ↦ refl | false ↦ refl ]
+        | false ↦ elim (c == 10) as (λ w. bytes_eq (a ∷ b ∷ (if w then [] else c ∷ first_line cs)) (codes "%%") ≡ bytes_eq (a ∷ b ∷ (if w then [] else c ∷ first_line ds)) (codes "%%")) [ true ↦ refl | false ↦ refl ]
       ]
     ]
 

@@ -3,7 +3,7 @@ use Rattle.std.proofs.Common.{◌≡◌, ℕ, ◌+◌, Bool, true, false, List, 
 use Rattle.std.specs.Prelude.{IfErr, IfSome}
 use Rattle.std.proofs.lemmas.List.{append-nil, take_all}
 use Rattle.std.specs.Io.KnownBytes.{Appends}
-use Rattle.acc_core.specs.Legality.{AllFollow, Legal}
+use Rattle.acc_core.specs.Legality.{AllFollow, IsLegalState}
 use Rattle.acc_core.specs.Machine.{State, Runs}
 use Rattle.acc_core.specs.Worlds.{ProgramsStay, first_state, statements_in}
 use Rattle.acc_host.specs.declared.event.Event.{Event}
@@ -14,7 +14,7 @@ use Rattle.acc_report.specs.Reports.{report}
 use Rattle.acc_report.proofs.JoinedPuts.{appends_nothing, appends_then, puts_then}
 use Rattle.acc_script.specs.Scripts.{Program, script_of}
 use Rattle.acc_steps.specs.Lines.{Words}
-use Rattle.acc_steps.specs.Walks.{AreTold, Tells}
+use Rattle.acc_steps.specs.Walks.{AreTold, TellsSteps}
 use Rattle.acc_steps.specs.declared.walk.Numbered.{Numbered}
 use Rattle.acc_driver.specs.declared.fault.DriverFault.{DriverFault}
 use Rattle.acc_driver.specs.declared.fault.DriverFault.TheVariants as fault
@@ -64,7 +64,7 @@ lines_shown shown_as.Picture is told report = absurd is
 
 -- steps that memory ended
 pub begun_told : (words : Words) (events : List Numbered) (begun final : State) (old new : Option (List ℕ)) (failed : Bool)
-    → (n : ℕ) × Tells words (take n events) begun final (sink old false) (sink new failed) → WorldBegun words events begun old new
+    → (n : ℕ) × TellsSteps words (take n events) begun final (sink old false) (sink new failed) → WorldBegun words events begun old new
 begun_told words events begun final old new failed (n, (text, told, puts)) =
     record { count = n; final = final; told = text; steps = told; written = put_front old new failed text puts }
 
@@ -74,7 +74,7 @@ shown_by (Err f) = Err f
 
 -- all steps, and what their world is answered
 pub world_told : (form : StepsAs) → TellsLines form → (words : Words) (events : List Numbered) (begun final : State) (told : List ℕ) (old mid new : Option (List ℕ)) (result : Result Ended DriverFault)
-    → AreTold words 1 events begun final told → Appends old mid told → Legal final → AllFollow final 0 final.hosts → ReportsWorld words.names final mid new result
+    → AreTold words 1 events begun final told → Appends old mid told → IsLegalState final → AllFollow final 0 final.hosts → ReportsWorld words.names final mid new result
     → StepsOfWorld form words events begun old new (shown_by result)
 world_told form lines words events begun final told old mid new (Ok ended) steps first legal follow answer = record {
   final = final;

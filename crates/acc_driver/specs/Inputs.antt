@@ -16,9 +16,9 @@ pub record Parts : Type 0 where
   pub schedule : List ℕ
 
 -- the line that begins here, without its line feed
-abbrev pub line_of : List ℕ → List ℕ
-line_of [] = []
-line_of (b ∷ bs) = if b == 10 then [] else b ∷ line_of bs
+abbrev pub first_line : List ℕ → List ℕ
+first_line [] = []
+first_line (b ∷ bs) = if b == 10 then [] else b ∷ first_line bs
 
 -- what follows that line's line feed
 abbrev pub behind_line : List ℕ → List ℕ
@@ -26,7 +26,7 @@ behind_line [] = []
 behind_line (b ∷ bs) = if b == 10 then bs else behind_line bs
 
 abbrev pub is_split_line : List ℕ → Bool
-is_split_line bs = bytes_eq (line_of bs) (codes "%%")
+is_split_line bs = bytes_eq (first_line bs) (codes "%%")
 
 abbrev pub with_front : ℕ → Parts → Parts
 with_front b others = record others { script = b ∷ others.script }

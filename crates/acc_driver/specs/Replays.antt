@@ -6,7 +6,7 @@ use Rattle.acc_base.specs.declared.config.TheConstants.{MAX_CAPACITY, MAX_DEVICE
 use Rattle.acc_base.specs.Configurations.{Configuration, configuration, fault_of}
 use Rattle.acc_host.specs.declared.event.Event.{Event}
 use Rattle.acc_host.specs.declared.state.Reply.{Reply}
-use Rattle.acc_core.specs.Legality.{AllFollow, Legal}
+use Rattle.acc_core.specs.Legality.{AllFollow, IsLegalState}
 use Rattle.acc_core.specs.Machine.{State, Runs}
 use Rattle.acc_core.specs.Worlds.{first_state}
 use Rattle.acc_host.specs.Hosts.{is_refused, state_of}
@@ -97,7 +97,7 @@ left_in w = record { config = w.config; history = w.history; counts = w.counts; 
 pub record Reported (options : Options) (program : Program) (events : List Event) (old new : Option (List ℕ)) (refused : Bool) : Type 0 where
   pub final : State
   pub ends : EndsIn options program events final
-  pub legal : Legal final
+  pub legal : IsLegalState final
   pub follow : AllFollow final 0 final.hosts
   pub written : Appends old new (report program.names program.programs (left_in final))
   pub status : refused ≡ list_any is_refused (left_in final).hosts
@@ -106,7 +106,7 @@ pub record Reported (options : Options) (program : Program) (events : List Event
 pub record CutOff (options : Options) (program : Program) (events : List Event) (old new : Option (List ℕ)) : Type 0 where
   pub final : State
   pub ends : EndsIn options program events final
-  pub legal : Legal final
+  pub legal : IsLegalState final
   pub follow : AllFollow final 0 final.hosts
   pub written : AppendsFront old new (report program.names program.programs (left_in final))
 

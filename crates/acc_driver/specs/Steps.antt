@@ -3,7 +3,7 @@ use Rattle.std.specs.Prelude.{◌≡◌, ◌⊎◌, ℕ, Bool, true, false, ◌+
 use Rattle.std.specs.Io.KnownBytes.{Appends}
 use Rattle.std.specs.List.{list_any}
 use Rattle.acc_base.specs.Configurations.{fault_of}
-use Rattle.acc_core.specs.Legality.{AllFollow, Legal}
+use Rattle.acc_core.specs.Legality.{AllFollow, IsLegalState}
 use Rattle.acc_core.specs.Machine.{State}
 use Rattle.acc_core.specs.Worlds.{first_state}
 use Rattle.acc_host.specs.declared.event.Event.{Event}
@@ -13,7 +13,7 @@ use Rattle.acc_report.specs.Reports.{report}
 use Rattle.acc_schedule.specs.Schedules.{lines}
 use Rattle.acc_script.specs.Scripts.{Program, script_of}
 use Rattle.acc_steps.specs.Lines.{Words}
-use Rattle.acc_steps.specs.Pictures.{IsTooLarge, Shows, joined}
+use Rattle.acc_steps.specs.Pictures.{IsTooLarge, ShowsLines, joined}
 use Rattle.acc_steps.specs.Walks.{AreTold, numbered_events}
 use Rattle.acc_steps.specs.declared.walk.Numbered.{Numbered}
 use Rattle.acc_driver.specs.declared.fault.DriverFault.{DriverFault}
@@ -43,7 +43,7 @@ numbered_in options program schedule = numbered_events (length program.programs)
 abbrev pub ShowsSteps : StepsAs → List ℕ → List ℕ → List ℕ → Type 0
 ShowsSteps shown_as.Lines told report shown = shown ≡ told ++ report
 ShowsSteps shown_as.AllLines told report shown = shown ≡ told ++ report
-ShowsSteps shown_as.Picture told report shown = (lines : List (List ℕ)) × (told ≡ joined lines) × Shows lines shown
+ShowsSteps shown_as.Picture told report shown = (lines : List (List ℕ)) × (told ≡ joined lines) × ShowsLines lines shown
 
 -- Steps of the program from its start on, and the text of their lines.
 abbrev pub AreStepsOf : Options → StepsAs → List ℕ → Program → List Numbered → State → List ℕ → Type 0
@@ -61,7 +61,7 @@ pub record StepsShown (options : Options) (form : StepsAs) (texts : Parts) (prog
   pub final : State
   pub shown : List ℕ
   pub steps : AllSteps options form texts program final shown
-  pub legal : Legal final
+  pub legal : IsLegalState final
   pub follow : AllFollow final 0 final.hosts
   pub written : Appends old new shown
   pub status : refused ≡ list_any is_refused (left_in final).hosts

@@ -5,7 +5,7 @@ ghost use Rattle.acc_base.specs.Configurations.{rows};
 ghost use Rattle.acc_base.specs.declared.config.TheConstants.{MAX_HOSTS};
 ghost use Rattle.acc_base.specs.declared.fault.Fault.TheVariants as fault;
 ghost use Rattle.acc_core.specs.Worlds.{OnePerHost};
-ghost use Rattle.acc_explore.specs.Origins.{setting_of};
+ghost use Rattle.acc_explore.specs.Origins.{setting_from};
 ghost use Rattle.acc_host.specs.Hosts.{AreNumbered};
 ghost use Rattle.acc_report.specs.Puts.{sink};
 ghost use Rattle.acc_schedule.specs.Schedules.{schedule_of};
@@ -226,8 +226,8 @@ fn tell<W: Write, V: Watcher>(
     watcher: &V,
 ) -> Result<Explored, Fault>
     requires { OnePerHost origin.now.config.now origin.now.script.now.programs.items }
-    ensures told { IfOk result (TellsAllOf aim (setting_of origin.now) origin.now.schedule.now origin.now.most (sink (W.contents out.old) failed.old) (sink (W.contents out.new) failed.new)) }
-    ensures begun { OnErr result (TellsSomeOf aim (setting_of origin.now) origin.now.schedule.now (sink (W.contents out.old) failed.old) (sink (W.contents out.new) failed.new)) }
+    ensures told { IfOk result (TellsAllOf aim (setting_from origin.now) origin.now.schedule.now origin.now.most (sink (W.contents out.old) failed.old) (sink (W.contents out.new) failed.new)) }
+    ensures begun { OnErr result (TellsSomeOf aim (setting_from origin.now) origin.now.schedule.now (sink (W.contents out.old) failed.old) (sink (W.contents out.new) failed.new)) }
     ensures fault { IfErr result (λ f. f ≡ fault.Memory) }
 {
     match aim {

@@ -3,7 +3,6 @@
 ghost use Rattle.std.specs.Prelude.{◌≡◌, ◌≤◌, IfOk, IfErr, OnOk, None, Ok, length};
 ghost use Rattle.acc_base.specs.Configurations.{rows, configuration, fault_of};
 ghost use Rattle.acc_base.specs.declared.config.TheConstants.{MAX_HOSTS};
-ghost use Rattle.acc_base.specs.declared.fault.Fault.TheVariants.{Memory};
 ghost use Rattle.acc_host.specs.Hosts.{AreNumbered};
 ghost use Rattle.acc_script.specs.Arrays.{IsDeclared, texts};
 ghost use Rattle.acc_script.specs.Scripts.{program_of, script_of};
@@ -30,18 +29,6 @@ pub(crate) fn read_script<'a>(alloc: Global, text: &'a [u8]) -> Result<Script<'a
         Err(ReadError::Memory) => Err(ReplayFault::Memory),
         Err(ReadError::Fault(fault)) => Err(ReplayFault::Script(fault)),
     }
-}
-
-// Equal programs.
-pub(crate) fn copies_of(alloc: Global, programs: &[HostProgram]) -> Result<Vec<HostProgram>, Fault>
-    ensures equal { IfOk result (λ copies. copies.items ≡ programs.now) }
-    ensures fault { IfErr result (λ f. f ≡ Memory) }
-{
-    let mut copies = Vec::new(alloc);
-    for program in programs {
-        copies.push(program.try_clone(alloc)?)?;
-    }
-    Ok(copies)
 }
 
 // How many hosts there are.

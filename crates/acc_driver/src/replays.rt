@@ -7,7 +7,7 @@ ghost use Rattle.acc_host.specs.Hosts.{AreNumbered};
 ghost use Rattle.acc_core.specs.Worlds.{first_state};
 ghost use Rattle.acc_script.specs.Arrays.{IsDeclared, texts};
 ghost use Rattle.acc_driver.specs.Inputs.{parts};
-ghost use Rattle.acc_core.specs.Legality.{AllFollow, Legal};
+ghost use Rattle.acc_core.specs.Legality.{AllFollow, IsLegalState};
 ghost use Rattle.acc_core.specs.Machine.{Runs};
 ghost use Rattle.acc_host.specs.declared.state.Reply.{Reply};
 ghost use Rattle.acc_driver.specs.Replays.{Answers, RunAnswers, AreUsable, IsOfScript, IsRun, IsScript, IsWorldFault, driver_fault, of_input};
@@ -203,7 +203,7 @@ pub(crate) fn report_world<W: Write>(
     remains: &mut Remains,
 ) -> Result<Ended, ReplayFault>
     ensures answers { ReportsWorld (texts names.entry.keys) world (W.contents writer.old) (W.contents writer.new) (of_input result) }
-    ensures legal { Legal world }
+    ensures legal { IsLegalState world }
     ensures follow { AllFollow world 0 world.hosts }
 {
     ids_are_not_told();

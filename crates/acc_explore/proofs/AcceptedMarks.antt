@@ -16,8 +16,11 @@ use Rattle.acc_place.specs.declared.directive.Region.{Region}
 use Rattle.acc_place.specs.Directives.{Directive}
 use Rattle.acc_place.specs.Histories.{AllAccepted, standing}
 use Rattle.acc_place.specs.Regions.{open_region, regions_after, regions_on, without_open}
-use Rattle.acc_place.specs.Standings.{Standing, acts_if_present, all_asked, asked_by, change_at, counted_among, counted_with, ends_by, exit_by, left_by, marked_by, marks_after, marks_behind, marks_with, subject_by, visits, walk_of}
+use Rattle.acc_place.specs.Standings.{Standing, acts_if_present, all_asked, asked_item, change_at, counted_among, counted_with, ends_by, exit_by, subject_left, marked_by, marks_after, marks_behind, marks_with, subject_by, visits, walk_of}
+use Rattle.acc_place.proofs.EnteredRanges.{IsHeld, counted_ranges, entered_end, entered_enter, entered_exit, entered_open, entered_turned, entered_up, has_entered, ranges_of}
 use Rattle.acc_place.proofs.FirstFault.{first_fault_none, no_fault_of}
+use Rattle.acc_place.proofs.OpenRegion.{none_without}
+use Rattle.acc_place.proofs.RegionsOn.{open_on, regions_beside, subject_device, without_on}
 use Rattle.acc_place.proofs.VisitLives.{visit}
 use Rattle.acc_present.specs.declared.change.Change.{Change}
 use Rattle.acc_present.specs.declared.change.Change.TheVariants.{StructuredUp, StructuredDown, DynamicUp}
@@ -29,8 +32,6 @@ use Rattle.acc_present.specs.Tables.{presences_after}
 use Rattle.acc_present.proofs.LegalMarks.{can_count-balanced, legal}
 use Rattle.acc_present.proofs.Presences.{CanCount, presences-more}
 use Rattle.acc_explore.proofs.AlikeMarks.{IsWhole, is_whole}
-use Rattle.acc_explore.proofs.EnteredRanges.{IsHeld, entered_end, entered_enter, entered_exit, entered_open, entered_turned, entered_up, exit_of, has_entered, ranges_of}
-use Rattle.acc_explore.proofs.RegionsOn.{none_without, open_on, regions_beside, without_on}
 
 -- The marks of a device are legal, and these ranges are entered behind them.
 record Counts (rs : List Range) (ms : List Mark) : Type 0 where
@@ -70,6 +71,10 @@ counts_enter r rs ms c cells whole = record {
   entered = behind (enter r) ms rs tt (entered_enter r (length (opened_lifetimes ms) + 1) rs (presences ms) (legal ms c.legal).table cells whole c.entered);
 }
 
+-- what an exit marks
+abbrev exit_of : Bool → Range → Mark
+exit_of finalize r = record { change = exit_by finalize; range = r }
+
 counts_exit : (finalize : Bool) (r : Range) (rs : List Range) (ms : List Mark) → Counts rs ms → 0 < r.len → Counts rs (exit_of finalize r ∷ ms)
 counts_exit true r rs ms c cells = record {
   legal = ((cells, tt), c.legal);
@@ -88,16 +93,12 @@ NoFault config k ms items = first_fault (map (fault_at config k) (visits ms (all
 -- what is known of the first of items without a fault, and of the others
 record FirstIs (config : Configuration) (k : Kind) (ms : List Mark) (i : DataItem) (items : List DataItem) : Type 0 where
   first : IsWhole k ms i
-  others : NoFault config k (marked_by ms (asked_by k i)) items
+  others : NoFault config k (marked_by ms (asked_item k i)) items
 
 first_is : (config : Configuration) (k : Kind) (ms : List Mark) (i : DataItem) (items : List DataItem) → NoFault config k ms (i ∷ items) → FirstIs config k ms i items
 first_is config k ms i items none =
-    let parts = first_fault_none (fault_at config k (visit ms (asked_by k i))) _ none in
+    let parts = first_fault_none (fault_at config k (visit ms (asked_item k i))) _ none in
     record { first = is_whole config k ms i parts.0; others = parts.1 }
-
-counted_ranges : (change : Option Change) (i : DataItem) (items : List DataItem) (rs : List Range) → ranges_of (counted_with change i items) ++ rs ≡ ranges_of (counted_with change i []) ++ (ranges_of items ++ rs)
-counted_ranges None i items rs = refl
-counted_ranges (Some change) i items rs = refl
 
 counts_one : (absent : Bool) (i : DataItem) (rs : List Range) (ms : List Mark) → Counts rs ms → 0 < i.range.len → is_partly_present (presences ms) i.range ≡ false
     → Counts (ranges_of (counted_with (cond absent None (Some StructuredUp)) i []) ++ rs) (marks_with ms i.range (cond absent None (Some StructuredUp)))
@@ -110,7 +111,7 @@ counts_data : (config : Configuration) (items : List DataItem) (rs : List Range)
 counts_data config [] rs ms c none = c
 counts_data config (i ∷ items) rs ms c none =
     let f = first_is config kind.Data ms i items none in
-    let asked = asked_by kind.Data i in
+    let asked = asked_item kind.Data i in
     let next = marked_by ms asked in
     let absent = acts_if_present kind.Data i.clause && not (is_present (presences ms) i.range) in
     let first = ranges_of (counted_with (change_at ms asked) i []) in
@@ -125,12 +126,12 @@ counts_data config (i ∷ items) rs ms c none =
 
 -- so does a loop, which counts all
 counts_loop : (config : Configuration) (k : Kind) (items : List DataItem) (rs : List Range) (ms : List Mark)
-    → ((i : DataItem) (ns : List Mark) → change_at ns (asked_by k i) ≡ Some StructuredUp) → ((i : DataItem) (ns : List Mark) → IsWhole k ns i → is_partly_present (presences ns) i.range ≡ false)
+    → ((i : DataItem) (ns : List Mark) → change_at ns (asked_item k i) ≡ Some StructuredUp) → ((i : DataItem) (ns : List Mark) → IsWhole k ns i → is_partly_present (presences ns) i.range ≡ false)
     → Counts rs ms → NoFault config k ms items → Counts (ranges_of items ++ rs) (marks_after ms (all_asked k items))
 counts_loop config k [] rs ms ups wholes c none = c
 counts_loop config k (i ∷ items) rs ms ups wholes c none =
     let f = first_is config k ms i items none in
-    let next = marked_by ms (asked_by k i) in
+    let next = marked_by ms (asked_item k i) in
     let one : Counts (i.range ∷ rs) next =
     subst (λ (change : Option Change). Counts (i.range ∷ rs) (marks_with ms i.range change)) (sym (ups i ms)) (counts_up i.range rs ms c f.first.cells (wholes i ms f.first)) in
     let all = counts_loop config k items (i.range ∷ rs) next ups wholes one f.others in
@@ -159,13 +160,13 @@ counts_exited : (config : Configuration) (finalize : Bool) (items : List DataIte
 counts_exited config finalize [] rs ms c none = c
 counts_exited config finalize (i ∷ items) rs ms c none =
     let f = first_is config (kind.ExitData finalize) ms i items none in
-    counts_exited config finalize items rs (marked_by ms (asked_by (kind.ExitData finalize) i)) (exits_one finalize (not (is_present (presences ms) i.range)) i.range rs ms c f.first.cells) f.others
+    counts_exited config finalize items rs (marked_by ms (asked_item (kind.ExitData finalize) i)) (exits_one finalize (not (is_present (presences ms) i.range)) i.range rs ms c f.first.cells) f.others
 
 -- others mark nothing
-counts_unmarked : (k : Kind) (items : List DataItem) (rs : List Range) (ms : List Mark) → ((i : DataItem) (ns : List Mark) → change_at ns (asked_by k i) ≡ None) → Counts rs ms → Counts rs (marks_after ms (all_asked k items))
+counts_unmarked : (k : Kind) (items : List DataItem) (rs : List Range) (ms : List Mark) → ((i : DataItem) (ns : List Mark) → change_at ns (asked_item k i) ≡ None) → Counts rs ms → Counts rs (marks_after ms (all_asked k items))
 counts_unmarked k [] rs ms none c = c
 counts_unmarked k (i ∷ items) rs ms none c =
-    counts_unmarked k items rs (marked_by ms (asked_by k i)) none (subst (λ (change : Option Change). Counts rs (marks_with ms i.range change)) (sym (none i ms)) c)
+    counts_unmarked k items rs (marked_by ms (asked_item k i)) none (subst (λ (change : Option Change). Counts rs (marks_with ms i.range change)) (sym (none i ms)) c)
 
 -- ## A directive
 
@@ -180,8 +181,8 @@ module _ (config : Configuration) (lengths : List ℕ) (rs : List Region) (host 
   After k ms =
       Counts (entered_ranges (regions_on (on k) (regions_after host d k (counted_among ms (all_asked k (items k))) rs))) (marks_after (marks_after ms (all_asked k (items k))) (ends_by k (items k)))
 
-  at_end : (o : Option Region) (ms : List Mark) → open_region host rs ≡ o → Counts (entered_ranges (regions_on (left_by d o).device rs)) ms
-      → Counts (entered_ranges (regions_on (left_by d o).device (without_open host rs))) (marks_after ms (all_asked kind.EndData (left_by d o).items))
+  at_end : (o : Option Region) (ms : List Mark) → open_region host rs ≡ o → Counts (entered_ranges (regions_on (subject_left d o).device rs)) ms
+      → Counts (entered_ranges (regions_on (subject_left d o).device (without_open host rs))) (marks_after ms (all_asked kind.EndData (subject_left d o).items))
   at_end None ms none c = subst (λ (xs : List Region). Counts (entered_ranges (regions_on d.device xs)) ms) (sym (none_without host rs none)) c
   at_end (Some x) ms some c =
       let here = regions_on x.device rs in
@@ -221,7 +222,8 @@ beside : (st : Standing) (host : ℕ) (d : Directive) (counted : List DataItem) 
 unfolding walk_of
 beside st host d counted device away =
     let own = (subject_by st.lengths st.regions host d d.kind).device in
-    regions_beside st.lengths st.regions host d d.kind counted device (turned device own away)
+    regions_beside st.regions host d d.kind counted device
+    (rw (subject_device st.lengths st.regions host d d.kind) at (turned device own away))
   where
     turned : (m n : ℕ) → (m == n) ≡ false → (n == m) ≡ false
     turned m n apart = elim (cases_Bool (n == m)) [

@@ -6,7 +6,7 @@ use Rattle.acc_base.specs.declared.fault.Fault.TheVariants.{Closed, BadDevice, B
 use Rattle.acc_base.specs.Configurations.{Configuration}
 use Rattle.acc_batch.specs.Awaits.{behind_awaits}
 use Rattle.acc_batch.specs.declared.label.OpLabel.{OpLabel}
-use Rattle.acc_place.specs.Accepting.{refusal, refusal_on, first_fault, fault_where, has_too_many, is_outside, is_past}
+use Rattle.acc_place.specs.Accepting.{refusal, refusal_on, first_fault, fault_where, has_too_many, ends_no_region, is_past}
 use Rattle.acc_place.specs.Batches.{answer_of, batch_of, counts_queues, is_answered, labels_with, operations_of, placed_batch, walk_at}
 use Rattle.acc_place.specs.Directives.{Directive}
 use Rattle.acc_place.specs.declared.directive.DataItem.{DataItem}
@@ -63,16 +63,16 @@ module _ (st ot : Standing) (s : LeaveAlike st ot) where
       let last = fault_where (is_past walk.runs (map (λ a. a.item) walk.items)) OutsideRange ∷ [] in
       let items = faults_same config d.kind x.items ms ns last (fits d.kind ms (a x.device)) (fits d.kind ns (b x.device)) (marks_on x.device) in
       first_of_all (fault_where st.closing Closed) (fault_where (nat_le config.devices d.device) BadDevice) (fault_where (has_bad_queue d) BadAsync)
-      (fault_where (has_too_many st host d walk) TooMany) (fault_where (is_outside d.kind (first_region (regions_of host st.regions))) NoRegion) _
+      (fault_where (has_too_many st host d walk) TooMany) (fault_where (ends_no_region d.kind (first_region (regions_of host st.regions))) NoRegion) _
       ∙ ((λ i.
       fault_or (fault_where (s.places.closing i) Closed)
       (fault_or (fault_where (nat_le config.devices d.device) BadDevice)
       (fault_or (fault_where (has_bad_queue d) BadAsync)
       (fault_or (fault_where (nat_lt MAX_ITEMS (length walk.items) || (waits_on_too_many d.waits || (deep_same d.kind host st.regions ot.regions s.places.inside i || nat_le MAX_DIRECTIVES (s.accepted i)))) TooMany)
-      (fault_or (fault_where (is_outside d.kind (first_region (s.places.inside host i))) NoRegion)
+      (fault_or (fault_where (ends_no_region d.kind (first_region (s.places.inside host i))) NoRegion)
       (items i))))))
       ∙ sym (first_of_all (fault_where ot.closing Closed) (fault_where (nat_le config.devices d.device) BadDevice) (fault_where (has_bad_queue d) BadAsync)
-      (fault_where (has_too_many ot host d walk) TooMany) (fault_where (is_outside d.kind (first_region (regions_of host ot.regions))) NoRegion) _))
+      (fault_where (has_too_many ot host d walk) TooMany) (fault_where (ends_no_region d.kind (first_region (regions_of host ot.regions))) NoRegion) _))
 
   pub refusal_same : (config : Configuration) (host : ℕ) (d : Directive) → LegalOn st → LegalOn ot → refusal config st host d ≡ refusal config ot host d
   unfolding refusal walk_of

@@ -11,7 +11,7 @@ use Rattle.acc_host.specs.declared.event.Event.TheVariants as event
 use Rattle.acc_host.specs.declared.state.After.{After}
 use Rattle.acc_host.specs.declared.state.After.TheVariants as go
 use Rattle.acc_host.specs.declared.state.Reply.TheVariants as reply
-use Rattle.acc_host.specs.Hosts.{HostView, wants, after_place, after_wait, after_item, host_after}
+use Rattle.acc_host.specs.Hosts.{HostView, wants, after_place, after_wait, after_answer, host_after}
 use Rattle.acc_host.specs.Steps.{Want, stays, sets, refuses, places, awaits, records}
 use Rattle.acc_place.specs.declared.directive.PlaceEntry.{PlaceEntry}
 use Rattle.acc_place.specs.declared.directive.PlaceEntry.TheVariants as noted
@@ -29,7 +29,7 @@ use Rattle.std.proofs.lemmas.List.Elements.{All-nil, All-append, All-filter, All
 use Rattle.acc_base.proofs.Lists.{All-behind}
 use Rattle.acc_batch.specs.Labels.{on_queue, ops_of}
 use Rattle.acc_batch.specs.Ops.{HasItsCells}
-use Rattle.acc_core.specs.Legality.{Legal}
+use Rattle.acc_core.specs.Legality.{IsLegalState}
 use Rattle.acc_core.proofs.NextOfQueue.{next_of_all, next_uses_live}
 use Rattle.acc_work.specs.Logs.{performed}
 use Rattle.acc_place.specs.Sound.{HaveTheirCells}
@@ -110,7 +110,7 @@ want_same no_memory w new h host s (records item) =
     let answer = item_answer no_memory w item in
     let other = item_answer no_memory (with_work w new) item in
     let e = item_answer_same no_memory w new s item in
-    outcome_same (item_state w h item answer) (item_state (with_work w new) h item other) h host (after_item answer) (after_item other) (ap after_item e)
+    outcome_same (item_state w h item answer) (item_state (with_work w new) h item other) h host (after_answer answer) (after_answer other) (ap after_answer e)
     (subst (λ (a : Result Shown Fault). AlikeInLog (item_state w h item answer) (item_state (with_work w new) h item a)) e (item_same w new h item s answer))
 
 named_same : (no_memory : Bool) (w : State) (new : List WorkEntry) (h : ℕ) → AlikeLogs w.config.arrays w.work new → (host : Option HostView)
@@ -135,20 +135,20 @@ ops_have : (ls : List Label) → All HaveTheirCells ls → All HasItsCells (ops_
 ops_have [] h = All-nil HasItsCells
 ops_have (l ∷ ls) h = All-append HasItsCells l.ops (ops_of ls) (All-head HaveTheirCells l ls h) (ops_have ls (All-tail HaveTheirCells l ls h))
 
-loops_stay : (w : State) → Legal w → (at : QueueAt) → All HasItsCells (ops_of (on_queue at (labels_of w)))
+loops_stay : (w : State) → IsLegalState w → (at : QueueAt) → All HasItsCells (ops_of (on_queue at (labels_of w)))
 loops_stay w l at =
     ops_have (on_queue at (labels_of w))
     (All-filter (λ (l : Label). same_queue l.at at) HaveTheirCells (labels_of w) (labels_have w.config w.history w.counts l.accepted))
 
 -- so has the operation that a queue performs next
-pub next_has_cells : (w : State) (at : QueueAt) (op : OpLabel) (ops : List OpLabel) → Legal w → ops_left w (labels_of w) at ≡ op ∷ ops → HasItsCells op
+pub next_has_cells : (w : State) (at : QueueAt) (op : OpLabel) (ops : List OpLabel) → IsLegalState w → ops_left w (labels_of w) at ≡ op ∷ ops → HasItsCells op
 next_has_cells w at op ops l e =
     let next = next_of_all w at op ops l.kept.prefix e in
     let behind : All HasItsCells (op ∷ next.later) = All-behind HasItsCells (performed at w.work) (op ∷ next.later) (subst (λ (all : List OpLabel). All HasItsCells all) next.split (loops_stay w l at)) in
     All-head HasItsCells op next.later behind
 
 -- An operation is performed alike.
-perform_same : (w : State) (new : List WorkEntry) (at : QueueAt) → Legal w → AlikeLogs w.config.arrays w.work new → (ops : List OpLabel) → ops_left w (labels_of w) at ≡ ops
+perform_same : (w : State) (new : List WorkEntry) (at : QueueAt) → IsLegalState w → AlikeLogs w.config.arrays w.work new → (ops : List OpLabel) → ops_left w (labels_of w) at ≡ ops
     → OutcomeInLog (perform_step w (labels_of w) at ops) (perform_step (with_work w new) (labels_of w) at ops)
 perform_same w new at l s [] e = idle_same w new s
 perform_same w new at l s (op ∷ ops) e =
@@ -183,7 +183,7 @@ close_same w new st s = record {
   };
 }
 
-pub by_event : (no_memory : Bool) (w : State) (new : List WorkEntry) → Legal w → AlikeLogs w.config.arrays w.work new → (e : Event) → OutcomeInLog (step no_memory w e) (step no_memory (with_work w new) e)
+pub by_event : (no_memory : Bool) (w : State) (new : List WorkEntry) → IsLegalState w → AlikeLogs w.config.arrays w.work new → (e : Event) → OutcomeInLog (step no_memory w e) (step no_memory (with_work w new) e)
 by_event no_memory w new l s (event.Host h) = named_same no_memory w new h s (slice_get w.hosts h)
 by_event no_memory w new l s (event.Take at) =
     queue_same (is_there w at) w new _ _ s

@@ -20,7 +20,7 @@ use Rattle.acc_place.specs.declared.directive.DataItem.{DataItem}
 use Rattle.acc_place.specs.declared.directive.Kind.{Kind}
 use Rattle.acc_place.specs.declared.directive.Kind.TheVariants as kind
 use Rattle.acc_place.specs.Implicit.{item_of}
-use Rattle.acc_place.specs.Standings.{Asked, Walk, Visit, acts_if_present, all_asked, all_visits, asked_by, change_at, change_where, counted_among, counted_items, counted_with, exit_by, marked_by, marks_after, marks_behind, marks_between, marks_with, visits}
+use Rattle.acc_place.specs.Standings.{AskedItem, Walk, Visit, acts_if_present, all_asked, all_visits, asked_item, change_at, change_where, counted_among, counted_items, counted_with, exit_by, marked_by, marks_after, marks_behind, marks_between, marks_with, visits}
 use Rattle.acc_place.proofs.FirstFault.{first_fault_none, no_fault, no_fault_at}
 use Rattle.acc_place.proofs.VisitLives.{visit}
 use Rattle.acc_present.specs.declared.change.Change.{Change}
@@ -58,10 +58,10 @@ with_same (Some change) ms ns r a b s =
           ∙ (ap₂ (λ (ps : List Presence) n. cond (can_open change && not (is_present ps r)) (n + 1) n) s.present s.opened ∙ sym (opened-more m ns));
     }
 
-change_same : (ms ns : List Mark) (a : Asked) → SameMarks ms ns → change_at ms a ≡ change_at ns a
+change_same : (ms ns : List Mark) (a : AskedItem) → SameMarks ms ns → change_at ms a ≡ change_at ns a
 change_same ms ns a s = ap (λ ps. change_where a (is_present ps a.item.range)) s.present
 
-marked_same : (ms ns : List Mark) (a : Asked) → CanCountBy (change_at ms a) ms → CanCountBy (change_at ms a) ns → SameMarks ms ns → SameMarks (marked_by ms a) (marked_by ns a)
+marked_same : (ms ns : List Mark) (a : AskedItem) → CanCountBy (change_at ms a) ms → CanCountBy (change_at ms a) ns → SameMarks ms ns → SameMarks (marked_by ms a) (marked_by ns a)
 marked_same ms ns a first second s =
     subst (λ (change : Option Change). SameMarks (marked_by ms a) (marks_with ns a.item.range change)) (change_same ms ns a s)
     (with_same (change_at ms a) ms ns a.item.range first second s)
@@ -75,12 +75,12 @@ ended_by (Some change) ms ns i a b s =
 
 -- ## One visit
 
-pub record SameVisit (ms ns : List Mark) (a : Asked) : Type 0 where
+pub record SameVisit (ms ns : List Mark) (a : AskedItem) : Type 0 where
   pub before : SameMarks ms ns
   pub after : SameMarks (marked_by ms a) (marked_by ns a)
   pub ended : ended_blocks (visit ms a) ≡ ended_blocks (visit ns a)
 
-visit_same : (ms ns : List Mark) (a : Asked) → CanCountBy (change_at ms a) ms → CanCountBy (change_at ms a) ns → SameMarks ms ns → SameVisit ms ns a
+visit_same : (ms ns : List Mark) (a : AskedItem) → CanCountBy (change_at ms a) ms → CanCountBy (change_at ms a) ns → SameMarks ms ns → SameVisit ms ns a
 visit_same ms ns a first second s = record {
   before = s;
   after = marked_same ms ns a first second s;
@@ -88,7 +88,7 @@ visit_same ms ns a first second s = record {
       ∙ ap (λ (change : Option Change). ended_blocks (record { item = a.item; before = ns; after = marks_with ns a.item.range change })) (change_same ms ns a s);
 }
 
-fault_same : (config : Configuration) (k : Kind) (ms ns : List Mark) (a : Asked) → SameMarks ms ns → SameMarks (marked_by ms a) (marked_by ns a)
+fault_same : (config : Configuration) (k : Kind) (ms ns : List Mark) (a : AskedItem) → SameMarks ms ns → SameMarks (marked_by ms a) (marked_by ns a)
     → fault_at config k (visit ms a) ≡ fault_at config k (visit ns a)
 fault_same config k ms ns a before after =
     ap (λ (ps : List Presence). first_fault (item_faults config k a.item ps (nat_lt (length (opened_lifetimes ms)) (length (opened_lifetimes (marked_by ms a)))) (used_cells (presences (marked_by ms a))))) before.present
@@ -125,9 +125,9 @@ exit_counts finalize true ms = tt
 exit_counts true false ms = tt
 exit_counts false false ms = tt
 
-fits_count : (k : Kind) (ms ns : List Mark) (i : DataItem) → Fits k ns → CanCountBy (change_at ms (asked_by k i)) ns
-fits_count kind.Data ms ns i h = counts_by (change_at ms (asked_by kind.Data i)) ns h
-fits_count (kind.Loop k) ms ns i h = counts_by (change_at ms (asked_by (kind.Loop k) i)) ns h
+fits_count : (k : Kind) (ms ns : List Mark) (i : DataItem) → Fits k ns → CanCountBy (change_at ms (asked_item k i)) ns
+fits_count kind.Data ms ns i h = counts_by (change_at ms (asked_item kind.Data i)) ns h
+fits_count (kind.Loop k) ms ns i h = counts_by (change_at ms (asked_item (kind.Loop k) i)) ns h
 fits_count kind.EndData ms ns i h = tt
 fits_count kind.EnterData ms ns i h = tt
 fits_count (kind.ExitData finalize) ms ns i h = exit_counts finalize (not (is_present (presences ms) i.range)) ns
@@ -141,7 +141,7 @@ pub record IsWhole (k : Kind) (ms : List Mark) (i : DataItem) : Type 0 where
   pub cells : 0 < i.range.len
   pub whole : (wants_whole k && is_partly_present (presences ms) i.range) ≡ false
 
-pub is_whole : (config : Configuration) (k : Kind) (ms : List Mark) (i : DataItem) → fault_at config k (visit ms (asked_by k i)) ≡ None → IsWhole k ms i
+pub is_whole : (config : Configuration) (k : Kind) (ms : List Mark) (i : DataItem) → fault_at config k (visit ms (asked_item k i)) ≡ None → IsWhole k ms i
 is_whole config k ms i none =
     let first = first_fault_none (fault_where (not (has_range config.arrays i.range)) BadRange) _ none in
     let second = first_fault_none (fault_where (wants_whole k && is_partly_present (presences ms) i.range) PartlyPresent) _ first.1 in
@@ -155,7 +155,7 @@ up_legal : (absent : Bool) (ms : List Mark) (r : Range) → AllLegal ms → 0 < 
 up_legal true ms r h cells whole = h
 up_legal false ms r h cells whole = ((cells, whole), h)
 
-fits_kept : (config : Configuration) (k : Kind) (ms : List Mark) (i : DataItem) → Fits k ms → fault_at config k (visit ms (asked_by k i)) ≡ None → Fits k (marked_by ms (asked_by k i))
+fits_kept : (config : Configuration) (k : Kind) (ms : List Mark) (i : DataItem) → Fits k ms → fault_at config k (visit ms (asked_item k i)) ≡ None → Fits k (marked_by ms (asked_item k i))
 fits_kept config kind.Data ms i h none =
     let w = is_whole config kind.Data ms i none in
     up_legal (acts_if_present kind.Data i.clause && not (is_present (presences ms) i.range)) ms i.range h w.cells w.whole
@@ -181,7 +181,7 @@ pub faults_same : (config : Configuration) (k : Kind) (items : List DataItem) (m
     → first_fault (map (fault_at config k) (visits ms (all_asked k items)) ++ last) ≡ first_fault (map (fault_at config k) (visits ns (all_asked k items)) ++ last)
 faults_same config k [] ms ns last a b s = refl
 faults_same config k (i ∷ items) ms ns last a b s =
-    let asked = asked_by k i in
+    let asked = asked_item k i in
     let after = marked_same ms ns asked (fits_count k ms ms i a) (fits_count k ms ns i b) s in
     first_same (fault_at config k (visit ms asked)) (fault_at config k (visit ns asked)) _ _ (fault_same config k ms ns asked s after)
     (λ none other. faults_same config k items (marked_by ms asked) (marked_by ns asked) last (fits_kept config k ms i a none) (fits_kept config k ns i b other) after)
@@ -192,15 +192,15 @@ legal_with : (change : Option Change) (ms : List Mark) (r : Range) → AllLegal 
 legal_with None ms r h = h
 legal_with (Some change) ms r h = h.1
 
-pub legal_before : (asks : List Asked) (ms : List Mark) → AllLegal (marks_after ms asks) → AllLegal ms
+pub legal_before : (asks : List AskedItem) (ms : List Mark) → AllLegal (marks_after ms asks) → AllLegal ms
 legal_before [] ms h = h
 legal_before (a ∷ asks) ms h = legal_with (change_at ms a) ms a.item.range (legal_before asks (marked_by ms a) h)
 
-abbrev SameVisits : List Asked → List Mark → List Mark → Type 0
+abbrev SameVisits : List AskedItem → List Mark → List Mark → Type 0
 SameVisits [] ms ns = SameMarks ms ns
 SameVisits (a ∷ asks) ms ns = SameVisit ms ns a × SameVisits asks (marked_by ms a) (marked_by ns a)
 
-visits_same : (asks : List Asked) (ms ns : List Mark) → AllLegal (marks_after ms asks) → AllLegal (marks_after ns asks) → SameMarks ms ns → SameVisits asks ms ns
+visits_same : (asks : List AskedItem) (ms ns : List Mark) → AllLegal (marks_after ms asks) → AllLegal (marks_after ns asks) → SameMarks ms ns → SameVisits asks ms ns
 visits_same [] ms ns a b s = s
 visits_same (asked ∷ asks) ms ns a b s =
     let first = counts_by (change_at ms asked) ms (legal_before (asked ∷ asks) ms a) in
@@ -208,11 +208,11 @@ visits_same (asked ∷ asks) ms ns a b s =
     let here = visit_same ms ns asked first second s in
     (here, visits_same asks (marked_by ms asked) (marked_by ns asked) a b here.after)
 
-after_same : (asks : List Asked) (ms ns : List Mark) → SameVisits asks ms ns → SameMarks (marks_after ms asks) (marks_after ns asks)
+after_same : (asks : List AskedItem) (ms ns : List Mark) → SameVisits asks ms ns → SameMarks (marks_after ms asks) (marks_after ns asks)
 after_same [] ms ns s = s
 after_same (a ∷ asks) ms ns s = after_same asks (marked_by ms a) (marked_by ns a) s.1
 
-counted_same : (asks : List Asked) (ms ns : List Mark) → SameVisits asks ms ns → counted_among ms asks ≡ counted_among ns asks
+counted_same : (asks : List AskedItem) (ms ns : List Mark) → SameVisits asks ms ns → counted_among ms asks ≡ counted_among ns asks
 counted_same [] ms ns s = refl
 counted_same (a ∷ asks) ms ns s =
     ap₂ (λ (change : Option Change) rest. counted_with change a.item rest) (change_same ms ns a s.0.before) (counted_same asks (marked_by ms a) (marked_by ns a) s.1)
@@ -220,9 +220,9 @@ counted_same (a ∷ asks) ms ns s =
 -- ## Their operations
 
 abbrev ReadsVisit : (Visit → List OpLabel) → Type 0
-ReadsVisit f = (ms ns : List Mark) (a : Asked) → SameVisit ms ns a → f (visit ms a) ≡ f (visit ns a)
+ReadsVisit f = (ms ns : List Mark) (a : AskedItem) → SameVisit ms ns a → f (visit ms a) ≡ f (visit ns a)
 
-each_same : (f : Visit → List OpLabel) → ReadsVisit f → (asks : List Asked) (ms ns : List Mark) → SameVisits asks ms ns → flat_map f (visits ms asks) ≡ flat_map f (visits ns asks)
+each_same : (f : Visit → List OpLabel) → ReadsVisit f → (asks : List AskedItem) (ms ns : List Mark) → SameVisits asks ms ns → flat_map f (visits ms asks) ≡ flat_map f (visits ns asks)
 each_same f reads [] ms ns s = refl
 each_same f reads (a ∷ asks) ms ns s = ap₂ (λ xs ys. xs ++ ys) (reads ms ns a s.0) (each_same f reads asks (marked_by ms a) (marked_by ns a) s.1)
 

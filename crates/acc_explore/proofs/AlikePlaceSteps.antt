@@ -18,7 +18,7 @@ use Rattle.acc_host.specs.declared.state.After.{After}
 use Rattle.acc_host.specs.declared.state.After.TheVariants as go
 use Rattle.acc_host.specs.declared.state.Reply.TheVariants as reply
 use Rattle.acc_host.specs.Entries.{Own, own_of}
-use Rattle.acc_host.specs.Hosts.{HostView, wants, after_place, after_wait, after_item, host_after}
+use Rattle.acc_host.specs.Hosts.{HostView, wants, after_place, after_wait, after_answer, host_after}
 use Rattle.acc_host.specs.Steps.{Want, stays, sets, refuses, places, awaits, records}
 use Rattle.acc_place.specs.Accepting.{refusal}
 use Rattle.acc_place.specs.Batches.{answer_of, walk_at}
@@ -297,7 +297,7 @@ module _ (w : State) (h : List PlaceEntry) (c : List ℕ) (places_alike : AlikeP
       let answer = item_answer no_memory w item in
       let other = item_answer no_memory v item in
       let e = answer_item_same no_memory item in
-      outcome_same (item_state w host item answer) (item_state v host item other) host view (after_item answer) (after_item other) (ap after_item e)
+      outcome_same (item_state w host item answer) (item_state v host item other) host view (after_answer answer) (after_answer other) (ap after_answer e)
       (subst (λ (x : Result Shown Fault). AlikeInPlaces (item_state w host item answer) (item_state v host item x)) e (item_same host item answer))
 
   named_same : (no_memory : Bool) (host : ℕ) (view : Option HostView) → OutcomeInPlaces (named_step no_memory w host view) (named_step no_memory v host view)

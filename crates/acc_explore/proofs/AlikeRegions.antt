@@ -4,7 +4,7 @@ use Rattle.std.specs.Prelude.{not}
 use Rattle.std.specs.List.{flat_map, filter}
 use Rattle.std.proofs.lemmas.Bool.{cases_Bool, eqb-true}
 use Rattle.acc_kernel.specs.Kernels.{arrays_of}
-use Rattle.acc_place.specs.Accepting.{is_deep}
+use Rattle.acc_place.specs.Accepting.{is_too_deep}
 use Rattle.acc_place.specs.Directives.{Directive}
 use Rattle.acc_place.specs.declared.directive.DataItem.{DataItem}
 use Rattle.acc_place.specs.declared.directive.Kind.{Kind}
@@ -13,13 +13,13 @@ use Rattle.acc_place.specs.declared.directive.Region.{Region}
 use Rattle.acc_place.specs.declared.directive.TheConstants.{MAX_REGIONS}
 use Rattle.acc_place.specs.Implicit.{item_of, is_named, implicit_item}
 use Rattle.acc_place.specs.Regions.{regions_of, first_region, without_open, region_of, regions_after}
-use Rattle.acc_place.specs.Standings.{Subject, left_by, subject_by}
+use Rattle.acc_place.specs.Standings.{Subject, subject_left, subject_by}
 
 abbrev pub SameByHost : List Region → List Region → Type 0
 SameByHost old new = (host : ℕ) → regions_of host old ≡ regions_of host new
 
 pub subject_same : (lengths : List ℕ) (old new : List Region) (host : ℕ) (d : Directive) (k : Kind) → SameByHost old new → subject_by lengths old host d k ≡ subject_by lengths new host d k
-subject_same lengths old new host d kind.EndData s = ap (λ (rs : List Region). left_by d (first_region rs)) (s host)
+subject_same lengths old new host d kind.EndData s = ap (λ (rs : List Region). subject_left d (first_region rs)) (s host)
 subject_same lengths old new host d (kind.Loop k) s =
     ap (λ (rs : List Region).
     let subject : Subject = record {
@@ -35,7 +35,7 @@ subject_same lengths old new host d kind.Wait s = refl
 subject_same lengths old new host d kind.AsyncTest s = refl
 subject_same lengths old new host d kind.IsPresent s = refl
 
-pub deep_same : (k : Kind) (host : ℕ) (old new : List Region) → SameByHost old new → is_deep k host old ≡ is_deep k host new
+pub deep_same : (k : Kind) (host : ℕ) (old new : List Region) → SameByHost old new → is_too_deep k host old ≡ is_too_deep k host new
 deep_same kind.Data host old new s = ap (λ (rs : List Region). nat_le MAX_REGIONS (length rs)) (s host)
 deep_same kind.EndData host old new s = refl
 deep_same (kind.Loop k) host old new s = refl

@@ -5,7 +5,7 @@ use Rattle.std.specs.List.{flat_map}
 use Rattle.acc_base.specs.declared.ids.QueueAt.{QueueAt}
 use Rattle.acc_base.specs.declared.ids.TheConstants.{QUEUES}
 use Rattle.acc_batch.specs.Labels.{ops_of}
-use Rattle.acc_core.specs.Legality.{Legal}
+use Rattle.acc_core.specs.Legality.{IsLegalState}
 use Rattle.acc_core.specs.Machine.{State, labels_of}
 use Rattle.acc_host.specs.declared.program.HostProgram.{HostProgram}
 use Rattle.acc_host.specs.declared.state.HostState.{HostState}
@@ -13,12 +13,12 @@ use Rattle.acc_host.specs.Discards.{discarded_on}
 use Rattle.acc_host.specs.Entries.{entries_merged, items_shown, own_of}
 use Rattle.acc_host.specs.Hosts.{state_of}
 use Rattle.acc_report.specs.Lines.{each_below, line_text, presence_text, state_text, totals_text}
-use Rattle.acc_report.specs.Prints.{lines}
+use Rattle.acc_report.specs.Prints.{printed_lines}
 use Rattle.acc_report.specs.Reports.{Left, standing_left, ended_in, host_text, host_text_by, nth_host_text, device_text, queue_text, queues_text, report}
 use Rattle.acc_report.specs.Totals.{plain_batches, plain_ops}
 use Rattle.acc_work.specs.Logs.{performed}
 use Rattle.acc_explore.specs.Alike.{Alike, AlikePlaces}
-use Rattle.acc_explore.specs.Runs.{left_of, report_of}
+use Rattle.acc_explore.specs.Runs.{left_to_tell, report_of}
 use Rattle.acc_explore.proofs.AlikeSteps.{in_order_there}
 use Rattle.acc_explore.proofs.LogReadings.{performed_same}
 
@@ -38,7 +38,7 @@ module _ (old new : Left) (s : SameLeft old new) where
   unfolding host_text
   host_text_same h program here = λ i.
       codes "host " ++ (decimal h ++ (codes "\n"
-      ++ (flat_map line_text (lines (s.config i).devices 0 (ended_in here program.statements) (entries_merged 0 (s.own h i) (s.shown h i))) ++ state_text here)))
+      ++ (flat_map line_text (printed_lines (s.config i).devices 0 (ended_in here program.statements) (entries_merged 0 (s.own h i) (s.shown h i))) ++ state_text here)))
 
   by_host : (h : ℕ) (program : Option HostProgram) (here : Option HostState) → host_text_by old h program here ≡ host_text_by new h program here
   by_host h None here = refl
@@ -70,10 +70,10 @@ module _ (old new : Left) (s : SameLeft old new) where
       ++ (each_below (s.config i).devices (fun_ext (λ device. device_same names device) i)
       ++ (each_below (s.config i).devices (fun_ext (λ device. queues_same device) i) ++ codes "end\n"))
 
-pub report_same : (names : List (List ℕ)) (programs : List HostProgram) (old new : State) → Legal old → Legal new → Alike old new
+pub report_same : (names : List (List ℕ)) (programs : List HostProgram) (old new : State) → IsLegalState old → IsLegalState new → Alike old new
     → report_of names programs old ≡ report_of names programs new
 report_same names programs old new a b s =
-    text_same (left_of old) (left_of new)
+    text_same (left_to_tell old) (left_to_tell new)
     (record {
       config = s.config;
       hosts = ap (map state_of) s.hosts;

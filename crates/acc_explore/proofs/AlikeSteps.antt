@@ -4,7 +4,7 @@ use Rattle.acc_base.specs.Configurations.{Configuration}
 use Rattle.acc_batch.specs.declared.entry.WorkEntry.{WorkEntry}
 use Rattle.acc_batch.specs.declared.label.Label.{Label}
 use Rattle.acc_batch.specs.Labels.{ops_of}
-use Rattle.acc_core.specs.Legality.{Legal}
+use Rattle.acc_core.specs.Legality.{IsLegalState}
 use Rattle.acc_core.specs.Machine.{State, labels_of, standing_of, step}
 use Rattle.acc_host.specs.declared.event.Event.{Event}
 use Rattle.acc_host.specs.Entries.{own_of}
@@ -55,7 +55,7 @@ in_order_by old new work s h at = (let p = h at in (p.0, p.1 ∙ ap ops_of (sym 
 pub in_order_there : (old new : State) → Alike old new → InOrder (labels_of new) new.work → InOrder (labels_of old) new.work
 in_order_there old new s h = in_order_by (labels_of old) (labels_of new) new.work s.places.placed h
 
-pub alike_back : (old new : State) → Legal old → Legal new → Alike old new → Alike new old
+pub alike_back : (old new : State) → IsLegalState old → IsLegalState new → Alike old new → Alike new old
 alike_back old new a b s = record {
   config = sym s.config;
   taken = sym s.taken;
@@ -66,7 +66,7 @@ alike_back old new a b s = record {
       (same_back old.config.arrays (labels_of old) old.work new.work a.kept.prefix (in_order_there old new s b.kept.prefix) s.work);
 }
 
-pub alike_on : (old mid new : State) → Legal old → Legal mid → Alike old mid → Alike mid new → Alike old new
+pub alike_on : (old mid new : State) → IsLegalState old → IsLegalState mid → Alike old mid → Alike mid new → Alike old new
 alike_on old mid new a b s t = record {
   config = s.config ∙ t.config;
   taken = s.taken ∙ t.taken;
@@ -77,7 +77,7 @@ alike_on old mid new a b s t = record {
       (subst (λ (config : Configuration). AlikeLogs config.arrays mid.work new.work) (sym s.config) t.work);
 }
 
-pub is_equivalence : (a b c : State) → Legal a → Legal b → Legal c → Alike a a × (Alike a b → Alike b a) × (Alike a b → Alike b c → Alike a c)
+pub is_equivalence : (a b c : State) → IsLegalState a → IsLegalState b → IsLegalState c → Alike a a × (Alike a b → Alike b a) × (Alike a b → Alike b c → Alike a c)
 is_equivalence a b c first second third = (alike_itself a, alike_back a b first second, alike_on a b c first second)
 
 -- ## The log alone, then the place history alone
@@ -116,7 +116,7 @@ both old mid new f g = record {
 }
 
 -- States that are alike stay so.
-pub step_keeps_alike : (no_memory : Bool) (old new : State) (e : Event) → Legal old → Legal new → Alike old new → AlikeOutcome (step no_memory old e) (step no_memory new e)
+pub step_keeps_alike : (no_memory : Bool) (old new : State) (e : Event) → IsLegalState old → IsLegalState new → Alike old new → AlikeOutcome (step no_memory old e) (step no_memory new e)
 step_keeps_alike no_memory old new e a b s =
     let mid = between old new in
     let other = with_histories mid new.history new.counts in

@@ -17,9 +17,9 @@ use Rattle.acc_batch.specs.declared.label.OpLabel.TheVariants.{Make}
 use Rattle.acc_batch.specs.Labels.{on_queue, ops_of}
 use Rattle.acc_batch.specs.Lives.{Made}
 use Rattle.acc_core.specs.Following.{AllStand}
-use Rattle.acc_core.specs.Legality.{Legal}
+use Rattle.acc_core.specs.Legality.{IsLegalState}
 use Rattle.acc_core.specs.Machine.{State, is_there, labels_of, standing_of}
-use Rattle.acc_core.specs.Progress.{IsTakenInOrder, left_by, taken_by}
+use Rattle.acc_core.specs.Progress.{IsTakenInOrder, left_there, taken_by}
 use Rattle.acc_core.specs.Worlds.{OutsideIsZero}
 use Rattle.acc_explore.specs.Alike.{Alike, AlikePlaces, IsLive, SameCells, own_directives}
 use Rattle.acc_explore.specs.Scripts.{AreOfOneScript}
@@ -40,7 +40,7 @@ use Rattle.acc_work.proofs.MadeAndReleased.{made_op}
 
 -- What every world keeps.
 pub record IsKept (w : State) : Type 0 where
-  pub legal : Legal w
+  pub legal : IsLegalState w
   pub stand : AllStand w 0 w.hosts
   pub taken : length w.taken ≡ queue_count w.config
   pub in_order : (at : QueueAt) → is_there w at ≡ true → IsTakenInOrder w at
@@ -110,7 +110,7 @@ none_before : (xs more : List OpLabel) → xs ++ more ≡ [] → xs ≡ []
 none_before [] more e = refl
 none_before (x ∷ xs) more e = absurd cc
 
-none_performed : (w : State) (at : QueueAt) → Legal w → is_there w at ≡ false → performed at w.work ≡ []
+none_performed : (w : State) (at : QueueAt) → IsLegalState w → is_there w at ≡ false → performed at w.work ≡ []
 none_performed w at l none =
     let p = l.kept.prefix at in
     none_before (performed at w.work) p.0
@@ -118,11 +118,11 @@ none_performed w at l none =
 
 -- as much is left of as many batches: so as much is performed
 done_there : (old new : State) (at : QueueAt) → IsTakenInOrder old at → IsTakenInOrder new at → on_queue at (labels_of old) ≡ on_queue at (labels_of new) → taken_by old at ≡ taken_by new at
-    → length (left_by old at) ≡ length (left_by new at) → length (performed at old.work) ≡ length (performed at new.work)
+    → length (left_there old at) ≡ length (left_there new at) → length (performed at old.work) ≡ length (performed at new.work)
 done_there old new at a b labels taken left =
     let same : length (ops_of (take (taken_by old at) (on_queue at (labels_of old)))) ≡ length (ops_of (take (taken_by new at) (on_queue at (labels_of new)))) =
     ap (λ n. length (ops_of (take n (on_queue at (labels_of old))))) taken ∙ ap (λ ls. length (ops_of (take (taken_by new at) ls))) labels in
-    omega (arith, same, ap length a, ap length b, left, length-append (performed at old.work) (left_by old at), length-append (performed at new.work) (left_by new at))
+    omega (arith, same, ap length a, ap length b, left, length-append (performed at old.work) (left_there old at), length-append (performed at new.work) (left_there new at))
 
 done_are : (old new : State) → IsKept old → IsKept new → new.config ≡ old.config → SameByQueue (labels_of old) (labels_of new) → HaveSameProgress old new
     → (at : QueueAt) → length (performed at old.work) ≡ length (performed at new.work)
@@ -130,7 +130,7 @@ done_are old new a b config labels p at = elim (cases_Bool (is_there old at)) [
   | inl there ↦ (
       let s : HasSeat old at = has_seat old at there in
       let other : is_there new at ≡ true = ap (λ (c : Configuration). nat_lt at.device c.devices && nat_lt at.queue QUEUES) config ∙ there in
-      let q = subst (λ (q : QueueAt). (taken_by old q ≡ taken_by new q) × (length (left_by old q) ≡ length (left_by new q))) s.same (p (seat at) s.low) in
+      let q = subst (λ (q : QueueAt). (taken_by old q ≡ taken_by new q) × (length (left_there old q) ≡ length (left_there new q))) s.same (p (seat at) s.low) in
       done_there old new at (a.in_order at there) (b.in_order at other) (labels at) q.0 q.1
       )
   | inr none ↦ (

@@ -128,7 +128,7 @@ any_only b e = ap (λ (c : Bool). c || false) e
 loop_unassigned : (k : Loop) (f : ℕ → ℤ → ℤ) (array : ℕ) (cell : ℤ) → is_assigned k.statements array ≡ false → value_after k f array cell ≡ f array cell
 loop_unassigned k f array cell un = by (int_le k.lo cell && int_lt cell k.hi)
   where
-    by : (b : Bool) → cond b (Rattle.acc_kernel.specs.Values.turn f cell k.statements array cell) (f array cell) ≡ f array cell
+    by : (b : Bool) → cond b (Rattle.acc_kernel.specs.Values.after_turn f cell k.statements array cell) (f array cell) ≡ f array cell
     by true = turn_unassigned f cell k.statements array cell un
     by false = refl
 

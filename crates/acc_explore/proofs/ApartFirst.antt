@@ -6,7 +6,7 @@ use Rattle.acc_base.specs.declared.ids.QueueAt.{QueueAt}
 use Rattle.acc_base.specs.Queues.{same_queue}
 use Rattle.acc_batch.specs.declared.label.OpLabel.{OpLabel}
 use Rattle.acc_batch.specs.Ops.{HasItsCells}
-use Rattle.acc_core.specs.Legality.{Legal}
+use Rattle.acc_core.specs.Legality.{IsLegalState}
 use Rattle.acc_core.specs.Machine.{State, Outcome, can_perform, host_step, is_there, labels_of, named_step, ops_left, step}
 use Rattle.acc_host.specs.declared.event.Event.{Event}
 use Rattle.acc_host.specs.declared.event.Event.TheVariants as event
@@ -25,7 +25,7 @@ use Rattle.acc_explore.proofs.NextBesideQueues.{LogsTurned, perform_turns, take_
 use Rattle.acc_explore.proofs.NobodyAsks.{all_get, all_set}
 use Rattle.acc_explore.proofs.QueueSteps.{LeavesHosts, perform_leaves, take_leaves}
 
-module _ (at : QueueAt) (w : State) (op : OpLabel) (a : StandsApart at w op) (l : Legal w) where
+module _ (at : QueueAt) (w : State) (op : OpLabel) (a : StandsApart at w op) (l : IsLegalState w) where
   cells : HasItsCells op
   cells = next_has_cells w at op a.next.later l a.next.left
 
@@ -54,7 +54,7 @@ module _ (at : QueueAt) (w : State) (op : OpLabel) (a : StandsApart at w op) (l 
         either false y e = e
 
     -- what it places, if it does, is clear
-    adds : keeps_clear op host ≡ true → (s : State) → Legal s → WentOn w s h host (wants w.config.devices host) → (q : QueueAt) → AddsClear at w s op q
+    adds : keeps_clear op host ≡ true → (s : State) → IsLegalState s → WentOn w s h host (wants w.config.devices host) → (q : QueueAt) → AddsClear at w s op q
     adds clear s m went = elim went.labels [
       | inl same ↦ adds_none at w s op same
       | inr placing ↦ adds_clear at w s op a l m h placing.d placing.labels (place_apart op w.config.devices host clear placing.d placing.is)

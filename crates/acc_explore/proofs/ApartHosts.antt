@@ -17,7 +17,7 @@ use Rattle.acc_host.specs.declared.state.Ids.{Ids}
 use Rattle.acc_host.specs.declared.state.Phase.{Phase}
 use Rattle.acc_host.specs.declared.state.Phase.TheVariants as phase
 use Rattle.acc_host.specs.declared.state.Reply.TheVariants as reply
-use Rattle.acc_host.specs.Hosts.{HostView, after_item, after_place, after_wait, host_after, owing, reply_to, wants, wants_at}
+use Rattle.acc_host.specs.Hosts.{HostView, after_answer, after_place, after_wait, host_after, owing, reply_to, wants, wants_at}
 use Rattle.acc_host.specs.Steps.{Owed, nothing_owed, owes_seen, owes_test, owed_by, Want, stays, sets, refuses, places, awaits, records, set_or_refuse, wanted, with_ids}
 use Rattle.acc_place.specs.declared.directive.Placed.{Placed}
 use Rattle.acc_place.specs.Directives.{Directive}
@@ -174,7 +174,7 @@ module _ (w : State) (h : ℕ) (host : HostView) where
   by_wait device counts (Ok false) = inl refl
   by_wait device counts (Err fault) = inr (record { moves = λ e. cc; goes = Err fault; busy = λ e. cc; hosts = refl; labels = inl refl })
 
-  by_item : (item : ItemLabel) (answer : Result Shown Fault) → Goes (records item) (host_outcome (item_state w h item answer) h host (after_item answer))
+  by_item : (item : ItemLabel) (answer : Result Shown Fault) → Goes (records item) (host_outcome (item_state w h item answer) h host (after_answer answer))
   by_item item (Ok shown) = inr (record { moves = λ e. cc; goes = Ok go.Ended; busy = λ e. cc; hosts = refl; labels = inl refl })
   by_item item (Err fault) = inr (record { moves = λ e. cc; goes = Err fault; busy = λ e. cc; hosts = refl; labels = inl refl })
 

@@ -11,7 +11,7 @@ use Rattle.acc_batch.specs.declared.label.Label.{Label}
 use Rattle.acc_batch.specs.declared.label.OpLabel.{OpLabel}
 use Rattle.acc_batch.specs.Labels.{on_queue, ops_of, whole_batches}
 use Rattle.acc_core.proofs.NextOfQueue.{next_of_all}
-use Rattle.acc_core.specs.Legality.{Legal}
+use Rattle.acc_core.specs.Legality.{IsLegalState}
 use Rattle.acc_core.specs.Machine.{State, can_perform, is_there, labels_of, ops_left}
 use Rattle.acc_host.specs.declared.state.Phase.{Phase}
 use Rattle.acc_host.specs.declared.state.Phase.TheVariants as phase
@@ -80,7 +80,7 @@ pub behind_all : {X : Type 0} (xs ys : List X) → drop (length xs) (xs ++ ys) �
 behind_all xs ys = drop-append-le (length xs) xs ys (omega arith) ∙ ap (λ zs. zs ++ ys) (drop_all (length xs) xs (omega arith))
 
 -- the next operation of another queue doesn't conflict with it
-pub next_apart : (at : QueueAt) (w : State) (op : OpLabel) → StandsApart at w op → Legal w → (q : QueueAt) (x : OpLabel) (later : List OpLabel) → same_queue at q ≡ false → is_there w q ≡ true
+pub next_apart : (at : QueueAt) (w : State) (op : OpLabel) → StandsApart at w op → IsLegalState w → (q : QueueAt) (x : OpLabel) (later : List OpLabel) → same_queue at q ≡ false → is_there w q ≡ true
     → ops_left w (labels_of w) q ≡ x ∷ later → ops_conflict at.device op q.device x ≡ false
 next_apart at w op a l q x later differ there left =
     let s = has_seat w q there in

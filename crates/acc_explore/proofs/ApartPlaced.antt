@@ -13,7 +13,7 @@ use Rattle.acc_batch.specs.declared.label.Label.{Label}
 use Rattle.acc_batch.specs.declared.label.OpLabel.{OpLabel}
 use Rattle.acc_batch.specs.Labels.{on_queue, ops_of}
 use Rattle.acc_core.proofs.NextOfQueue.{next_of_all}
-use Rattle.acc_core.specs.Legality.{Legal}
+use Rattle.acc_core.specs.Legality.{IsLegalState}
 use Rattle.acc_core.specs.Machine.{State, labels_of, standing_of, with_directive}
 use Rattle.acc_place.proofs.LabelsSound.{labels_sound}
 use Rattle.acc_place.specs.Batches.{batch_of, labels_with, next_number, walk_at}
@@ -42,7 +42,7 @@ all_added p q at h items labels (op ∷ ops) all = elim (cases_Bool (same_queue 
   | inr other ↦ rw other refl
 ]
 
-module _ (at : QueueAt) (w s : State) (op : OpLabel) (a : StandsApart at w op) (l : Legal w) (m : Legal s) (h : ℕ) (d : Directive) (labels : labels_of s ≡ labels_of (with_directive w h d)) where
+module _ (at : QueueAt) (w s : State) (op : OpLabel) (a : StandsApart at w op) (l : IsLegalState w) (m : IsLegalState s) (h : ℕ) (d : Directive) (labels : labels_of s ≡ labels_of (with_directive w h d)) where
   abbrev walk : Walk
   walk = walk_of (standing_of w) h d
 

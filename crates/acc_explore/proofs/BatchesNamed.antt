@@ -14,6 +14,7 @@ use Rattle.acc_batch.specs.declared.label.OpLabel.TheVariants.{Make, CopyIn, Cop
 use Rattle.acc_batch.specs.Labels.{released_blocks, used_blocks}
 use Rattle.acc_kernel.specs.Jobs.{Use}
 use Rattle.acc_kernel.specs.Kernels.{Loop, arrays_of}
+use Rattle.acc_place.specs.Regions.{ends_region}
 use Rattle.acc_place.specs.Batches.{batch_of, copies_in, copies_out, copy_ins, copy_outs, ended_blocks, grouped, holding_blocks, makes, opened_blocks, operations_of, releases, runs, runs_by, updates, updates_by, use_by, uses_by, walk_at}
 use Rattle.acc_place.specs.declared.directive.Clause.{Clause}
 use Rattle.acc_place.specs.declared.directive.Clause.TheVariants.{Copy, Copyin, Copyout, Create, Present, NoCreate, Delete, UpdateSelf, UpdateDevice}
@@ -23,9 +24,9 @@ use Rattle.acc_place.specs.declared.directive.Kind.TheVariants as kind
 use Rattle.acc_place.specs.declared.directive.Region.{Region}
 use Rattle.acc_place.specs.Directives.{Directive}
 use Rattle.acc_place.specs.Implicit.{implicit_item, implicit_items, is_named, item_of, items_around}
-use Rattle.acc_place.specs.Standings.{Asked, Standing, Visit, Walk, all_asked, all_visits, ends_by, marked_by, marks_between, subject_by, visits, walk_of}
+use Rattle.acc_place.specs.Standings.{AskedItem, Standing, Visit, Walk, all_asked, all_visits, ends_by, marked_by, marks_between, subject_by, visits, walk_of}
 use Rattle.acc_present.specs.Marks.{Mark}
-use Rattle.acc_explore.specs.ApartOperations.{arrays_in, is_end, may_name, touches_array}
+use Rattle.acc_explore.specs.ApartOperations.{arrays_in, may_name, touches_array}
 
 -- ## Of lists
 
@@ -95,13 +96,13 @@ module _ (f : ℕ → Bool) where
   abbrev of_item : DataItem → Bool
   of_item i = f i.range.array
 
-  abbrev of_asked : Asked → Bool
+  abbrev of_asked : AskedItem → Bool
   of_asked a = f a.item.range.array
 
   abbrev of_visit : Visit → Bool
   of_visit v = f v.item.range.array
 
-  visits_all : (before : List Mark) (asks : List Asked) → list_all of_asked asks ≡ true → list_all of_visit (visits before asks) ≡ true
+  visits_all : (before : List Mark) (asks : List AskedItem) → list_all of_asked asks ≡ true → list_all of_visit (visits before asks) ≡ true
   visits_all before [] all = refl
   visits_all before (a ∷ asks) all =
       let parts = and_parts (of_asked a) (list_all of_asked asks) all in
@@ -172,7 +173,7 @@ module _ (f : ℕ → Bool) where
       behind_all walk.alone (awaits walk.waits (walk_at walk) st.labels (flat_map used_blocks ops) (flat_map released_blocks ops)) ops
       (awaits_all walk.waits (walk_at walk) st.labels (flat_map used_blocks ops) (flat_map released_blocks ops) every_queue)
       (grouped_all (runs walk marks) (all_visits marks walk)
-      (runs_all walk.runs (map (λ (a : Asked). a.item) walk.items) (marks_between marks walk) (list_all-map of_item (λ (a : Asked). a.item) walk.items ∙ items))
+      (runs_all walk.runs (map (λ (a : AskedItem). a.item) walk.items) (marks_between marks walk) (list_all-map of_item (λ (a : AskedItem). a.item) walk.items ∙ items))
       (all_joined of_visit (visits marks walk.items) (visits (marks_between marks walk) walk.ends) (visits_all marks walk.items items) (visits_all (marks_between marks walk) walk.ends ends)))
 
   -- those are the arrays that the directive names
@@ -205,7 +206,7 @@ module _ (f : ℕ → Bool) where
       by (Some i) e all =
           ap f (eqb-true i.range.array array (found_passes (λ (j : DataItem). j.range.array == array) of_item around i e).0) ∙ all
 
-  subject_all : (lengths : List ℕ) (rs : List Region) (h : ℕ) (d : Directive) (k : Kind) → is_end k ≡ false → list_all of_item d.items ≡ true → list_all f (arrays_in k) ≡ true → list_all of_item (subject_by lengths rs h d k).items ≡ true
+  subject_all : (lengths : List ℕ) (rs : List Region) (h : ℕ) (d : Directive) (k : Kind) → ends_region k ≡ false → list_all of_item d.items ≡ true → list_all f (arrays_in k) ≡ true → list_all of_item (subject_by lengths rs h d k).items ≡ true
   subject_all lengths rs h d (kind.Loop k) none items arrays =
       all_joined of_item d.items (implicit_items lengths rs h d k) items
       (implicit_all lengths (items_around h d.device rs) (filter (λ array. not (is_named d.items array)) (arrays_of k)) (all_filtered f (λ array. not (is_named d.items array)) (arrays_of k) arrays))
@@ -218,7 +219,7 @@ module _ (f : ℕ → Bool) where
   subject_all lengths rs h d kind.AsyncTest none items arrays = items
   subject_all lengths rs h d kind.IsPresent none items arrays = items
 
-  batch_all : (st : Standing) (h : ℕ) (d : Directive) → is_end d.kind ≡ false → list_all of_item d.items ≡ true → list_all f (arrays_in d.kind) ≡ true → list_all has_arrays (batch_of st (walk_of st h d)) ≡ true
+  batch_all : (st : Standing) (h : ℕ) (d : Directive) → ends_region d.kind ≡ false → list_all of_item d.items ≡ true → list_all f (arrays_in d.kind) ≡ true → list_all has_arrays (batch_of st (walk_of st h d)) ≡ true
   unfolding walk_of
   batch_all st h d none items arrays =
       let s = subject_all st.lengths st.regions h d d.kind none items arrays in
@@ -228,6 +229,6 @@ module _ (f : ℕ → Bool) where
 -- Where a directive names no array that an operation touches, its batch touches none.
 pub batch_named : (op : OpLabel) (st : Standing) (h : ℕ) (d : Directive) → may_name op d ≡ false → list_all (has_arrays (λ array. not (touches_array op array))) (batch_of st (walk_of st h d)) ≡ true
 batch_named op st h d none =
-    let one = or_parts (is_end d.kind) (list_any (λ (i : DataItem). touches_array op i.range.array) d.items || list_any (touches_array op) (arrays_in d.kind)) none in
+    let one = or_parts (ends_region d.kind) (list_any (λ (i : DataItem). touches_array op i.range.array) d.items || list_any (touches_array op) (arrays_in d.kind)) none in
     let two = or_parts (list_any (λ (i : DataItem). touches_array op i.range.array) d.items) (list_any (touches_array op) (arrays_in d.kind)) one.1 in
     batch_all (λ array. not (touches_array op array)) st h d one.0 (none_all (λ (i : DataItem). touches_array op i.range.array) d.items two.0) (none_all (touches_array op) (arrays_in d.kind) two.1)

@@ -2,7 +2,7 @@
 use Rattle.std.proofs.Common.{inl, inr, ◌≡◌, Bool, false, List, [], ◌∷◌, sym, ap, subst, arith}
 use Rattle.std.specs.Prelude.{All, IsTrue}
 use Rattle.std.proofs.lemmas.List.Elements.{All-cons, All-head, All-tail}
-use Rattle.acc_core.specs.Legality.{Legal}
+use Rattle.acc_core.specs.Legality.{IsLegalState}
 use Rattle.acc_core.specs.Machine.{State, Outcome, step}
 use Rattle.acc_core.proofs.IdleSteps.{idle_keeps}
 use Rattle.acc_host.specs.declared.event.Event.{Event}
@@ -23,7 +23,7 @@ idle_same w x idle =
     idle_keeps w next x (false, ap (λ (answer : Reply). let o : Outcome = record { reply = answer; state = next } in o) idle)
 
 module _ (closing : Bool) (test : State → Bool) (e : Event) where
-  by_events : Commutes closing test e → (events : List Event) (w : State) → Legal w → IsTrue (test w) → All (MayCome closing) events → IsEnd (after w events) → LeadsSooner closing w e events
+  by_events : Commutes closing test e → (events : List Event) (w : State) → IsLegalState w → IsTrue (test w) → All (MayCome closing) events → IsEnd (after w events) → LeadsSooner closing w e events
   by_events c [] w l r may ends = absurd (c.waits w l r ends)
   by_events c (x ∷ events) w l r may ends =
       let to = (step false w x).state in
@@ -62,5 +62,5 @@ module _ (closing : Bool) (test : State → Bool) (e : Event) where
             )
       ]
 
-pub goes_first : (closing : Bool) (test : State → Bool) (e : Event) → Commutes closing test e → (w : State) → Legal w → IsTrue (test w) → MayGoFirst closing w e
+pub goes_first : (closing : Bool) (test : State → Bool) (e : Event) → Commutes closing test e → (w : State) → IsLegalState w → IsTrue (test w) → MayGoFirst closing w e
 goes_first closing test e c w l r = λ events may ends. by_events closing test e c events w l r may ends

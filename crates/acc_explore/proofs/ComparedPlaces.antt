@@ -25,7 +25,7 @@ use Rattle.acc_place.specs.Directives.{Directive}
 use Rattle.acc_place.specs.Histories.{AllAccepted, standing}
 use Rattle.acc_place.specs.Plans.{PlaceView, standing_in}
 use Rattle.acc_place.specs.Regions.{region_of, regions_after, regions_of}
-use Rattle.acc_place.specs.Standings.{Standing, acts_if_present, all_asked, asked_by, change_at, counted_among, counted_with, marked_by, subject_by, walk_of}
+use Rattle.acc_place.specs.Standings.{Standing, acts_if_present, all_asked, asked_item, change_at, counted_among, counted_with, marked_by, subject_by, walk_of}
 use Rattle.acc_place.proofs.LabelsSound.{all_sound}
 use Rattle.acc_place.proofs.LabelsThere.{labels_there}
 use Rattle.acc_present.specs.declared.change.Change.{Change}
@@ -189,8 +189,8 @@ all_counted : (items : List DataItem) (ms : List Mark) → All (λ (i : DataItem
 all_counted [] ms all = refl
 all_counted (i ∷ items) ms all =
     let acts = acts_always i.clause (All-head (λ (i : DataItem). i.clause ≢ clause.NoCreate) i items all) in
-    let change : change_at ms (asked_by kind.Data i) ≡ Some StructuredUp = ap (λ (b : Bool). cond (b && not (is_present (presences ms) i.range)) None (Some StructuredUp)) acts in
-    let rest = all_counted items (marked_by ms (asked_by kind.Data i)) (All-tail (λ (i : DataItem). i.clause ≢ clause.NoCreate) i items all) in
+    let change : change_at ms (asked_item kind.Data i) ≡ Some StructuredUp = ap (λ (b : Bool). cond (b && not (is_present (presences ms) i.range)) None (Some StructuredUp)) acts in
+    let rest = all_counted items (marked_by ms (asked_item kind.Data i)) (All-tail (λ (i : DataItem). i.clause ≢ clause.NoCreate) i items all) in
     ap₂ (λ (change : Option Change) (rest : List DataItem). counted_with change i rest) change rest
 
 mine : (lengths : List ℕ) (rs : List Region) (host : ℕ) (d : Directive) (k : Kind) (ms : List Mark) → CountsAll k d.items

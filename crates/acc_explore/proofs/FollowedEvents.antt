@@ -12,7 +12,7 @@ use Rattle.acc_explore.specs.declared.search.Course.TheVariants.{Idle, Led, Full
 use Rattle.acc_explore.specs.Explorations.{Found, HoldsAlike, IsEnd}
 use Rattle.acc_explore.specs.inner.Searching.{AreNear, IsFollowed, IsLikeOne, IsNoted, LeavesEnd, Takes}
 use Rattle.acc_explore.specs.Reductions.{MayGoFirst}
-use Rattle.acc_explore.specs.Runs.{MayCome, events_of}
+use Rattle.acc_explore.specs.Runs.{MayCome, open_events}
 use Rattle.acc_explore.proofs.AlikeSteps.{alike_itself}
 use Rattle.acc_explore.proofs.FoundMore.{stays}
 use Rattle.acc_explore.proofs.SearchEvents.{IsIdleAt, may_unless_close, no_close}
@@ -43,7 +43,7 @@ module _ (most : ℕ) (start : State) (old new : List Arrival) (next : ℕ) (w :
 
   -- ## It is followed
 
-  module _ (closing : Bool) (numbers : List ℕ) (done : List Event) (here : w ≡ (found_at start old next).state) (low : next ≤ length old) (listed : Contains (events_of closing start) e)
+  module _ (closing : Bool) (numbers : List ℕ) (done : List Event) (here : w ≡ (found_at start old next).state) (low : next ≤ length old) (listed : Contains (open_events closing start) e)
       (f : IsFollowed closing most start old numbers next done) where
     abbrev now : State
     now = (step false (found_at start old next).state e).state
@@ -99,7 +99,7 @@ waits_first : (closing : Bool) (w : State) (e : Event) → MayGoFirst closing w 
 waits_first closing w e first ends = absurd (omega (arith, (first [] (All-nil (MayCome closing)) ends).fewer))
 
 pub followed_alone : (closing : Bool) (most : ℕ) (start : State) (old new : List Arrival) (numbers : List ℕ) (next : ℕ) (w : State) (e : Event) (course : Course)
-    → w ≡ (found_at start old next).state → next ≤ length old → Contains (events_of closing start) e → MayGoFirst closing w e
+    → w ≡ (found_at start old next).state → next ≤ length old → Contains (open_events closing start) e → MayGoFirst closing w e
     → IsFollowed closing most start old numbers next [] → Takes most start old new next w e course → (course ≡ Full → ⊥)
     → IsFollowed closing most start new numbers (next + 1) []
 followed_alone closing most start old new numbers next w e course here low listed first f takes room =
@@ -112,7 +112,7 @@ followed_alone closing most start old new numbers next w e course here low liste
     (waits_first closing at.state e may)
 
 pub near_alone : (closing : Bool) (most : ℕ) (start : State) (old new : List Arrival) (numbers : List ℕ) (next : ℕ) (w : State) (e : Event) (course : Course)
-    → w ≡ (found_at start old next).state → next ≤ length old → Contains (events_of closing start) e
+    → w ≡ (found_at start old next).state → next ≤ length old → Contains (open_events closing start) e
     → IsFollowed closing most start old numbers next [] → Takes most start old new next w e course → (course ≡ Full → ⊥)
     → AreNear start old new next
 near_alone closing most start old new numbers next w e course here low listed f takes room =

@@ -9,7 +9,7 @@ use Rattle.acc_explore.specs.declared.arrival.Arrival.{Arrival}
 use Rattle.acc_explore.specs.Explorations.{FollowsAll, Found, HoldsAlike}
 use Rattle.acc_explore.specs.Reductions.{FollowsEnough}
 use Rattle.acc_explore.specs.inner.Searching.{IsLikeOne}
-use Rattle.acc_explore.specs.Runs.{events_of}
+use Rattle.acc_explore.specs.Runs.{open_events}
 use Rattle.acc_explore.proofs.AlikeSteps.{alike_itself}
 use Rattle.acc_explore.proofs.ArrivalPaths.{at_end, beside, length_found}
 use Rattle.acc_host.specs.declared.event.Event.{Event}
@@ -41,7 +41,7 @@ module _ (start : State) (a : Arrival) (arrivals : List Arrival) where
   follows_more closing f all =
       All-weaker (λ (e : Event). HoldsAlike (f.depth + 1) (found_by start arrivals) (step false f.state e).state)
       (λ (e : Event). HoldsAlike (f.depth + 1) (found_by start (a ∷ arrivals)) (step false f.state e).state)
-      (λ e h. holds_more (f.depth + 1) (step false f.state e).state h) (events_of closing f.state) all
+      (λ e h. holds_more (f.depth + 1) (step false f.state e).state h) (open_events closing f.state) all
 
   pub enough_more : (closing : Bool) (f : Found) → FollowsEnough closing (found_by start arrivals) f → FollowsEnough closing (found_by start (a ∷ arrivals)) f
   enough_more closing f (inl one) = inl (record {

@@ -17,7 +17,7 @@ use Rattle.acc_host.specs.declared.event.Event.TheVariants as event
 use Rattle.acc_host.specs.declared.state.Reply.TheVariants as reply
 use Rattle.acc_work.specs.Logs.{performed}
 use Rattle.acc_explore.specs.Alike.{Alike}
-use Rattle.acc_explore.specs.Takes.{has_room, is_at_take, may_take, unplaced}
+use Rattle.acc_explore.specs.Takes.{never_fills, is_at_take, may_take, unplaced}
 use Rattle.acc_explore.proofs.AlikeSteps.{alike_itself}
 
 abbrev pub with_taken : State → List ℕ → State
@@ -45,8 +45,8 @@ no_ops (op ∷ ops) e = cc
 pub is_free : (w : State) (at : QueueAt) → may_take at w ≡ true → IsFree w at
 is_free w at e =
     let held = batches_held w (labels_of w) at in
-    let parts = and_parts (is_there w at) (is_at_take w at && has_room w at) e in
-    let rest = and_parts (is_at_take w at) (has_room w at) parts.1 in
+    let parts = and_parts (is_there w at) (is_at_take w at && never_fills w at) e in
+    let rest = and_parts (is_at_take w at) (never_fills w at) parts.1 in
     let next = and_parts (is_empty (ops_left w (labels_of w) at)) (nat_lt 0 held) rest.0 in
     record {
       there = parts.0;
@@ -58,8 +58,8 @@ is_free w at e =
 pub is_tested : (w : State) (at : QueueAt) → IsFree w at → may_take at w ≡ true
 is_tested w at f =
     let held = batches_held w (labels_of w) at in
-    and_from (is_there w at) (is_at_take w at && has_room w at) f.there
-    (and_from (is_at_take w at) (has_room w at)
+    and_from (is_there w at) (is_at_take w at && never_fills w at) f.there
+    (and_from (is_at_take w at) (never_fills w at)
     (and_from (is_empty (ops_left w (labels_of w) at)) (nat_lt 0 held) (ap is_empty f.none_left) (lt-ltb 0 held f.some))
     (le-leb (held + unplaced w.hosts) w.config.room f.room))
 

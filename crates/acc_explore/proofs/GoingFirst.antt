@@ -5,7 +5,7 @@ use Rattle.std.specs.List.{list_all}
 use Rattle.std.proofs.lemmas.List.Folds.{list_all-map}
 use Rattle.acc_base.specs.Configurations.{Configuration}
 use Rattle.acc_base.specs.declared.ids.QueueAt.{QueueAt}
-use Rattle.acc_core.specs.Legality.{Legal}
+use Rattle.acc_core.specs.Legality.{IsLegalState}
 use Rattle.acc_core.specs.Machine.{State, step}
 use Rattle.acc_core.specs.Worlds.{first_state}
 use Rattle.acc_host.specs.declared.event.Event.{Event}
@@ -64,20 +64,20 @@ at_own w h host s there at now own =
 
 -- ## It may go first
 
-pub own_first : (w : State) (h : ℕ) → Legal w → IsTrue (is_at_own h w) → (closing : Bool) → MayGoFirst closing w (event.Host h)
+pub own_first : (w : State) (h : ℕ) → IsLegalState w → IsTrue (is_at_own h w) → (closing : Bool) → MayGoFirst closing w (event.Host h)
 own_first w h l own closing = goes_first closing (is_at_own h) (event.Host h) (own_commute closing h) w l own
 
-pub reached_first : (w : State) (h : ℕ) → Legal w → IsTrue (is_at_reached h w) → (closing : Bool) → MayGoFirst closing w (event.Host h)
+pub reached_first : (w : State) (h : ℕ) → IsLegalState w → IsTrue (is_at_reached h w) → (closing : Bool) → MayGoFirst closing w (event.Host h)
 reached_first w h l reached closing = goes_first closing (is_at_reached h) (event.Host h) (reached_commute closing h) w l reached
 
-pub unseen_first : (w : State) (at : QueueAt) → Legal w → IsTrue (is_at_unseen at w) → (closing : Bool) → MayGoFirst closing w (event.Perform at)
+pub unseen_first : (w : State) (at : QueueAt) → IsLegalState w → IsTrue (is_at_unseen at w) → (closing : Bool) → MayGoFirst closing w (event.Perform at)
 unseen_first w at l unseen closing = goes_first closing (is_at_unseen at) (event.Perform at) (unseen_commute closing at) w l unseen
 
-pub take_first : (w : State) (at : QueueAt) → Legal w → IsTrue (may_take at w) → MayGoFirst false w (event.Take at)
+pub take_first : (w : State) (at : QueueAt) → IsLegalState w → IsTrue (may_take at w) → MayGoFirst false w (event.Take at)
 take_first w at l may = goes_first false (may_take at) (event.Take at) (takes_commute at) w l may
 
-pub place_first : (w : State) (h : ℕ) → Legal w → IsTrue (may_place h w) → MayGoFirst false w (event.Host h)
+pub place_first : (w : State) (h : ℕ) → IsLegalState w → IsTrue (may_place h w) → MayGoFirst false w (event.Host h)
 place_first w h l may = goes_first false (may_place h) (event.Host h) (placements_commute h) w l may
 
-pub apart_first : (w : State) (at : QueueAt) → Legal w → IsTrue (is_at_apart at w) → MayGoFirst false w (event.Perform at)
+pub apart_first : (w : State) (at : QueueAt) → IsLegalState w → IsTrue (is_at_apart at w) → MayGoFirst false w (event.Perform at)
 apart_first w at l apart = goes_first false (is_at_apart at) (event.Perform at) (apart_commute at) w l apart

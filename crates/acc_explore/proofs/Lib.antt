@@ -25,7 +25,6 @@ mod ArrivalPaths
 mod BatchesNamed
 mod Commuting
 mod ComparedPlaces
-mod EnteredRanges
 mod Explored
 mod FollowedEvents
 mod FoundMore
@@ -57,7 +56,6 @@ mod ReachedArrivals
 mod ReachedFirst
 mod ReachedSteps
 mod Reduced
-mod RegionsOn
 mod SaidEndings
 mod SameTaken
 mod SearchEvents

@@ -12,7 +12,7 @@ use Rattle.acc_batch.specs.declared.label.OpLabel.{OpLabel}
 use Rattle.acc_batch.specs.declared.label.OpLabel.TheVariants.{Make, CopyIn, CopyOut, Release, Run, Await, Close}
 use Rattle.acc_batch.specs.Lives.{HoldsBlock, UsesLive}
 use Rattle.acc_batch.specs.Ops.{HasItsCells}
-use Rattle.acc_kernel.specs.Jobs.{Use, no_use, place_of, range_of, has_cell, AreDistinct, HoldReached}
+use Rattle.acc_kernel.specs.Jobs.{Use, no_use, place_of, used_range, uses_have, AreDistinct, HoldReached}
 use Rattle.acc_kernel.specs.Kernels.{Loop, value_after}
 use Rattle.acc_kernel.proofs.ValueAfter.{within, loop_alike}
 use Rattle.acc_kernel.proofs.CellIn.{used, its_place}
@@ -75,14 +75,14 @@ module _ (Holds : ℕ → Range → Type 0) (d : ℕ) (f g : Cell → ℤ) where
 
   -- what a loop with these uses sees is alike where its use has the cell
   seen_alike : (uses : List Use) (array i : ℕ) → Agree → All (λ (u : Use). Holds u.0 u.1) uses → place_of uses array < length uses
-      → is_in (range_of uses array) i ≡ true → cells_by uses d f array (pos i) ≡ cells_by uses d g array (pos i)
-  seen_alike uses array i agree held low has = agree (block_of uses array) i (range_of uses array) (held (place_of uses array) no_use low) has
+      → is_in (used_range uses array) i ≡ true → cells_by uses d f array (pos i) ≡ cells_by uses d g array (pos i)
+  seen_alike uses array i agree held low has = agree (block_of uses array) i (used_range uses array) (held (place_of uses array) no_use low) has
 
-  reached_alike : (uses : List Use) (array : ℕ) (cell : ℤ) → Agree → All (λ (u : Use). Holds u.0 u.1) uses → has_cell uses array cell ≡ true
+  reached_alike : (uses : List Use) (array : ℕ) (cell : ℤ) → Agree → All (λ (u : Use). Holds u.0 u.1) uses → uses_have uses array cell ≡ true
       → cells_by uses d f array cell ≡ cells_by uses d g array cell
   reached_alike uses array (negsuc n) agree held has = refl
   reached_alike uses array (pos i) agree held has =
-      let r = range_of uses array in
+      let r = used_range uses array in
       let w = within (pos r.lo) (pos (r.lo + r.len)) (pos i) has in
       seen_alike uses array i agree held (used uses array (pos i) has)
       (and_from (nat_le r.lo i) (nat_lt i (r.lo + r.len)) (le-leb r.lo i (from r.lo i w.0)) (lt-ltb i (r.lo + r.len) (to i (r.lo + r.len) w.1)))
@@ -101,7 +101,7 @@ module _ (Holds : ℕ → Range → Type 0) (d : ℕ) (f g : Cell → ℤ) where
       let is : get_or uses at.0 no_use ≡ u = get_or_from_slice_get uses at.0 u no_use at.1 in
       let low : at.0 < length uses = slice_get_within uses at.0 u at.1 in
       let place : place_of uses u.1.array ≡ at.0 = subst (λ (v : Use). place_of uses v.1.array ≡ at.0) is (its_place uses at.0 distinct low) in
-      let range : range_of uses u.1.array ≡ u.1 = ap (λ n. (get_or uses n no_use).1) place ∙ ap (λ (v : Use). v.1) is in
+      let range : used_range uses u.1.array ≡ u.1 = ap (λ n. (get_or uses n no_use).1) place ∙ ap (λ (v : Use). v.1) is in
       let has : is_in u.1 cell ≡ true = (and_parts (u.0 == block) (is_in u.1 cell) at.2).1 in
       loop_alike k (cells_by uses d f) (cells_by uses d g) u.1.array (pos cell)
       (λ a c r. reached_alike uses a c agree held (reached a c r))

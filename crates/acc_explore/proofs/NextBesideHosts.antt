@@ -16,7 +16,7 @@ use Rattle.acc_core.specs.Machine.{State, Outcome, can_tell, host_outcome, host_
 use Rattle.acc_host.specs.declared.event.Event.TheVariants as event
 use Rattle.acc_host.specs.declared.state.After.{After}
 use Rattle.acc_host.specs.declared.state.After.TheVariants as go
-use Rattle.acc_host.specs.Hosts.{HostView, wants, after_place, after_wait, after_item, host_after, reply_to}
+use Rattle.acc_host.specs.Hosts.{HostView, wants, after_place, after_wait, after_answer, host_after, reply_to}
 use Rattle.acc_host.specs.Steps.{Want, stays, sets, refuses, places, awaits, records}
 use Rattle.acc_memory.specs.Values.{Host_cell, is_in, values_from}
 use Rattle.acc_place.specs.declared.directive.Placed.{Placed}
@@ -226,7 +226,7 @@ module _ (at : QueueAt) (w : State) (op : OpLabel) (u : StandsNext at w op) (cel
         let other = item_answer false (with_op w at op) item in
         let same = item_answer_stays item tells none in
         turned_turns want is
-        (turned_host (item_state w h item answer) (item_state (with_op w at op) h item other) h host (after_item answer) (after_item other) (ap after_item same) (unasked want is)
+        (turned_host (item_state w h item answer) (item_state (with_op w at op) h item other) h host (after_answer answer) (after_answer other) (ap after_answer same) (unasked want is)
         (subst (λ (a : Result Shown Fault). Turned at w op (item_state w h item answer) (item_state (with_op w at op) h item a)) (sym same) (turned_shown h item tells none answer)))
 
     quiet_item : (item : ItemLabel) → wants w.config.devices host ≡ records item → (ends_no_batch (labels_of w) w.work at op ≡ true) ⊎ (nobody_asks w ≡ true)

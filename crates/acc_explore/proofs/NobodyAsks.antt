@@ -15,7 +15,7 @@ use Rattle.acc_host.specs.declared.state.After.TheVariants as go
 use Rattle.acc_host.specs.declared.state.Ids.{Ids}
 use Rattle.acc_host.specs.declared.state.Phase.{Phase}
 use Rattle.acc_host.specs.declared.state.Phase.TheVariants as phase
-use Rattle.acc_host.specs.Hosts.{HostView, after_item, after_place, after_wait, host_after, owing, wants, wants_at}
+use Rattle.acc_host.specs.Hosts.{HostView, after_answer, after_place, after_wait, host_after, owing, wants, wants_at}
 use Rattle.acc_host.specs.Steps.{Owed, nothing_owed, owes_seen, Want, stays, sets, refuses, places, awaits, records, alone, ids_after, is_async, owed_batch, owed_by, owed_counts, set_or_refuse, wanted}
 use Rattle.acc_place.specs.declared.directive.Kind.{Kind}
 use Rattle.acc_place.specs.declared.directive.Kind.TheVariants as kind
@@ -151,7 +151,7 @@ module _ (w : State) (h : ℕ) (host : HostView) (there : slice_get w.hosts h �
   waited_quiet device counts (Ok false) = set_quiet (Ok go.Idle) refl
   waited_quiet device counts (Err fault) = set_quiet (Err fault) refl
 
-  recorded_quiet : (item : ItemLabel) (answer : Result Shown Fault) → nobody_asks (host_outcome (item_state w h item answer) h host (after_item answer)).state ≡ true
+  recorded_quiet : (item : ItemLabel) (answer : Result Shown Fault) → nobody_asks (host_outcome (item_state w h item answer) h host (after_answer answer)).state ≡ true
   recorded_quiet item (Ok shown) = set_quiet (Ok go.Ended) refl
   recorded_quiet item (Err fault) = set_quiet (Err fault) refl
 

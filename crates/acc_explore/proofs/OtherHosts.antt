@@ -8,7 +8,7 @@ use Rattle.acc_batch.specs.declared.label.OpLabel.{OpLabel}
 use Rattle.acc_core.specs.Machine.{State, Outcome, batches_held, place_answer, placed_state, told_of, with_item, item_answer, item_state, wait_answer, waited_state, idle, did, host_outcome, host_step, take_step, can_perform, perform_step, with_op, can_close, closes, with_closing, close_step, queue_step}
 use Rattle.acc_host.specs.declared.state.After.{After}
 use Rattle.acc_host.specs.declared.state.After.TheVariants as go
-use Rattle.acc_host.specs.Hosts.{HostView, after_place, after_wait, after_item, host_after}
+use Rattle.acc_host.specs.Hosts.{HostView, after_place, after_wait, after_answer, host_after}
 use Rattle.acc_host.specs.Steps.{Want, stays, sets, refuses, places, awaits, records}
 use Rattle.acc_place.specs.declared.directive.PlaceEntry.{PlaceEntry}
 use Rattle.acc_place.specs.declared.directive.PlaceEntry.TheVariants as noted
@@ -119,5 +119,5 @@ beside_want w hosts k host (awaits device counts) =
 beside_want w hosts k host (records item) =
     let answer = item_answer false w item in
     let p = recording w hosts k item answer (told_apart w hosts item) in
-    subst (λ (a : Result Shown Fault). Beside w hosts k (host_step false w k host (records item)) (host_outcome (item_state (with_hosts w hosts) k item a) k host (after_item a))) (sym (answer_apart w hosts item))
-    (beside w hosts k host (after_item answer) (item_state w k item answer) (item_state (with_hosts w hosts) k item answer) p.same p.kept p.config)
+    subst (λ (a : Result Shown Fault). Beside w hosts k (host_step false w k host (records item)) (host_outcome (item_state (with_hosts w hosts) k item a) k host (after_answer a))) (sym (answer_apart w hosts item))
+    (beside w hosts k host (after_answer answer) (item_state w k item answer) (item_state (with_hosts w hosts) k item answer) p.same p.kept p.config)

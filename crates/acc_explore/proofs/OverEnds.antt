@@ -15,7 +15,7 @@ use Rattle.acc_batch.specs.Labels.{on_queue, ops_of}
 use Rattle.acc_core.proofs.Enabled.{left_on, some_enabled}
 use Rattle.acc_core.specs.Enabled.{is_did, is_left}
 use Rattle.acc_core.specs.Following.{AllStand, StandsIn}
-use Rattle.acc_core.specs.Legality.{Legal, entries_of}
+use Rattle.acc_core.specs.Legality.{IsLegalState, host_entries}
 use Rattle.acc_core.specs.Machine.{State, host_step, item_answer, labels_of, named_step, place_answer, step, unless}
 use Rattle.acc_explore.specs.Ends.{EndsAreOver, has_stopped}
 use Rattle.acc_explore.specs.Explorations.{IsEnd}
@@ -30,7 +30,7 @@ use Rattle.acc_host.specs.declared.state.Phase.TheVariants as phase
 use Rattle.acc_host.specs.declared.state.Reply.TheVariants as reply
 use Rattle.acc_host.specs.Engines.{HostEntry, Gave}
 use Rattle.acc_host.specs.Following.{Behind, Owes, OwesFor}
-use Rattle.acc_host.specs.Hosts.{HostView, after_item, after_place, after_wait, owing, reply_to, state_in, state_of, wants}
+use Rattle.acc_host.specs.Hosts.{HostView, after_answer, after_place, after_wait, owing, reply_to, state_in, state_of, wants}
 use Rattle.acc_host.specs.Steps.{Owed, nothing_owed, owes_seen, owes_test, owed_by, Want, stays, sets, refuses, places, awaits, records, ids_after, is_async, set_or_refuse, wanted, with_ids}
 use Rattle.acc_place.specs.declared.directive.Placed.{Placed}
 use Rattle.acc_place.specs.Directives.{Directive}
@@ -40,7 +40,7 @@ use Rattle.acc_work.specs.Enabled.{has_left}
 use Rattle.acc_work.specs.Logs.{all_done, batches_done, performed}
 use Rattle.acc_work.specs.Works.{item_fault}
 
-none_left : (w : State) → Legal w → IsEnd w → is_left w ≡ false
+none_left : (w : State) → IsLegalState w → IsEnd w → is_left w ≡ false
 none_left w legal ends = elim (cases_Bool (is_left w)) [
   | inl left ↦
       let some = some_enabled w legal left in
@@ -94,7 +94,7 @@ waited_moves : (fault : Option Fault) → reply_to (after_wait (unless fault tru
 waited_moves None idle = cc
 waited_moves (Some fault) idle = cc
 
-item_moves : (answer : Result Shown Fault) → reply_to (after_item answer) ≡ reply.Idle → ⊥
+item_moves : (answer : Result Shown Fault) → reply_to (after_answer answer) ≡ reply.Idle → ⊥
 item_moves (Ok answer) idle = cc
 item_moves (Err fault) idle = cc
 
@@ -150,7 +150,7 @@ has_ended w h host none here stands idle = by_phase host.phase refl
     owed_all : All (EntryOwes (labels_of w)) stands.1.behind
     owed_all =
         subst (All (EntryOwes (labels_of w))) (ap (drop (length stands.1.past)) stands.1.parts ∙ drop-append_seam stands.1.past stands.1.behind)
-        (All-drop (EntryOwes (labels_of w)) (length stands.1.past) (entries_of w h) (entries_owe w.config h w.history w.counts w.work))
+        (All-drop (EntryOwes (labels_of w)) (length stands.1.past) (host_entries w h) (entries_owe w.config h w.history w.counts w.work))
 
     waits : (device : ℕ) (counts : List ℕ) → host.phase ≡ phase.Waits device counts → (s : Option Statement) → slice_get host.statements host.ended ≡ s
         → Owes host.ids s (owes_seen device counts) stands.1.behind → ⊥

@@ -14,14 +14,14 @@ use Rattle.acc_batch.specs.declared.entry.WorkEntry.{WorkEntry}
 use Rattle.acc_batch.specs.declared.label.Label.{Label}
 use Rattle.acc_batch.specs.declared.label.OpLabel.{OpLabel}
 use Rattle.acc_batch.specs.Labels.{on_queue, ops_of, whole_batches}
-use Rattle.acc_core.specs.Legality.{Legal}
+use Rattle.acc_core.specs.Legality.{IsLegalState}
 use Rattle.acc_core.specs.Machine.{State, Outcome, step, labels_of, is_there, batches_held, can_tell, ops_left, taken_on, told_of, unless, with_directive, with_item, item_answer, item_state, wait_answer, waited_state, idle, did, host_outcome, host_step, take_step, can_perform, perform_step, with_op, queue_step}
 use Rattle.acc_host.specs.declared.event.Event.{Event}
 use Rattle.acc_host.specs.declared.event.Event.TheVariants as event
 use Rattle.acc_host.specs.declared.state.After.{After}
 use Rattle.acc_host.specs.declared.state.After.TheVariants as go
 use Rattle.acc_host.specs.declared.state.Reply.TheVariants as reply
-use Rattle.acc_host.specs.Hosts.{HostView, after_wait, after_item, host_after}
+use Rattle.acc_host.specs.Hosts.{HostView, after_wait, after_answer, host_after}
 use Rattle.acc_host.specs.Steps.{Want, stays, sets, refuses, places, awaits, records}
 use Rattle.acc_place.specs.Directives.{Directive}
 use Rattle.acc_work.specs.declared.item.ItemLabel.{ItemLabel}
@@ -39,7 +39,7 @@ use Rattle.acc_explore.proofs.TakesBesideQueues.{performs}
 pub other_item : (h k : ℕ) (work : List WorkEntry) → (k ≡ h → ⊥) → if_one (k == h) (items_of h work) ≡ items_of h work
 other_item h k work other = ap (λ b. if_one b (items_of h work)) (ne_eqb k h other)
 
-module _ (w : State) (l : Legal w) (h : ℕ) (d : Directive) where
+module _ (w : State) (l : IsLegalState w) (h : ℕ) (d : Directive) where
   abbrev placed : State
   placed = with_directive w h d
 
@@ -182,5 +182,5 @@ module _ (w : State) (l : Legal w) (h : ℕ) (d : Directive) where
     host_beside host (records item) places_none =
         let answer = item_answer false w item in
         let same = answer_stays item in
-        outcome_beside host (after_item answer) (after_item (item_answer false placed item)) (item_state w k item answer)
-        (item_state placed k item (item_answer false placed item)) (ap (item_state placed k item) same ∙ item_beside item answer) (ap after_item same)
+        outcome_beside host (after_answer answer) (after_answer (item_answer false placed item)) (item_state w k item answer)
+        (item_state placed k item (item_answer false placed item)) (ap (item_state placed k item) same ∙ item_beside item answer) (ap after_answer same)

@@ -13,7 +13,7 @@ use Rattle.acc_base.specs.Queues.{seat}
 use Rattle.acc_batch.proofs.Seats.{set_there}
 use Rattle.acc_batch.specs.declared.label.Label.{Label}
 use Rattle.acc_batch.specs.declared.label.OpLabel.{OpLabel}
-use Rattle.acc_core.specs.Legality.{Legal}
+use Rattle.acc_core.specs.Legality.{IsLegalState}
 use Rattle.acc_core.specs.Machine.{State, Outcome, step, standing_of, labels_of, is_empty, is_full, is_there, batches_held, idle, ops_left, perform_step, place_answer, place_fault, placed_state, queue_fault, take_step, unless, host_outcome, host_step, named_step}
 use Rattle.acc_host.specs.declared.event.Event.{Event}
 use Rattle.acc_host.specs.declared.event.Event.TheVariants as event
@@ -47,7 +47,7 @@ use Rattle.acc_explore.proofs.UnplacedDirectives.{had_one_more, unplaced_apart}
 abbrev answer_by : State → ℕ → Directive → Standing → Result Placed Fault
 answer_by w h d st = unless (refusal w.config st h d) (answer_of st d (walk_of st h d))
 
-module _ (w : State) (l : Legal w) (h : ℕ) (host : HostView) (d : Directive) (p : StandsPlacing w h host d) where
+module _ (w : State) (l : IsLegalState w) (h : ℕ) (host : HostView) (d : Directive) (p : StandsPlacing w h host d) where
   -- ## It isn't refused for want of room
 
   abbrev st : Standing
@@ -93,7 +93,7 @@ module _ (w : State) (l : Legal w) (h : ℕ) (host : HostView) (d : Directive) (
   places_it = ap (named_step false w h) p.there ∙ ap (host_step false w h host) p.want
 
 -- in another state with the same directives behind it, it is answered the same
-answer_same : (w s : State) → Legal w → Legal s → (h : ℕ) (host : HostView) (d : Directive) → StandsPlacing w h host d → StandsPlacing s h host d → Stays w s h → place_answer false s h d ≡ place_answer false w h d
+answer_same : (w s : State) → IsLegalState w → IsLegalState s → (h : ℕ) (host : HostView) (d : Directive) → StandsPlacing w h host d → StandsPlacing s h host d → Stays w s h → place_answer false s h d ≡ place_answer false w h d
 answer_same w s l m h host d p r x =
     answer_is s m h host d r
     ∙ (ap₂ (λ (c : Configuration) (st : Standing). unless (refusal c st h d) (answer_of st d (walk_of st h d))) x.config (standing_stays w s h x)
@@ -117,7 +117,7 @@ Moves w h x =
 abbrev Keeps : State → ℕ → Event → Type 0
 Keeps w h x = (x ≡ event.Host h) ⊎ ((step false w x).reply ≡ reply.Idle) ⊎ Moves w h x
 
-module _ (w : State) (l : Legal w) (h : ℕ) (host : HostView) (d : Directive) (p : StandsPlacing w h host d) where
+module _ (w : State) (l : IsLegalState w) (h : ℕ) (host : HostView) (d : Directive) (p : StandsPlacing w h host d) where
   abbrev answer : Result Placed Fault
   answer = place_answer false w h d
 

@@ -17,7 +17,7 @@ use Rattle.acc_batch.specs.Labels.{on_queue}
 use Rattle.acc_core.specs.Machine.{State, Outcome, is_there, standing_of, labels_of, batches_held, can_perform, did, host_outcome, host_step, idle, item_answer, item_state, perform_step, queue_step, take_step, taken_on, told_of, wait_answer, waited_state, with_item, with_op}
 use Rattle.acc_host.specs.declared.state.After.{After}
 use Rattle.acc_host.specs.declared.state.After.TheVariants as go
-use Rattle.acc_host.specs.Hosts.{HostView, wants, after_item, after_wait, host_after}
+use Rattle.acc_host.specs.Hosts.{HostView, wants, after_answer, after_wait, host_after}
 use Rattle.acc_host.specs.Steps.{Want, stays, sets, refuses, places, awaits, records}
 use Rattle.acc_place.specs.declared.directive.PlaceEntry.{PlaceEntry}
 use Rattle.acc_place.specs.Directives.{Directive}
@@ -27,7 +27,7 @@ use Rattle.acc_work.specs.declared.item.ItemLabel.{ItemLabel}
 use Rattle.acc_work.specs.declared.item.Shown.{Shown}
 use Rattle.acc_work.specs.Logs.{items_of}
 use Rattle.acc_explore.specs.Placements.{all_have_room, is_placement, may_place, places_alone}
-use Rattle.acc_explore.specs.Takes.{has_room, unplaced, unplaced_by}
+use Rattle.acc_explore.specs.Takes.{never_fills, unplaced, unplaced_by}
 use Rattle.acc_explore.proofs.FreeTakes.{behind_take}
 use Rattle.acc_explore.proofs.PlacedBeside.{other_item}
 use Rattle.acc_explore.proofs.UnplacedDirectives.{had_before, left_behind, unplaced_of, unplaced_set}
@@ -51,20 +51,20 @@ all_of p first (suc count) each =
     (all_of p (first + 1) count (λ i low. (let there : first + 1 + i ≡ first + suc i = omega arith in ap p there ∙ each (suc i) (omega (arith, low)))))
 
 -- Where all queues that are there have room, each of them has; where one has none, they haven't.
-rooms : (w : State) → all_have_room w ≡ true → (n : ℕ) → n < queue_count w.config → has_room w (at_seat n) ≡ true
+rooms : (w : State) → all_have_room w ≡ true → (n : ℕ) → n < queue_count w.config → never_fills w (at_seat n) ≡ true
 rooms w all n low =
     let same : 0 + n ≡ n = omega arith in
-    ap (λ m. has_room w (at_seat m)) (sym same) ∙ each_of (λ m. has_room w (at_seat m)) 0 (queue_count w.config) n all low
+    ap (λ m. never_fills w (at_seat m)) (sym same) ∙ each_of (λ m. never_fills w (at_seat m)) 0 (queue_count w.config) n all low
 
 seat_there : (w : State) (n : ℕ) → n < queue_count w.config → is_there w (at_seat n) ≡ true
 seat_there w n low =
     and_from (nat_lt (at_seat n).device w.config.devices) (nat_lt (at_seat n).queue QUEUES) (lt-ltb (at_seat n).device w.config.devices (omega (arith, low)))
     (lt-ltb (at_seat n).queue QUEUES (omega arith))
 
-pub lacks_room : (w : State) (n : ℕ) → n < queue_count w.config → (is_there w (at_seat n) && has_room w (at_seat n)) ≡ false → all_have_room w ≡ false
+pub lacks_room : (w : State) (n : ℕ) → n < queue_count w.config → (is_there w (at_seat n) && never_fills w (at_seat n)) ≡ false → all_have_room w ≡ false
 lacks_room w n low lacks = elim (cases_Bool (all_have_room w)) [
   | inl all ↦
-      let wrong : true ≡ false = sym (and_from (is_there w (at_seat n)) (has_room w (at_seat n)) (seat_there w n low) (rooms w all n low)) ∙ lacks in
+      let wrong : true ≡ false = sym (and_from (is_there w (at_seat n)) (never_fills w (at_seat n)) (seat_there w n low) (rooms w all n low)) ∙ lacks in
       cc
   | inr some ↦ some
 ]
@@ -104,10 +104,10 @@ is_tested w h host d p =
     and_from (places_alone w (slice_get w.hosts h)) (all_have_room w)
     (ap (places_alone w) p.there
     ∙ and_from (is_placement (wants w.config.devices host)) (unplaced w.hosts == unplaced_by host) (ap is_placement p.want) (eq-eqb (unplaced w.hosts) (unplaced_by host) p.own))
-    (all_of (λ n. has_room w (at_seat n)) 0 (queue_count w.config)
+    (all_of (λ n. never_fills w (at_seat n)) 0 (queue_count w.config)
     (λ n low. (
     let same : n ≡ 0 + n = omega arith in
-    ap (λ m. has_room w (at_seat m)) (sym same) ∙ le-leb (batches_held w (labels_of w) (at_seat n) + unplaced w.hosts) w.config.room (p.room n low)
+    ap (λ m. never_fills w (at_seat m)) (sym same) ∙ le-leb (batches_held w (labels_of w) (at_seat n) + unplaced w.hosts) w.config.room (p.room n low)
     )))
 
 -- ## What others leave
@@ -236,4 +236,4 @@ module _ (w : State) (h : ℕ) where
         goes_stays (waited_state w k device counts answer) (after_wait answer) (wait_calls device counts answer) (no_more (awaits device counts) wanted (λ e. cc) (after_wait answer))
     stays_host (records item) wanted places_none =
         let answer = item_answer false w item in
-        goes_stays (item_state w k item answer) (after_item answer) (item_calls item answer) (no_more (records item) wanted (λ e. cc) (after_item answer))
+        goes_stays (item_state w k item answer) (after_answer answer) (item_calls item answer) (no_more (records item) wanted (λ e. cc) (after_answer answer))

@@ -6,7 +6,7 @@ use Rattle.std.proofs.lemmas.List.Elements.{All-append, All-cons, All-head, All-
 use Rattle.acc_core.specs.Machine.{State, step}
 use Rattle.acc_explore.specs.Arrivals.{ArrivalsAreReached, at_once, found_behind, found_by}
 use Rattle.acc_explore.specs.declared.arrival.Arrival.{Arrival}
-use Rattle.acc_explore.specs.Explorations.{Found, IsReached}
+use Rattle.acc_explore.specs.Explorations.{Found, IsLedTo}
 use Rattle.acc_explore.specs.Runs.{MayCome}
 use Rattle.acc_explore.proofs.AfterMore.{after_more}
 
@@ -17,10 +17,10 @@ at_number P (f ∷ found) zero other all so = All-head P f found all
 at_number P (f ∷ found) (suc n) other all so = at_number P found n other (All-tail P f found all) so
 
 module _ (closing : Bool) (start : State) where
-  at_first : IsReached closing start (at_once start)
+  at_first : IsLedTo closing start (at_once start)
   at_first = record { events = []; may = All-nil (MayCome closing); count = refl; there = refl }
 
-  behind : (f : Found) (a : Arrival) → IsReached closing start f → MayCome closing a.by → IsReached closing start (found_behind f a)
+  behind : (f : Found) (a : Arrival) → IsLedTo closing start f → MayCome closing a.by → IsLedTo closing start (found_behind f a)
   behind f a r may = record {
     events = r.events ++ a.by ∷ [];
     may = All-append (MayCome closing) r.events (a.by ∷ []) r.may (All-cons (MayCome closing) a.by [] may (All-nil (MayCome closing)));
@@ -29,10 +29,10 @@ module _ (closing : Bool) (start : State) where
   }
 
 pub all_reached : ArrivalsAreReached
-all_reached closing start [] may = All-cons (IsReached closing start) (at_once start) [] (at_first closing start) (All-nil (IsReached closing start))
+all_reached closing start [] may = All-cons (IsLedTo closing start) (at_once start) [] (at_first closing start) (All-nil (IsLedTo closing start))
 all_reached closing start (a ∷ before) may =
     let P = λ (b : Arrival). MayCome closing b.by in
-    let R = IsReached closing start in
+    let R = IsLedTo closing start in
     let found = found_by start before in
     let ih = all_reached closing start before (All-tail P a before may) in
     let one = slice_index_or found a.from (at_once start) in

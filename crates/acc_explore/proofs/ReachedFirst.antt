@@ -24,7 +24,7 @@ use Rattle.acc_host.specs.declared.state.After.TheVariants as go
 use Rattle.acc_host.specs.declared.state.Reply.TheVariants as reply
 use Rattle.acc_host.specs.Engines.{Had, HostEntry}
 use Rattle.acc_host.specs.Entries.{items_shown}
-use Rattle.acc_host.specs.Hosts.{HostView, wants, host_after, after_wait, after_item, after_place, reply_to}
+use Rattle.acc_host.specs.Hosts.{HostView, wants, host_after, after_wait, after_answer, after_place, reply_to}
 use Rattle.acc_host.specs.Steps.{Want, stays, sets, refuses, places, awaits, records}
 use Rattle.acc_memory.specs.Values.{Cell, values_of}
 use Rattle.acc_place.specs.declared.directive.PlaceEntry.{PlaceEntry}
@@ -322,7 +322,7 @@ module _ (w : State) (h : ℕ) (r : StandsReached w h) where
         (subst (λ (a : Result Bool Fault). HostGoes k host (host_outcome (with_item w k x) k host (Ok go.Ended)) (host_outcome (waited_state (behind w h r) k device counts a) k host (after_wait a))) (sym two)
         (went k host (Ok go.Ended) 1 (with_item w k x) (with_item (behind w h r) k x) (omega arith) refl (item_beside x x refl))))
 
-    shown_goes : (item : ItemLabel) (answer : Result Shown Fault) → HostGoes k host (host_outcome (item_state w k item answer) k host (after_item answer)) (host_outcome (item_state (behind w h r) k item answer) k host (after_item answer))
+    shown_goes : (item : ItemLabel) (answer : Result Shown Fault) → HostGoes k host (host_outcome (item_state w k item answer) k host (after_answer answer)) (host_outcome (item_state (behind w h r) k item answer) k host (after_answer answer))
     shown_goes item (Ok shown) = went k host (Ok go.Ended) 1 (with_item w k (told_of w item)) (with_item (behind w h r) k (told_of (behind w h r) item)) (omega arith) refl (item_beside (told_of w item) (told_of (behind w h r) item) (told_stays item))
     shown_goes item (Err fault) = went k host (Err fault) 0 w (behind w h r) (omega arith) refl (same_beside w h r)
 
@@ -334,7 +334,7 @@ module _ (w : State) (h : ℕ) (r : StandsReached w h) where
     want_goes (awaits device counts) = wait_goes device counts (all_done (labels_of w) w.work device 0 counts) refl
     want_goes (records item) =
         let answer = item_answer false w item in
-        inr (subst (λ (a : Result Shown Fault). HostGoes k host (host_step false w k host (records item)) (host_outcome (item_state (behind w h r) k item a) k host (after_item a))) (sym (answer_stays item))
+        inr (subst (λ (a : Result Shown Fault). HostGoes k host (host_step false w k host (records item)) (host_outcome (item_state (behind w h r) k item a) k host (after_answer a))) (sym (answer_stays item))
         (shown_goes item answer))
 
     goes_moves : (want : Want) → wants w.config.devices host ≡ want → HostGoes k host (host_step false w k host want) (host_step false (behind w h r) k host want) → Moves w h (event.Host k)

@@ -15,7 +15,7 @@ use Rattle.acc_batch.proofs.WholeBatches.{whole-more}
 use Rattle.acc_core.specs.Machine.{State, step, labels_of, did, host_step, named_step, host_outcome, item_answer, item_state, wait_answer, waited_state, with_item, told_of, unless}
 use Rattle.acc_host.specs.declared.event.Event.TheVariants as event
 use Rattle.acc_host.specs.declared.state.After.TheVariants as go
-use Rattle.acc_host.specs.Hosts.{HostView, wants, host_after, after_wait, after_item}
+use Rattle.acc_host.specs.Hosts.{HostView, wants, host_after, after_wait, after_answer}
 use Rattle.acc_host.specs.Steps.{Want, stays, sets, refuses, places, awaits, records}
 use Rattle.acc_work.specs.declared.item.ItemLabel.{ItemLabel}
 use Rattle.acc_work.specs.declared.item.ItemLabel.TheVariants as to_record
@@ -136,7 +136,7 @@ module _ (w : State) (h : ℕ) (r : StandsReached w h) where
   goes_by false device counts done =
       ap (λ (a : Result Bool Fault). host_outcome (waited_state w h device counts a) h r.host (after_wait a)) (wait_is device counts done)
   goes_by true device counts done =
-      ap (λ (a : Result Shown Fault). host_outcome (item_state w h (to_record.Test device counts) a) h r.host (after_item a)) (test_is device counts)
+      ap (λ (a : Result Shown Fault). host_outcome (item_state w h (to_record.Test device counts) a) h r.host (after_answer a)) (test_is device counts)
       ∙ ap (λ (b : Bool). did (with_hosts (with_item w h (told.Test device b counts)) hosts)) done
 
   pub goes : step false w (event.Host h) ≡ did (with_hosts behind hosts)

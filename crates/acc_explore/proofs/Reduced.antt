@@ -3,7 +3,7 @@ use Rattle.std.proofs.Common.{inl, inr, ◌⊎◌, ℕ, zero, suc, ◌+◌, ◌�
 use Rattle.std.specs.Prelude.{All, Contains}
 use Rattle.std.proofs.lemmas.List.Elements.{All-contains, All-head, All-nil, All-tail, All-weaker}
 use Rattle.acc_base.proofs.Members.{no_member}
-use Rattle.acc_core.specs.Legality.{Legal}
+use Rattle.acc_core.specs.Legality.{IsLegalState}
 use Rattle.acc_core.specs.Machine.{State, step}
 use Rattle.acc_host.specs.declared.event.Event.{Event}
 use Rattle.acc_host.specs.declared.program.HostProgram.{HostProgram}
@@ -16,7 +16,7 @@ use Rattle.acc_explore.proofs.AlikeSteps.{alike_itself, alike_on, step_keeps_ali
 use Rattle.acc_explore.proofs.Explored.{AllLegal, all_legal, ends_too, leads_on, legal_after, legal_step, tells_end}
 
 -- states that are alike are so behind the same events
-pub alike_after : (events : List Event) (old new : State) → Legal old → Legal new → Alike old new → Alike (after old events) (after new events)
+pub alike_after : (events : List Event) (old new : State) → IsLegalState old → IsLegalState new → Alike old new → Alike (after old events) (after new events)
 alike_after [] old new a b s = s
 alike_after (e ∷ events) old new a b s =
     alike_after events (step false old e).state (step false new e).state (legal_step old e a) (legal_step new e b) (step_keeps_alike false old new e a b s).state
@@ -34,11 +34,11 @@ module _ (closing : Bool) (leaves : List Found) (found : List Found) where
   -- and so they do from what is like one of them
   abbrev Finds : ℕ → Type 0
   Finds n =
-      (events : List Event) → length events ≤ n → (w : State) (limit top : ℕ) → limit + length events ≤ top → Legal w
+      (events : List Event) → length events ≤ n → (w : State) (limit top : ℕ) → limit + length events ≤ top → IsLegalState w
       → All (MayCome closing) events → HoldsAlike limit found w → IsEnd (after w events) → GoesOn top (after w events)
 
   -- what goes on to an end goes on to what is like it
-  goes_on_like : (top : ℕ) (old new : State) → AllLegal found → Legal old → GoesOn top old → Alike old new → GoesOn top new
+  goes_on_like : (top : ℕ) (old new : State) → AllLegal found → IsLegalState old → GoesOn top old → Alike old new → GoesOn top new
   goes_on_like top old new each l g s = record {
     one = g.one;
     listed = g.listed;
@@ -134,7 +134,7 @@ held closing limit found w g = elim g.leaf [
 ]
 
 pub reduced_misses_none : (closing : Bool) (names : List (List ℕ)) (programs : List HostProgram) (start : State) (found : List Found)
-    → Legal start → IsReduced closing start found
+    → IsLegalState start → IsReduced closing start found
     → (events : List Event) → All (MayCome closing) events → IsEnd (after start events)
     → TellsEnd names programs (length events) found (report_of names programs (after start events))
 reduced_misses_none closing names programs start found l x events may ends =

@@ -11,7 +11,7 @@ use Rattle.acc_host.specs.declared.program.HostProgram.{HostProgram}
 use Rattle.acc_host.specs.Hosts.{HostView, ready}
 use Rattle.acc_explore.specs.Endings.{EndingsAreSaid}
 use Rattle.acc_explore.specs.Prefixes.{PrefixesAreSaid}
-use Rattle.acc_explore.specs.Runs.{after, events_of}
+use Rattle.acc_explore.specs.Runs.{after, open_events}
 use Rattle.acc_explore.specs.Spellings.{IsNamed}
 use Rattle.acc_explore.proofs.NamedEvents.{events_named}
 use Rattle.acc_explore.proofs.OneScript.{script_kept}
@@ -32,10 +32,10 @@ prefixes_said x config schedule first events start hosts devices read listed sho
     let w = after (first_state config x.programs) first in
     let count : length x.start.hosts ≡ length x.programs = ap (λ (s : State). length s.hosts) start ∙ as_many config x.programs first in
     let same : x.start.config.devices ≡ config.devices = ap (λ (s : State). s.config.devices) start ∙ ap (λ (c : Configuration). c.devices) (script_kept (first_state config x.programs) first).config in
-    let P = λ (event : Event). Contains (events_of x.closing x.start) event in
+    let P = λ (event : Event). Contains (open_events x.closing x.start) event in
     let N = IsNamed (length x.start.hosts) x.start.config.devices in
     let named : All N events =
-    All-weaker P N (λ event one. All-contains N (events_of x.closing x.start) event (events_named x.closing x.start) one) events listed in
+    All-weaker P N (λ event one. All-contains N (open_events x.closing x.start) event (events_named x.closing x.start) one) events listed in
     let there : All (IsNamed (length x.programs) config.devices) events =
     subst (λ d. All (IsNamed (length x.programs) d) events) same (subst (λ h. All (IsNamed h x.start.config.devices) events) count named) in
     spelled_is_read (length x.programs) config.devices schedule first events hosts devices read there short few

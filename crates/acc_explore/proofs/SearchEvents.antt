@@ -11,7 +11,7 @@ use Rattle.acc_explore.specs.Arrivals.{events_to, found_at}
 use Rattle.acc_explore.specs.declared.arrival.Arrival.{Arrival}
 use Rattle.acc_explore.specs.Explorations.{IsEnd}
 use Rattle.acc_explore.specs.inner.Searching.{events_in_turn}
-use Rattle.acc_explore.specs.Runs.{MayCome, after, close_events, events_of, host_events, queue_events}
+use Rattle.acc_explore.specs.Runs.{MayCome, after, closing_events, open_events, events_of_hosts, events_of_queues}
 use Rattle.acc_explore.specs.Scripts.{AreOfOneScript}
 use Rattle.acc_explore.proofs.AfterMore.{after_more}
 use Rattle.acc_explore.proofs.ArrivalPaths.{events_lead}
@@ -45,20 +45,20 @@ same_count a b s =
     ∙ (ap length s.statements ∙ length-map a.hosts (λ (host : HostView). host.statements))
 
 -- states of one script have the same events
-pub events_same : (closing : Bool) (a b : State) → AreOfOneScript a b → events_of closing b ≡ events_of closing a
+pub events_same : (closing : Bool) (a b : State) → AreOfOneScript a b → open_events closing b ≡ open_events closing a
 events_same closing a b s =
-    ap (λ (n : ℕ). host_events n ++ (queue_events (queue_count b.config) ++ close_events closing)) (same_count a b s)
-    ∙ ap (λ (c : Configuration). host_events (length a.hosts) ++ (queue_events (queue_count c) ++ close_events closing)) s.config
+    ap (λ (n : ℕ). events_of_hosts n ++ (events_of_queues (queue_count b.config) ++ closing_events closing)) (same_count a b s)
+    ∙ ap (λ (c : Configuration). events_of_hosts (length a.hosts) ++ (events_of_queues (queue_count c) ++ closing_events closing)) s.config
 
 abbrev pub events_for : Bool → Configuration → List Event
-events_for closing config = host_events config.hosts ++ (queue_events (queue_count config) ++ close_events closing)
+events_for closing config = events_of_hosts config.hosts ++ (events_of_queues (queue_count config) ++ closing_events closing)
 
 -- those of the state with which a search begins
 pub events_at_first : (closing : Bool) (config : Configuration) (programs : List HostProgram) (before : List Event) → OnePerHost config programs
-    → events_of closing (after (first_state config programs) before) ≡ events_for closing config
+    → open_events closing (after (first_state config programs) before) ≡ events_for closing config
 events_at_first closing config programs before one =
     events_same closing (first_state config programs) (after (first_state config programs) before) (script_kept (first_state config programs) before)
-    ∙ ap (λ (n : ℕ). host_events n ++ (queue_events (queue_count config) ++ close_events closing)) (length-map programs ready ∙ one.count)
+    ∙ ap (λ (n : ℕ). events_of_hosts n ++ (events_of_queues (queue_count config) ++ closing_events closing)) (length-map programs ready ∙ one.count)
 
 -- ## In turn they are the same
 
@@ -73,13 +73,13 @@ more xs ys zs within all = All-weaker (Contains xs) (Contains ys) within zs all
 
 module _ (closing : Bool) (config : Configuration) where
   abbrev H : List Event
-  H = host_events config.hosts
+  H = events_of_hosts config.hosts
 
   abbrev Q : List Event
-  Q = queue_events (queue_count config)
+  Q = events_of_queues (queue_count config)
 
   abbrev C : List Event
-  C = close_events closing
+  C = closing_events closing
 
   abbrev turn : List Event
   turn = events_in_turn closing config.hosts (queue_count config)
@@ -116,39 +116,39 @@ module _ (closing : Bool) (config : Configuration) (programs : List HostProgram)
   start = after (first_state config programs) before
 
   -- each is one of the start's
-  pub each_listed : All (Contains (events_of closing start)) events
+  pub each_listed : All (Contains (open_events closing start)) events
   each_listed =
       subst (λ (xs : List Event). All (Contains xs) events) (sym (events_at_first closing config programs before one))
       (subst (All (Contains (events_for closing config))) (sym are) (every_has closing config))
 
   -- what is so of each is so of those of a state that was found
-  pub so_of_every : (arrivals : List Arrival) (n : ℕ) (P : Event → Type 0) → All P events → All P (events_of closing (found_at start arrivals n).state)
+  pub so_of_every : (arrivals : List Arrival) (n : ℕ) (P : Event → Type 0) → All P events → All P (open_events closing (found_at start arrivals n).state)
   so_of_every arrivals n P all =
       let w = (found_at start arrivals n).state in
-      let same : events_of closing w ≡ events_for closing config = events_same closing start w (script_of_found start arrivals n) ∙ events_at_first closing config programs before one in
+      let same : open_events closing w ≡ events_for closing config = events_same closing start w (script_of_found start arrivals n) ∙ events_at_first closing config programs before one in
       subst (All P) (sym same) (every_from_turn closing config P (subst (All P) are all))
 
 -- ## They may come
 
-hosts_may : (closing : Bool) (n : ℕ) → All (MayCome closing) (host_events n)
+hosts_may : (closing : Bool) (n : ℕ) → All (MayCome closing) (events_of_hosts n)
 hosts_may closing zero = All-nil (MayCome closing)
-hosts_may closing (suc n) = All-cons (MayCome closing) (event.Host n) (host_events n) tt (hosts_may closing n)
+hosts_may closing (suc n) = All-cons (MayCome closing) (event.Host n) (events_of_hosts n) tt (hosts_may closing n)
 
-queues_may : (closing : Bool) (n : ℕ) → All (MayCome closing) (queue_events n)
+queues_may : (closing : Bool) (n : ℕ) → All (MayCome closing) (events_of_queues n)
 queues_may closing zero = All-nil (MayCome closing)
 queues_may closing (suc n) =
-    All-cons (MayCome closing) (event.Take (at_seat n)) (event.Perform (at_seat n) ∷ queue_events n) tt
-    (All-cons (MayCome closing) (event.Perform (at_seat n)) (queue_events n) tt (queues_may closing n))
+    All-cons (MayCome closing) (event.Take (at_seat n)) (event.Perform (at_seat n) ∷ events_of_queues n) tt
+    (All-cons (MayCome closing) (event.Perform (at_seat n)) (events_of_queues n) tt (queues_may closing n))
 
-close_may : (closing : Bool) → All (MayCome closing) (close_events closing)
+close_may : (closing : Bool) → All (MayCome closing) (closing_events closing)
 close_may true = All-cons (MayCome true) event.Close [] refl (All-nil (MayCome true))
 close_may false = All-nil (MayCome false)
 
-pub may_come : (closing : Bool) (w : State) (e : Event) → Contains (events_of closing w) e → MayCome closing e
+pub may_come : (closing : Bool) (w : State) (e : Event) → Contains (open_events closing w) e → MayCome closing e
 may_come closing w e listed =
-    All-contains (MayCome closing) (events_of closing w) e
-    (All-append (MayCome closing) (host_events (length w.hosts)) (queue_events (queue_count w.config) ++ close_events closing) (hosts_may closing (length w.hosts))
-    (All-append (MayCome closing) (queue_events (queue_count w.config)) (close_events closing) (queues_may closing (queue_count w.config)) (close_may closing))) listed
+    All-contains (MayCome closing) (open_events closing w) e
+    (All-append (MayCome closing) (events_of_hosts (length w.hosts)) (events_of_queues (queue_count w.config) ++ closing_events closing) (hosts_may closing (length w.hosts))
+    (All-append (MayCome closing) (events_of_queues (queue_count w.config)) (closing_events closing) (queues_may closing (queue_count w.config)) (close_may closing))) listed
 
 may_too : (closing : Bool) (e : Event) → MayCome false e → MayCome closing e
 may_too closing (event.Host h) may = tt
@@ -174,8 +174,8 @@ abbrev pub IsIdleAt : State → Event → Type 0
 IsIdleAt w e = MayCome false e → (step false w e).reply ≡ reply.Idle
 
 -- an end is where all of those do nothing
-pub ends_idle : (closing : Bool) (w : State) → All (IsIdleAt w) (events_of closing w) → IsEnd w
+pub ends_idle : (closing : Bool) (w : State) → All (IsIdleAt w) (open_events closing w) → IsEnd w
 ends_idle closing w all e may = elim (known closing w e (may_too closing e may)) [
-  | inl can ↦ All-contains (IsIdleAt w) (events_of closing w) e all can may
+  | inl can ↦ All-contains (IsIdleAt w) (open_events closing w) e all can may
   | inr same ↦ ap (λ (o : Outcome). o.reply) same
 ]

@@ -10,7 +10,7 @@ use Rattle.acc_explore.specs.declared.arrival.Arrival.{Arrival}
 use Rattle.acc_explore.specs.Explorations.{Found, HoldsAlike, IsEnd}
 use Rattle.acc_explore.specs.Reductions.{FollowsEnough}
 use Rattle.acc_explore.specs.inner.Searching.{AreNear, AreRising, IsFollowed, IsLikeOne}
-use Rattle.acc_explore.specs.Runs.{MayCome, events_of}
+use Rattle.acc_explore.specs.Runs.{MayCome, open_events}
 use Rattle.acc_explore.specs.Searches.{ComeByDepth, IsSearch, leaves_of}
 use Rattle.acc_explore.proofs.FoundMore.{enough_more, holds_more, holds_newest, holds_one, holds_start, newest, stays}
 use Rattle.acc_explore.proofs.ReachedArrivals.{all_reached}
@@ -49,7 +49,7 @@ nothing_deep start (suc n) = refl
 
 pub begins : (closing : Bool) (most : ℕ) (start : State) → IsFollowed closing most start [] [] 0 []
 begins closing most start = record {
-  events = All-nil (λ (a : Arrival). Contains (events_of closing start) a.by);
+  events = All-nil (λ (a : Arrival). Contains (open_events closing start) a.by);
   few = omega arith;
   there = omega arith;
   by_depth = λ i j low within. omega (arith, nothing_deep start i, nothing_deep start j);
@@ -138,9 +138,9 @@ module _ (closing : Bool) (most : ℕ) (start : State) (arrivals : List Arrival)
     end_kept : (n : ℕ) → EndBelow arrivals n → EndBelow (a ∷ arrivals) n
     end_kept n both = (both.0, subst (λ (g : Found). IsEnd g.state) (sym (stays start a arrivals n (omega (arith, both.0, low)))) both.1)
 
-    pub goes_on_found : length arrivals < most → Contains (events_of closing start) e → IsFollowed closing most start (a ∷ arrivals) numbers next (done ++ e ∷ [])
+    pub goes_on_found : length arrivals < most → Contains (open_events closing start) e → IsFollowed closing most start (a ∷ arrivals) numbers next (done ++ e ∷ [])
     goes_on_found room listed = record {
-      events = All-cons (λ (b : Arrival). Contains (events_of closing start) b.by) a arrivals listed f.events;
+      events = All-cons (λ (b : Arrival). Contains (open_events closing start) b.by) a arrivals listed f.events;
       few = omega (arith, room);
       there = omega (arith, low);
       by_depth = deeper;
@@ -247,7 +247,7 @@ cut : (closing : Bool) (most : ℕ) (start : State) (arrivals : List Arrival) (n
 cut closing most start arrivals numbers next f = record {
   first = holds_start start arrivals;
   reached = all_reached closing start arrivals
-      (All-weaker (λ (a : Arrival). Contains (events_of closing start) a.by) (λ (a : Arrival). MayCome closing a.by) (λ a listed. may_come closing start a.by listed) arrivals f.events);
+      (All-weaker (λ (a : Arrival). Contains (open_events closing start) a.by) (λ (a : Arrival). MayCome closing a.by) (λ a listed. may_come closing start a.by listed) arrivals f.events);
   follows = All-from_get_or (FollowsOrLeaves closing (leaves_of start arrivals next) (found_by start arrivals)) (found_by start arrivals) (at_once start)
       (λ n low. elim (cases_lt n next) [
         | inl below ↦ inl (f.before n below)

@@ -11,13 +11,13 @@ use Rattle.acc_host.specs.declared.event.Event.{Event}
 use Rattle.acc_host.specs.declared.event.Event.TheVariants.{Host, Take, Perform, Close}
 use Rattle.acc_report.specs.Lines.{queue_name}
 use Rattle.acc_schedule.specs.declared.turn.TheConstants.{MAX_TIMES}
-use Rattle.acc_schedule.specs.Schedules.{asked_turn, close_events, events_of, is_plain, host_events, line_events, queue_events, repeated, times_of, times_word, words}
+use Rattle.acc_schedule.specs.Schedules.{asked_turn, close_events, events_of, is_line_byte, host_events, line_events, queue_events, repeated, times_of, times_word, words}
 use Rattle.acc_token.proofs.TokenSpelling.{IsNumber, is_number}
 use Rattle.acc_explore.specs.Spellings.{IsNamed, event_words, queue_words, times_text}
 use Rattle.acc_explore.proofs.SpelledWords.{IsWord, is_word, number_read, queue_word, value_read, words_last, words_next}
 
-plain_join : (old new : List ℕ) → list_all is_plain old ≡ true → list_all is_plain new ≡ true → list_all is_plain (old ++ new) ≡ true
-plain_join old new first second = rw (list_all-append is_plain old new, first, second) refl
+plain_join : (old new : List ℕ) → list_all is_line_byte old ≡ true → list_all is_line_byte new ≡ true → list_all is_line_byte (old ++ new) ≡ true
+plain_join old new first second = rw (list_all-append is_line_byte old new, first, second) refl
 
 -- ## How often
 
@@ -29,11 +29,11 @@ IsTimes e n = (1 ≤ n) × (n ≤ MAX_TIMES)
 abbrev times_words : ℕ → List (List ℕ)
 times_words n = if n == 1 then [] else decimal n ∷ []
 
-times_plain : (n : ℕ) → n ≤ MAX_TIMES → list_all is_plain (times_text n) ≡ true
+times_plain : (n : ℕ) → n ≤ MAX_TIMES → list_all is_line_byte (times_text n) ≡ true
 unfolding times_text
 times_plain n few = by (n == 1) refl
   where
-    by : (v : Bool) → (n == 1) ≡ v → list_all is_plain (times_text n) ≡ true
+    by : (v : Bool) → (n == 1) ≡ v → list_all is_line_byte (times_text n) ≡ true
     by true e = rw e refl
     by false e = rw e (is_word n (decimal n) (is_number n (omega (arith, few)))).plain
 
@@ -77,7 +77,7 @@ module _ (hosts devices n : ℕ) (some : 1 ≤ n) (few : n ≤ MAX_TIMES) where
       let plain = plain_join ds (times_text n) word.plain (times_plain n few) in
       rw (plain, times_behind ds n word few, number_read h ds is, value_read h ds is, lt-ltb h hosts low) (asked (Host h ∷ []) n some few)
 
-  queue_plain : (device queue : ℕ) (ds : List ℕ) → queue < QUEUES → IsNumber device ds → list_all is_plain (queue_text n queue ds) ≡ true
+  queue_plain : (device queue : ℕ) (ds : List ℕ) → queue < QUEUES → IsNumber device ds → list_all is_line_byte (queue_text n queue ds) ≡ true
   queue_plain device queue ds low is =
       let name = (queue_word queue low).word in
       plain_join ds (32 ∷ (queue_name queue ++ times_text n)) (is_word device ds is).plain (plain_join (queue_name queue) (times_text n) name.plain (times_plain n few))

@@ -7,7 +7,7 @@ use Rattle.acc_host.specs.declared.event.Event.{Event}
 use Rattle.acc_report.proofs.JoinedPuts.{puts_nothing, puts_then}
 use Rattle.acc_report.specs.Puts.{Puts, Sink}
 use Rattle.acc_schedule.specs.declared.turn.TheConstants.{MAX_TIMES}
-use Rattle.acc_explore.specs.Spellings.{goes_on, joins, line_text, lines_from}
+use Rattle.acc_explore.specs.Spellings.{goes_on_alike, joins, event_line, lines_from}
 
 -- Of a text a beginning was put, and this is left.
 pub record IsPutUpTo (old new : Sink) (text rest : List ℕ) : Type 0 where
@@ -33,7 +33,7 @@ rest_put text rest so_far last = rw so_far.whole (puts_then so_far.puts last)
 -- one that joins a line comes at most so often as a line can say
 pub few_joined : (e x : Event) (n : ℕ) → joins e n x ≡ true → n + 1 ≤ MAX_TIMES
 few_joined e x n joined =
-    let low = ltb-true n MAX_TIMES (and_parts (goes_on e x) (nat_lt n MAX_TIMES) joined).1 in
+    let low = ltb-true n MAX_TIMES (and_parts (goes_on_alike e x) (nat_lt n MAX_TIMES) joined).1 in
     omega (arith, low)
 
 module _ {a b : Sink} (text : List ℕ) (e x : Event) (n i : ℕ) (others : List Event) (low : i < length others) (is : x ≡ get_or others i x)
@@ -48,11 +48,11 @@ module _ {a b : Sink} (text : List ℕ) (e x : Event) (n i : ℕ) (others : List
   line_goes_on joined = rw joined at next_left
 
   -- it begins a line, and the one before it is put
-  pub line_ends : {c : Sink} → joins e n x ≡ false → Puts b c (line_text e n) → IsPutUpTo a c text (lines_from x 1 (drop (i + 1) others))
-  line_ends apart puts = more_put text (line_text e n) (lines_from x 1 (drop (i + 1) others)) (rw apart at next_left) puts
+  pub line_ends : {c : Sink} → joins e n x ≡ false → Puts b c (event_line e n) → IsPutUpTo a c text (lines_from x 1 (drop (i + 1) others))
+  line_ends apart puts = more_put text (event_line e n) (lines_from x 1 (drop (i + 1) others)) (rw apart at next_left) puts
 
 -- the last line is put
 pub last_line : {a b c : Sink} (text : List ℕ) (e : Event) (n i : ℕ) (others : List Event) → length others ≤ i
-    → IsPutUpTo a b text (lines_from e n (drop i others)) → Puts b c (line_text e n) → Puts a c text
+    → IsPutUpTo a b text (lines_from e n (drop i others)) → Puts b c (event_line e n) → Puts a c text
 last_line {a} {b} {c} text e n i others all so_far puts =
-    rest_put text (line_text e n) (subst (λ (rest : List ℕ). IsPutUpTo a b text rest) (at_drop_all (λ (left : List Event). lines_from e n left) others i all) so_far) puts
+    rest_put text (event_line e n) (subst (λ (rest : List ℕ). IsPutUpTo a b text rest) (at_drop_all (λ (left : List Event). lines_from e n left) others i all) so_far) puts

@@ -16,10 +16,10 @@ use Rattle.acc_schedule.proofs.LineEvents.{few_behind}
 use Rattle.acc_schedule.proofs.RepeatedTurns.{repeated-next}
 use Rattle.acc_schedule.specs.declared.schedule.TheConstants.{MAX_EVENTS}
 use Rattle.acc_schedule.specs.declared.turn.TheConstants.{MAX_TIMES}
-use Rattle.acc_schedule.specs.Schedules.{events_behind, events_from, is_plain, is_skipped, line_events, lines, repeated, schedule_of}
+use Rattle.acc_schedule.specs.Schedules.{events_behind, events_from, is_line_byte, is_skipped, line_events, lines, repeated, schedule_of}
 use Rattle.acc_token.specs.declared.text.TheConstants.{MAX_TEXT}
 use Rattle.acc_token.specs.Faults.{◌>>=◌}
-use Rattle.acc_explore.specs.Spellings.{IsNamed, SpelledIsRead, event_words, goes_on, going_on, lines_from, line_text, schedule_text, times_text}
+use Rattle.acc_explore.specs.Spellings.{IsNamed, SpelledIsRead, event_words, goes_on_alike, going_on, lines_from, event_line, schedule_text, times_text}
 use Rattle.acc_explore.proofs.SpelledLines.{IsTimes, line_read, spelled_line}
 
 -- ## Lines behind lines
@@ -64,18 +64,18 @@ starts (Perform at) n = refl
 starts Close n = refl
 
 -- a line that is read has plain bytes alone
-read_plain : (hosts devices : ℕ) (line : List ℕ) (events : List Event) → line_events hosts devices line ≡ Ok events → list_all is_plain line ≡ true
+read_plain : (hosts devices : ℕ) (line : List ℕ) (events : List Event) → line_events hosts devices line ≡ Ok events → list_all is_line_byte line ≡ true
 unfolding line_events
-read_plain hosts devices line events read = elim (cases_Bool (list_all is_plain line)) [
+read_plain hosts devices line events read = elim (cases_Bool (list_all is_line_byte line)) [
   | inl plain ↦ plain
   | inr other ↦ let failed = rw other at read in absurd cc
 ]
 
-no_line_feed : (b : ℕ) → is_plain b ≡ true → (b == 10) ≡ false
+no_line_feed : (b : ℕ) → is_line_byte b ≡ true → (b == 10) ≡ false
 no_line_feed b plain = grind (arith, nat_tests)
 
-ended : (e : Event) (n : ℕ) (rest : List ℕ) → line_text e n ++ rest ≡ spelled_line e n ++ 10 ∷ rest
-unfolding line_text
+ended : (e : Event) (n : ℕ) (rest : List ℕ) → event_line e n ++ rest ≡ spelled_line e n ++ 10 ∷ rest
+unfolding event_line
 ended e n rest =
     append_assoc (event_words e) (times_text n ++ 10 ∷ []) rest
     ∙ ap (λ bytes. event_words e ++ bytes) (append_assoc (times_text n) (10 ∷ []) rest)
@@ -99,7 +99,7 @@ record IsAgain (e x : Event) (n : ℕ) : Type 0 where
   same : e ≡ x
   times : IsTimes e (n + 1)
 
-again : (e x : Event) (n : ℕ) → goes_on e x ≡ true → IsTimes e n → n < MAX_TIMES → IsAgain e x n
+again : (e x : Event) (n : ℕ) → goes_on_alike e x ≡ true → IsTimes e n → n < MAX_TIMES → IsAgain e x n
 again (Host h) (Host k) n is times low = record { same = ap (λ (i : ℕ). Host i) (eqb-true h k is); times = (omega arith, omega (arith, low)) }
 again (Take at) (Take to) n is times low =
     let same = one_queue at to is in
@@ -114,13 +114,13 @@ again e x n is times low = absurd (false≢true is)
 module _ (hosts devices : ℕ) (host_few : hosts < 2 ^ 8) (device_few : devices < 2 ^ 8) where
   one_line : (number : ℕ) (so_far : List Event) (e : Event) (n : ℕ) (rest : List ℕ) → IsNamed hosts devices e → IsTimes e n
       → length (so_far ++ repeated n (e ∷ [])) ≤ MAX_EVENTS
-      → events_from hosts devices number so_far (lines (line_text e n ++ rest))
+      → events_from hosts devices number so_far (lines (event_line e n ++ rest))
       ≡ events_from hosts devices (number + 1) (so_far ++ repeated n (e ∷ [])) (lines rest)
   one_line number so_far e n rest there times few =
       let line = spelled_line e n in
       let read = line_read hosts devices e n host_few device_few there times in
-      let plain = AllPass-from_list_all is_plain line (read_plain hosts devices line (repeated n (e ∷ [])) read) in
-      let whole = All-weaker (λ (b : ℕ). is_plain b ≡ true) (λ (b : ℕ). (b == 10) ≡ false) no_line_feed line plain in
+      let plain = AllPass-from_list_all is_line_byte line (read_plain hosts devices line (repeated n (e ∷ [])) read) in
+      let whole = All-weaker (λ (b : ℕ). is_line_byte b ≡ true) (λ (b : ℕ). (b == 10) ≡ false) no_line_feed line plain in
       let apart : lines (line ++ 10 ∷ rest) ≡ line ∷ lines rest = slice_split_at (λ b. b == 10) line 10 rest whole refl in
       let behind = few_behind hosts devices number so_far (repeated n (e ∷ [])) line (length (so_far ++ repeated n (e ∷ []))) (starts e n) read
       (length-append so_far (repeated n (e ∷ []))) few in
@@ -133,10 +133,10 @@ module _ (hosts devices : ℕ) (host_few : hosts < 2 ^ 8) (device_few : devices 
   spelled_read number so_far e n [] there times all few =
       let none : repeated n (e ∷ []) ++ [] ≡ repeated n (e ∷ []) = append-nil (repeated n (e ∷ [])) in
       let line = one_line number so_far e n [] there times (rw none at few) in
-      rw none (rw (append-nil (line_text e n)) at line)
-  spelled_read number so_far e n (x ∷ events) there times all few = elim (cases_Bool (goes_on e x && nat_lt n MAX_TIMES)) [
+      rw none (rw (append-nil (event_line e n)) at line)
+  spelled_read number so_far e n (x ∷ events) there times all few = elim (cases_Bool (goes_on_alike e x && nat_lt n MAX_TIMES)) [
     | inl on ↦ (
-        let parts = and_parts (goes_on e x) (nat_lt n MAX_TIMES) on in
+        let parts = and_parts (goes_on_alike e x) (nat_lt n MAX_TIMES) on in
         let next = again e x n parts.0 times (ltb-true n MAX_TIMES parts.1) in
         let whole : so_far ++ (repeated (n + 1) (e ∷ []) ++ events) ≡ so_far ++ (repeated n (e ∷ []) ++ x ∷ events) =
         ap (λ es. so_far ++ es)

@@ -8,14 +8,14 @@ use Rattle.std.proofs.lemmas.List.Splits.{slice_split_at, slice_split_none}
 use Rattle.std.proofs.lemmas.List.Sums.{AllPass-from_list_all, list_all-from_AllPass, prefix_len_passes}
 use Rattle.acc_base.specs.declared.ids.TheConstants.{FIRST_VALUE, QUEUES, VALUES}
 use Rattle.acc_report.specs.Lines.{queue_name}
-use Rattle.acc_schedule.specs.Schedules.{is_filled, is_number, is_plain, is_space, queue_of, words}
+use Rattle.acc_schedule.specs.Schedules.{is_filled, is_number, is_line_byte, is_space, queue_by_word, words}
 use Rattle.acc_token.proofs.TokenSpelling.{IsNumber, digit_bounds, is_number as number_spelled}
 use Rattle.acc_token.specs.Tokens.{is_digit, value_behind}
 
 -- bytes that can stand in a line, and none of which parts words
 pub record IsWord (word : List ℕ) : Type 0 where
   pub filled : is_filled word ≡ true
-  pub plain : list_all is_plain word ≡ true
+  pub plain : list_all is_line_byte word ≡ true
   pub whole : list_all (λ b. not (is_space b)) word ≡ true
 
 parts_none : (word : List ℕ) → IsWord word → All (λ (b : ℕ). is_space b ≡ false) word
@@ -31,7 +31,7 @@ words_next word rest is = rw (slice_split_at is_space word 32 rest (parts_none w
 
 -- ## Numbers
 
-digit_is_plain : (b : ℕ) → is_digit b ≡ true → is_plain b ≡ true
+digit_is_plain : (b : ℕ) → is_digit b ≡ true → is_line_byte b ≡ true
 digit_is_plain b is =
     let bounds = digit_bounds b is in
     rw (ne_eqb b 9 (λ e. omega (arith, bounds.0)), lt-ltb 31 b (omega (arith, bounds.0)), lt-ltb b 127 (omega (arith, bounds.1))) refl
@@ -52,7 +52,7 @@ is_word n ds is =
     let digits = all_digits n ds is in
     record {
       filled = rw is.is refl;
-      plain = list_all-from_AllPass is_plain ds (All-weaker (λ (b : ℕ). is_digit b ≡ true) (λ (b : ℕ). is_plain b ≡ true) digit_is_plain ds digits);
+      plain = list_all-from_AllPass is_line_byte ds (All-weaker (λ (b : ℕ). is_digit b ≡ true) (λ (b : ℕ). is_line_byte b ≡ true) digit_is_plain ds digits);
       whole = list_all-from_AllPass (λ b. not (is_space b)) ds (All-weaker (λ (b : ℕ). is_digit b ≡ true) (λ (b : ℕ). not (is_space b) ≡ true) digit_parts_none ds digits);
     }
 
@@ -86,7 +86,7 @@ no_letters n ds letter more is large =
 -- a word that names this queue
 pub record IsQueueWord (queue : ℕ) (text : List ℕ) : Type 0 where
   pub word : IsWord text
-  pub named : queue_of text ≡ Some queue
+  pub named : queue_by_word text ≡ Some queue
 
 value_word : (value : ℕ) → value < VALUES → (ds : List ℕ) → IsNumber value ds → IsQueueWord (suc (suc value)) ds
 value_word value low ds is =

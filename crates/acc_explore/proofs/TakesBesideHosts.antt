@@ -16,7 +16,7 @@ use Rattle.acc_core.specs.Machine.{State, Outcome, step, standing_of, labels_of,
 use Rattle.acc_host.specs.declared.event.Event.TheVariants as event
 use Rattle.acc_host.specs.declared.state.After.{After}
 use Rattle.acc_host.specs.declared.state.After.TheVariants as go
-use Rattle.acc_host.specs.Hosts.{HostView, wants, after_place, after_wait, after_item, host_after, owing}
+use Rattle.acc_host.specs.Hosts.{HostView, wants, after_place, after_wait, after_answer, host_after, owing}
 use Rattle.acc_host.specs.Steps.{Owed, nothing_owed, owes_seen, owes_test, owed_by, Want, stays, sets, refuses, places, awaits, records}
 use Rattle.acc_place.specs.declared.directive.Placed.{Placed}
 use Rattle.acc_place.specs.Accepting.{refusal}
@@ -153,8 +153,8 @@ module _ (w : State) (at : QueueAt) (f : IsFree w at) (k : ℕ) (host : HostView
       host_moves (Err fault) 0 w (behind_take w at) (no_call w at) one two (low_behind (awaits device counts) wanted (Err fault) (λ e. cc) (λ e. cc))
 
   by_item : (item : ItemLabel) (answer : Result Shown Fault) → wants w.config.devices host ≡ records item
-      → step false w (event.Host k) ≡ host_outcome (item_state w k item answer) k host (after_item answer)
-      → step false (behind_take w at) (event.Host k) ≡ host_outcome (item_state (behind_take w at) k item answer) k host (after_item answer) → Keeps w at (event.Host k)
+      → step false w (event.Host k) ≡ host_outcome (item_state w k item answer) k host (after_answer answer)
+      → step false (behind_take w at) (event.Host k) ≡ host_outcome (item_state (behind_take w at) k item answer) k host (after_answer answer) → Keeps w at (event.Host k)
   by_item item (Ok shown) wanted one two =
       host_moves (Ok go.Ended) 0 (with_item w k (told_of w item)) (with_item (behind_take w at) k (told_of (behind_take w at) item))
       (subst (λ what. Calls w at 0 (with_item w k (told_of w item)) (with_item (behind_take w at) k what)) (sym (told_taken w at item)) (tells w at k (told_of w item)))
@@ -174,7 +174,7 @@ module _ (w : State) (at : QueueAt) (f : IsFree w at) (k : ℕ) (host : HostView
   by_want (awaits device counts) wanted = by_wait device counts (wait_answer false w device counts) wanted (first (awaits device counts) wanted) (second (awaits device counts) wanted)
   by_want (records item) wanted =
       by_item item (item_answer false w item) wanted (first (records item) wanted)
-      (second (records item) wanted ∙ ap (λ a. host_outcome (item_state (behind_take w at) k item a) k host (after_item a)) (answer_taken w at item))
+      (second (records item) wanted ∙ ap (λ a. host_outcome (item_state (behind_take w at) k item a) k host (after_answer a)) (answer_taken w at item))
 
 pub keeps_host : (w : State) (at : QueueAt) (k : ℕ) → IsFree w at → Keeps w at (event.Host k)
 keeps_host w at k f = by (slice_get w.hosts k) refl

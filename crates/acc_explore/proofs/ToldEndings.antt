@@ -8,7 +8,7 @@ use Rattle.std.proofs.lemmas.List.Elements.{All-append, All-cons, All-contains, 
 use Rattle.std.proofs.lemmas.List.Folds.{list_any-append}
 use Rattle.std.proofs.lemmas.Slice.Eq.{bytes_eq-Decides}
 use Rattle.acc_base.proofs.Members.{member_cases, member_first, member_rest, no_member}
-use Rattle.acc_core.specs.Legality.{Legal}
+use Rattle.acc_core.specs.Legality.{IsLegalState}
 use Rattle.acc_host.specs.declared.event.Event.{Event}
 use Rattle.acc_explore.specs.Arrivals.{events_to, found_at, found_by}
 use Rattle.acc_explore.specs.Cuts.{FollowsOrLeaves}
@@ -16,7 +16,7 @@ use Rattle.acc_explore.specs.declared.arrival.Arrival.{Arrival}
 use Rattle.acc_explore.specs.Endings.{AreEndings, Differ, Ending, HoldsReport, IsEnding, MissesNone, Setting}
 use Rattle.acc_explore.specs.Explorations.{Found, IsEnd}
 use Rattle.acc_explore.specs.Reductions.{FollowsEnough, IsReduced}
-use Rattle.acc_explore.specs.Runs.{events_of, report_of}
+use Rattle.acc_explore.specs.Runs.{open_events, report_of}
 use Rattle.acc_explore.specs.Searches.{ComeByDepth, IsSearch, leaves_of}
 use Rattle.acc_explore.specs.inner.Telling.{ending_at, new_endings, told_of}
 use Rattle.acc_explore.proofs.ArrivalPaths.{events_lead, length_found, numbered}
@@ -122,7 +122,7 @@ module _ (x : Setting) (most deepest : ℕ) (arrivals : List Arrival) (ends : Li
   is_ending n found =
       let there = (events_lead x.start arrivals n).0 in
       record {
-        events = path_of (λ (e : Event). Contains (events_of x.closing x.start) e) arrivals n s.events;
+        events = path_of (λ (e : Event). Contains (open_events x.closing x.start) e) arrivals n s.events;
         ends = subst IsEnd (sym there) found.1;
         report_is = ap (report_of x.names x.programs) (sym there);
       }
@@ -193,7 +193,7 @@ module _ (x : Setting) (most deepest : ℕ) (arrivals : List Arrival) (ends : Li
             (found_by x.start arrivals) s.cut.follows;
       }
 
-  none_missed : most < deepest → Legal x.start → IsTrue whole → MissesNone x (told_of x arrivals ends)
+  none_missed : most < deepest → IsLegalState x.start → IsTrue whole → MissesNone x (told_of x arrivals ends)
   none_missed high legal all events may end =
       let t = reduced_misses_none x.closing x.names x.programs x.start (found_by x.start arrivals) legal (reduced high all) events may end in
       let k = numbered x.start arrivals 0 t.one t.listed in
@@ -207,7 +207,7 @@ module _ (x : Setting) (most deepest : ℕ) (arrivals : List Arrival) (ends : Li
         report_is = h.report_is ∙ ap (λ (f : Found). report_of x.names x.programs f.state) k.is ∙ sym t.text_is;
       }
 
-  pub are_endings : most < deepest → Legal x.start → AreEndings x (told_of x arrivals ends) whole
+  pub are_endings : most < deepest → IsLegalState x.start → AreEndings x (told_of x arrivals ends) whole
   are_endings high legal = record {
     each = all_endings ends s.ends;
     differ = new_differ [] (map (ending_at x arrivals) ends);

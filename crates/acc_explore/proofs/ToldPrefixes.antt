@@ -5,7 +5,7 @@ use Rattle.std.proofs.lemmas.Bool.{cases_eq, cases_lt}
 use Rattle.std.proofs.lemmas.List.{append_assoc, append-nil, length-map, length-take, map-append, take_more}
 use Rattle.std.proofs.lemmas.List.Elements.{All-contains, All-map, All-push, All-take, All-weaker, Contains-append_left, Contains-push}
 use Rattle.acc_base.proofs.Members.{member_image}
-use Rattle.acc_core.specs.Legality.{Legal}
+use Rattle.acc_core.specs.Legality.{IsLegalState}
 use Rattle.acc_core.specs.Machine.{State}
 use Rattle.acc_host.specs.declared.event.Event.{Event}
 use Rattle.acc_explore.specs.Arrivals.{events_to, found_at, found_by}
@@ -13,8 +13,8 @@ use Rattle.acc_explore.specs.Cuts.{GoesOnToEnd}
 use Rattle.acc_explore.specs.declared.arrival.Arrival.{Arrival}
 use Rattle.acc_explore.specs.Endings.{Setting}
 use Rattle.acc_explore.specs.Explorations.{Found, IsEnd}
-use Rattle.acc_explore.specs.Prefixes.{ArePrefixes, GoesOnToReport, IsPrefix, TogetherMissNone, prefix_text, prefixes_text}
-use Rattle.acc_explore.specs.Runs.{MayCome, after, events_of, report_of}
+use Rattle.acc_explore.specs.Prefixes.{ArePrefixes, GoesOnToReport, IsLongEnough, TogetherMissNone, prefix_text, prefixes_text}
+use Rattle.acc_explore.specs.Runs.{MayCome, after, open_events, report_of}
 use Rattle.acc_explore.specs.Searches.{IsSearch, leaves_of}
 use Rattle.acc_explore.specs.inner.Leaves.{HaveLeaves}
 use Rattle.acc_explore.proofs.AlikeReports.{report_same}
@@ -90,23 +90,23 @@ module _ (x : Setting) (most deepest : ℕ) (arrivals : List Arrival) (ends : Li
   ]) numbers h.each
 
   abbrev Listed : List Event → Type 0
-  Listed events = All (λ (e : Event). Contains (events_of x.closing x.start) e) events
+  Listed events = All (λ (e : Event). Contains (open_events x.closing x.start) e) events
 
   -- all of them, or the first ones
   pub are_listed : (some : List ℕ) → All (λ (n : ℕ). n ≤ length arrivals) some → All Listed (map (events_to arrivals) some)
   are_listed some low =
       All-map Listed (events_to arrivals) some
-      (All-weaker (λ (n : ℕ). n ≤ length arrivals) (λ (n : ℕ). Listed (events_to arrivals n)) (λ n within. path_of (λ (e : Event). Contains (events_of x.closing x.start) e) arrivals n s.events) some low)
+      (All-weaker (λ (n : ℕ). n ≤ length arrivals) (λ (n : ℕ). Listed (events_to arrivals n)) (λ n within. path_of (λ (e : Event). Contains (open_events x.closing x.start) e) arrivals n s.events) some low)
 
   are_short : All (λ (events : List Event). length events ≤ deepest) prefixes
   are_short =
       All-map (λ (events : List Event). length events ≤ deepest) (events_to arrivals) numbers
       (All-weaker (λ (n : ℕ). n ≤ length arrivals) (λ (n : ℕ). length (events_to arrivals n) ≤ deepest) (λ n within. omega (arith, s.shallow n within, (events_lead x.start arrivals n).1)) numbers there)
 
-  are_long : IsTrue whole → All (IsPrefix x deepest) prefixes
+  are_long : IsTrue whole → All (IsLongEnough x deepest) prefixes
   are_long all =
-      All-map (IsPrefix x deepest) (events_to arrivals) numbers
-      (All-weaker IsEndOrLeaf (λ (n : ℕ). IsPrefix x deepest (events_to arrivals n)) (λ n either. elim either [
+      All-map (IsLongEnough x deepest) (events_to arrivals) numbers
+      (All-weaker IsEndOrLeaf (λ (n : ℕ). IsLongEnough x deepest (events_to arrivals n)) (λ n either. elim either [
         | inl end ↦ inl (subst IsEnd (sym (events_lead x.start arrivals n).0) (All-contains IsFoundEnd ends n s.ends end).1)
         | inr leaf ↦ inr (omega (arith, s.deep all n leaf.0 (omega (arith, leaf.1)), (events_lead x.start arrivals n).1))
       ]) numbers h.each)
@@ -123,7 +123,7 @@ module _ (x : Setting) (most deepest : ℕ) (arrivals : List Arrival) (ends : Li
     | inr behind ↦ h.leaves n (omega (arith, behind)) (omega (arith, low))
   ]
 
-  module _ (legal : Legal x.start) (events : List Event) (may : All (MayCome x.closing) events) (end : IsEnd (after x.start events)) where
+  module _ (legal : IsLegalState x.start) (events : List Event) (may : All (MayCome x.closing) events) (end : IsEnd (after x.start events)) where
     abbrev Goes : Type 0
     Goes = GoesOnToEnd x.closing (leaves_of x.start arrivals followed) (length events) (found_by x.start arrivals) (after x.start events)
 
@@ -159,7 +159,7 @@ module _ (x : Setting) (most deepest : ℕ) (arrivals : List Arrival) (ends : Li
       | inr leaf ↦ (let k = numbered x.start arrivals followed goes.one leaf in goes_on k.n (told k.n k.low (inr k.behind)) k.is)
     ]
 
-  pub are_prefixes : Legal x.start → ArePrefixes x deepest prefixes whole
+  pub are_prefixes : IsLegalState x.start → ArePrefixes x deepest prefixes whole
   are_prefixes legal = record {
     events = are_listed numbers there;
     short = are_short;

@@ -17,11 +17,11 @@ use Rattle.acc_host.specs.declared.state.Phase.TheVariants as phase
 use Rattle.acc_host.specs.Hosts.{HostView, bare, bare_act, wants, wants_at, host_after}
 use Rattle.acc_host.specs.Steps.{stays, places, set_or_refuse, wanted}
 use Rattle.acc_place.specs.Directives.{Directive}
-use Rattle.acc_explore.specs.Takes.{is_directive, directives_in, unplaced_in, unplaced_by, unplaced}
+use Rattle.acc_explore.specs.Takes.{places_directive, count_directives, unplaced_in, unplaced_by, unplaced}
 
 -- those of the statements behind the one that a host stands at
 abbrev pub behind : HostView → ℕ
-behind host = directives_in (drop (host.ended + 1) host.statements)
+behind host = count_directives (drop (host.ended + 1) host.statements)
 
 -- A host that goes on has these left at most.
 pub left_behind : (goes : Result After Fault) (host : HostView) → (goes ≡ Ok go.Idle → ⊥) → unplaced_by (host_after goes host) ≤ behind host
@@ -40,24 +40,24 @@ drop_at (y ∷ xs) zero x there =
     ap (λ z. z ∷ xs) same
 drop_at (y ∷ xs) (suc n) x there = drop_at xs n x there
 
-no_fewer : (s : Statement) (rest : List Statement) → directives_in rest ≤ directives_in (s ∷ rest)
-no_fewer s rest = elim (cases_Bool (is_directive s.act)) [
+no_fewer : (s : Statement) (rest : List Statement) → count_directives rest ≤ count_directives (s ∷ rest)
+no_fewer s rest = elim (cases_Bool (places_directive s.act)) [
   | inl does ↦ rw does (omega arith)
   | inr not ↦ rw not (omega arith)
 ]
 
-one_more : (s : Statement) (rest : List Statement) → is_directive s.act ≡ true → directives_in (s ∷ rest) ≡ directives_in rest + 1
+one_more : (s : Statement) (rest : List Statement) → places_directive s.act ≡ true → count_directives (s ∷ rest) ≡ count_directives rest + 1
 one_more s rest does = rw does (omega arith)
 
-next : (host : HostView) → behind host ≡ directives_in (drop (suc host.ended) host.statements)
-next host = let same : host.ended + 1 ≡ suc host.ended = omega arith in ap (λ n. directives_in (drop n host.statements)) same
+next : (host : HostView) → behind host ≡ count_directives (drop (suc host.ended) host.statements)
+next host = let same : host.ended + 1 ≡ suc host.ended = omega arith in ap (λ n. count_directives (drop n host.statements)) same
 
 -- it had them before it went on
 at_least : (devices : ℕ) (ids : Ids) (p : Phase) (host : HostView) (o : Option Statement) → slice_get host.statements host.ended ≡ o
     → (wants_at devices ids p o ≡ stays → ⊥) → behind host ≤ unplaced_in host p
 at_least devices ids p host None there goes = absurd (goes refl)
 at_least devices ids phase.Ready host (Some s) there goes =
-    omega (arith, no_fewer s (drop (suc host.ended) host.statements), ap directives_in (drop_at host.statements host.ended s there), next host)
+    omega (arith, no_fewer s (drop (suc host.ended) host.statements), ap count_directives (drop_at host.statements host.ended s there), next host)
 at_least devices ids (phase.Waits device counts) host (Some s) there goes = omega arith
 at_least devices ids (phase.Asks device counts) host (Some s) there goes = omega arith
 at_least devices ids (phase.Refused fault) host (Some s) there goes = absurd (goes refl)
@@ -70,7 +70,7 @@ sets_no_place : (b : Bool) (fault : Fault) (ids : Ids) (d : Directive) → set_o
 sets_no_place true fault ids d e = cc
 sets_no_place false fault ids d e = cc
 
-placed_act : (devices : ℕ) (ids : Ids) (a : Act) (d : Directive) → wanted devices ids a ≡ places d → is_directive a ≡ true
+placed_act : (devices : ℕ) (ids : Ids) (a : Act) (d : Directive) → wanted devices ids a ≡ places d → places_directive a ≡ true
 placed_act devices ids (act.Place was) d e = refl
 placed_act devices ids (act.Write array cell value) d e = cc
 placed_act devices ids (act.Print range) d e = cc
@@ -83,7 +83,7 @@ one_at_least : (devices : ℕ) (ids : Ids) (p : Phase) (host : HostView) (o : Op
     → wants_at devices ids p o ≡ places d → behind host + 1 ≤ unplaced_in host p
 one_at_least devices ids p host None d there e = cc
 one_at_least devices ids phase.Ready host (Some s) d there e =
-    omega (arith, one_more s (drop (suc host.ended) host.statements) (placed_act devices ids s.act d e), ap directives_in (drop_at host.statements host.ended s there), next host)
+    omega (arith, one_more s (drop (suc host.ended) host.statements) (placed_act devices ids s.act d e), ap count_directives (drop_at host.statements host.ended s there), next host)
 one_at_least devices ids (phase.Waits device counts) host (Some s) d there e = cc
 one_at_least devices ids (phase.Asks device counts) host (Some s) d there e = cc
 one_at_least devices ids (phase.Refused fault) host (Some s) d there e = cc
@@ -117,13 +117,13 @@ unplaced_apart hosts h k one other at_h at_k differ =
 -- ## What is told of them
 
 -- of statements, whatever ids their directives have
-pub counted_bare : (statements : List Statement) → count_by (λ (s : Statement). is_directive (bare_act s.act)) statements ≡ directives_in (map bare statements)
+pub counted_bare : (statements : List Statement) → count_by (λ (s : Statement). places_directive (bare_act s.act)) statements ≡ count_directives (map bare statements)
 counted_bare statements =
-    sym (length-filter (λ (s : Statement). is_directive (bare_act s.act)) statements) ∙ filtered statements
+    sym (length-filter (λ (s : Statement). places_directive (bare_act s.act)) statements) ∙ filtered statements
   where
-    filtered : (statements : List Statement) → length (filter (λ (s : Statement). is_directive (bare_act s.act)) statements) ≡ directives_in (map bare statements)
+    filtered : (statements : List Statement) → length (filter (λ (s : Statement). places_directive (bare_act s.act)) statements) ≡ count_directives (map bare statements)
     filtered [] = refl
-    filtered (s ∷ rest) = elim (cases_Bool (is_directive (bare_act s.act))) [
+    filtered (s ∷ rest) = elim (cases_Bool (places_directive (bare_act s.act))) [
       | inl does ↦ rw does (ap suc (filtered rest))
       | inr not ↦ rw not (filtered rest)
     ]

@@ -8,7 +8,7 @@ use Rattle.acc_batch.specs.declared.label.OpLabel.TheVariants.{Make, CopyIn, Cop
 use Rattle.acc_batch.specs.Ops.{HasItsCells}
 use Rattle.acc_core.proofs.LegalSteps.{legal_performed}
 use Rattle.acc_core.proofs.NextOfQueue.{next_uses_live}
-use Rattle.acc_core.specs.Legality.{Legal}
+use Rattle.acc_core.specs.Legality.{IsLegalState}
 use Rattle.acc_core.specs.Machine.{State, can_perform, is_there, labels_of, named_step, ops_left, step, with_op}
 use Rattle.acc_host.specs.declared.event.Event.{Event}
 use Rattle.acc_host.specs.declared.event.Event.TheVariants as event
@@ -76,7 +76,7 @@ no_host_cell Close u xs = cc
 
 -- ## It commutes
 
-module _ (at : QueueAt) (w : State) (op : OpLabel) (u : StandsNext at w op) (unseen : is_unseen op ≡ true) (l : Legal w) where
+module _ (at : QueueAt) (w : State) (op : OpLabel) (u : StandsNext at w op) (unseen : is_unseen op ≡ true) (l : IsLegalState w) where
   logs_turned : (q : QueueAt) (x : OpLabel) (later : List OpLabel) → same_queue at q ≡ false → is_there w q ≡ true → ops_left w (labels_of w) q ≡ x ∷ later
       → can_perform (labels_of w) w.work q x ≡ true → LogsTurned at w op u q x
   logs_turned q x later differ there left can =

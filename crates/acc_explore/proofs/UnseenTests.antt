@@ -10,7 +10,7 @@ use Rattle.acc_batch.specs.declared.label.OpLabel.{OpLabel}
 use Rattle.acc_batch.specs.Labels.{on_queue, ops_of, whole_batches}
 use Rattle.acc_core.specs.Enabled.{is_did, is_enabled}
 use Rattle.acc_core.specs.Machine.{State, Outcome, can_perform, did, idle, is_there, labels_of, named_step, ops_left, perform_step, queue_step, step, take_step, taken_on, with_op}
-use Rattle.acc_core.specs.Progress.{left_by, next_by, taken_by}
+use Rattle.acc_core.specs.Progress.{left_there, next_by, taken_by}
 use Rattle.acc_host.specs.declared.event.Event.TheVariants as event
 use Rattle.acc_host.specs.Hosts.{HostView, wants}
 use Rattle.acc_work.specs.Logs.{all_done, batches_done, performed}
@@ -140,7 +140,7 @@ next_there w at op e = by (is_there w at) refl (ops_left w (labels_of w) at) ref
 goes_on_none : (w : State) (at : QueueAt) (op : OpLabel) (n : NextThere w at op) → GoesOn w at → ends_no_batch (labels_of w) w.work at op ≡ true
 goes_on_none w at op n g = by n.later refl
   where
-    left_is : left_by w at ≡ op ∷ n.later
+    left_is : left_there w at ≡ op ∷ n.later
     left_is = ap (λ (b : Bool). cond b (ops_left w (labels_of w) at) []) n.there ∙ n.left
 
     taken_is : taken_by w at ≡ taken_on w at

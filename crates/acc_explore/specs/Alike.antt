@@ -5,7 +5,7 @@ use Rattle.acc_base.specs.declared.range.Range.{Range}
 use Rattle.acc_batch.specs.declared.entry.WorkEntry.{WorkEntry}
 use Rattle.acc_batch.specs.Labels.{on_queue}
 use Rattle.acc_batch.specs.Lives.{HoldsBlock}
-use Rattle.acc_core.specs.Legality.{Legal}
+use Rattle.acc_core.specs.Legality.{IsLegalState}
 use Rattle.acc_core.specs.Machine.{State, Outcome, standing_of, step}
 use Rattle.acc_explore.specs.Runs.{report_of}
 use Rattle.acc_host.specs.declared.event.Event.{Event}
@@ -65,17 +65,17 @@ pub record AlikeOutcome (old new : Outcome) : Type 0 where
 -- Each event gets one reply of both, and leads to two that are alike again, with the same choice of memory.
 abbrev pub StepKeepsAlike : Type 0
 StepKeepsAlike =
-    (no_memory : Bool) (old new : State) (e : Event) → Legal old → Legal new → Alike old new
+    (no_memory : Bool) (old new : State) (e : Event) → IsLegalState old → IsLegalState new → Alike old new
     → AlikeOutcome (step no_memory old e) (step no_memory new e)
 
 -- Both have one report.
 abbrev pub SameReports : Type 0
 SameReports =
-    (names : List (List ℕ)) (programs : List HostProgram) (old new : State) → Legal old → Legal new → Alike old new
+    (names : List (List ℕ)) (programs : List HostProgram) (old new : State) → IsLegalState old → IsLegalState new → Alike old new
     → report_of names programs old ≡ report_of names programs new
 
 -- Being alike is an equivalence of legal states.
 abbrev pub AlikeIsEquivalence : Type 0
 AlikeIsEquivalence =
-    (a b c : State) → Legal a → Legal b → Legal c
+    (a b c : State) → IsLegalState a → IsLegalState b → IsLegalState c
     → Alike a a × (Alike a b → Alike b a) × (Alike a b → Alike b c → Alike a c)

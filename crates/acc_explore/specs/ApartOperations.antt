@@ -28,6 +28,7 @@ use Rattle.acc_place.specs.declared.directive.DataItem.{DataItem}
 use Rattle.acc_place.specs.declared.directive.Kind.{Kind}
 use Rattle.acc_place.specs.declared.directive.Kind.TheVariants as kind
 use Rattle.acc_place.specs.Directives.{Directive}
+use Rattle.acc_place.specs.Regions.{ends_region}
 use Rattle.acc_work.specs.Logs.{batches_done, performed}
 
 -- ## Conflicts
@@ -123,15 +124,10 @@ abbrev pub arrays_in : Kind → List ℕ
 arrays_in (kind.Loop k) = arrays_of k
 arrays_in k = []
 
--- the end of a data construct names what the construct does
-abbrev pub is_end : Kind → Bool
-is_end kind.EndData = true
-is_end k = false
-
--- a directive may be about an array that the operation touches
+-- A directive may be about an array that the operation touches: the end of a data construct about what the construct names.
 abbrev pub may_name : OpLabel → Directive → Bool
 may_name op d =
-    is_end d.kind || (list_any (λ (i : DataItem). touches_array op i.range.array) d.items || list_any (touches_array op) (arrays_in d.kind))
+    ends_region d.kind || (list_any (λ (i : DataItem). touches_array op i.range.array) d.items || list_any (touches_array op) (arrays_in d.kind))
 
 -- a statement may conflict with the operation, or place what does
 abbrev pub meets : OpLabel → Act → Bool

@@ -2,7 +2,7 @@
 use Rattle.std.specs.Prelude.{◌≡◌, ℕ, ◌+◌, ◌==◌, Bool, false, List, [], ◌∷◌, ◌++◌, length, All, slice_index_or, if◌then◌else◌}
 use Rattle.acc_core.specs.Machine.{State, step}
 use Rattle.acc_explore.specs.declared.arrival.Arrival.{Arrival}
-use Rattle.acc_explore.specs.Explorations.{Found, IsReached}
+use Rattle.acc_explore.specs.Explorations.{Found, IsLedTo}
 use Rattle.acc_explore.specs.Runs.{MayCome, after}
 use Rattle.acc_host.specs.declared.event.Event.{Event}
 
@@ -39,4 +39,4 @@ EventsLeadThere =
 abbrev pub ArrivalsAreReached : Type 0
 ArrivalsAreReached =
     (closing : Bool) (start : State) (arrivals : List Arrival) → All (λ (a : Arrival). MayCome closing a.by) arrivals
-    → All (IsReached closing start) (found_by start arrivals)
+    → All (IsLedTo closing start) (found_by start arrivals)

@@ -1,9 +1,9 @@
 -- An exploration that is cut, at a depth or anywhere, and what is left to explore from there.
 use Rattle.std.specs.Prelude.{◌≡◌, ◌⊎◌, ◌≤◌, ◌+◌, ℕ, Bool, List, [], length, All, Contains}
-use Rattle.acc_core.specs.Legality.{Legal}
+use Rattle.acc_core.specs.Legality.{IsLegalState}
 use Rattle.acc_core.specs.Machine.{State}
 use Rattle.acc_explore.specs.Alike.{Alike}
-use Rattle.acc_explore.specs.Explorations.{Found, HoldsAlike, IsEnd, IsReached}
+use Rattle.acc_explore.specs.Explorations.{Found, HoldsAlike, IsEnd, IsLedTo}
 use Rattle.acc_explore.specs.Reductions.{FollowsEnough}
 use Rattle.acc_explore.specs.Runs.{MayCome, after}
 use Rattle.acc_host.specs.declared.event.Event.{Event}
@@ -15,7 +15,7 @@ FollowsOrLeaves closing leaves found f = FollowsEnough closing found f ⊎ Conta
 -- What is found of a state, but for what only leaves lead to: as in a reduced exploration, of which leaves need not be followed.
 pub record IsCut (closing : Bool) (leaves : List Found) (start : State) (found : List Found) : Type 0 where
   pub first : HoldsAlike 0 found start
-  pub reached : All (IsReached closing start) found
+  pub reached : All (IsLedTo closing start) found
   pub follows : All (FollowsOrLeaves closing leaves found) found
 
 -- From one of the states that were found, which is a leaf unless it is the end itself, events go on to what is like an end; they and those
@@ -34,6 +34,6 @@ pub record GoesOnToEnd (closing : Bool) (leaves : List Found) (limit : ℕ) (fou
 -- are so deep.
 abbrev pub CutMissesNone : Type 0
 CutMissesNone =
-    (closing : Bool) (leaves : List Found) (start : State) (found : List Found) → Legal start → IsCut closing leaves start found
+    (closing : Bool) (leaves : List Found) (start : State) (found : List Found) → IsLegalState start → IsCut closing leaves start found
     → (events : List Event) → All (MayCome closing) events → IsEnd (after start events)
     → GoesOnToEnd closing leaves (length events) found (after start events)

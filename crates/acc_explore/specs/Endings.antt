@@ -15,7 +15,7 @@ use Rattle.acc_explore.specs.declared.reports.Counts.{Counts}
 use Rattle.acc_explore.specs.declared.reports.Form.{Form}
 use Rattle.acc_explore.specs.declared.reports.Form.TheVariants as form
 use Rattle.acc_explore.specs.Explorations.{IsEnd}
-use Rattle.acc_explore.specs.Runs.{MayCome, after, events_of, report_of}
+use Rattle.acc_explore.specs.Runs.{MayCome, after, open_events, report_of}
 use Rattle.acc_explore.specs.Spellings.{going_on}
 
 -- ## What there is to tell
@@ -35,7 +35,7 @@ pub record Ending : Type 0 where
 
 -- The events lead to an end, and the report is that of the end.
 pub record IsEnding (x : Setting) (e : Ending) : Type 0 where
-  pub events : All (λ (event : Event). Contains (events_of x.closing x.start) event) e.events
+  pub events : All (λ (event : Event). Contains (open_events x.closing x.start) event) e.events
   pub ends : IsEnd (after x.start e.events)
   pub report_is : e.report ≡ report_of x.names x.programs (after x.start e.events)
 
@@ -99,15 +99,15 @@ whole_text true = codes "all schedules\n"
 whole_text false = codes "stopped: there may be more\n"
 
 -- how much there is, in a line
-abbrev pub line_of : Counts → List ℕ
-line_of counts =
+abbrev pub counts_line : Counts → List ℕ
+counts_line counts =
     decimal counts.reports ++ (plural counts.reports (codes " report") ++ (codes ", " ++ (decimal counts.states
     ++ (plural counts.states (codes " state") ++ (codes ", " ++ whole_text counts.whole)))))
 
 -- The short form has no such line.
 abbrev pub counts_text : Form → Counts → List ℕ
 counts_text form.Short counts = []
-counts_text form.Whole counts = line_of counts
+counts_text form.Whole counts = counts_line counts
 
 -- Endings were told, and it is counted how many they are: all that there are, unless so many states were kept behind the first that no more may be.
 pub record TellsAll (x : Setting) (f : Form) (schedule : List ℕ) (most : ℕ) (old new : Sink) (counts : Counts) : Type 0 where

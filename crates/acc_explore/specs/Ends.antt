@@ -2,7 +2,7 @@
 use Rattle.std.specs.Prelude.{◌≡◌, Bool, true, false, All, IsTrue}
 use Rattle.acc_core.specs.Enabled.{is_left}
 use Rattle.acc_core.specs.Following.{AllStand}
-use Rattle.acc_core.specs.Legality.{Legal}
+use Rattle.acc_core.specs.Legality.{IsLegalState}
 use Rattle.acc_core.specs.Machine.{State}
 use Rattle.acc_explore.specs.Explorations.{IsEnd}
 use Rattle.acc_host.specs.declared.state.HostState.{HostState}
@@ -22,4 +22,4 @@ pub record IsOver (w : State) : Type 0 where
 
 -- Where no host and no queue can go on, the run is over: it is never stuck.
 abbrev pub EndsAreOver : Type 0
-EndsAreOver = (w : State) → Legal w → AllStand w 0 w.hosts → IsEnd w → IsOver w
+EndsAreOver = (w : State) → IsLegalState w → AllStand w 0 w.hosts → IsEnd w → IsOver w

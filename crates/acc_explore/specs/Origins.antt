@@ -10,6 +10,6 @@ use Rattle.acc_explore.specs.Runs.{after}
 abbrev pub start_of : Origin → State
 start_of o = after (first_state o.config.now o.script.now.programs.items) o.events.now
 
-abbrev pub setting_of : Origin → Setting
-setting_of o =
+abbrev pub setting_from : Origin → Setting
+setting_from o =
     record { names = texts o.script.now.names.keys; programs = o.script.now.programs.items; start = start_of o; closing = o.closing }

@@ -5,7 +5,7 @@ use Rattle.std.specs.List.{list_all}
 use Rattle.acc_base.specs.Queues.{at_seat, numbers_from, queue_count}
 use Rattle.acc_core.specs.Machine.{State}
 use Rattle.acc_explore.specs.Reductions.{Commutes}
-use Rattle.acc_explore.specs.Takes.{has_room, unplaced, unplaced_by}
+use Rattle.acc_explore.specs.Takes.{never_fills, unplaced, unplaced_by}
 use Rattle.acc_host.specs.declared.event.Event.TheVariants as event
 use Rattle.acc_host.specs.Hosts.{HostView, wants}
 use Rattle.acc_host.specs.Steps.{Want, stays, sets, refuses, places, awaits, records}
@@ -25,7 +25,7 @@ places_alone w (Some host) = is_placement (wants w.config.devices host) && (unpl
 
 -- each queue that is there has room for all of them
 abbrev pub all_have_room : State → Bool
-all_have_room w = list_all (λ n. has_room w (at_seat n)) (numbers_from 0 (queue_count w.config))
+all_have_room w = list_all (λ n. never_fills w (at_seat n)) (numbers_from 0 (queue_count w.config))
 
 -- a host may place the directive that it stands at before anybody else goes on
 abbrev pub may_place : ℕ → State → Bool

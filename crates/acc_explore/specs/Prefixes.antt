@@ -10,7 +10,7 @@ use Rattle.acc_token.specs.declared.text.TheConstants.{MAX_TEXT}
 use Rattle.acc_explore.specs.declared.prefixes.PrefixCount.{PrefixCount}
 use Rattle.acc_explore.specs.Endings.{Ending, HoldsReport, MissesNone, Setting}
 use Rattle.acc_explore.specs.Explorations.{IsEnd}
-use Rattle.acc_explore.specs.Runs.{MayCome, after, events_of, report_of}
+use Rattle.acc_explore.specs.Runs.{MayCome, after, open_events, report_of}
 use Rattle.acc_explore.specs.Spellings.{going_on}
 
 -- ## What there is to tell
@@ -32,15 +32,15 @@ PrefixesMissNone x prefixes =
     → GoesOnToReport x (length events) prefixes (report_of x.names x.programs (after x.start events))
 
 -- It leads to an end, or is so long.
-abbrev pub IsPrefix : Setting → ℕ → List Event → Type 0
-IsPrefix x depth events = IsEnd (after x.start events) ⊎ (depth ≤ length events)
+abbrev pub IsLongEnough : Setting → ℕ → List Event → Type 0
+IsLongEnough x depth events = IsEnd (after x.start events) ⊎ (depth ≤ length events)
 
 -- Events that hosts and queues can do, and the owner where he may close, no more than are asked for, and no report is missed behind them.
 -- Where that is whole, they are as many, or lead to an end.
 pub record ArePrefixes (x : Setting) (depth : ℕ) (prefixes : List (List Event)) (whole : Bool) : Type 0 where
-  pub events : All (λ (events : List Event). All (λ (e : Event). Contains (events_of x.closing x.start) e) events) prefixes
+  pub events : All (λ (events : List Event). All (λ (e : Event). Contains (open_events x.closing x.start) e) events) prefixes
   pub short : All (λ (events : List Event). length events ≤ depth) prefixes
-  pub long : IsTrue whole → All (IsPrefix x depth) prefixes
+  pub long : IsTrue whole → All (IsLongEnough x depth) prefixes
   pub none_missed : PrefixesMissNone x prefixes
 
 -- ## How it is told
@@ -77,7 +77,7 @@ pub record TellsPrefixes (x : Setting) (schedule : List ℕ) (depth most : ℕ) 
 -- Some prefixes were told, none perhaps.
 pub record TellsSomePrefixes (x : Setting) (schedule : List ℕ) (old new : Sink) : Type 0 where
   pub prefixes : List (List Event)
-  pub events : All (λ (events : List Event). All (λ (e : Event). Contains (events_of x.closing x.start) e) events) prefixes
+  pub events : All (λ (events : List Event). All (λ (e : Event). Contains (open_events x.closing x.start) e) events) prefixes
   pub told : Puts old new (prefixes_text schedule 1 prefixes)
 
 -- ## Others explore on
@@ -108,6 +108,6 @@ abbrev pub PrefixesAreSaid : Type 0
 PrefixesAreSaid =
     (x : Setting) (config : Configuration) (schedule : List ℕ) (first events : List Event)
     → x.start ≡ after (first_state config x.programs) first → length x.programs < 2 ^ 8 → config.devices < 2 ^ 8
-    → schedule_of (length x.programs) config.devices schedule ≡ Ok first → All (λ (e : Event). Contains (events_of x.closing x.start) e) events
+    → schedule_of (length x.programs) config.devices schedule ≡ Ok first → All (λ (e : Event). Contains (open_events x.closing x.start) e) events
     → length (going_on schedule events) ≤ MAX_TEXT → length (first ++ events) ≤ MAX_EVENTS
     → schedule_of (length x.programs) config.devices (going_on schedule events) ≡ Ok (first ++ events)

@@ -18,21 +18,21 @@ MayCome closing (event.Take at) = Unit {0}
 MayCome closing (event.Perform at) = Unit {0}
 MayCome closing event.Close = IsTrue closing
 
-abbrev pub host_events : ℕ → List Event
-host_events zero = []
-host_events (suc n) = event.Host n ∷ host_events n
+abbrev pub events_of_hosts : ℕ → List Event
+events_of_hosts zero = []
+events_of_hosts (suc n) = event.Host n ∷ events_of_hosts n
 
-abbrev pub queue_events : ℕ → List Event
-queue_events zero = []
-queue_events (suc n) = event.Take (at_seat n) ∷ event.Perform (at_seat n) ∷ queue_events n
+abbrev pub events_of_queues : ℕ → List Event
+events_of_queues zero = []
+events_of_queues (suc n) = event.Take (at_seat n) ∷ event.Perform (at_seat n) ∷ events_of_queues n
 
-abbrev pub close_events : Bool → List Event
-close_events true = event.Close ∷ []
-close_events false = []
+abbrev pub closing_events : Bool → List Event
+closing_events true = event.Close ∷ []
+closing_events false = []
 
 -- those that can do something: of the hosts and the queues that are there
-abbrev pub events_of : Bool → State → List Event
-events_of closing w = host_events (length w.hosts) ++ (queue_events (queue_count w.config) ++ close_events closing)
+abbrev pub open_events : Bool → State → List Event
+open_events closing w = events_of_hosts (length w.hosts) ++ (events_of_queues (queue_count w.config) ++ closing_events closing)
 
 -- the state after these events, where no memory is refused
 abbrev pub after : State → List Event → State
@@ -46,10 +46,10 @@ AmpleUnlessRefused =
     → step false old e ≡ record { reply = answer; state = new }
 
 -- what a state leaves to be told; nothing is discarded
-abbrev pub left_of : State → Left
-left_of w =
+abbrev pub left_to_tell : State → Left
+left_to_tell w =
     record { config = w.config; history = w.history; counts = w.counts; work = w.work; hosts = map state_of w.hosts; discarded = [] }
 
 -- the report of a state, where these are the names of the arrays and the programs of the hosts
 abbrev pub report_of : List (List ℕ) → List HostProgram → State → List ℕ
-report_of names programs w = report names programs (left_of w)
+report_of names programs w = report names programs (left_to_tell w)

@@ -5,7 +5,7 @@ use Rattle.acc_explore.specs.Arrivals.{found_at, found_by}
 use Rattle.acc_explore.specs.Cuts.{IsCut}
 use Rattle.acc_explore.specs.declared.arrival.Arrival.{Arrival}
 use Rattle.acc_explore.specs.Explorations.{Found, IsEnd}
-use Rattle.acc_explore.specs.Runs.{events_of}
+use Rattle.acc_explore.specs.Runs.{open_events}
 
 -- Those with these numbers come by depth: none is found later than the ones behind it.
 abbrev pub ComeByDepth : State → List Arrival → List ℕ → Type 0
@@ -21,7 +21,7 @@ leaves_of start arrivals followed = drop followed (found_by start arrivals)
 -- first, the numbers of ends among those that were followed, and how many these are. The others are leaves; from them and those ends none
 -- is missed. Where it is whole, all leaves are the deepest; else as many states were found as may be.
 pub record IsSearch (closing : Bool) (most deepest : ℕ) (start : State) (arrivals : List Arrival) (numbers : List ℕ) (followed : ℕ) (is_whole : Bool) : Type 0 where
-  pub events : All (λ (a : Arrival). Contains (events_of closing start) a.by) arrivals
+  pub events : All (λ (a : Arrival). Contains (open_events closing start) a.by) arrivals
   pub few : length arrivals ≤ most
   pub there : followed ≤ length arrivals + 1
   pub ends : All (λ (n : ℕ). (n ≤ length arrivals) × IsEnd (found_at start arrivals n).state) numbers

@@ -4,7 +4,7 @@ use Rattle.acc_base.specs.declared.ids.QueueAt.{QueueAt}
 use Rattle.acc_base.specs.declared.ids.TheConstants.{QUEUES}
 use Rattle.acc_base.specs.Queues.{same_queue}
 use Rattle.acc_core.specs.Machine.{State}
-use Rattle.acc_explore.specs.Runs.{events_of}
+use Rattle.acc_explore.specs.Runs.{open_events}
 use Rattle.acc_host.specs.declared.event.Event.{Event}
 use Rattle.acc_host.specs.declared.event.Event.TheVariants.{Host, Take, Perform, Close}
 use Rattle.acc_report.specs.Lines.{queue_name}
@@ -31,28 +31,28 @@ unfoldable pub times_text : ℕ → List ℕ
 times_text times = if times == 1 then [] else codes " " ++ decimal times
 
 -- the line of an event that comes so many times in a row
-unfoldable pub line_text : Event → ℕ → List ℕ
-line_text e times = event_words e ++ (times_text times ++ codes "\n")
+unfoldable pub event_line : Event → ℕ → List ℕ
+event_line e times = event_words e ++ (times_text times ++ codes "\n")
 
 -- ## Schedules
 
 -- The same host or queue goes on in the same way. Each close has a line of its own.
-abbrev pub goes_on : Event → Event → Bool
-goes_on (Host h) (Host k) = h == k
-goes_on (Take at) (Take to) = same_queue at to
-goes_on (Perform at) (Perform to) = same_queue at to
-goes_on e x = false
+abbrev pub goes_on_alike : Event → Event → Bool
+goes_on_alike (Host h) (Host k) = h == k
+goes_on_alike (Take at) (Take to) = same_queue at to
+goes_on_alike (Perform at) (Perform to) = same_queue at to
+goes_on_alike e x = false
 
 -- whether an event joins the line of one that has come so many times
 abbrev pub joins : Event → ℕ → Event → Bool
-joins e times x = goes_on e x && nat_lt times MAX_TIMES
+joins e times x = goes_on_alike e x && nat_lt times MAX_TIMES
 
 -- the lines of an event that has come so many times, and of those behind it
 abbrev pub lines_from : Event → ℕ → List Event → List ℕ
-lines_from e times [] = line_text e times
+lines_from e times [] = event_line e times
 lines_from e times (x ∷ events) =
     if joins e times x then lines_from e (times + 1) events
-    else line_text e times ++ lines_from x 1 events
+    else event_line e times ++ lines_from x 1 events
 
 abbrev pub schedule_text : List Event → List ℕ
 schedule_text [] = []
@@ -82,4 +82,4 @@ SpelledIsRead =
 
 -- In a state, the events that can do something name hosts and queues that are there.
 abbrev pub EventsAreNamed : Type 0
-EventsAreNamed = (closing : Bool) (w : State) → All (IsNamed (length w.hosts) w.config.devices) (events_of closing w)
+EventsAreNamed = (closing : Bool) (w : State) → All (IsNamed (length w.hosts) w.config.devices) (open_events closing w)

@@ -14,23 +14,23 @@ use Rattle.acc_host.specs.Hosts.{HostView}
 -- ## The directives that are still to be placed
 
 -- a host places it
-abbrev pub is_directive : Act → Bool
-is_directive (act.Place d) = true
-is_directive (act.Write array cell value) = false
-is_directive (act.Print range) = false
-is_directive (act.SetDevice n) = false
-is_directive (act.SetAsync v) = false
-is_directive act.ShowDevice = false
-is_directive act.ShowDevices = false
+abbrev pub places_directive : Act → Bool
+places_directive (act.Place d) = true
+places_directive (act.Write array cell value) = false
+places_directive (act.Print range) = false
+places_directive (act.SetDevice n) = false
+places_directive (act.SetAsync v) = false
+places_directive act.ShowDevice = false
+places_directive act.ShowDevices = false
 
-abbrev pub directives_in : List Statement → ℕ
-directives_in statements = length (filter (λ (s : Statement). is_directive s.act) statements)
+abbrev pub count_directives : List Statement → ℕ
+count_directives statements = length (filter (λ (s : Statement). places_directive s.act) statements)
 
 -- A host that waits or asks has placed the directive that it stands at; one that was refused places no more.
 abbrev pub unplaced_in : HostView → Phase → ℕ
-unplaced_in host phase.Ready = directives_in (drop host.ended host.statements)
-unplaced_in host (phase.Waits device counts) = directives_in (drop (host.ended + 1) host.statements)
-unplaced_in host (phase.Asks device counts) = directives_in (drop (host.ended + 1) host.statements)
+unplaced_in host phase.Ready = count_directives (drop host.ended host.statements)
+unplaced_in host (phase.Waits device counts) = count_directives (drop (host.ended + 1) host.statements)
+unplaced_in host (phase.Asks device counts) = count_directives (drop (host.ended + 1) host.statements)
 unplaced_in host (phase.Refused fault) = 0
 
 abbrev pub unplaced_by : HostView → ℕ
@@ -48,12 +48,12 @@ abbrev pub is_at_take : State → QueueAt → Bool
 is_at_take w at = is_empty (ops_left w (labels_of w) at) && nat_lt 0 (batches_held w (labels_of w) at)
 
 -- It isn't full when a directive comes: all that are still to come fit its room, with the batches that it holds.
-abbrev pub has_room : State → QueueAt → Bool
-has_room w at = nat_le (batches_held w (labels_of w) at + unplaced w.hosts) w.config.room
+abbrev pub never_fills : State → QueueAt → Bool
+never_fills w at = nat_le (batches_held w (labels_of w) at + unplaced w.hosts) w.config.room
 
 -- A queue of a device that is there can take a batch, and has room, whether it takes it or not.
 abbrev pub may_take : QueueAt → State → Bool
-may_take at w = is_there w at && (is_at_take w at && has_room w at)
+may_take at w = is_there w at && (is_at_take w at && never_fills w at)
 
 -- Where the owner may not close, its take commutes with every other event.
 abbrev pub TakesCommute : Type 0

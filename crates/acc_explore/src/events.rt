@@ -3,7 +3,7 @@
 ghost use Rattle.std.specs.Prelude.{◌≡◌, ◌++◌, IfOk, IfErr, OnOk, IsTrue, ◌↔◌, reverse};
 ghost use Rattle.acc_base.specs.declared.fault.Fault.TheVariants as fault;
 ghost use Rattle.acc_base.specs.Queues.{queue_count};
-ghost use Rattle.acc_explore.specs.Runs.{host_events, queue_events};
+ghost use Rattle.acc_explore.specs.Runs.{events_of_hosts, events_of_queues};
 ghost use Rattle.acc_explore.specs.inner.Searching.{events_in_turn};
 
 use acc_base::{Config, Fault, HostId, QueueAt};
@@ -12,7 +12,7 @@ use std::alloc::Global;
 
 // Those of the hosts, in their order.
 fn push_hosts(events: &mut Vec<Event>, hosts: u8) -> Result<(), Fault>
-    ensures pushed { OnOk result (events.new.items ≡ events.old.items ++ reverse (host_events hosts)) }
+    ensures pushed { OnOk result (events.new.items ≡ events.old.items ++ reverse (events_of_hosts hosts)) }
     ensures fault { IfErr result (λ f. f ≡ fault.Memory) }
 {
     for host in 0..hosts {
@@ -23,7 +23,7 @@ fn push_hosts(events: &mut Vec<Event>, hosts: u8) -> Result<(), Fault>
 
 // Those of the queues, in their order. Of one queue one of the two alone can do something in a state.
 fn push_queues(events: &mut Vec<Event>, config: &Config) -> Result<(), Fault>
-    ensures pushed { OnOk result (events.new.items ≡ events.old.items ++ reverse (queue_events (queue_count config.now))) }
+    ensures pushed { OnOk result (events.new.items ≡ events.old.items ++ reverse (events_of_queues (queue_count config.now))) }
     ensures fault { IfErr result (λ f. f ≡ fault.Memory) }
 {
     for seat in 0..config.queue_count() {

@@ -4,7 +4,7 @@ ghost use Rattle.std.specs.Prelude.{◌≡◌, ◌≤◌, ◌+◌, ◌^◌, All,
 ghost use Rattle.acc_base.specs.declared.fault.Fault.TheVariants as fault;
 ghost use Rattle.acc_core.specs.Worlds.{OnePerHost};
 ghost use Rattle.acc_explore.specs.Arrivals.{events_to};
-ghost use Rattle.acc_explore.specs.Origins.{setting_of};
+ghost use Rattle.acc_explore.specs.Origins.{setting_from};
 ghost use Rattle.acc_explore.specs.Prefixes.{TellsPrefixes, TellsSomePrefixes, depth_text, prefix_line, prefix_text, prefix_word, prefixes_text};
 ghost use Rattle.acc_explore.specs.inner.Leaves.{HaveLeaves, TellsFirstPrefixes};
 ghost use Rattle.acc_report.specs.Puts.{Puts, sink};
@@ -131,8 +131,8 @@ pub fn tell_prefixes<W: Write, V: Watcher>(
     watcher: &V,
 ) -> Result<PrefixCount, Fault>
     requires { OnePerHost origin.now.config.now origin.now.script.now.programs.items }
-    ensures told { IfOk result (TellsPrefixes (setting_of origin.now) origin.now.schedule.now depth origin.now.most (sink (W.contents out.old) failed.old) (sink (W.contents out.new) failed.new)) }
-    ensures begun { OnErr result (TellsSomePrefixes (setting_of origin.now) origin.now.schedule.now (sink (W.contents out.old) failed.old) (sink (W.contents out.new) failed.new)) }
+    ensures told { IfOk result (TellsPrefixes (setting_from origin.now) origin.now.schedule.now depth origin.now.most (sink (W.contents out.old) failed.old) (sink (W.contents out.new) failed.new)) }
+    ensures begun { OnErr result (TellsSomePrefixes (setting_from origin.now) origin.now.schedule.now (sink (W.contents out.old) failed.old) (sink (W.contents out.new) failed.new)) }
     ensures fault { IfErr result (λ f. f ≡ fault.Memory) }
 {
     runs_are_legal();

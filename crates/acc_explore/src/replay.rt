@@ -11,20 +11,8 @@ use crate::arrival::{Arrival, path};
 use crate::laws::arrivals_are_reached;
 use acc_base::{Config, Fault};
 use acc_core::World;
-use acc_host::{Event, HostProgram, Reply};
+use acc_host::{Event, HostProgram, Reply, copies_of};
 use std::alloc::Global;
-
-// Equal programs.
-fn copies(alloc: Global, programs: &[HostProgram]) -> Result<Vec<HostProgram>, Fault>
-    ensures equal { IfOk result (λ copies. copies.items ≡ programs.now) }
-    ensures fault { IfErr result (λ f. f ≡ fault.Memory) }
-{
-    let mut copies = Vec::with_capacity(alloc, programs.len())?;
-    for program in programs {
-        copies.push_reserved(program.try_clone(alloc)?);
-    }
-    Ok(copies)
-}
 
 // Whether a step was refused for want of memory.
 pub(crate) fn is_scarce(answer: Reply) -> bool
@@ -68,7 +56,7 @@ pub fn world_behind(
     ensures world { IfOk result (λ w. w ≡ after (first_state config.now programs.now) events.now) }
     ensures fault { IfErr result (λ f. f ≡ fault.Memory) }
 {
-    let mut world = World::new(alloc, config.try_clone()?, copies(alloc, programs)?)?;
+    let mut world = World::new(alloc, config.try_clone()?, copies_of(alloc, programs)?)?;
     go_on(&mut world, events)?;
     Ok(world)
 }

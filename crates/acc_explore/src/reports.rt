@@ -5,12 +5,12 @@ ghost use Rattle.std.specs.List.{list_any};
 ghost use Rattle.acc_base.specs.declared.fault.Fault.TheVariants as fault;
 ghost use Rattle.acc_core.specs.Worlds.{OnePerHost};
 ghost use Rattle.acc_explore.specs.Arrivals.{found_at};
-ghost use Rattle.acc_explore.specs.Endings.{TellsAll, TellsSome, counts_text, ending_text, in_line, line_of, on_one_line, plural, plural_end, whole_text};
+ghost use Rattle.acc_explore.specs.Endings.{TellsAll, TellsSome, counts_text, ending_text, in_line, counts_line, on_one_line, plural, plural_end, whole_text};
 ghost use Rattle.acc_explore.specs.Runs.{report_of};
 ghost use Rattle.acc_explore.specs.Searches.{IsSearch};
 ghost use Rattle.acc_explore.specs.Spellings.{going_on};
 ghost use Rattle.acc_explore.specs.inner.Telling.{IsTally, TellsAtMost, TellsFirst, TellsOne, told_of};
-ghost use Rattle.acc_explore.specs.Origins.{setting_of, start_of};
+ghost use Rattle.acc_explore.specs.Origins.{setting_from, start_of};
 ghost use Rattle.acc_host.specs.Hosts.{is_refused, state_of};
 ghost use Rattle.acc_report.specs.Puts.{Puts, sink};
 ghost use Rattle.acc_script.specs.Arrays.{texts};
@@ -187,8 +187,8 @@ fn tell_end<W: Write>(
     requires hosts { OnePerHost origin.now.config.now origin.now.script.now.programs.items }
     requires there { end ≤ length arrivals.now }
     requires few { tally.old.count + 1 < 2 ^ 64 }
-    ensures told { OnOk result (TellsOne (setting_of origin.now) form origin.now.schedule.now (reverse arrivals.now) end tally.old tally.new (sink (W.contents out.old) failed.old) (sink (W.contents out.new) failed.new)) }
-    ensures begun { OnErr result (TellsAtMost (setting_of origin.now) form origin.now.schedule.now (reverse arrivals.now) end tally.old (sink (W.contents out.old) failed.old) (sink (W.contents out.new) failed.new)) }
+    ensures told { OnOk result (TellsOne (setting_from origin.now) form origin.now.schedule.now (reverse arrivals.now) end tally.old tally.new (sink (W.contents out.old) failed.old) (sink (W.contents out.new) failed.new)) }
+    ensures begun { OnErr result (TellsAtMost (setting_from origin.now) form origin.now.schedule.now (reverse arrivals.now) end tally.old (sink (W.contents out.old) failed.old) (sink (W.contents out.new) failed.new)) }
     ensures fault { IfErr result (λ f. f ≡ fault.Memory) }
 {
     let (report, refused) = match report_at(alloc, origin, arrivals, end) {
@@ -232,8 +232,8 @@ fn tell_ends<W: Write>(
 ) -> Result<Tally, Fault>
     requires hosts { OnePerHost origin.now.config.now origin.now.script.now.programs.items }
     requires there { All (λ n. n ≤ length arrivals.now) ends.now }
-    ensures told { IfOk result (λ t. IsTally (setting_of origin.now) form origin.now.schedule.now (told_of (setting_of origin.now) (reverse arrivals.now) ends.now) t (sink (W.contents out.old) failed.old) (sink (W.contents out.new) failed.new)) }
-    ensures begun { OnErr result (TellsFirst (setting_of origin.now) form origin.now.schedule.now (reverse arrivals.now) ends.now (sink (W.contents out.old) failed.old) (sink (W.contents out.new) failed.new)) }
+    ensures told { IfOk result (λ t. IsTally (setting_from origin.now) form origin.now.schedule.now (told_of (setting_from origin.now) (reverse arrivals.now) ends.now) t (sink (W.contents out.old) failed.old) (sink (W.contents out.new) failed.new)) }
+    ensures begun { OnErr result (TellsFirst (setting_from origin.now) form origin.now.schedule.now (reverse arrivals.now) ends.now (sink (W.contents out.old) failed.old) (sink (W.contents out.new) failed.new)) }
     ensures fault { IfErr result (λ f. f ≡ fault.Memory) }
 {
     let mut tally = Tally {
@@ -277,7 +277,7 @@ fn put_counts<W: Write>(out: &mut W, failed: &mut bool, form: Form, counts: Coun
 
 // Puts how much there is, in words.
 fn put_line<W: Write>(out: &mut W, failed: &mut bool, counts: Counts)
-    ensures { Puts (sink (W.contents out.old) failed.old) (sink (W.contents out.new) failed.new) (line_of counts) }
+    ensures { Puts (sink (W.contents out.old) failed.old) (sink (W.contents out.new) failed.new) (counts_line counts) }
 {
     put_number(out, failed, counts.reports);
     put_plural(out, failed, counts.reports, b" report");
@@ -340,8 +340,8 @@ pub fn tell_reports<W: Write, V: Watcher>(
     watcher: &V,
 ) -> Result<Counts, Fault>
     requires { OnePerHost origin.now.config.now origin.now.script.now.programs.items }
-    ensures told { IfOk result (TellsAll (setting_of origin.now) form origin.now.schedule.now origin.now.most (sink (W.contents out.old) failed.old) (sink (W.contents out.new) failed.new)) }
-    ensures begun { OnErr result (TellsSome (setting_of origin.now) form origin.now.schedule.now (sink (W.contents out.old) failed.old) (sink (W.contents out.new) failed.new)) }
+    ensures told { IfOk result (TellsAll (setting_from origin.now) form origin.now.schedule.now origin.now.most (sink (W.contents out.old) failed.old) (sink (W.contents out.new) failed.new)) }
+    ensures begun { OnErr result (TellsSome (setting_from origin.now) form origin.now.schedule.now (sink (W.contents out.old) failed.old) (sink (W.contents out.new) failed.new)) }
     ensures fault { IfErr result (λ f. f ≡ fault.Memory) }
 {
     runs_are_legal();

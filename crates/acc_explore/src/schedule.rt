@@ -1,6 +1,6 @@
 //! Events as a schedule.
 
-ghost use Rattle.acc_explore.specs.Spellings.{event_words, joins, line_text, lines_from, queue_words, schedule_text, times_text};
+ghost use Rattle.acc_explore.specs.Spellings.{event_words, joins, event_line, lines_from, queue_words, schedule_text, times_text};
 ghost use Rattle.acc_report.specs.Puts.{Puts, sink};
 ghost use Rattle.std.specs.Prelude.{◌≡◌};
 
@@ -48,7 +48,7 @@ fn joins(event: &Event, times: u32, next: &Event) -> bool
 
 // The line of an event that comes so many times in a row.
 fn put_line<W: Write>(out: &mut W, failed: &mut bool, event: &Event, times: u32)
-    ensures { Puts (sink (W.contents out.old) failed.old) (sink (W.contents out.new) failed.new) (line_text event.now times) }
+    ensures { Puts (sink (W.contents out.old) failed.old) (sink (W.contents out.new) failed.new) (event_line event.now times) }
 {
     put_event(out, failed, event);
     put_times(out, failed, times);

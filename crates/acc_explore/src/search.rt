@@ -8,7 +8,7 @@ ghost use Rattle.acc_core.specs.Worlds.{OnePerHost, first_state};
 ghost use Rattle.acc_explore.specs.Alike.{Alike};
 ghost use Rattle.acc_explore.specs.Arrivals.{found_at};
 ghost use Rattle.acc_explore.specs.Reductions.{MayGoFirst};
-ghost use Rattle.acc_explore.specs.Runs.{after, events_of};
+ghost use Rattle.acc_explore.specs.Runs.{after, open_events};
 ghost use Rattle.acc_explore.specs.Scripts.{AreOfOneScript};
 ghost use Rattle.acc_explore.specs.Searches.{IsSearch};
 ghost use Rattle.acc_explore.specs.UnseenOperations.{nobody_asks};
@@ -352,7 +352,7 @@ fn follow_one(
     requires hosts { OnePerHost task.now.config.now task.now.programs.now }
     requires there { number ≤ length found.old.arrivals.items }
     requires world { world ≡ (found_at (start_of task.now) (reverse found.old.arrivals.items) number).state }
-    requires listed { Contains (events_of task.now.closing (start_of task.now)) event }
+    requires listed { Contains (open_events task.now.closing (start_of task.now)) event }
     requires first { MayGoFirst task.now.closing world event }
     requires worlds { AreAtHand (start_of task.now) (reverse found.old.arrivals.items) found.old.worlds.seats.items }
     requires followed { IsFollowed task.now.closing task.now.most (start_of task.now) (reverse found.old.arrivals.items) found.old.ends.items number [] }

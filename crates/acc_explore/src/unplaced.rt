@@ -2,7 +2,7 @@
 
 ghost use Rattle.std.specs.Prelude.{◌≡◌, ◌&&◌, ◌≤◌, ◌^◌, IfSome, IsNone, IsTrue, drop, map};
 ghost use Rattle.acc_core.specs.Machine.{batches_held, is_there, labels_of};
-ghost use Rattle.acc_explore.specs.Takes.{directives_in, has_room, is_directive, unplaced, unplaced_by};
+ghost use Rattle.acc_explore.specs.Takes.{count_directives, never_fills, places_directive, unplaced, unplaced_by};
 ghost use Rattle.acc_host.specs.Hosts.{bare, bare_act};
 
 use acc_base::{HostId, QueueAt};
@@ -11,7 +11,7 @@ use acc_host::{Act, Host, Phase, Statement};
 
 /// Whether a host places it.
 pub(crate) fn is_directive(act: &Act) -> bool
-    ensures { result ≡ is_directive (bare_act act.now) }
+    ensures { result ≡ places_directive (bare_act act.now) }
 {
     match act {
         Act::Place { .. } => true,
@@ -26,7 +26,7 @@ pub(crate) fn is_directive(act: &Act) -> bool
 
 // How many of these are directives.
 fn directives_in(statements: &[Statement]) -> usize
-    ensures { result ≡ directives_in (map bare statements.now) }
+    ensures { result ≡ count_directives (map bare statements.now) }
 {
     statements
         .iter()
@@ -36,7 +36,7 @@ fn directives_in(statements: &[Statement]) -> usize
 
 // How many of those behind the first one are.
 fn directives_behind(statements: &[Statement]) -> usize
-    ensures { result ≡ directives_in (drop 1 (map bare statements.now)) }
+    ensures { result ≡ count_directives (drop 1 (map bare statements.now)) }
 {
     if statements.is_empty() {
         return 0;
@@ -89,7 +89,7 @@ pub(crate) fn held(world: &World, at: QueueAt) -> u64
 /// Whether a queue is there, and has room for the batches of so many directives as are still to be placed, with those that it holds.
 pub(crate) fn has_room(world: &World, at: QueueAt, to_place: u64) -> bool
     requires { to_place ≡ unplaced world.now.hosts }
-    ensures { result ≡ (is_there world.now at && has_room world.now at) }
+    ensures { result ≡ (is_there world.now at && never_fills world.now at) }
 {
     let QueueAt { device, queue } = at;
     let config = world.place().config();

@@ -22,11 +22,11 @@ pub data Call : Type 0 where
   Record : ItemLabel → Result Shown Fault → Call
 
 -- What an item tells: a print some values, a test some answer.
-abbrev pub Tells : ItemLabel → Told → Type 0
-Tells (to_record.Write array cell value) what = what ≡ told.Write array cell value
-Tells (to_record.Print range) what = (values : List ℤ) × (what ≡ told.Print range values)
-Tells (to_record.Seen device counts) what = what ≡ told.Seen device counts
-Tells (to_record.Test device counts) what = (answer : Bool) × (what ≡ told.Test device answer counts)
+abbrev pub MayTell : ItemLabel → Told → Type 0
+MayTell (to_record.Write array cell value) what = what ≡ told.Write array cell value
+MayTell (to_record.Print range) what = (values : List ℤ) × (what ≡ told.Print range values)
+MayTell (to_record.Seen device counts) what = what ≡ told.Seen device counts
+MayTell (to_record.Test device counts) what = (answer : Bool) × (what ≡ told.Test device answer counts)
 
 -- The list has one more entry.
 abbrev pub Gains : HostEntry → List HostEntry → List HostEntry → Type 0
@@ -39,7 +39,7 @@ Lists (Place d (Err fault)) old new = new ≡ old
 Lists (Wait device counts (Ok true)) old new = Gains (Had (told.Seen device counts)) old new
 Lists (Wait device counts (Ok false)) old new = new ≡ old
 Lists (Wait device counts (Err fault)) old new = new ≡ old
-Lists (Record item (Ok answer)) old new = (what : Told) × Tells item what × (answer ≡ shown_by what) × Gains (Had what) old new
+Lists (Record item (Ok answer)) old new = (what : Told) × MayTell item what × (answer ≡ shown_by what) × Gains (Had what) old new
 Lists (Record item (Err fault)) old new = new ≡ old
 
 abbrev pub without_item : Result Shown (ItemLabel × Fault) → Result Shown Fault

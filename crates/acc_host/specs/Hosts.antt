@@ -22,7 +22,7 @@ use Rattle.acc_host.specs.declared.state.Phase.TheVariants as phase
 use Rattle.acc_host.specs.declared.state.Reply.{Reply}
 use Rattle.acc_host.specs.declared.state.Reply.TheVariants as reply
 use Rattle.acc_host.specs.declared.program.Statement.{Statement}
-use Rattle.acc_host.specs.Engines.{HostEntry, Gave, Had, Call, Place, Wait, Record, Tells, Gains}
+use Rattle.acc_host.specs.Engines.{HostEntry, Gave, Had, Call, Place, Wait, Record, MayTell, Gains}
 use Rattle.acc_host.specs.Steps.{Owed, nothing_owed, owes_seen, owes_test, owed_by, Want, stays, sets, refuses, places, awaits, records, wanted, with_ids, first_ids}
 
 -- A host: its number; its statements, each directive without the two ids that the host sets where it places it; how
@@ -82,9 +82,9 @@ after_wait (Ok true) = Ok go.Ended
 after_wait (Ok false) = Ok go.Idle
 after_wait (Err fault) = Err fault
 
-abbrev pub after_item : Result Shown Fault → Result After Fault
-after_item (Ok answer) = Ok go.Ended
-after_item (Err fault) = Err fault
+abbrev pub after_answer : Result Shown Fault → Result After Fault
+after_answer (Ok answer) = Ok go.Ended
+after_answer (Err fault) = Err fault
 
 -- An item that takes memory may be refused it before it is recorded.
 abbrev pub TakesMemory : ItemLabel → Type 0
@@ -104,7 +104,7 @@ Asks makes old h (awaits device counts) goes new =
     (answer : Result Bool Fault) × makes old h (Wait device counts answer) new × (goes ≡ after_wait answer)
 Asks makes old h (records item) goes new =
     (TakesMemory item × (goes ≡ Err Memory) × (new ≡ old))
-    ⊎ ((answer : Result Shown Fault) × makes old h (Record item answer) new × (goes ≡ after_item answer))
+    ⊎ ((answer : Result Shown Fault) × makes old h (Record item answer) new × (goes ≡ after_answer answer))
 
 -- What the host's list gains.
 abbrev pub Adds : Want → Result After Fault → List HostEntry → List HostEntry → Type 0
@@ -120,7 +120,7 @@ Adds (awaits device counts) (Ok goes) old new =
     ((goes ≡ go.Idle) × (new ≡ old)) ⊎ ((goes ≡ go.Ended) × Gains (Had (told.Seen device counts)) old new)
 Adds (awaits device counts) (Err fault) old new = new ≡ old
 Adds (records item) (Ok goes) old new =
-    (goes ≡ go.Ended) × (what : Told) × Tells item what × Gains (Had what) old new
+    (goes ≡ go.Ended) × (what : Told) × MayTell item what × Gains (Had what) old new
 Adds (records item) (Err fault) old new = new ≡ old
 
 abbrev pub in_phase : HostView → Phase → HostView

@@ -17,6 +17,6 @@ pub use host::{Host, ready_hosts};
 pub use laws::{hosts_follow, worked_hosts};
 pub use outcome::{Discarded, Outcome};
 pub use own_entries::{OwnDirective, OwnDirectives, OwnEntries, OwnEntry, OwnItems};
-pub use program::{Act, HostProgram, Statement};
+pub use program::{Act, HostProgram, Statement, copies_of};
 pub use state::{After, Awaited, HostState, Ids, Phase, Reply, any_refused};
 pub use turn::owed_by;

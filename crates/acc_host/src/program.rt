@@ -1,6 +1,7 @@
 //! Programs of hosts: statements, and what each does.
 
 ghost use Rattle.std.specs.Prelude.{◌≡◌, IfOk, IfErr};
+ghost use Rattle.acc_base.specs.declared.fault.Fault.TheVariants as fault;
 
 use acc_base::{Fault, HostId, Listed, Range};
 use acc_place::Directive;
@@ -44,8 +45,6 @@ pub struct HostProgram {
 }
 
 impl Act {
-    ghost use Rattle.acc_base.specs.declared.fault.Fault.TheVariants as fault;
-
     /// An equal act, which shares what is written of a directive. It takes no memory.
     ///
     /// # Errors
@@ -75,8 +74,6 @@ impl Act {
 }
 
 impl HostProgram {
-    ghost use Rattle.acc_base.specs.declared.fault.Fault.TheVariants as fault;
-
     /// An equal program.
     ///
     /// # Errors
@@ -99,4 +96,20 @@ impl HostProgram {
             statements: Listed::from_vec(statements),
         })
     }
+}
+
+/// Equal programs.
+///
+/// # Errors
+///
+/// `Memory` where memory is refused.
+pub fn copies_of(alloc: Global, programs: &[HostProgram]) -> Result<Vec<HostProgram>, Fault>
+    ensures equal { IfOk result (λ copies. copies.items ≡ programs.now) }
+    ensures fault { IfErr result (λ f. f ≡ fault.Memory) }
+{
+    let mut copies = Vec::with_capacity(alloc, programs.len())?;
+    for program in programs {
+        copies.push_reserved(program.try_clone(alloc)?);
+    }
+    Ok(copies)
 }

@@ -4,7 +4,7 @@ ghost use Rattle.std.specs.Prelude.{◌≡◌, ◌<◌, length, map, slice_get, 
 ghost use Rattle.acc_base.specs.declared.fault.Fault.{Fault};
 ghost use Rattle.acc_base.specs.declared.fault.Fault.TheVariants.{BadAsync};
 ghost use Rattle.acc_host.specs.Engines.{Record, Keeps, MayRecord};
-ghost use Rattle.acc_host.specs.Hosts.{bare, wants_at, Asks, Adds, bare_act, IsSet, owing, after_item};
+ghost use Rattle.acc_host.specs.Hosts.{bare, wants_at, Asks, Adds, bare_act, IsSet, owing, after_answer};
 ghost use Rattle.acc_host.specs.declared.program.Act.TheVariants.{SetDevice, SetAsync};
 ghost use Rattle.acc_host.specs.Steps.{wanted, set_by, set_or_refuse, ids_after, owed_batch, owed_by, is_async, set_default, records, awaits};
 ghost use Rattle.acc_work.specs.declared.item.Shown.{Shown};
@@ -120,7 +120,7 @@ fn with_default(ids: Ids, value: i64) -> Result<Ids, Fault>
 fn record_item<E: Engine>(engine: &mut E, host: HostId, item: Item) -> Result<After, Fault>
     requires host { E.serves engine.old host }
     requires item { MayRecord item }
-    ensures asks { (answer : Result Shown Fault) × E.makes engine.old host (Record item answer) engine.new × (result ≡ after_item answer) }
+    ensures asks { (answer : Result Shown Fault) × E.makes engine.old host (Record item answer) engine.new × (result ≡ after_answer answer) }
     ensures adds { Adds (records item) result (E.entries engine.old host) (E.entries engine.new host) }
     ensures keeps { Keeps E.devices E.serves E.entries host engine.old engine.new }
 {

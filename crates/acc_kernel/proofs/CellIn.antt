@@ -12,7 +12,7 @@ use Rattle.std.proofs.lemmas.List.FromFn.{length-map-range_with_len, get_or-map-
 use Rattle.std.proofs.lemmas.Option.{get_or_from_slice_get}
 use Rattle.std.proofs.lemmas.List.Sums.{passes_at_first, position_or_len_is, prefix_len-le-length}
 use Rattle.acc_kernel.specs.Cells.{with_cell, value_in}
-use Rattle.acc_kernel.specs.Jobs.{Use, no_use, place_of, range_of, has_cell, cell_in, AreDistinct, AreRows}
+use Rattle.acc_kernel.specs.Jobs.{Use, no_use, place_of, used_range, uses_have, cell_in, AreDistinct, AreRows}
 use Rattle.acc_kernel.specs.inner.RowTables.{IsStored}
 use Rattle.acc_kernel.proofs.ValueAfter.{CellsOf, within}
 
@@ -32,7 +32,7 @@ place_if_none uses array false e h =
     omega arith
 
 -- a cell that is there is in a use's range
-pub used : (uses : List Use) (array : ℕ) (cell : ℤ) → has_cell uses array cell ≡ true → place_of uses array < length uses
+pub used : (uses : List Use) (array : ℕ) (cell : ℤ) → uses_have uses array cell ≡ true → place_of uses array < length uses
 used uses array cell has =
     elim (cases_lt (place_of uses array) (length uses)) [
       | inl here ↦ here
@@ -68,7 +68,7 @@ pub record Spot (uses : List Use) (rows : List (List ℤ)) (array : ℕ) (cell :
   pub long : length (get_or rows place []) ≡ (get_or uses place no_use).1.len
 
 pub spot_of : (uses : List Use) (places : List ℕ) (rows : List (List ℤ)) (array : ℕ) (cell : ℤ) (index place : ℕ) → IsStored uses places rows
-    → index ≡ array → array < 256 → place ≡ get_or places index place → has_cell uses array cell ≡ true → Spot uses rows array cell place
+    → index ≡ array → array < 256 → place ≡ get_or places index place → uses_have uses array cell ≡ true → Spot uses rows array cell place
 spot_of uses places rows array cell index place stored same small at has =
     let count : length places ≡ 256 = stored.table.count in
     let e : place ≡ place_of uses array =
@@ -77,7 +77,7 @@ spot_of uses places rows array cell index place stored same small at has =
     let found : place_of uses array < length uses = used uses array cell has in
     let here : place < length uses = omega arith in
     let rows_are : length rows ≡ length uses = stored.shape.count in
-    let w = within (pos (range_of uses array).lo) (pos ((range_of uses array).lo + (range_of uses array).len)) cell has in
+    let w = within (pos (used_range uses array).lo) (pos ((used_range uses array).lo + (used_range uses array).len)) cell has in
     record {
       at = e;
       here = here;
@@ -121,7 +121,7 @@ other_row uses rows array cell place s row a c e =
     let move : (get_or uses (place_of uses array) no_use).1.array ≡ (get_or uses (place_of uses a) no_use).1.array =
     ap (λ (x : ℕ). (get_or uses x no_use).1.array) (sym (q ∙ s.at)) in
     other (sym eb ∙ (move ∙ ea)) in
-    ap (λ (l : List ℤ). value_in l (c -ℤ pos (range_of uses a).lo)) (get_or-set_other rows place (place_of uses a) row [] apart)
+    ap (λ (l : List ℤ). value_in l (c -ℤ pos (used_range uses a).lo)) (get_or-set_other rows place (place_of uses a) row [] apart)
 
 module _ (uses : List Use) (rows : List (List ℤ)) (array : ℕ) (cell value : ℤ) (place n : ℕ) where
   abbrev written : List (List ℤ)

@@ -13,11 +13,11 @@ use Rattle.std.proofs.lemmas.List.Folds.{list_any_at}
 use Rattle.acc_base.specs.declared.range.Range.{Range}
 use Rattle.acc_kernel.specs.declared.assign.Assign.{Assign}
 use Rattle.acc_kernel.specs.Cells.{with_cell}
-use Rattle.acc_kernel.specs.Faults.{is_assigned, IsWithinLimits}
-use Rattle.acc_kernel.specs.Jobs.{Use, no_use, place_of, range_of, has_cell, cell_in, is_read, is_used, read_uses, written_uses, shown, stored, values_shown, AreDistinct, AreRows, HoldReached}
+use Rattle.acc_kernel.specs.Faults.{is_assigned, IsLoopWithinLimits}
+use Rattle.acc_kernel.specs.Jobs.{Use, no_use, place_of, used_range, uses_have, cell_in, is_read, is_used, read_uses, written_uses, shown, stored, values_shown, AreDistinct, AreRows, HoldReached}
 use Rattle.acc_kernel.specs.Kernels.{Loop, references, references_at, Reaches, value_after}
 use Rattle.acc_kernel.specs.Trees.{Reference, references_of}
-use Rattle.acc_kernel.specs.Values.{value_at, turn}
+use Rattle.acc_kernel.specs.Values.{value_at, after_turn}
 use Rattle.acc_kernel.specs.inner.JobViews.{has_either, cell_in_either, KeepsUses}
 use Rattle.acc_kernel.specs.inner.RowTables.{RowsView}
 use Rattle.acc_kernel.proofs.CellIn.{used, uses_array, value_of}
@@ -36,14 +36,14 @@ module _ (i : ℤ) where
   abbrev OrAssigned : (ℕ → ℤ → Type 0) → List Assign → ℕ → ℤ → Type 0
   OrAssigned P rest a c = P a c ⊎ ((is_assigned rest a ≡ true) × (c ≡ i))
 
-  assigned_alike : (P : ℕ → ℤ → Type 0) (f g : CellsOf) (rest : List Assign) → AgreeOn P f g → All (ReadsAt P) rest → AgreeOn (OrAssigned P rest) (turn f i rest) (turn g i rest)
+  assigned_alike : (P : ℕ → ℤ → Type 0) (f g : CellsOf) (rest : List Assign) → AgreeOn P f g → All (ReadsAt P) rest → AgreeOn (OrAssigned P rest) (after_turn f i rest) (after_turn g i rest)
   assigned_alike P f g [] agree reads a c (inl h) = agree a c h
   assigned_alike P f g [] agree reads a c (inr h) = let assigned = h.0 in let never : ⊥ = cc in absurd never
   assigned_alike P f g (s ∷ rest) agree reads a c h =
       let v : ℤ = value_at f i s.value in
       let w : ℤ = value_at g i s.value in
       let same : v ≡ w = values_alike P i f g s.value agree (All-head (ReadsAt P) s rest reads) in
-      let later : AgreeOn (OrAssigned (OrAssigned P (s ∷ [])) rest) (turn f i (s ∷ rest)) (turn g i (s ∷ rest)) =
+      let later : AgreeOn (OrAssigned (OrAssigned P (s ∷ [])) rest) (after_turn f i (s ∷ rest)) (after_turn g i (s ∷ rest)) =
       assigned_alike (OrAssigned P (s ∷ [])) (with_cell f s.array i v) (with_cell g s.array i w) rest (now v w same)
       (λ n t lt m r low. inl (All-tail (ReadsAt P) s rest reads n t lt m r low)) in
       later a c (sooner h)
@@ -73,9 +73,9 @@ IsRead k array cell = (is_read k.statements array ≡ true) × Reaches k array c
 pub same_after : (k : Loop) (f g : CellsOf) (array : ℕ) (cell : ℤ) → ((a : ℕ) (c : ℤ) → is_read k.statements a ≡ true → Reaches k a c → f a c ≡ g a c)
     → is_assigned k.statements array ≡ true → k.lo ≤ℤ cell → cell <ℤ k.hi → value_after k f array cell ≡ value_after k g array cell
 same_after k f g array cell agree assigned from to =
-    ap (λ (b : Bool). if b then turn f cell k.statements array cell else f array cell) between
+    ap (λ (b : Bool). if b then after_turn f cell k.statements array cell else f array cell) between
     ∙ (assigned_alike cell (IsRead k) f g k.statements (λ a c h. agree a c h.0 h.1) reads array cell (inr (assigned, refl))
-    ∙ sym (ap (λ (b : Bool). if b then turn g cell k.statements array cell else g array cell) between))
+    ∙ sym (ap (λ (b : Bool). if b then after_turn g cell k.statements array cell else g array cell) between))
   where
     between : (int_le k.lo cell && int_lt cell k.hi) ≡ true
     between =
@@ -96,7 +96,7 @@ same_after k f g array cell agree assigned from to =
 
 -- a loop leaves the arrays that it doesn't assign
 loop_unassigned : (k : Loop) (f : CellsOf) (array : ℕ) (cell : ℤ) → is_assigned k.statements array ≡ false → value_after k f array cell ≡ f array cell
-loop_unassigned k f array cell un = either_way (int_le k.lo cell && int_lt cell k.hi) (turn f cell k.statements array cell) (f array cell) (turn_unassigned f cell k.statements array cell un)
+loop_unassigned k f array cell un = either_way (int_le k.lo cell && int_lt cell k.hi) (after_turn f cell k.statements array cell) (f array cell) (turn_unassigned f cell k.statements array cell un)
 
 -- ## What is stored
 
@@ -120,7 +120,7 @@ commits k uses inputs cells distinct reached same =
         same_after k (cell_in (read_uses k uses) inputs) cells array cell agree at.0 at.1 at.2
     by array cell false none = sym (left (int_le k.lo cell && int_lt cell k.hi) refl)
       where
-        left : (b : Bool) → (int_le k.lo cell && int_lt cell k.hi) ≡ b → (if b then turn cells cell k.statements array cell else cells array cell) ≡ cells array cell
+        left : (b : Bool) → (int_le k.lo cell && int_lt cell k.hi) ≡ b → (if b then after_turn cells cell k.statements array cell else cells array cell) ≡ cells array cell
         left false e = refl
         left true e =
             let ends = within k.lo k.hi cell e in
@@ -135,7 +135,7 @@ commits k uses inputs cells distinct reached same =
 
 -- ## What is computed
 
-module _ (k : Loop) (uses : List Use) (limits : IsWithinLimits k) (distinct : AreDistinct uses) (reached : HoldReached k uses) where
+module _ (k : Loop) (uses : List Use) (limits : IsLoopWithinLimits k) (distinct : AreDistinct uses) (reached : HoldReached k uses) where
   -- the inputs, and the cells as the loop sees them with these outputs
   abbrev read : List (List ℤ) → CellsOf
   read ins = cell_in (read_uses k uses) ins
@@ -156,7 +156,7 @@ module _ (k : Loop) (uses : List Use) (limits : IsWithinLimits k) (distinct : Ar
       own assigned =
           let ws : List Use = written_uses k uses in
           let at = assigned_at_indices k a c limits r assigned in
-          let has : has_cell ws a c ≡ true = written_has k uses a c distinct reached assigned at.0 at.1 in
+          let has : uses_have ws a c ≡ true = written_has k uses a c distinct reached assigned at.0 at.1 in
           let used_too : is_used (read_uses k uses) a ≡ true =
           used_read k uses a ∙ and_from (is_read k.statements a) (is_used uses a) is (used_if_has uses a c (reached a c r)) in
           let row = begin (place_of ws a) (used ws a c has) (subst (λ (b : ℕ). is_used (read_uses k uses) b ≡ true) (sym (found_range ws a c has)) used_too) in
@@ -179,7 +179,7 @@ module _ (k : Loop) (uses : List Use) (limits : IsWithinLimits k) (distinct : Ar
       let below : n < u.len = omega (arith, low, shape.lengths place lt) in
       let cell : ℤ = pos (u.lo + n) in
       let same : cell ≡ pos u.lo +ℤ pos n = omega (arith, ints) in
-      let has : has_cell ws u.array cell ≡ true = use_has ws place cell (distinct_written k uses distinct) lt (omega (arith, ints)) (omega (arith, ints, below)) in
+      let has : uses_have ws u.array cell ≡ true = use_has ws place cell (distinct_written k uses distinct) lt (omega (arith, ints)) (omega (arith, ints, below)) in
       let at = assigned_if_written k uses u.array cell reached (any_has ws u.array cell has) in
       sym (value_of ws new_outs (seen ins outs) (distinct_written k uses distinct) place n lt)
       ∙ (sym (ap (λ (b : Bool). if b then cell_in ws new_outs u.array cell else read new_ins u.array cell) (used_if_has ws u.array cell has))

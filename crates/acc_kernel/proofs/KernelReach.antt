@@ -8,7 +8,7 @@ use Rattle.std.proofs.lemmas.Bool.Decides.{Decides-eqb}
 use Rattle.std.proofs.lemmas.Int.{ints, clamps}
 use Rattle.std.proofs.lemmas.List.Elements.{All-contains, Contains-append_left, Contains-push, Contains-push_cases}
 use Rattle.acc_kernel.specs.declared.reach.Reach.{Reach}
-use Rattle.acc_kernel.specs.Faults.{IsNear, IsWithinLimits}
+use Rattle.acc_kernel.specs.Faults.{IsNear, IsLoopWithinLimits}
 use Rattle.acc_kernel.specs.Kernels.{Loop, references, Reaches, IsReach, spanned, widened_span}
 use Rattle.acc_kernel.specs.Trees.{Reference}
 
@@ -90,7 +90,7 @@ module _ (array : ℕ) where
       no_element r c = omega arith
 
 -- both ends of a span are near, where all offsets are
-pub span_near : (k : Loop) (array : ℕ) (s : Reach) → IsWithinLimits k → IsSpan array (references k.statements) (Some s) → IsNear s.first × IsNear s.last
+pub span_near : (k : Loop) (array : ℕ) (s : Reach) → IsLoopWithinLimits k → IsSpan array (references k.statements) (Some s) → IsNear s.first × IsNear s.last
 span_near k array s limits span = (near s.first span.0, near s.last span.1)
   where
     near : (offset : ℤ) → IsNamed array (references k.statements) offset → IsNear offset

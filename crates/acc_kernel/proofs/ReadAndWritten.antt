@@ -15,8 +15,8 @@ use Rattle.std.proofs.lemmas.Map.Views.{any-filter_same}
 use Rattle.acc_base.specs.declared.range.Range.{Range}
 use Rattle.acc_kernel.specs.declared.assign.Assign.{Assign}
 use Rattle.acc_kernel.specs.Cells.{is_among}
-use Rattle.acc_kernel.specs.Faults.{is_assigned, is_off, IsWithinLimits}
-use Rattle.acc_kernel.specs.Jobs.{Use, no_use, place_of, range_of, has_cell, at_indices, is_read, is_used, read_uses, written_uses, AreDistinct, HoldReached}
+use Rattle.acc_kernel.specs.Faults.{is_assigned, is_off, IsLoopWithinLimits}
+use Rattle.acc_kernel.specs.Jobs.{Use, no_use, place_of, used_range, uses_have, at_indices, is_read, is_used, read_uses, written_uses, AreDistinct, HoldReached}
 use Rattle.acc_kernel.specs.Kernels.{Loop, references, references_at, Reaches}
 use Rattle.acc_kernel.specs.Trees.{Reference, references_of}
 use Rattle.acc_kernel.proofs.CellIn.{uses_array, used}
@@ -52,7 +52,7 @@ is_used-place (u ∷ uses) array = by (is_used-place uses array) (u.1.array == a
     by others true e = rw e (some_place (length uses))
     by others false e = rw e (others ∙ one_more (place_of uses array) (length uses))
 
-pub used_if_has : (uses : List Use) (array : ℕ) (cell : ℤ) → has_cell uses array cell ≡ true → is_used uses array ≡ true
+pub used_if_has : (uses : List Use) (array : ℕ) (cell : ℤ) → uses_have uses array cell ≡ true → is_used uses array ≡ true
 used_if_has uses array cell has =
     let here : place_of uses array < length uses = used uses array cell has in
     is_used-place uses array ∙ at_place here
@@ -209,7 +209,7 @@ reached_if_assigned k array cell assigned from to =
             (suc later.0, later.1, (let low = later.2 in omega (arith, low)), later.3)
 
 -- and nowhere else
-pub assigned_at_indices : (k : Loop) (array : ℕ) (cell : ℤ) → IsWithinLimits k → Reaches k array cell → is_assigned k.statements array ≡ true → (k.lo ≤ℤ cell) × (cell <ℤ k.hi)
+pub assigned_at_indices : (k : Loop) (array : ℕ) (cell : ℤ) → IsLoopWithinLimits k → Reaches k array cell → is_assigned k.statements array ≡ true → (k.lo ≤ℤ cell) × (cell <ℤ k.hi)
 assigned_at_indices k array cell limits r assigned =
     let quiet : is_off k.statements r.reference ≡ false = All-contains (λ (x : Reference). is_off k.statements x ≡ false) (references k.statements) r.reference limits.apart r.named in
     elim (reads_apart k.statements r.index r.reference quiet) [
@@ -221,12 +221,12 @@ assigned_at_indices k array cell limits r assigned =
 
 -- ## The cells of what is read and of what is assigned
 
-pub read_has : (k : Loop) (uses : List Use) (array : ℕ) (cell : ℤ) → AreDistinct uses → is_read k.statements array ≡ true → has_cell uses array cell ≡ true → has_cell (read_uses k uses) array cell ≡ true
+pub read_has : (k : Loop) (uses : List Use) (array : ℕ) (cell : ℤ) → AreDistinct uses → is_read k.statements array ≡ true → uses_have uses array cell ≡ true → uses_have (read_uses k uses) array cell ≡ true
 read_has k uses array cell distinct read has =
     has_any (read_uses k uses) array cell (distinct_read k uses distinct)
     (any_read k uses array cell ∙ (ap (λ (b : Bool). b && list_any (has_use array cell) uses) read ∙ any_has uses array cell has))
 
-pub has_if_read : (k : Loop) (uses : List Use) (array : ℕ) (cell : ℤ) → AreDistinct uses → has_cell (read_uses k uses) array cell ≡ true → has_cell uses array cell ≡ true
+pub has_if_read : (k : Loop) (uses : List Use) (array : ℕ) (cell : ℤ) → AreDistinct uses → uses_have (read_uses k uses) array cell ≡ true → uses_have uses array cell ≡ true
 has_if_read k uses array cell distinct has =
     has_any uses array cell distinct
     (and_parts (is_read k.statements array) (list_any (has_use array cell) uses) (sym (any_read k uses array cell) ∙ any_has (read_uses k uses) array cell has)).1
@@ -236,7 +236,7 @@ pub at_lo : (k : Loop) (uses : List Use) (array : ℕ) → HoldReached k uses �
     → (pos (at_indices k array).lo ≡ k.lo) × (k.lo +ℤ pos (at_indices k array).len ≡ k.hi)
 at_lo k uses array reached assigned some =
     let has = reached array k.lo (reached_if_assigned k array k.lo assigned (omega (arith, ints)) some) in
-    let low : pos (range_of uses array).lo ≤ℤ k.lo = (within (pos (range_of uses array).lo) (pos ((range_of uses array).lo + (range_of uses array).len)) k.lo has).0 in
+    let low : pos (used_range uses array).lo ≤ℤ k.lo = (within (pos (used_range uses array).lo) (pos ((used_range uses array).lo + (used_range uses array).len)) k.lo has).0 in
     (first k.lo (omega (arith, ints)), last (k.hi -ℤ k.lo) refl)
   where
     first : (n : ℤ) → pos 0 ≤ℤ n → pos (unsigned_abs n) ≡ n
@@ -254,7 +254,7 @@ at_lo k uses array reached assigned some =
 
 -- the cells of what is assigned are those of the arrays that are assigned, at the loop's indices
 pub written_has : (k : Loop) (uses : List Use) (array : ℕ) (cell : ℤ) → AreDistinct uses → HoldReached k uses → is_assigned k.statements array ≡ true → k.lo ≤ℤ cell → cell <ℤ k.hi
-    → has_cell (written_uses k uses) array cell ≡ true
+    → uses_have (written_uses k uses) array cell ≡ true
 written_has k uses array cell distinct reached assigned from to =
     let ends = at_lo k uses array reached assigned (omega (arith, ints)) in
     let first : pos (at_indices k array).lo ≡ k.lo = ends.0 in
@@ -286,7 +286,7 @@ assigned_if_written k uses array cell reached any =
         let none : (at_indices k array).len ≡ 0 = ap (λ (b : Bool). if b then unsigned_abs (k.hi -ℤ k.lo) else 0) e in
         absurd (omega (arith, ints))
 
-pub has_if_written : (k : Loop) (uses : List Use) (array : ℕ) (cell : ℤ) → HoldReached k uses → has_cell (written_uses k uses) array cell ≡ true → has_cell uses array cell ≡ true
+pub has_if_written : (k : Loop) (uses : List Use) (array : ℕ) (cell : ℤ) → HoldReached k uses → uses_have (written_uses k uses) array cell ≡ true → uses_have uses array cell ≡ true
 has_if_written k uses array cell reached has =
     let at = assigned_if_written k uses array cell reached (any_has (written_uses k uses) array cell has) in
     reached array cell (reached_if_assigned k array cell at.0 at.1 at.2)
@@ -294,7 +294,7 @@ has_if_written k uses array cell reached has =
 -- the cells that are assigned, of an array that is read
 pub begun_has : (k : Loop) (uses : List Use) (place n : ℕ) → AreDistinct uses → HoldReached k uses → place < length (written_uses k uses)
     → is_used (read_uses k uses) (get_or (written_uses k uses) place no_use).1.array ≡ true → n < (get_or (written_uses k uses) place no_use).1.len
-    → has_cell (read_uses k uses) (get_or (written_uses k uses) place no_use).1.array (pos (get_or (written_uses k uses) place no_use).1.lo +ℤ pos n) ≡ true
+    → uses_have (read_uses k uses) (get_or (written_uses k uses) place no_use).1.array (pos (get_or (written_uses k uses) place no_use).1.lo +ℤ pos n) ≡ true
 begun_has k uses place n distinct reached lt known below =
     let r : Range = (get_or (written_uses k uses) place no_use).1 in
     let has = use_has (written_uses k uses) place (pos r.lo +ℤ pos n) (distinct_written k uses distinct) lt (omega (arith, ints)) (omega (arith, ints, below)) in
@@ -302,21 +302,21 @@ begun_has k uses place n distinct reached lt known below =
     (has_if_written k uses r.array (pos r.lo +ℤ pos n) reached has)
 
 -- a job has all cells that its loop reaches, among its outputs or its inputs
-pub either_has : (k : Loop) (uses : List Use) → IsWithinLimits k → AreDistinct uses → HoldReached k uses → (array : ℕ) (cell : ℤ) → Reaches k array cell
-    → (if is_used (written_uses k uses) array then has_cell (written_uses k uses) array cell else has_cell (read_uses k uses) array cell) ≡ true
+pub either_has : (k : Loop) (uses : List Use) → IsLoopWithinLimits k → AreDistinct uses → HoldReached k uses → (array : ℕ) (cell : ℤ) → Reaches k array cell
+    → (if is_used (written_uses k uses) array then uses_have (written_uses k uses) array cell else uses_have (read_uses k uses) array cell) ≡ true
 either_has k uses limits distinct reached array cell r = by (is_assigned k.statements array) refl
   where
-    has : has_cell uses array cell ≡ true
+    has : uses_have uses array cell ≡ true
     has = reached array cell r
 
     written : is_used (written_uses k uses) array ≡ is_assigned k.statements array
     written = used_written k uses array ∙ (ap (λ (b : Bool). is_assigned k.statements array && b) (used_if_has uses array cell has) ∙ and_true (is_assigned k.statements array))
 
     by : (b : Bool) → is_assigned k.statements array ≡ b
-        → (if is_used (written_uses k uses) array then has_cell (written_uses k uses) array cell else has_cell (read_uses k uses) array cell) ≡ true
+        → (if is_used (written_uses k uses) array then uses_have (written_uses k uses) array cell else uses_have (read_uses k uses) array cell) ≡ true
     by true e =
         let at = assigned_at_indices k array cell limits r e in
-        ap (λ (b : Bool). if b then has_cell (written_uses k uses) array cell else has_cell (read_uses k uses) array cell) (written ∙ e) ∙ written_has k uses array cell distinct reached e at.0 at.1
+        ap (λ (b : Bool). if b then uses_have (written_uses k uses) array cell else uses_have (read_uses k uses) array cell) (written ∙ e) ∙ written_has k uses array cell distinct reached e at.0 at.1
     by false e =
-        ap (λ (b : Bool). if b then has_cell (written_uses k uses) array cell else has_cell (read_uses k uses) array cell) (written ∙ e)
+        ap (λ (b : Bool). if b then uses_have (written_uses k uses) array cell else uses_have (read_uses k uses) array cell) (written ∙ e)
         ∙ read_has k uses array cell distinct (read_if_reached k array cell r e) has

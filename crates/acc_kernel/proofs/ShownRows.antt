@@ -10,7 +10,7 @@ use Rattle.std.proofs.lemmas.List.FromFn.{length-map-range_with_len, get_or-map-
 use Rattle.std.proofs.lemmas.List.Sums.{passes_at_first}
 use Rattle.acc_base.specs.declared.range.Range.{Range}
 use Rattle.acc_kernel.specs.Cells.{is_among, value_in, with_cells}
-use Rattle.acc_kernel.specs.Jobs.{Use, no_use, place_of, range_of, has_cell, cell_in, AreDistinct, HasUses, HoldReached, shown, stored, values_shown}
+use Rattle.acc_kernel.specs.Jobs.{Use, no_use, place_of, used_range, uses_have, cell_in, AreDistinct, HasUses, HoldReached, shown, stored, values_shown}
 use Rattle.acc_kernel.specs.inner.RowTables.{HasRange, IsStored}
 use Rattle.acc_kernel.specs.Kernels.{Loop, value_after}
 use Rattle.acc_kernel.proofs.ValueAfter.{CellsOf, within, loop_alike, loop_leaves}
@@ -52,7 +52,7 @@ shows_cell cells r cell low high = by (cell -ℤ pos r.lo) refl
 
 -- a use has the cells of its range
 pub use_has : (uses : List Use) (place : ℕ) (cell : ℤ) → AreDistinct uses → place < length uses → pos (get_or uses place no_use).1.lo ≤ℤ cell
-    → cell <ℤ (pos (get_or uses place no_use).1.lo +ℤ pos (get_or uses place no_use).1.len) → has_cell uses (get_or uses place no_use).1.array cell ≡ true
+    → cell <ℤ (pos (get_or uses place no_use).1.lo +ℤ pos (get_or uses place no_use).1.len) → uses_have uses (get_or uses place no_use).1.array cell ≡ true
 use_has uses place cell distinct lt low high =
     subst (λ (p : ℕ). (int_le (pos (get_or uses p no_use).1.lo) cell && int_lt cell (pos ((get_or uses p no_use).1.lo + (get_or uses p no_use).1.len))) ≡ true)
     (sym (its_place uses place distinct lt)) (inside (get_or uses place no_use).1 low high)
@@ -69,15 +69,15 @@ range_there uses has place distinct lt all k low =
     (use_has uses place (pos (get_or uses place no_use).1.lo +ℤ pos k) distinct lt (omega (arith, ints)) (omega (arith, ints)))
 
 -- the range of a cell that is there
-pub found_range : (uses : List Use) (array : ℕ) (cell : ℤ) → has_cell uses array cell ≡ true → (range_of uses array).array ≡ array
+pub found_range : (uses : List Use) (array : ℕ) (cell : ℤ) → uses_have uses array cell ≡ true → (used_range uses array).array ≡ array
 found_range uses array cell has =
-    eqb-true (range_of uses array).array array (passes_at_first (uses_array array) uses no_use (let here : place_of uses array < length uses = used uses array cell has in omega arith))
+    eqb-true (used_range uses array).array array (passes_at_first (uses_array array) uses no_use (let here : place_of uses array < length uses = used uses array cell has in omega arith))
 
 -- a row that shows some cells does so
-pub cell_of_shown : (uses : List Use) (rows : List (List ℤ)) (cells : CellsOf) (array : ℕ) (cell : ℤ) → has_cell uses array cell ≡ true
-    → get_or rows (place_of uses array) [] ≡ values_shown cells (range_of uses array) → cell_in uses rows array cell ≡ cells array cell
+pub cell_of_shown : (uses : List Use) (rows : List (List ℤ)) (cells : CellsOf) (array : ℕ) (cell : ℤ) → uses_have uses array cell ≡ true
+    → get_or rows (place_of uses array) [] ≡ values_shown cells (used_range uses array) → cell_in uses rows array cell ≡ cells array cell
 cell_of_shown uses rows cells array cell has row =
-    let r : Range = range_of uses array in
+    let r : Range = used_range uses array in
     let ends = within (pos r.lo) (pos (r.lo + r.len)) cell has in
     let low : pos r.lo ≤ℤ cell = ends.0 in
     let high : cell <ℤ pos (r.lo + r.len) = ends.1 in
@@ -85,7 +85,7 @@ cell_of_shown uses rows cells array cell has row =
     ∙ (shows_cell cells r cell low (omega (arith, ints)) ∙ ap (λ (a : ℕ). cells a cell) (found_range uses array cell has))
 
 -- so do rows
-pub cell_shown : (uses : List Use) (cells : CellsOf) (array : ℕ) (cell : ℤ) → has_cell uses array cell ≡ true → cell_in uses (shown uses cells) array cell ≡ cells array cell
+pub cell_shown : (uses : List Use) (cells : CellsOf) (array : ℕ) (cell : ℤ) → uses_have uses array cell ≡ true → cell_in uses (shown uses cells) array cell ≡ cells array cell
 cell_shown uses cells array cell has =
     cell_of_shown uses (shown uses cells) cells array cell has
     (get_or-map (λ (u : Use). values_shown cells u.1) uses (place_of uses array) no_use [] (used uses array cell has))
@@ -115,9 +115,9 @@ some_at p (u ∷ uses) d h = by (λ later. some_at p uses d later) (p u) refl
         let s = others (sym (ap (λ (b : Bool). b || list_any p uses) e) ∙ h) in
         (suc s.0, (let low = s.1 in omega (arith, low)), s.2)
 
-pub any_has : (uses : List Use) (array : ℕ) (cell : ℤ) → has_cell uses array cell ≡ true → list_any (has_use array cell) uses ≡ true
+pub any_has : (uses : List Use) (array : ℕ) (cell : ℤ) → uses_have uses array cell ≡ true → list_any (has_use array cell) uses ≡ true
 any_has uses array cell has =
-    let r : Range = range_of uses array in
+    let r : Range = used_range uses array in
     let ends = within (pos r.lo) (pos (r.lo + r.len)) cell has in
     let low : pos r.lo ≤ℤ cell = ends.0 in
     let high : cell <ℤ pos (r.lo + r.len) = ends.1 in
@@ -127,13 +127,13 @@ any_has uses array cell has =
     (and_from (r.array == array) (is_among (pos r.lo) r.len cell) (eq-eqb r.array array (found_range uses array cell has))
     (and_from (int_le (pos r.lo) cell) (int_lt cell (pos r.lo +ℤ pos r.len)) under over))
 
-pub has_any : (uses : List Use) (array : ℕ) (cell : ℤ) → AreDistinct uses → list_any (has_use array cell) uses ≡ true → has_cell uses array cell ≡ true
+pub has_any : (uses : List Use) (array : ℕ) (cell : ℤ) → AreDistinct uses → list_any (has_use array cell) uses ≡ true → uses_have uses array cell ≡ true
 has_any uses array cell distinct any =
     let s = some_at (has_use array cell) uses no_use any in
     let r : Range = (get_or uses s.0 no_use).1 in
     let parts = and_parts (r.array == array) (is_among (pos r.lo) r.len cell) s.2 in
     let ends = within (pos r.lo) (pos r.lo +ℤ pos r.len) cell parts.1 in
-    subst (λ (a : ℕ). has_cell uses a cell ≡ true) (eqb-true r.array array parts.0) (use_has uses s.0 cell distinct s.1 ends.0 ends.1)
+    subst (λ (a : ℕ). uses_have uses a cell ≡ true) (eqb-true r.array array parts.0) (use_has uses s.0 cell distinct s.1 ends.0 ends.1)
 
 -- rows of some cells that are stored over others show them wherever a use has the cell
 pub stored_at : (f : CellsOf) (uses : List Use) (cells : CellsOf) (array : ℕ) (cell : ℤ) → stored uses (shown uses f) cells array cell ≡ (if list_any (has_use array cell) uses then f array cell else cells array cell)
@@ -208,7 +208,7 @@ pub part_at : (values : List ℤ) (a b k : ℕ) → k < b - a → get_or (take (
 part_at values a b k lt = get_or-take (b - a) (drop a values) k (pos 0) lt ∙ get_or-drop a values k (pos 0)
 
 -- cells that agree wherever the uses have one are shown alike
-pub shown_alike : (uses : List Use) (f g : CellsOf) → AreDistinct uses → ((array : ℕ) (cell : ℤ) → has_cell uses array cell ≡ true → f array cell ≡ g array cell) → shown uses f ≡ shown uses g
+pub shown_alike : (uses : List Use) (f g : CellsOf) → AreDistinct uses → ((array : ℕ) (cell : ℤ) → uses_have uses array cell ≡ true → f array cell ≡ g array cell) → shown uses f ≡ shown uses g
 shown_alike uses f g distinct agree =
     rows_shown uses (shown uses f) g (length-map uses (λ (u : Use). values_shown f u.1))
     (λ place lt.

@@ -9,7 +9,7 @@ use Rattle.std.proofs.lemmas.Bool.Decides.{Decides-eqb}
 use Rattle.std.proofs.lemmas.Int.{ints}
 use Rattle.std.proofs.lemmas.List.{get_or-append_right, get_or-drop, get_or-set_other, get_or-set_same, get_or-take, get_or_append_left, length-append, length-drop, length-set, length-take-le}
 use Rattle.acc_kernel.specs.Cells.{is_among, value_in, with_cells}
-use Rattle.acc_kernel.specs.Jobs.{Use, no_use, place_of, range_of, has_cell, cell_in, AreRows}
+use Rattle.acc_kernel.specs.Jobs.{Use, no_use, place_of, used_range, uses_have, cell_in, AreRows}
 use Rattle.acc_kernel.proofs.ValueAfter.{plus_zero, within}
 use Rattle.acc_kernel.proofs.CellIn.{Spot, other_row}
 
@@ -79,16 +79,16 @@ length_range row n count room =
 
 -- all cells of a column are there
 abbrev pub HasAll : List Use → ℕ → ℤ → ℕ → Type 0
-HasAll uses array first count = (k : ℕ) → k < count → IsTrue (has_cell uses array (first +ℤ pos k))
+HasAll uses array first count = (k : ℕ) → k < count → IsTrue (uses_have uses array (first +ℤ pos k))
 
-pub first_there : (uses : List Use) (array : ℕ) (first : ℤ) (count : ℕ) → 0 < count → HasAll uses array first count → has_cell uses array first ≡ true
-first_there uses array first count some all = subst (λ (c : ℤ). has_cell uses array c ≡ true) (plus_zero first) (all 0 (omega arith))
+pub first_there : (uses : List Use) (array : ℕ) (first : ℤ) (count : ℕ) → 0 < count → HasAll uses array first count → uses_have uses array first ≡ true
+first_there uses array first count some all = subst (λ (c : ℤ). uses_have uses array c ≡ true) (plus_zero first) (all 0 (omega arith))
 
 module _ (uses : List Use) (rows : List (List ℤ)) (array : ℕ) (first : ℤ) (count place n : ℕ) where
   -- the row has room for a column from the first cell on
   pub room_for : Spot uses rows array first place → first -ℤ pos (get_or uses place no_use).1.lo ≡ pos n → 0 < count → HasAll uses array first count → n + count ≤ length (get_or rows place [])
   room_for s at some all =
-      let w = within (pos (range_of uses array).lo) (pos ((range_of uses array).lo + (range_of uses array).len)) (first +ℤ pos (count - 1)) (all (count - 1) (omega arith)) in
+      let w = within (pos (used_range uses array).lo) (pos ((used_range uses array).lo + (used_range uses array).len)) (first +ℤ pos (count - 1)) (all (count - 1) (omega arith)) in
       let high : (first +ℤ pos (count - 1)) <ℤ pos ((get_or uses place no_use).1.lo + (get_or uses place no_use).1.len) =
       subst (λ (p : ℕ). (first +ℤ pos (count - 1)) <ℤ pos ((get_or uses p no_use).1.lo + (get_or uses p no_use).1.len)) (sym s.at) w.1 in
       let long : length (get_or rows place []) ≡ (get_or uses place no_use).1.len = s.long in

@@ -17,13 +17,13 @@ code_of TooFar = codes "K4"
 code_of TooMany = codes "F5"
 code_of Memory = codes "F11"
 
-abbrev pub name_of : KernelFault → List ℕ
-name_of ReadsAssigned = codes "ReadsAssigned"
-name_of NoStatement = codes "NoStatement"
-name_of TooDeep = codes "TooDeep"
-name_of TooFar = codes "TooFar"
-name_of TooMany = codes "TooMany"
-name_of Memory = codes "Memory"
+abbrev pub loop_fault_name : KernelFault → List ℕ
+loop_fault_name ReadsAssigned = codes "ReadsAssigned"
+loop_fault_name NoStatement = codes "NoStatement"
+loop_fault_name TooDeep = codes "TooDeep"
+loop_fault_name TooFar = codes "TooFar"
+loop_fault_name TooMany = codes "TooMany"
+loop_fault_name Memory = codes "Memory"
 
 -- some statement assigns the array
 abbrev pub is_assigned : List Assign → ℕ → Bool
@@ -50,8 +50,8 @@ abbrev pub has_far : Loop → Bool
 has_far k = (is_far k.lo || is_far k.hi) || list_any (λ (r : Reference). is_far r.offset) (references k.statements)
 
 -- the first fault, or none within the limits
-abbrev pub fault_of : Loop → Option KernelFault
-fault_of k =
+abbrev pub loop_fault : Loop → Option KernelFault
+loop_fault k =
     if reads_assigned k.statements then Some ReadsAssigned
     else (if length k.statements == 0 then Some NoStatement
     else (if list_any is_deep k.statements then Some TooDeep
@@ -59,15 +59,15 @@ fault_of k =
     else (if nat_lt MAX_STATEMENTS (length k.statements) then Some TooMany else None))))
 
 -- why a loop is refused: its first fault, and want of memory where it has none
-abbrev pub IsRefusal : Option KernelFault → KernelFault → Type 0
-IsRefusal (Some fault) f = f ≡ fault
-IsRefusal None f = f ≡ Memory
+abbrev pub IsLoopRefusal : Option KernelFault → KernelFault → Type 0
+IsLoopRefusal (Some fault) f = f ≡ fault
+IsLoopRefusal None f = f ≡ Memory
 
 abbrev pub IsNear : ℤ → Type 0
 IsNear n = (neg_ℤ MAX_DISTANCE ≤ℤ n) × (n ≤ℤ MAX_DISTANCE)
 
 -- what each loop keeps that was accepted
-pub record IsWithinLimits (k : Loop) : Type 0 where
+pub record IsLoopWithinLimits (k : Loop) : Type 0 where
   pub apart : All (λ (r : Reference). is_off k.statements r ≡ false) (references k.statements)
   pub depth : All (λ (s : Assign). depth_of s.value ≤ MAX_DEPTH) k.statements
   pub lo : IsNear k.lo

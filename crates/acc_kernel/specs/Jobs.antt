@@ -20,17 +20,17 @@ abbrev pub place_of : List Use → ℕ → ℕ
 place_of uses array = position_or_len (λ u. u.1.array == array) uses
 
 -- the range of that use, or one without a cell
-abbrev pub range_of : List Use → ℕ → Range
-range_of uses array = (slice_index_or uses (place_of uses array) no_use).1
+abbrev pub used_range : List Use → ℕ → Range
+used_range uses array = (slice_index_or uses (place_of uses array) no_use).1
 
-abbrev pub has_cell : List Use → ℕ → ℤ → Bool
-has_cell uses array cell =
-    int_le (pos (range_of uses array).lo) cell && int_lt cell (pos ((range_of uses array).lo + (range_of uses array).len))
+abbrev pub uses_have : List Use → ℕ → ℤ → Bool
+uses_have uses array cell =
+    int_le (pos (used_range uses array).lo) cell && int_lt cell (pos ((used_range uses array).lo + (used_range uses array).len))
 
 -- the value of a cell, where each use has its row
 abbrev pub cell_in : List Use → List (List ℤ) → ℕ → ℤ → ℤ
 cell_in uses rows array cell =
-    value_in (slice_index_or rows (place_of uses array) []) (cell -ℤ pos (range_of uses array).lo)
+    value_in (slice_index_or rows (place_of uses array) []) (cell -ℤ pos (used_range uses array).lo)
 
 -- some use is of the array
 abbrev pub is_used : List Use → ℕ → Bool
@@ -42,12 +42,12 @@ AreDistinct uses = AllPairs (λ u v. u.1.array ≢ v.1.array) uses
 
 -- they have all cells that the loop reaches
 abbrev pub HoldReached : Loop → List Use → Type 0
-HoldReached k uses = (array : ℕ) (cell : ℤ) → Reaches k array cell → IsTrue (has_cell uses array cell)
+HoldReached k uses = (array : ℕ) (cell : ℤ) → Reaches k array cell → IsTrue (uses_have uses array cell)
 
 -- the uses don't have the cell of a reference at the first or at the last index
 abbrev pub is_lacking : ℤ → ℤ → List Use → Reference → Bool
 is_lacking first last uses r =
-    not (has_cell uses r.array (first +ℤ r.offset) && has_cell uses r.array (last +ℤ r.offset))
+    not (uses_have uses r.array (first +ℤ r.offset) && uses_have uses r.array (last +ℤ r.offset))
 
 -- a row for each use, with a value for each of its cells
 pub record AreRows (uses : List Use) (rows : List (List ℤ)) : Type 0 where
@@ -103,7 +103,7 @@ stored (u ∷ uses) (row ∷ rows) cells = stored uses rows (with_cells cells u.
 
 -- a window has all cells of the uses
 abbrev pub HasUses : List Use → (ℕ → ℤ → Bool) → Type 0
-HasUses uses has = (array : ℕ) (cell : ℤ) → IsTrue (has_cell uses array cell) → IsTrue (has array cell)
+HasUses uses has = (array : ℕ) (cell : ℤ) → IsTrue (uses_have uses array cell) → IsTrue (has array cell)
 
 -- what a job keeps
 pub record IsJob (c : Computation) : Type 0 where

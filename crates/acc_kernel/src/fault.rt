@@ -1,7 +1,7 @@
 //! The faults of a loop.
 
 ghost use Rattle.std.specs.Prelude.{◌≡◌};
-ghost use Rattle.acc_kernel.specs.Faults.{code_of, name_of};
+ghost use Rattle.acc_kernel.specs.Faults.{code_of, loop_fault_name};
 
 use std::alloc::AllocError;
 use std::error::Error;
@@ -41,7 +41,7 @@ impl KernelFault {
 
     /// The name behind the code.
     pub fn name(&self) -> &'static str
-        ensures { result.now ≡ name_of self.now }
+        ensures { result.now ≡ loop_fault_name self.now }
     {
         match self {
             KernelFault::ReadsAssigned => "ReadsAssigned",

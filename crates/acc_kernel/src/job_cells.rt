@@ -1,7 +1,7 @@
 //! The cells of a job as its loop sees them: of an array that it assigns the outputs, of another the inputs.
 
 ghost use Rattle.std.specs.Prelude.{◌≡◌, ℕ, ◌<◌, [], true, length, slice_index_or};
-ghost use Rattle.acc_kernel.specs.Jobs.{AreRows, no_use, has_cell, cell_in, is_used, values_shown};
+ghost use Rattle.acc_kernel.specs.Jobs.{AreRows, no_use, uses_have, cell_in, is_used, values_shown};
 ghost use Rattle.acc_kernel.specs.inner.RowTables.{HasRange};
 
 use crate::rows::Rows;
@@ -17,7 +17,7 @@ pub(crate) struct JobCells {
 impl JobCells {
     /// Each output, whose cell is among the inputs if some input is of its array, begins with the input of its cell.
     pub(crate) fn start(&mut self)
-        requires has { (place : ℕ) → place < length self.old.outputs.uses → is_used self.old.inputs.uses (slice_index_or self.old.outputs.uses place no_use).1.array ≡ true → HasRange (slice_index_or self.old.outputs.uses place no_use).1 (has_cell self.old.inputs.uses) }
+        requires has { (place : ℕ) → place < length self.old.outputs.uses → is_used self.old.inputs.uses (slice_index_or self.old.outputs.uses place no_use).1.array ≡ true → HasRange (slice_index_or self.old.outputs.uses place no_use).1 (uses_have self.old.inputs.uses) }
         ensures inputs { self.new.inputs ≡ self.old.inputs }
         ensures uses { self.new.outputs.uses ≡ self.old.outputs.uses }
         ensures outputs { (place : ℕ) → place < length self.old.outputs.uses → is_used self.old.inputs.uses (slice_index_or self.old.outputs.uses place no_use).1.array ≡ true → slice_index_or self.new.outputs.rows place [] ≡ values_shown (cell_in self.old.inputs.uses self.old.inputs.rows) (slice_index_or self.old.outputs.uses place no_use).1 }

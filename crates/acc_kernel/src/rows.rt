@@ -3,7 +3,7 @@
 ghost use Rattle.std.specs.Prelude.{◌≡◌, ◌↔◌, ℕ, ◌+◌, ◌<◌, pos, [], length, slice_index_or, slice_set, true, IsTrue, IfOk, IfErr, ◌^◌};
 ghost use Rattle.acc_base.specs.declared.fault.Fault.TheVariants as fault;
 ghost use Rattle.acc_kernel.specs.Cells.{with_cells};
-ghost use Rattle.acc_kernel.specs.Jobs.{AreDistinct, AreRows, HasUses, zero_rows, has_cell, cell_in, is_used, place_of, no_use, shown, stored, values_shown};
+ghost use Rattle.acc_kernel.specs.Jobs.{AreDistinct, AreRows, HasUses, zero_rows, uses_have, cell_in, is_used, place_of, no_use, shown, stored, values_shown};
 ghost use Rattle.acc_kernel.specs.inner.RowTables.{RowsView, HasRange, IsTable};
 
 use crate::window::{Window, distance};
@@ -115,7 +115,7 @@ impl Rows {
 
     /// Takes the values that other rows have of its cells, of each array that these have.
     pub(crate) fn load_known(&mut self, source: &Rows)
-        requires has { (place : ℕ) → place < length self.old.uses → is_used source.now.uses (slice_index_or self.old.uses place no_use).1.array ≡ true → HasRange (slice_index_or self.old.uses place no_use).1 (has_cell source.now.uses) }
+        requires has { (place : ℕ) → place < length self.old.uses → is_used source.now.uses (slice_index_or self.old.uses place no_use).1.array ≡ true → HasRange (slice_index_or self.old.uses place no_use).1 (uses_have source.now.uses) }
         ensures uses { self.new.uses ≡ self.old.uses }
         ensures rows { (place : ℕ) → place < length self.old.uses → is_used source.now.uses (slice_index_or self.old.uses place no_use).1.array ≡ true → slice_index_or self.new.rows place [] ≡ values_shown (cell_in source.now.uses source.now.rows) (slice_index_or self.old.uses place no_use).1 }
     {
@@ -191,9 +191,9 @@ fn is_shown<W: Window>(window: &W, range: Range, values: &[i64]) -> bool
 impl Window for Rows {
     ghost use Rattle.std.specs.Prelude.{◌≡◌, refl};
     ghost use Rattle.std.proofs.Common.{◌∙◌};
-    ghost use Rattle.acc_kernel.specs.Jobs.{has_cell, cell_in};
+    ghost use Rattle.acc_kernel.specs.Jobs.{uses_have, cell_in};
 
-    ghost has = { λ r. has_cell r.uses };
+    ghost has = { λ r. uses_have r.uses };
 
     ghost cells = { λ r. cell_in r.uses r.rows };
 

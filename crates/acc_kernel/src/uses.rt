@@ -2,7 +2,7 @@
 
 ghost use Rattle.std.specs.List.{position};
 ghost use Rattle.std.specs.Prelude.{◌≡◌, ◌==◌, ◌↔◌, IsTrue};
-ghost use Rattle.acc_kernel.specs.Jobs.{AreDistinct, has_cell, is_lacking, place_of};
+ghost use Rattle.acc_kernel.specs.Jobs.{AreDistinct, uses_have, is_lacking, place_of};
 
 use acc_base::{BlockId, Range};
 
@@ -23,7 +23,7 @@ pub fn are_distinct(uses: &[(BlockId, Range)]) -> bool
 
 /// Whether a cell is in the range of its array's use.
 pub(crate) fn has_cell(uses: &[(BlockId, Range)], array: u8, cell: i128) -> bool
-    ensures { result ≡ has_cell uses.now array cell }
+    ensures { result ≡ uses_have uses.now array cell }
 {
     match uses.get(place_of(uses, array)) {
         Some((_, range)) => i128::from(range.lo) <= cell && cell < i128::from(range.end()),

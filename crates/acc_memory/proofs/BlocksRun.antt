@@ -9,7 +9,7 @@ use Rattle.acc_base.specs.declared.range.Range.{Range}
 use Rattle.acc_batch.specs.declared.label.OpLabel.TheVariants.{Run}
 use Rattle.acc_batch.specs.Lives.{Made}
 use Rattle.acc_kernel.specs.Cells.{value_in}
-use Rattle.acc_kernel.specs.Jobs.{Use, no_use, range_of, has_cell, AreDistinct, HoldReached}
+use Rattle.acc_kernel.specs.Jobs.{Use, no_use, used_range, uses_have, AreDistinct, HoldReached}
 use Rattle.acc_kernel.specs.Jobs as jobs
 use Rattle.acc_kernel.specs.Kernels.{Loop, Reaches, value_after}
 use Rattle.acc_kernel.proofs.ValueAfter.{within, loop_alike, loop_leaves}
@@ -48,26 +48,26 @@ record UseOf (uses : List Use) (array : ℕ) (cell : ℤ) : Type 0 where
   pub low : (get_or uses (jobs.place_of uses array) no_use).1.lo ≤ at
   pub high : at < (get_or uses (jobs.place_of uses array) no_use).1.lo + (get_or uses (jobs.place_of uses array) no_use).1.len
 
-use_of : (uses : List Use) (array : ℕ) (cell : ℤ) → has_cell uses array cell ≡ true → UseOf uses array cell
+use_of : (uses : List Use) (array : ℕ) (cell : ℤ) → uses_have uses array cell ≡ true → UseOf uses array cell
 use_of uses array cell has = by_cell cell has
   where
-    by_cell : (cell : ℤ) → has_cell uses array cell ≡ true → UseOf uses array cell
+    by_cell : (cell : ℤ) → uses_have uses array cell ≡ true → UseOf uses array cell
     by_cell (negsuc n) has =
-        let w = within (pos (range_of uses array).lo) (pos ((range_of uses array).lo + (range_of uses array).len)) (negsuc n) has in
-        absurd (below_zero (range_of uses array).lo n w.0)
+        let w = within (pos (used_range uses array).lo) (pos ((used_range uses array).lo + (used_range uses array).len)) (negsuc n) has in
+        absurd (below_zero (used_range uses array).lo n w.0)
       where
         below_zero : (lo n : ℕ) → pos lo ≤ℤ negsuc n → ⊥
         below_zero lo n h = omega (arith, ints)
     by_cell (pos i) has =
-        let w = within (pos (range_of uses array).lo) (pos ((range_of uses array).lo + (range_of uses array).len)) (pos i) has in
+        let w = within (pos (used_range uses array).lo) (pos ((used_range uses array).lo + (used_range uses array).len)) (pos i) has in
         let here = used uses array (pos i) has in
         record {
           here = here;
           same = eqb-true (get_or uses (jobs.place_of uses array) no_use).1.array array (passes_at_first (uses_array array) uses no_use here);
           at = i;
           is = refl;
-          low = from (range_of uses array).lo i w.0;
-          high = to i ((range_of uses array).lo + (range_of uses array).len) w.1;
+          low = from (used_range uses array).lo i w.0;
+          high = to i ((used_range uses array).lo + (used_range uses array).len) w.1;
         }
       where
         from : (a b : ℕ) → pos a ≤ℤ pos b → a ≤ b
@@ -117,7 +117,7 @@ module _ (rows : List Row) (k : Loop) (uses : List Use) (r : IsReadied rows k us
   row_seen u i b = row_for_is rows uses u.1.array b.row (ap (find_row rows) b.own ∙ b.found) b.same_array
 
   -- what a use has is seen
-  pub has_seen : (array : ℕ) (cell : ℤ) → has_cell uses array cell ≡ true → window_has rows uses array cell ≡ true
+  pub has_seen : (array : ℕ) (cell : ℤ) → uses_have uses array cell ≡ true → window_has rows uses array cell ≡ true
   has_seen array cell has =
       let o = use_of uses array cell has in
       let b = block_of_use (jobs.place_of uses array) o.at o.here o.low o.high in
@@ -128,7 +128,7 @@ module _ (rows : List Row) (k : Loop) (uses : List Use) (r : IsReadied rows k us
       b.whole (is_within b.row.range o.at b.low b.high))
 
   -- and it is what its block shows
-  pub seen_was : (device : ℕ) (was : Cell → ℤ) → ShowsRows device rows was → (array : ℕ) (cell : ℤ) → has_cell uses array cell ≡ true
+  pub seen_was : (device : ℕ) (was : Cell → ℤ) → ShowsRows device rows was → (array : ℕ) (cell : ℤ) → uses_have uses array cell ≡ true
       → window_cells rows uses array cell ≡ cells_by uses device was array cell
   seen_was device was shows array cell has =
       let o = use_of uses array cell has in
@@ -197,7 +197,7 @@ module _ (rows : List Row) (k : Loop) (uses : List Use) (r : IsReadied rows k us
           let own : block_of uses b.old.range.array ≡ n = ap (block_of uses) array ∙ (o.own ∙ name) in
           let first : jobs.place_of uses u.1.array ≡ place = ap (λ (v : Use). jobs.place_of uses v.1.array) (sym is) ∙ its_place uses place r.distinct here in
           let mine : get_or uses (jobs.place_of uses u.1.array) no_use ≡ u = ap (λ p. get_or uses p no_use) first ∙ is in
-          let has : has_cell uses u.1.array (pos i) ≡ true =
+          let has : uses_have uses u.1.array (pos i) ≡ true =
           subst (λ (v : Use). (int_le (pos v.1.lo) (pos i) && int_lt (pos i) (pos (v.1.lo + v.1.len))) ≡ true) (sym mine) (is_within u.1 i ends.0 ends.1) in
           sym (seen_new own)
           ∙ (ap (λ a. window_cells rows' uses a (pos i)) array

@@ -11,7 +11,7 @@ use Rattle.acc_base.specs.declared.range.Range.{Range}
 use Rattle.acc_batch.specs.declared.label.OpLabel.{OpLabel}
 use Rattle.acc_batch.specs.declared.label.OpLabel.TheVariants.{CopyOut}
 use Rattle.acc_memory.specs.declared.device.Device.{Device}
-use Rattle.acc_memory.specs.Memories.{Row, DeviceView, MemoryView, SameBlocks, is_made, made_by, rows_in, was_made_in, find_row, find_block, row_cell, row_has, cell_of, Shows, ShowsRows, ShowsArray, blocks_after, made_of, PerformsOn}
+use Rattle.acc_memory.specs.Memories.{Row, DeviceView, MemoryView, SameBlocks, is_made, is_made_by, rows_in, was_made_in, find_row, find_block, row_cell, row_has, cell_of, Shows, ShowsRows, ShowsArray, blocks_after, made_of, PerformsOn}
 use Rattle.acc_memory.specs.Values.{Cell, Host_cell, Block_cell, or_empty, or_zero, values_of, after_op, after_write}
 use Rattle.acc_memory.specs.inner.Devices.{IsFresh, memory_of, view_of}
 use Rattle.acc_memory.proofs.HostArrays.{IsReplaced, replace_at}
@@ -53,7 +53,7 @@ shows_array arrays ds array cells was at shows i = ap (λ o. or_zero (slice_get 
 
 -- A memory of which the host arrays and one device show an operation's effect performs it.
 pub performs_on : (device : ℕ) (op : OpLabel) (arrays arrays' : List (List ℤ)) (ds ds' : List DeviceView) (x y : DeviceView) → IsReplaced ds ds' device x y → length ds' ≡ length ds
-    → SameBlocks (map made_of y.rows) (blocks_after op (map made_of x.rows)) → ((b : ℕ) → is_made y.makes b ≡ (made_by b op || is_made x.makes b)) → lengths_of arrays' ≡ lengths_of arrays
+    → SameBlocks (map made_of y.rows) (blocks_after op (map made_of x.rows)) → ((b : ℕ) → is_made y.makes b ≡ (is_made_by b op || is_made x.makes b)) → lengths_of arrays' ≡ lengths_of arrays
     → ((was : Cell → ℤ) → Shows (memory arrays ds) was → (a i : ℕ) → cell_in arrays' a i ≡ after_op device op was (Host_cell a i))
     → ((was : Cell → ℤ) → Shows (memory arrays ds) was → ShowsRows device y.rows (after_op device op was))
     → PerformsOn device op (memory arrays ds) (memory arrays' ds')
@@ -61,7 +61,7 @@ performs_on device op arrays arrays' ds ds' x y is count blocks made lengths hos
   shows = λ was shows. by_cell was shows;
   blocks = λ n. ap (λ o. find_block (map made_of (rows_in o)) n) is.at ∙ (blocks n ∙ ap (λ o. find_block (blocks_after op (map made_of (rows_in o))) n) (sym is.was));
   others = λ d other. ap (λ o. map made_of (rows_in o)) (is.others d other);
-  made = λ b. ap (λ o. was_made_in o b) is.at ∙ (made b ∙ ap (λ o. made_by b op || was_made_in o b) (sym is.was));
+  made = λ b. ap (λ o. was_made_in o b) is.at ∙ (made b ∙ ap (λ o. is_made_by b op || was_made_in o b) (sym is.was));
   others_made = λ d other b. ap (λ o. was_made_in o b) (is.others d other);
   lengths = lengths;
   devices = count;
@@ -86,7 +86,7 @@ performs_on device op arrays arrays' ds ds' x y is count blocks made lengths hos
 -- So does one of which only the device changes, where the operation leaves the host arrays.
 pub device_performs : (device : ℕ) (op : OpLabel) (arrays : List (List ℤ)) (ds : List Device) (i : ℕ) (x y : Device) → device < length (map view_of ds) → i ≡ device → x ≡ get_or ds i x
     → ((was : Cell → ℤ) (a k : ℕ) → was (Host_cell a k) ≡ after_op device op was (Host_cell a k)) → SameBlocks (map made_of y.blocks) (blocks_after op (map made_of x.blocks))
-    → ((b : ℕ) → is_made y.makes b ≡ (made_by b op || is_made x.makes b))
+    → ((b : ℕ) → is_made y.makes b ≡ (is_made_by b op || is_made x.makes b))
     → ((was : Cell → ℤ) → Shows (memory_of arrays ds) was → ShowsRows device x.blocks was → ShowsRows device y.blocks (after_op device op was))
     → PerformsOn device op (memory_of arrays ds) (memory_of arrays (set ds i y))
 device_performs device op arrays ds i x y low same is hosts blocks made rows =

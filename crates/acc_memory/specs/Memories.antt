@@ -58,9 +58,9 @@ abbrev pub was_made_on : MemoryView → ℕ → ℕ → Bool
 was_made_on m device block = was_made_in (slice_get m.devices device) block
 
 -- an operation makes a block
-abbrev pub made_by : ℕ → OpLabel → Bool
-made_by block (Make r b) = b == block
-made_by block op = false
+abbrev pub is_made_by : ℕ → OpLabel → Bool
+is_made_by block (Make r b) = b == block
+is_made_by block op = false
 
 abbrev pub find_row : List Row → ℕ → Option Row
 find_row rows block = find (λ row. row.block == block) rows
@@ -189,7 +189,7 @@ pub record PerformsOn (device : ℕ) (op : OpLabel) (old new : MemoryView) : Typ
   pub shows : (was : Cell → ℤ) → Shows old was → Shows new (after_op device op was)
   pub blocks : SameBlocks (held_blocks new device) (blocks_after op (held_blocks old device))
   pub others : (d : ℕ) → (d ≡ device → ⊥) → held_blocks new d ≡ held_blocks old d
-  pub made : (b : ℕ) → was_made_on new device b ≡ (made_by b op || was_made_on old device b)
+  pub made : (b : ℕ) → was_made_on new device b ≡ (is_made_by b op || was_made_on old device b)
   pub others_made : (d : ℕ) → (d ≡ device → ⊥) → (b : ℕ) → was_made_on new d b ≡ was_made_on old d b
   pub lengths : lengths_of new.arrays ≡ lengths_of old.arrays
   pub devices : length new.devices ≡ length old.devices

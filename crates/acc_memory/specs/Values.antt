@@ -48,19 +48,19 @@ block_after (Run k uses) device was block cell =
     after_loop k (cells_by uses device was) (use_with uses block cell) cell (was (Block_cell device block cell))
 
 -- the cells of the host arrays after it
-abbrev pub host_after : OpLabel → ℕ → (Cell → ℤ) → ℕ → ℕ → ℤ
-host_after (CopyOut r b) device was array cell =
+abbrev pub host_cells_after : OpLabel → ℕ → (Cell → ℤ) → ℕ → ℕ → ℤ
+host_cells_after (CopyOut r b) device was array cell =
     if (array == r.array) && is_in r cell then was (Block_cell device b cell) else was (Host_cell array cell)
-host_after (Make r b) device was array cell = was (Host_cell array cell)
-host_after (CopyIn r b) device was array cell = was (Host_cell array cell)
-host_after (Release b) device was array cell = was (Host_cell array cell)
-host_after (Run k uses) device was array cell = was (Host_cell array cell)
-host_after (Await q n) device was array cell = was (Host_cell array cell)
-host_after Close device was array cell = was (Host_cell array cell)
+host_cells_after (Make r b) device was array cell = was (Host_cell array cell)
+host_cells_after (CopyIn r b) device was array cell = was (Host_cell array cell)
+host_cells_after (Release b) device was array cell = was (Host_cell array cell)
+host_cells_after (Run k uses) device was array cell = was (Host_cell array cell)
+host_cells_after (Await q n) device was array cell = was (Host_cell array cell)
+host_cells_after Close device was array cell = was (Host_cell array cell)
 
 -- The value of each cell after one more operation on a device.
 abbrev pub after_op : ℕ → OpLabel → (Cell → ℤ) → Cell → ℤ
-after_op device op was (Host_cell array cell) = host_after op device was array cell
+after_op device op was (Host_cell array cell) = host_cells_after op device was array cell
 after_op device op was (Block_cell d block cell) =
     if d == device then block_after op device was block cell else was (Block_cell d block cell)
 

@@ -29,7 +29,7 @@ use Rattle.acc_place.specs.declared.directive.Kind.{Kind}
 use Rattle.acc_place.specs.declared.directive.Kind.TheVariants as kind
 use Rattle.acc_place.specs.declared.directive.Region.{Region}
 use Rattle.acc_place.specs.declared.directive.TheConstants.{MAX_ITEMS, MAX_DIRECTIVES}
-use Rattle.acc_place.specs.Accepting.{fault_at, first_fault, fault_where, is_deep, is_outside, refusal}
+use Rattle.acc_place.specs.Accepting.{fault_at, first_fault, fault_where, is_too_deep, ends_no_region, refusal}
 use Rattle.acc_place.specs.Batches.{grouped, labels_with, operations_of, next_number, runs, runs_by}
 use Rattle.acc_place.specs.Counters.{IsEnteredBy, entered_ranges}
 use Rattle.acc_place.specs.declared.directive.PlaceEntry.{PlaceEntry}
@@ -39,7 +39,7 @@ use Rattle.acc_place.specs.inner.Places.{IsTiedOn}
 use Rattle.acc_place.specs.Plans.{label_for}
 use Rattle.acc_place.specs.Regions.{open_region, regions_on}
 use Rattle.acc_place.specs.Targets.{has_bad_queue, waits_on_too_many}
-use Rattle.acc_place.specs.Standings.{Asked, Standing, Subject, Walk, all_asked, all_visits, counted_among, counted_items, ends_by, loop_of, marks_after, marks_behind, marks_between, subject_by, visits, walk_of, walk_on, with_marks}
+use Rattle.acc_place.specs.Standings.{AskedItem, Standing, Subject, Walk, all_asked, all_visits, counted_among, counted_items, ends_by, loop_in, marks_after, marks_behind, marks_between, subject_by, visits, walk_of, walk_on, with_marks}
 use Rattle.acc_place.specs.inner.Judging.{Holding, all_marked, change_in, counted_steps, device_by, holding, holding_after, holding_with, holding_after_all, holding_between, holding_behind, ends_of, opens_one, fault_or, limit_fault, first_fault_in, past_fault, all_steps, run_in, marked_ops, AllHeldFor, AllLow, HasRoomFor, AllEntered, AllFine}
 use Rattle.acc_place.proofs.EnteredRanges.{entered_after, entered_ends, entered_subject, fine_left, held_between}
 use Rattle.acc_place.proofs.RegionsOn.{regions_beside, subject_device}
@@ -93,7 +93,7 @@ first_behind [] gs = refl
 first_behind (None ∷ fs) gs = first_behind fs gs
 first_behind (Some f ∷ fs) gs = refl
 
-pub items_asked : (k : Kind) (items : List DataItem) → map (λ (a : Asked). a.item) (all_asked k items) ≡ items
+pub items_asked : (k : Kind) (items : List DataItem) → map (λ (a : AskedItem). a.item) (all_asked k items) ≡ items
 items_asked k [] = refl
 items_asked k (i ∷ is) = ap (λ xs. i ∷ xs) (items_asked k is)
 
@@ -126,14 +126,14 @@ unfolding refusal
 accepted_device config st host d none = leb-false config.devices d.device (two_first st.closing (nat_le config.devices d.device) _ none).1
 
 refusal_is : (config : Configuration) (st : Standing) (host : ℕ) (d : Directive) → st.closing ≡ false → d.device < config.devices
-    → refusal config st host d ≡ fault_or (limit_in st host d) (fault_or (faults_in config st (subject_of st host d) d.kind) (past_fault (loop_of d.kind) (items_in st host d)))
+    → refusal config st host d ≡ fault_or (limit_in st host d) (fault_or (faults_in config st (subject_of st host d) d.kind) (past_fault (loop_in d.kind) (items_in st host d)))
 unfolding refusal limit_fault walk_of
 refusal_is config st host d early here =
     let s = subject_of st host d in
     let faults = map (fault_at config d.kind) (visits (st.marks s.device) (all_asked d.kind s.items)) in
-    let past = past_fault (loop_of d.kind) s.items in
+    let past = past_fault (loop_in d.kind) s.items in
     rw (early, lt-leb config.devices d.device here, length-map s.items, items_asked d.kind s.items)
-    (three_first (has_bad_queue d) (nat_lt MAX_ITEMS (length s.items) || (waits_on_too_many d.waits || (is_deep d.kind host st.regions || nat_le MAX_DIRECTIVES st.accepted))) (is_outside d.kind (open_region host st.regions)) (faults ++ past ∷ [])
+    (three_first (has_bad_queue d) (nat_lt MAX_ITEMS (length s.items) || (waits_on_too_many d.waits || (is_too_deep d.kind host st.regions || nat_le MAX_DIRECTIVES st.accepted))) (ends_no_region d.kind (open_region host st.regions)) (faults ++ past ∷ [])
     ∙ ap (fault_or (limit_in st host d)) (first_behind faults (past ∷ []) ∙ ap (fault_or (first_fault faults)) (first_one past)))
 
 -- a directive that passes no limit
@@ -149,10 +149,10 @@ none_of_two false false c h = refl
 pub is_within : (accepted : ℕ) (rs : List Region) (host : ℕ) (d : Directive) (count : ℕ) → limit_fault accepted rs host d count ≡ None → IsWithin accepted count
 unfolding limit_fault
 is_within accepted rs host d count none =
-    let many = none_of_two (has_bad_queue d) (nat_lt MAX_ITEMS count || (waits_on_too_many d.waits || (is_deep d.kind host rs || nat_le MAX_DIRECTIVES accepted))) (is_outside d.kind (open_region host rs)) none in
-    let counts = or_parts (nat_lt MAX_ITEMS count) (waits_on_too_many d.waits || (is_deep d.kind host rs || nat_le MAX_DIRECTIVES accepted)) many in
-    let queues = or_parts (waits_on_too_many d.waits) (is_deep d.kind host rs || nat_le MAX_DIRECTIVES accepted) counts.1 in
-    let others = or_parts (is_deep d.kind host rs) (nat_le MAX_DIRECTIVES accepted) queues.1 in
+    let many = none_of_two (has_bad_queue d) (nat_lt MAX_ITEMS count || (waits_on_too_many d.waits || (is_too_deep d.kind host rs || nat_le MAX_DIRECTIVES accepted))) (ends_no_region d.kind (open_region host rs)) none in
+    let counts = or_parts (nat_lt MAX_ITEMS count) (waits_on_too_many d.waits || (is_too_deep d.kind host rs || nat_le MAX_DIRECTIVES accepted)) many in
+    let queues = or_parts (waits_on_too_many d.waits) (is_too_deep d.kind host rs || nat_le MAX_DIRECTIVES accepted) counts.1 in
+    let others = or_parts (is_too_deep d.kind host rs) (nat_le MAX_DIRECTIVES accepted) queues.1 in
     record {
       short = ltb-false MAX_ITEMS count counts.0;
       few = leb-false MAX_DIRECTIVES accepted others.1;
@@ -186,7 +186,7 @@ is_subject st host d t blocks tied =
 -- the faults of the items, and then of the loop
 abbrev items_faults : Configuration → Standing → ℕ → Directive → TableView → ℕ → Option Fault
 items_faults config st host d t blocks =
-    fault_or (first_fault_in config d.kind (holding t.presences blocks) (items_in st host d)) (past_fault (loop_of d.kind) (items_in st host d))
+    fault_or (first_fault_in config d.kind (holding t.presences blocks) (items_in st host d)) (past_fault (loop_in d.kind) (items_in st host d))
 
 pub refused_by : (config : Configuration) (st : Standing) (host : ℕ) (d : Directive) (t : TableView) (blocks : ℕ) → IsTiedAt config st host d t blocks → st.closing ≡ false → d.device < config.devices
     → refusal config st host d ≡ fault_or (limit_in st host d) (items_faults config st host d t blocks)
@@ -194,7 +194,7 @@ refused_by config st host d t blocks tied early here =
     let s = subject_of st host d in
     let sub = is_subject st host d t blocks tied in
     refusal_is config st host d early here
-    ∙ ap (λ f. fault_or (limit_in st host d) (fault_or f (past_fault (loop_of d.kind) s.items))) (faults_are config d.kind (st.marks s.device) s.items sub.legal sub.entered ∙ ap (λ h. first_fault_in config d.kind h s.items) (sym sub.held))
+    ∙ ap (λ f. fault_or (limit_in st host d) (fault_or f (past_fault (loop_in d.kind) s.items))) (faults_are config d.kind (st.marks s.device) s.items sub.legal sub.entered ∙ ap (λ h. first_fault_in config d.kind h s.items) (sym sub.held))
 
 none_or : (a b : Option Fault) → fault_or a b ≡ None → a ≡ None
 none_or None b h = refl
@@ -323,7 +323,7 @@ run_is (Some k) items marks = refl
 pub batch_is : (config : Configuration) (st : Standing) (host : ℕ) (d : Directive) (t : TableView) (blocks : ℕ) → IsTiedAt config st host d t blocks
     → IsFree config st host d t blocks
     → operations_of st (walk_of st host d)
-    ≡ marked_ops (run_in (loop_of d.kind) (items_in st host d) (holding_between d.kind (holding t.presences blocks) (items_in st host d)).presences)
+    ≡ marked_ops (run_in (loop_in d.kind) (items_in st host d) (holding_between d.kind (holding t.presences blocks) (items_in st host d)).presences)
     (all_steps d.kind (holding t.presences blocks) (items_in st host d))
 batch_is config st host d t blocks tied free =
     let s = subject_of st host d in
@@ -331,14 +331,14 @@ batch_is config st host d t blocks tied free =
     let ms = st.marks s.device in
     let between = marks_after ms (all_asked d.kind s.items) in
     let walked = is_walked config st host d t blocks free in
-    let run : runs_by (loop_of d.kind) (map (λ (a : Asked). a.item) (all_asked d.kind s.items)) between ≡ run_in (loop_of d.kind) s.items (holding_between d.kind (holding t.presences blocks) s.items).presences =
-    ap (λ is. runs_by (loop_of d.kind) is between) (items_asked d.kind s.items)
-    ∙ (run_is (loop_of d.kind) s.items between ∙ ap (λ (h : Holding). run_in (loop_of d.kind) s.items h.presences) walked.between) in
+    let run : runs_by (loop_in d.kind) (map (λ (a : AskedItem). a.item) (all_asked d.kind s.items)) between ≡ run_in (loop_in d.kind) s.items (holding_between d.kind (holding t.presences blocks) s.items).presences =
+    ap (λ is. runs_by (loop_in d.kind) is between) (items_asked d.kind s.items)
+    ∙ (run_is (loop_in d.kind) s.items between ∙ ap (λ (h : Holding). run_in (loop_in d.kind) s.items h.presences) walked.between) in
     ap (λ (w : Walk). grouped (runs w (st.marks w.device)) (all_visits (st.marks w.device) w)) (walk_is st host d)
     ∙ (ap (λ r. grouped r (visits ms (all_asked d.kind s.items) ++ visits between (ends_by d.kind s.items))) run
-    ∙ (ap (λ es. grouped (run_in (loop_of d.kind) s.items (holding_between d.kind (holding t.presences blocks) s.items).presences) (visits ms (all_asked d.kind s.items) ++ visits between es)) (ends_are d.kind s.items)
+    ∙ (ap (λ es. grouped (run_in (loop_in d.kind) s.items (holding_between d.kind (holding t.presences blocks) s.items).presences) (visits ms (all_asked d.kind s.items) ++ visits between es)) (ends_are d.kind s.items)
     ∙ (ops_are config.capacity d.kind kind.EndData ms s.items (ends_of d.kind s.items) _ walked.first walked.later
-    ∙ ap (λ h. marked_ops (run_in (loop_of d.kind) s.items (holding_between d.kind (holding t.presences blocks) s.items).presences) (all_steps d.kind h s.items)) (sym sub.held))))
+    ∙ ap (λ h. marked_ops (run_in (loop_in d.kind) s.items (holding_between d.kind (holding t.presences blocks) s.items).presences) (all_steps d.kind h s.items)) (sym sub.held))))
 
 -- the blocks that its steps ended, each with the item's range
 pub ended_is : (config : Configuration) (st : Standing) (host : ℕ) (d : Directive) (t : TableView) (blocks : ℕ) → IsTiedAt config st host d t blocks

@@ -24,7 +24,7 @@ use Rattle.acc_place.specs.Counters.{AcceptedAreCounted, EnteredCanBeLeft}
 use Rattle.acc_place.specs.Histories.{AllAccepted, after_directive, standing}
 use Rattle.acc_place.specs.inner.Places.{IsTiedOn}
 use Rattle.acc_place.specs.Regions.{open_region, region_of, regions_after}
-use Rattle.acc_place.specs.Standings.{Standing, left_by, loop_of, subject_by}
+use Rattle.acc_place.specs.Standings.{Standing, subject_left, loop_in, subject_by}
 use Rattle.acc_place.specs.inner.Judging.{Holding, holding, holding_after, holding_with, holding_behind, fault_in, fault_or, first_fault_in, limit_fault, past_fault, AllEntered}
 use Rattle.acc_place.proofs.AfterClose.{tied_begun, tied_closed}
 use Rattle.acc_place.proofs.AcceptedDirective.{items_counted, counted_is, device_in, items_in, is_free, refused_by, entered_in, tied_after, tied_beside}
@@ -150,11 +150,11 @@ entered_left config history counts host d r all early few end plain nothing here
     let h = tables config history counts (device_in st host d) all in
     let xs = items_in st host d in
     let sound = open_has (IsSound config) host st.regions r inside (all_sound config history counts all) in
-    let items : xs ≡ r.items = ap (λ k. (subject_by st.lengths st.regions host d k).items) end ∙ ap (λ o. (left_by d o).items) inside in
+    let items : xs ≡ r.items = ap (λ k. (subject_by st.lengths st.regions host d k).items) end ∙ ap (λ o. (subject_left d o).items) inside in
     let limit = no_limit st.accepted st.regions host d (length xs) r few end plain nothing inside (rw items sound.0) in
     let held = holding h.table.presences h.blocks in
     let entered : AllEntered EndData held xs = at_end d.kind held xs end (entered_in st host d h.table h.blocks h.tied) in
     refused_by config st host d h.table h.blocks h.tied early here
-    ∙ (ap (λ f. fault_or f (fault_or (first_fault_in config d.kind held xs) (past_fault (loop_of d.kind) xs))) limit
-    ∙ (ap (λ k. fault_or (first_fault_in config k held xs) (past_fault (loop_of k) xs)) end
+    ∙ (ap (λ f. fault_or f (fault_or (first_fault_in config d.kind held xs) (past_fault (loop_in d.kind) xs))) limit
+    ∙ (ap (λ k. fault_or (first_fault_in config k held xs) (past_fault (loop_in k) xs)) end
     ∙ ap (λ f. fault_or f None) (no_faults config held xs (rw items sound.1) entered)))

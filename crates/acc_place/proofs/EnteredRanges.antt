@@ -6,6 +6,7 @@ use Rattle.std.proofs.lemmas.Bool.Decides.{nat_tests}
 use Rattle.std.proofs.lemmas.List.{length-append}
 use Rattle.std.proofs.lemmas.List.Elements.{All-append, All-cons, All-filter, All-head, All-map, All-nil, All-tail, All-weaker, filter-append}
 use Rattle.std.proofs.lemmas.List.Folds.{list_any-append}
+use Rattle.acc_base.proofs.Lists.{All-before, All-behind}
 use Rattle.acc_base.specs.declared.range.Range.{Range}
 use Rattle.acc_base.specs.Configurations.{Configuration}
 use Rattle.acc_base.specs.Ranges.{range_contains, range_overlaps}
@@ -32,19 +33,19 @@ use Rattle.acc_place.specs.Counters.{IsEnteredBy, count_inside, entered_ranges}
 use Rattle.acc_place.specs.inner.Places.{IsThere}
 use Rattle.acc_place.specs.Implicit.{implicit_items}
 use Rattle.acc_place.specs.Regions.{open_region, region_of, regions_after, regions_on, without_open}
-use Rattle.acc_place.specs.Standings.{acts_if_present, asked_by, change_by, change_where, counted_with, exit_by, left_by, subject_by}
+use Rattle.acc_place.specs.Standings.{acts_if_present, asked_item, change_by, change_where, counted_with, exit_by, subject_left, subject_by}
 use Rattle.acc_place.specs.inner.Judging.{Holding, all_marked, change_in, counted_steps, device_by, holding, holding_after, holding_with, holding_after_all, holding_between, holding_behind, ends_of, mark_by, presences_by, AllHeldFor, HasEntered, AllEntered, AllFine, IsFine}
 use Rattle.acc_place.proofs.OpenRegion.{none_without}
 use Rattle.acc_place.proofs.RegionsOn.{open_on, without_on}
 use Rattle.acc_place.proofs.Visits.{counted_first}
 
-abbrev IsHeld : List Presence → Range → Type 0
+abbrev pub IsHeld : List Presence → Range → Type 0
 IsHeld ps r = (0 < r.len) × (is_present ps r ≡ true)
 
 abbrev IsCounted : List Range → Presence → Type 0
 IsCounted rs p = p.s ≡ count_inside p.range rs
 
-abbrev ranges_of : List DataItem → List Range
+abbrev pub ranges_of : List DataItem → List Range
 ranges_of items = map (λ (i : DataItem). i.range) items
 
 -- ## Counts
@@ -71,24 +72,16 @@ count_at whole (r ∷ rs) (suc k) d low has =
 
 -- ## The order of the ranges doesn't matter
 
-All-first : {X : Type 0} (P : X → Type 0) (xs ys : List X) → All P (xs ++ ys) → All P xs
-All-first P [] ys h = All-nil P
-All-first P (x ∷ xs) ys h = All-cons P x xs (All-head P x (xs ++ ys) h) (All-first P xs ys (All-tail P x (xs ++ ys) h))
-
-All-last : {X : Type 0} (P : X → Type 0) (xs ys : List X) → All P (xs ++ ys) → All P ys
-All-last P [] ys h = h
-All-last P (x ∷ xs) ys h = All-last P xs ys (All-tail P x (xs ++ ys) h)
-
 count-turned : (whole : Range) (xs ys zs : List Range) → count_inside whole (xs ++ (ys ++ zs)) ≡ count_inside whole (ys ++ (xs ++ zs))
 count-turned whole xs ys zs =
     omega (arith, count-append whole xs (ys ++ zs), count-append whole ys zs, count-append whole ys (xs ++ zs), count-append whole xs zs)
 
-entered_turned : (xs ys zs : List Range) (ps : List Presence) → IsEnteredBy (xs ++ (ys ++ zs)) ps → IsEnteredBy (ys ++ (xs ++ zs)) ps
+pub entered_turned : (xs ys zs : List Range) (ps : List Presence) → IsEnteredBy (xs ++ (ys ++ zs)) ps → IsEnteredBy (ys ++ (xs ++ zs)) ps
 entered_turned xs ys zs ps h =
-    let rest = All-last (IsHeld ps) xs (ys ++ zs) h.present in
-    let held = All-append (IsHeld ps) xs zs (All-first (IsHeld ps) xs (ys ++ zs) h.present) (All-last (IsHeld ps) ys zs rest) in
+    let rest = All-behind (IsHeld ps) xs (ys ++ zs) h.present in
+    let held = All-append (IsHeld ps) xs zs (All-before (IsHeld ps) xs (ys ++ zs) h.present) (All-behind (IsHeld ps) ys zs rest) in
     record {
-      present = All-append (IsHeld ps) ys (xs ++ zs) (All-first (IsHeld ps) ys zs rest) held;
+      present = All-append (IsHeld ps) ys (xs ++ zs) (All-before (IsHeld ps) ys zs rest) held;
       counted = All-weaker (IsCounted (xs ++ (ys ++ zs))) (IsCounted (ys ++ (xs ++ zs))) (λ p is. is ∙ count-turned p.range xs ys zs) ps h.counted;
     }
 
@@ -218,7 +211,7 @@ counted_beside r rs (p ∷ ps) absent counted =
 -- ## One item
 
 -- a region that enters a range
-entered_up : (r : Range) (b : ℕ) (rs : List Range) (ps : List Presence) → is_table ps ≡ true → 0 < r.len → is_partly_present ps r ≡ false → IsEnteredBy rs ps
+pub entered_up : (r : Range) (b : ℕ) (rs : List Range) (ps : List Presence) → is_table ps ≡ true → 0 < r.len → is_partly_present ps r ≡ false → IsEnteredBy rs ps
     → IsEnteredBy (r ∷ rs) (presences_after (record { change = StructuredUp; range = r }) b ps)
 entered_up r b rs ps t cells whole h =
     let m : Mark = record { change = StructuredUp; range = r } in
@@ -236,12 +229,12 @@ entered_up r b rs ps t cells whole h =
     ]
 
 -- one that leaves it
-entered_end : (r : Range) (b : ℕ) (rs : List Range) (ps : List Presence) → IsEnteredBy (r ∷ rs) ps → IsEnteredBy rs (presences_after (record { change = StructuredDown; range = r }) b ps)
+pub entered_end : (r : Range) (b : ℕ) (rs : List Range) (ps : List Presence) → IsEnteredBy (r ∷ rs) ps → IsEnteredBy rs (presences_after (record { change = StructuredDown; range = r }) b ps)
 entered_end r b rs ps h =
     entered_kept (record { change = StructuredDown; range = r }) (r ∷ rs) rs ps (recounts_down r rs) h (All-tail (IsHeld ps) r rs h.present)
 
 -- `enter data`
-entered_enter : (r : Range) (b : ℕ) (rs : List Range) (ps : List Presence) → is_table ps ≡ true → 0 < r.len → is_partly_present ps r ≡ false → IsEnteredBy rs ps
+pub entered_enter : (r : Range) (b : ℕ) (rs : List Range) (ps : List Presence) → is_table ps ≡ true → 0 < r.len → is_partly_present ps r ≡ false → IsEnteredBy rs ps
     → IsEnteredBy rs (presences_after (record { change = DynamicUp; range = r }) b ps)
 entered_enter r b rs ps t cells whole h =
     let m : Mark = record { change = DynamicUp; range = r } in
@@ -256,7 +249,7 @@ entered_enter r b rs ps t cells whole h =
     ]
 
 -- `exit data`, with `finalize` and without
-entered_exit : (finalize : Bool) (r : Range) (b : ℕ) (rs : List Range) (ps : List Presence) → IsEnteredBy rs ps → IsEnteredBy rs (presences_after (mark_by (exit_by finalize) r) b ps)
+pub entered_exit : (finalize : Bool) (r : Range) (b : ℕ) (rs : List Range) (ps : List Presence) → IsEnteredBy rs ps → IsEnteredBy rs (presences_after (mark_by (exit_by finalize) r) b ps)
 entered_exit true r b rs ps h = (let m = mark_by DynamicZero r in entered_kept m rs rs ps (recounts_none m rs (λ n. refl)) h h.present)
 entered_exit false r b rs ps h = (let m = mark_by DynamicDown r in entered_kept m rs rs ps (recounts_none m rs (λ n. refl)) h h.present)
 
@@ -295,7 +288,7 @@ entered_one capacity (Some DynamicUp) i b rs ps enters t fine h = absurd cc
 entered_one capacity (Some DynamicDown) i b rs ps enters t fine h = absurd cc
 entered_one capacity (Some DynamicZero) i b rs ps enters t fine h = absurd cc
 
-counted_ranges : (change : Option Change) (i : DataItem) (items : List DataItem) (rs : List Range) → ranges_of (counted_with change i items) ++ rs ≡ ranges_of (counted_with change i []) ++ (ranges_of items ++ rs)
+pub counted_ranges : (change : Option Change) (i : DataItem) (items : List DataItem) (rs : List Range) → ranges_of (counted_with change i items) ++ rs ≡ ranges_of (counted_with change i []) ++ (ranges_of items ++ rs)
 counted_ranges None i items rs = refl
 counted_ranges (Some change) i items rs = refl
 
@@ -341,12 +334,12 @@ entered_same capacity k h (i ∷ is) rs keeps t fine in_all =
 -- an exit keeps it, whether its range is present or not
 exit_keeps : (capacity : ℕ) (finalize : Bool) (rs : List Range) → Keeps capacity (ExitData finalize) rs
 exit_keeps capacity finalize rs ps i b t fine h =
-    elim (is_present ps i.range) as (λ p. IsEnteredBy rs (presences_by (change_where (asked_by (ExitData finalize) i) p) i.range b ps))
+    elim (is_present ps i.range) as (λ p. IsEnteredBy rs (presences_by (change_where (asked_item (ExitData finalize) i) p) i.range b ps))
     [ true ↦ entered_exit finalize i.range b rs ps h | false ↦ h ]
 
 -- ## At a region's end
 
-has_entered : (r : Range) (rs : List Range) (ps : List Presence) → IsEnteredBy (r ∷ rs) ps → IsEntered (holder ps r)
+pub has_entered : (r : Range) (rs : List Range) (ps : List Presence) → IsEnteredBy (r ∷ rs) ps → IsEntered (holder ps r)
 has_entered r rs ps h = by_holder (holder ps r) refl
   where
     at_holder : (qs : List Presence) (x : Presence) → All (IsCounted (r ∷ rs)) qs → holder qs r ≡ Some x → 0 < x.s
@@ -394,11 +387,11 @@ open_all P host (r ∷ rs) x some all = elim (cases_Bool (r.host == host)) [
       let e : r ≡ x = cc in
       rw (its_own, ← e) all
   | inr another ↦
-      let first = All-first P (ranges_of r.items) (entered_ranges rs) all in
-      let rest = open_all P host rs x (rw another at some) (All-last P (ranges_of r.items) (entered_ranges rs) all) in
+      let first = All-before P (ranges_of r.items) (entered_ranges rs) all in
+      let rest = open_all P host rs x (rw another at some) (All-behind P (ranges_of r.items) (entered_ranges rs) all) in
       rw another
-      (All-append P (ranges_of x.items) (ranges_of r.items ++ entered_ranges (without_open host rs)) (All-first P (ranges_of x.items) (entered_ranges (without_open host rs)) rest)
-      (All-append P (ranges_of r.items) (entered_ranges (without_open host rs)) first (All-last P (ranges_of x.items) (entered_ranges (without_open host rs)) rest)))
+      (All-append P (ranges_of x.items) (ranges_of r.items ++ entered_ranges (without_open host rs)) (All-before P (ranges_of x.items) (entered_ranges (without_open host rs)) rest)
+      (All-append P (ranges_of r.items) (entered_ranges (without_open host rs)) first (All-behind P (ranges_of x.items) (entered_ranges (without_open host rs)) rest)))
 ]
 
 pub open_counts : (whole : Range) (host : ℕ) (rs : List Region) (x : Region) → open_region host rs ≡ Some x
@@ -423,7 +416,7 @@ open_counts whole host (r ∷ rs) x some = elim (cases_Bool (r.host == host)) [
       ))
 ]
 
-entered_open : (host : ℕ) (rs : List Region) (x : Region) (ps : List Presence) → open_region host rs ≡ Some x → IsEnteredBy (entered_ranges rs) ps
+pub entered_open : (host : ℕ) (rs : List Region) (x : Region) (ps : List Presence) → open_region host rs ≡ Some x → IsEnteredBy (entered_ranges rs) ps
     → IsEnteredBy (ranges_of x.items ++ entered_ranges (without_open host rs)) ps
 entered_open host rs x ps some h =
     record {
@@ -439,7 +432,7 @@ pub entered_subject : (lengths : List ℕ) (rs : List Region) (host : ℕ) (d : 
 entered_subject lengths rs host d Data ps n t h = no_entry_needed Data (holding ps n) d.items (λ r qs. tt)
 entered_subject lengths rs host d EndData ps n t h = by_open (open_region host rs) refl h
   where
-    by_open : (o : Option Region) → open_region host rs ≡ o → IsEnteredBy (entered_ranges (regions_on (left_by d o).device rs)) ps → AllEntered EndData (holding ps n) (left_by d o).items
+    by_open : (o : Option Region) → open_region host rs ≡ o → IsEnteredBy (entered_ranges (regions_on (subject_left d o).device rs)) ps → AllEntered EndData (holding ps n) (subject_left d o).items
     by_open None none h = tt
     by_open (Some x) some h =
         let on = regions_on x.device rs in
@@ -473,7 +466,7 @@ pub held_between : (capacity : ℕ) (k : Kind) (h : Holding) (items : List DataI
     → AllHeldFor k (holding_between k h items).presences items
 held_between capacity (Loop kernel) h items rs t fine in_all =
     let ps = (holding_after_all (Loop kernel) h items).presences in
-    all_held ps items (All-first (IsHeld ps) (ranges_of items) rs (entered_loop capacity kernel h items rs t fine in_all).present)
+    all_held ps items (All-before (IsHeld ps) (ranges_of items) rs (entered_loop capacity kernel h items rs t fine in_all).present)
   where
     all_held : (ps : List Presence) (items : List DataItem) → All (IsHeld ps) (ranges_of items) → All (λ (i : DataItem). is_present ps i.range ≡ true) items
     all_held ps [] held = All-nil _
@@ -517,8 +510,8 @@ entered_after capacity lengths rs host d Data counted ps n t fine counts h =
     rw (eq-eqb d.device d.device refl, counts refl) (entered_data capacity (holding ps n) d.items (entered_ranges (regions_on d.device rs)) t fine h)
 entered_after capacity lengths rs host d EndData counted ps n t fine counts h = by_open (open_region host rs) refl h
   where
-    by_open : (o : Option Region) → open_region host rs ≡ o → IsEnteredBy (entered_ranges (regions_on (left_by d o).device rs)) ps
-        → IsEnteredBy (entered_ranges (regions_on (left_by d o).device (without_open host rs))) (holding_after_all EndData (holding ps n) (left_by d o).items).presences
+    by_open : (o : Option Region) → open_region host rs ≡ o → IsEnteredBy (entered_ranges (regions_on (subject_left d o).device rs)) ps
+        → IsEnteredBy (entered_ranges (regions_on (subject_left d o).device (without_open host rs))) (holding_after_all EndData (holding ps n) (subject_left d o).items).presences
     by_open None none h = rw (none_without host rs none) h
     by_open (Some x) some h =
         let on = regions_on x.device rs in
@@ -577,7 +570,7 @@ pub there_device : (config : Configuration) (host : ℕ) (d : Directive) (k : Ki
 there_device config host d Data rs low all = low
 there_device config host d EndData rs low all = by_open (open_region host rs) refl
   where
-    by_open : (o : Option Region) → open_region host rs ≡ o → (left_by d o).device < config.devices
+    by_open : (o : Option Region) → open_region host rs ≡ o → (subject_left d o).device < config.devices
     by_open None none = low
     by_open (Some x) some = open_has (IsThere config) host rs x some all
 there_device config host d EnterData rs low all = low

@@ -23,7 +23,7 @@ use Rattle.acc_place.specs.declared.directive.Region.{Region}
 use Rattle.acc_place.specs.Counters.{EndsTakeBack, EntriesAdd, OthersAreKept, count_inside, entered_ranges, ranges_in}
 use Rattle.acc_place.specs.Histories.{AllAccepted, after_directive, standing}
 use Rattle.acc_place.specs.Regions.{open_region, region_of, regions_after, regions_on, without_open}
-use Rattle.acc_place.specs.Standings.{left_by, subject_by}
+use Rattle.acc_place.specs.Standings.{subject_left, subject_by}
 use Rattle.acc_place.specs.inner.Judging.{Holding, holding, holding_after, holding_after_all, holding_behind, mark_by, AllFine}
 use Rattle.acc_place.proofs.AcceptedDirective.{device_in, is_free, items_in, table_in, tied_after}
 use Rattle.acc_place.proofs.DirectivesCounted.{accepted_counted, tables}
@@ -128,8 +128,8 @@ others_kept config history counts host d r p all is_end some here none =
     let next = holding_behind d.kind (holding h.table.presences h.blocks) (items_in st host d) in
     let after : TableView = record { presences = next.presences; notes = []; capacity = h.table.capacity; room = 0 } in
     let own = tied_after config st d host (slice_index_or counts 0 0) h.table after h.blocks next.opened h.tied free refl refl (All-nil _) in
-    let device : device_in st host d ≡ r.device = ap (λ k. (subject_by st.lengths st.regions host d k).device) is_end ∙ ap (λ o. (left_by d o).device) some in
-    let items : items_in st host d ≡ r.items = ap (λ k. (subject_by st.lengths st.regions host d k).items) is_end ∙ ap (λ o. (left_by d o).items) some in
+    let device : device_in st host d ≡ r.device = ap (λ k. (subject_by st.lengths st.regions host d k).device) is_end ∙ ap (λ o. (subject_left d o).device) some in
+    let items : items_in st host d ≡ r.items = ap (λ k. (subject_by st.lengths st.regions host d k).items) is_end ∙ ap (λ o. (subject_left d o).items) some in
     let there : Contains h.table.presences p = rw (h.tied.presences, device) here in
     let beside : count_inside p.range (map (λ (i : DataItem). i.range) (items_in st host d)) ≡ 0 = rw items none in
     let kept = kept_by config.capacity d.kind (holding h.table.presences h.blocks) (items_in st host d) p is_end (table_in st h.table h.blocks h.tied) free.fine there beside in

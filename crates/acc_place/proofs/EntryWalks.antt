@@ -14,7 +14,7 @@ use Rattle.acc_present.specs.Marks.{Mark, structured_count, dynamic_count, regio
 use Rattle.acc_present.specs.Lifetimes.{Lifetime, opened_lifetimes, lives, marks_since, stays_counted, is_counted, can_open, opens, lifetime_inserted, is_before}
 use Rattle.acc_present.proofs.Presences.{marks_since-more, no_marks_yet, range_contains_itself}
 use Rattle.acc_present.proofs.LifetimeNumbers.{opening, numbered, opened_more, length-lifetime_inserted}
-use Rattle.acc_place.specs.Standings.{Asked, change_at, marks_with, marks_after, marked_by}
+use Rattle.acc_place.specs.Standings.{AskedItem, change_at, marks_with, marks_after, marked_by}
 use Rattle.acc_present.specs.Legality.{AllLegal}
 use Rattle.acc_present.specs.Presences.{Presence, presences, holder, is_present}
 use Rattle.acc_place.specs.Batches.{opened_blocks, holding_blocks}
@@ -110,12 +110,12 @@ abbrev pub Enters : Option Change → Type 0
 Enters None = Unit {0}
 Enters (Some change) = can_open change ≡ true
 
-abbrev pub AllEnter : List Asked → Type 0
+abbrev pub AllEnter : List AskedItem → Type 0
 AllEnter [] = Unit {0}
 AllEnter (a ∷ asks) = Enters a.change × AllEnter asks
 
 -- whether its range has to be present or not
-enters_at : (ms : List Mark) (a : Asked) → Enters a.change → Enters (change_at ms a)
+enters_at : (ms : List Mark) (a : AskedItem) → Enters a.change → Enters (change_at ms a)
 enters_at ms a can = elim (a.if_present && not (is_present (presences ms) a.item.range)) as (λ b. Enters (cond b None a.change)) [ true ↦ tt | false ↦ can ]
 
 by_mark : (change : Change) (range : Range) (ms : List Mark) (r : Range) (b : ℕ) → can_open change ≡ true → IsHeld ms r b → IsHeld (marks_with ms range (Some change)) r b
@@ -134,7 +134,7 @@ opened_by_change None r ms b can longer is = absurd (omega (arith, longer))
 opened_by_change (Some change) r ms b can longer is = opened_by_mark change r ms b can longer is
 
 -- A block that a visit opened holds the item's range behind it.
-pub opened_held : (ms : List Mark) (a : Asked) (b : ℕ) → Enters a.change → Contains (opened_blocks (visit ms a)) b → IsHeld (marked_by ms a) a.item.range b
+pub opened_held : (ms : List Mark) (a : AskedItem) (b : ℕ) → Enters a.change → Contains (opened_blocks (visit ms a)) b → IsHeld (marked_by ms a) a.item.range b
 opened_held ms a b can c = (let n = opened_is ms a b c in opened_by_change (change_at ms a) a.item.range ms b (enters_at ms a can) n.1 n.0)
 
 by_change : (change : Option Change) (range : Range) (ms : List Mark) (r : Range) (b : ℕ) → Enters change → IsHeld ms r b → IsHeld (marks_with ms range change) r b
@@ -142,12 +142,12 @@ by_change None range ms r b can h = h
 by_change (Some change) range ms r b can h = by_mark change range ms r b can h
 
 -- A range that a block holds before entries it holds behind them.
-pub held_after : (asks : List Asked) (ms : List Mark) (r : Range) (b : ℕ) → AllEnter asks → IsHeld ms r b → IsHeld (marks_after ms asks) r b
+pub held_after : (asks : List AskedItem) (ms : List Mark) (r : Range) (b : ℕ) → AllEnter asks → IsHeld ms r b → IsHeld (marks_after ms asks) r b
 held_after [] ms r b can h = h
 held_after (a ∷ asks) ms r b can h = held_after asks (marked_by ms a) r b can.1 (by_change (change_at ms a) a.item.range ms r b (enters_at ms a can.0) h)
 
 -- What a block that a walk of entries opened holds, nothing held before it.
-pub opened_absent : (asks : List Asked) (ms : List Mark) (r : Range) (b : ℕ) → AllEnter asks → AllLegal (marks_after ms asks) → 0 < r.len → IsHeld (marks_after ms asks) r b → length (opened_lifetimes ms) < b → holder (presences ms) r ≡ None
+pub opened_absent : (asks : List AskedItem) (ms : List Mark) (r : Range) (b : ℕ) → AllEnter asks → AllLegal (marks_after ms asks) → 0 < r.len → IsHeld (marks_after ms asks) r b → length (opened_lifetimes ms) < b → holder (presences ms) r ≡ None
 opened_absent asks ms r b can lawful cells h late = by_holder (holder (presences ms) r) refl
   where
     some_is : (x y : Presence) → Some x ≡ Some y → x ≡ y

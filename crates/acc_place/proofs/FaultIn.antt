@@ -19,7 +19,7 @@ use Rattle.acc_place.specs.declared.directive.DataItem.{DataItem}
 use Rattle.acc_place.specs.declared.directive.Kind.{Kind}
 use Rattle.acc_place.specs.declared.directive.Kind.TheVariants as kind
 use Rattle.acc_place.specs.Accepting.{fault_where, first_fault, wants_whole, wants_presence}
-use Rattle.acc_place.specs.Standings.{acts_if_present, asked_by, change_by, change_where}
+use Rattle.acc_place.specs.Standings.{acts_if_present, asked_item, change_by, change_where}
 use Rattle.acc_place.specs.inner.Judging.{change_in, is_found, fault_in, found_fault, can_open_by, opens_one, block_found, block_held, IsFine}
 
 and_false : (b : Bool) → (b && false) ≡ false
@@ -82,8 +82,8 @@ fault-absent : (config : Configuration) (k : Kind) (ps : List Presence) (i : Dat
     → used_cells ps ≤ config.capacity → free ≡ config.capacity - used_cells ps → found_fault k i look.Absent free ≡ fault_in config k ps i
 unfolding fault_in
 fault-absent config k ps i free inside whole absent within is =
-    let opens : opens_one (change_in k ps i) ps i.range ≡ can_open_by (change_where (asked_by k i) false) =
-    opens_absent (change_in k ps i) ps i.range absent ∙ ap (λ p. can_open_by (change_where (asked_by k i) p)) absent in
+    let opens : opens_one (change_in k ps i) ps i.range ≡ can_open_by (change_where (asked_item k i) false) =
+    opens_absent (change_in k ps i) ps i.range absent ∙ ap (λ p. can_open_by (change_where (asked_item k i) p)) absent in
     rw (
       inside,
       whole,
@@ -160,7 +160,7 @@ whole_by kind.AsyncTest partly h = tt
 whole_by kind.IsPresent partly h = tt
 
 -- so does an item of it, where it changes something
-whole_where : (k : Kind) (i : DataItem) (partly present : Bool) → (wants_whole k && partly) ≡ false → IfSome (change_where (asked_by k i) present) (λ made. partly ≡ false)
+whole_where : (k : Kind) (i : DataItem) (partly present : Bool) → (wants_whole k && partly) ≡ false → IfSome (change_where (asked_item k i) present) (λ made. partly ≡ false)
 whole_where k i partly present h =
     elim (acts_if_present k i.clause && not present) as (λ b. IfSome (cond b None (change_by k)) (λ made. partly ≡ false)) [ true ↦ tt | false ↦ whole_by k partly h ]
 

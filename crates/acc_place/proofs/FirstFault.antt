@@ -8,7 +8,7 @@ use Rattle.acc_place.specs.Directives.{Directive}
 use Rattle.acc_place.specs.Targets.{has_bad_queue}
 use Rattle.acc_place.specs.Regions.{open_region}
 use Rattle.acc_place.specs.Standings.{Standing, walk_of, visits}
-use Rattle.acc_place.specs.Accepting.{first_fault, fault_where, fault_at, refusal, has_too_many, is_outside, is_past}
+use Rattle.acc_place.specs.Accepting.{first_fault, fault_where, fault_at, refusal, has_too_many, ends_no_region, is_past}
 
 -- where no fault is found the first is none, and so are the others
 pub first_fault_none : (x : Option Fault) (xs : List (Option Fault)) → first_fault (x ∷ xs) ≡ None → (x ≡ None) × (first_fault xs ≡ None)
@@ -44,7 +44,7 @@ no_fault_of config st host d h =
     let walk = walk_of st host d in
     let items = map (fault_at config d.kind) (visits (st.marks walk.device) walk.items) in
     let past = fault_where (is_past walk.runs (map (λ a. a.item) walk.items)) OutsideRange ∷ [] in
-    let region = fault_where (is_outside d.kind (open_region host st.regions)) NoRegion in
+    let region = fault_where (ends_no_region d.kind (open_region host st.regions)) NoRegion in
     let limits = fault_where (has_too_many st host d walk) TooMany in
     let bad = fault_where (has_bad_queue d) BadAsync in
     let device = fault_where (nat_le config.devices d.device) BadDevice in

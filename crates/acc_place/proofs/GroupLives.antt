@@ -20,7 +20,7 @@ use Rattle.acc_kernel.specs.Jobs.{Use}
 use Rattle.acc_kernel.specs.Kernels.{Loop, arrays_of}
 use Rattle.acc_place.specs.Implicit.{item_of}
 use Rattle.acc_place.specs.declared.directive.DataItem.{DataItem}
-use Rattle.acc_place.specs.Standings.{Asked, Visit, visits, marked_by}
+use Rattle.acc_place.specs.Standings.{AskedItem, Visit, visits, marked_by}
 use Rattle.acc_place.specs.declared.directive.Clause.{Clause}
 use Rattle.acc_place.specs.declared.directive.Clause.TheVariants.{Copy, Copyin, Copyout, Create, Present, NoCreate, Delete, UpdateSelf, UpdateDevice}
 use Rattle.acc_place.specs.Batches.{opened_blocks, ended_blocks, holding_blocks, makes, copy_ins, updates, updates_by, use_by, uses_by, runs_by, copy_outs, releases, copies_in, copies_out}
@@ -159,14 +159,14 @@ pub includes_itself : (r : Range) → Includes r r
 includes_itself r = λ array cell p. p
 
 -- the block that a visit opened is the last of all lifetimes so far
-pub opened_is : (ms : List Mark) (a : Asked) (b : ℕ) → Contains (opened_blocks (visit ms a)) b → (b ≡ length (opened_lifetimes (marked_by ms a))) × (length (opened_lifetimes ms) < length (opened_lifetimes (marked_by ms a)))
+pub opened_is : (ms : List Mark) (a : AskedItem) (b : ℕ) → Contains (opened_blocks (visit ms a)) b → (b ≡ length (opened_lifetimes (marked_by ms a))) × (length (opened_lifetimes ms) < length (opened_lifetimes (marked_by ms a)))
 opened_is ms a b c =
     elim (cases_Bool (is_opened ms a)) [
       | inl is_open ↦ (sym (member_one b (length (opened_lifetimes (marked_by ms a))) (rw is_open at c)), nat_less ms a is_open)
       | inr is_shut ↦ absurd (no_member b (rw is_shut at c))
     ]
   where
-    nat_less : (ms : List Mark) (a : Asked) → is_opened ms a ≡ true → length (opened_lifetimes ms) < length (opened_lifetimes (marked_by ms a))
+    nat_less : (ms : List Mark) (a : AskedItem) → is_opened ms a ≡ true → length (opened_lifetimes ms) < length (opened_lifetimes (marked_by ms a))
     nat_less ms a h = ltb-true (length (opened_lifetimes ms)) (length (opened_lifetimes (marked_by ms a))) h
 
 -- the block of a lifetime is held where that lifetime was made and isn't gone
@@ -203,7 +203,7 @@ run_of makings gone ms (Some k) items h =
     All-cons (Copies makings gone) (Run k (uses_by k items ms)) [] (uses_held makings gone ms items (arrays_of k) h) (All-nil (Copies makings gone))
 
 -- From what was made and released before a directive, each visit's blocks are held.
-pub visits_hold : (asks : List Asked) (ms : List Mark) (makings : List Made) (gone : List ℕ) (all : List Made) (first : List ℕ) → Booked ms makings gone →
+pub visits_hold : (asks : List AskedItem) (ms : List Mark) (makings : List Made) (gone : List ℕ) (all : List Made) (first : List ℕ) → Booked ms makings gone →
     ((x : Made) → Contains (makings ++ makings_of (visits ms asks)) x → Contains all x) → ((b : ℕ) → Contains first b → Contains gone b) → All (Holds all first) (visits ms asks)
 visits_hold [] ms makings gone all first h sub less = All-nil (Holds all first)
 visits_hold (a ∷ asks) ms makings gone all first h sub less =
@@ -234,12 +234,12 @@ visits_hold (a ∷ asks) ms makings gone all first h sub less =
     (λ b c. Contains-append_left gone (ended_blocks (visit ms a)) b (less b c)))
 
 -- The ranges that a directive names lie in their arrays.
-abbrev pub AllInArrays : List (List ℤ) → List Asked → Type 0
+abbrev pub AllInArrays : List (List ℤ) → List AskedItem → Type 0
 AllInArrays arrays [] = Unit {0}
 AllInArrays arrays (a ∷ asks) = IsTrue (has_range arrays a.item.range) × AllInArrays arrays asks
 
 -- the one block that a visit makes was never made before
-one_make : (arrays : List (List ℤ)) (ms : List Mark) (a : Asked) (before : List OpLabel) → ((x : Made) → Contains (blocks_made before) x → x.block ≤ length (opened_lifetimes ms)) → IsTrue (has_range arrays a.item.range) → AllUse arrays before (makes (visit ms a))
+one_make : (arrays : List (List ℤ)) (ms : List Mark) (a : AskedItem) (before : List OpLabel) → ((x : Made) → Contains (blocks_made before) x → x.block ≤ length (opened_lifetimes ms)) → IsTrue (has_range arrays a.item.range) → AllUse arrays before (makes (visit ms a))
 one_make arrays ms a before low inside =
     elim (cases_Bool (is_opened ms a)) [
       | inl is_open ↦
@@ -249,7 +249,7 @@ one_make arrays ms a before low inside =
     ]
 
 -- the blocks that all visits of a directive make were never made before
-pub makes_use : (arrays : List (List ℤ)) (asks : List Asked) (ms : List Mark) (before : List OpLabel) → ((x : Made) → Contains (blocks_made before) x → x.block ≤ length (opened_lifetimes ms)) → AllInArrays arrays asks → AllUse arrays before (flat_map makes (visits ms asks))
+pub makes_use : (arrays : List (List ℤ)) (asks : List AskedItem) (ms : List Mark) (before : List OpLabel) → ((x : Made) → Contains (blocks_made before) x → x.block ≤ length (opened_lifetimes ms)) → AllInArrays arrays asks → AllUse arrays before (flat_map makes (visits ms asks))
 makes_use arrays [] ms before low inside = tt
 makes_use arrays (a ∷ asks) ms before low inside =
     let v = visit_is ms a in
@@ -291,7 +291,7 @@ unfolding live_lifetimes
 live_apart ms = AllPairs-filter Differ (lives ms) (opened_lifetimes ms) (numbered ms).apart
 
 -- The releases of all visits of a directive use live blocks.
-pub releases_use : (arrays : List (List ℤ)) (asks : List Asked) (ms : List Mark) (makings : List Made) (before : List OpLabel) → Booked ms makings (blocks_released before) →
+pub releases_use : (arrays : List (List ℤ)) (asks : List AskedItem) (ms : List Mark) (makings : List Made) (before : List OpLabel) → Booked ms makings (blocks_released before) →
     ((x : Made) → Contains (makings ++ makings_of (visits ms asks)) x → Contains (blocks_made before) x) → AllUse arrays before (flat_map releases (visits ms asks))
 releases_use arrays [] ms makings before h sub = tt
 releases_use arrays (a ∷ asks) ms makings before h sub =

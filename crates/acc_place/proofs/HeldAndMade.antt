@@ -24,12 +24,12 @@ use Rattle.acc_batch.specs.Labels.{ops_of, made_blocks, used_blocks, has_number,
 use Rattle.acc_batch.specs.Lives.{Made, blocks_made, HoldsBlock, UsesLive, AllUse, on_device}
 use Rattle.acc_batch.proofs.OrderedBatches.{filter_member}
 use Rattle.acc_place.specs.inner.Noting.{HasOneMaker}
-use Rattle.acc_place.specs.Standings.{Asked, marks_after, marked_by}
+use Rattle.acc_place.specs.Standings.{AskedItem, marks_after, marked_by}
 use Rattle.acc_batch.proofs.Lives.{made-append}
 use Rattle.acc_place.proofs.VisitLives.{IsHeld, visit_is}
 
 -- a block that holds a range after a visit held it before, or was opened by the visit
-pub held_before : (ms : List Mark) (a : Asked) (r : Range) (b : ℕ) → IsHeld (marked_by ms a) r b → IsHeld ms r b ⊎ (length (opened_lifetimes ms) < b)
+pub held_before : (ms : List Mark) (a : AskedItem) (r : Range) (b : ℕ) → IsHeld (marked_by ms a) r b → IsHeld ms r b ⊎ (length (opened_lifetimes ms) < b)
 held_before ms a r b h =
     let v = visit_is ms a in
     elim (v.members h.lifetime h.member) [
@@ -38,7 +38,7 @@ held_before ms a r b h =
     ]
 
 -- so it is over all visits of a directive
-pub held_first : (asks : List Asked) (ms : List Mark) (r : Range) (b : ℕ) → IsHeld (marks_after ms asks) r b → IsHeld ms r b ⊎ (length (opened_lifetimes ms) < b)
+pub held_first : (asks : List AskedItem) (ms : List Mark) (r : Range) (b : ℕ) → IsHeld (marks_after ms asks) r b → IsHeld ms r b ⊎ (length (opened_lifetimes ms) < b)
 held_first [] ms r b h = inl h
 held_first (a ∷ asks) ms r b h = elim (held_first asks (marked_by ms a) r b h) [
   | inl held ↦ held_before ms a r b held

@@ -21,7 +21,7 @@ use Rattle.acc_place.specs.declared.directive.Kind.TheVariants as kind
 use Rattle.acc_place.specs.Batches.{opened_blocks, ended_blocks, holding_blocks, makes, copy_ins, updates, updates_by, use_by, uses_by, runs_by, copy_outs, releases, copies_in, copies_out, grouped}
 use Rattle.acc_place.specs.Implicit.{item_of}
 use Rattle.acc_place.specs.inner.Noting.{noted_ranges}
-use Rattle.acc_place.specs.Standings.{Standing, Asked, Walk, Visit, visits, all_visits, marks_after, marks_between, all_asked, change_by, exit_by, ends_by, subject_by, walk_of, marked_by}
+use Rattle.acc_place.specs.Standings.{Standing, AskedItem, Walk, Visit, visits, all_visits, marks_after, marks_between, all_asked, change_by, exit_by, ends_by, subject_by, walk_of, marked_by}
 use Rattle.acc_place.proofs.EntryWalks.{Enters, AllEnter, held_after, opened_held}
 use Rattle.acc_place.proofs.ExitWalks.{Leaves, AllLeave, none_opened, held_from, ended_held}
 use Rattle.acc_place.proofs.GroupLives.{all_from_members, opened_is}
@@ -137,7 +137,7 @@ middle walk (leaves i e) ms = ms
 abbrev pub IsHeldAt : List Mark → Use → Type 0
 IsHeldAt ms u = IsHeld ms u.1 u.0
 
-enters_so : (asks : List Asked) (ms : List Mark) → AllEnter asks → All (IsSoAt (IsHeldAt (marks_after ms asks))) (visits ms asks)
+enters_so : (asks : List AskedItem) (ms : List Mark) → AllEnter asks → All (IsSoAt (IsHeldAt (marks_after ms asks))) (visits ms asks)
 enters_so [] ms can = All-nil (IsSoAt (IsHeldAt ms))
 enters_so (a ∷ asks) ms can =
     let last = marks_after ms (a ∷ asks) in
@@ -149,7 +149,7 @@ enters_so (a ∷ asks) ms can =
     })
     (enters_so asks (marked_by ms a) can.1)
 
-leaves_so : (asks : List Asked) (ms first : List Mark) → AllLeave asks → ((r : Range) (b : ℕ) → IsHeld ms r b → IsHeld first r b) → All (IsSoAt (IsHeldAt first)) (visits ms asks)
+leaves_so : (asks : List AskedItem) (ms first : List Mark) → AllLeave asks → ((r : Range) (b : ℕ) → IsHeld ms r b → IsHeld first r b) → All (IsSoAt (IsHeldAt first)) (visits ms asks)
 leaves_so [] ms first out back = All-nil (IsSoAt (IsHeldAt first))
 leaves_so (a ∷ asks) ms first out back =
     All-cons (IsSoAt (IsHeldAt first)) (visit ms a) (visits (marked_by ms a) asks)

@@ -9,7 +9,7 @@ use Rattle.acc_place.specs.Directives.{Directive}
 use Rattle.acc_place.specs.declared.directive.DataItem.{DataItem}
 use Rattle.acc_place.specs.declared.directive.Kind.{Kind}
 use Rattle.acc_place.specs.declared.directive.Kind.TheVariants as kind
-use Rattle.acc_place.specs.Standings.{Standing, Asked, all_asked, ends_by, subject_by, walk_of, visits, marked_by}
+use Rattle.acc_place.specs.Standings.{Standing, AskedItem, all_asked, ends_by, subject_by, walk_of, visits, marked_by}
 use Rattle.acc_place.specs.Accepting.{first_fault, fault_where, fault_at, refusal}
 use Rattle.acc_place.proofs.FirstFault.{first_fault_none, no_fault_at, no_fault_of}
 use Rattle.acc_place.proofs.AllVisits.{asks_of}
@@ -17,7 +17,7 @@ use Rattle.acc_place.proofs.VisitLives.{visit}
 use Rattle.acc_place.proofs.GroupLives.{AllInArrays}
 
 -- the ranges of a directive without a fault lie in their arrays
-all_in_arrays : (config : Configuration) (k : Kind) (asks : List Asked) (ms : List Mark) → first_fault (map (fault_at config k) (visits ms asks)) ≡ None → AllInArrays config.arrays asks
+all_in_arrays : (config : Configuration) (k : Kind) (asks : List AskedItem) (ms : List Mark) → first_fault (map (fault_at config k) (visits ms asks)) ≡ None → AllInArrays config.arrays asks
 all_in_arrays config k [] ms h = tt
 all_in_arrays config k (a ∷ asks) ms h =
     let parts = first_fault_none (fault_at config k (visit ms a)) (map (fault_at config k) (visits (marked_by ms a) asks)) h in
@@ -25,7 +25,7 @@ all_in_arrays config k (a ∷ asks) ms h =
     (no_fault_at (has_range config.arrays a.item.range) BadRange here.0, all_in_arrays config k asks (marked_by ms a) parts.1)
 
 -- two lists of items, one behind the other
-in_arrays-append : (arrays : List (List ℤ)) (xs ys : List Asked) → AllInArrays arrays xs → AllInArrays arrays ys → AllInArrays arrays (xs ++ ys)
+in_arrays-append : (arrays : List (List ℤ)) (xs ys : List AskedItem) → AllInArrays arrays xs → AllInArrays arrays ys → AllInArrays arrays (xs ++ ys)
 in_arrays-append arrays [] ys h k = k
 in_arrays-append arrays (x ∷ xs) ys h k = (h.0, in_arrays-append arrays xs ys h.1 k)
 

@@ -20,7 +20,7 @@ use Rattle.acc_place.specs.declared.directive.Placed.{Placed}
 use Rattle.acc_place.specs.declared.directive.PlaceEntry.{PlaceEntry}
 use Rattle.acc_place.specs.declared.directive.PlaceEntry.TheVariants.{Accepted, Closing, Closed}
 use Rattle.acc_place.specs.declared.directive.Region.{Region}
-use Rattle.acc_place.specs.Closing.{IsOut, ClosesQueue}
+use Rattle.acc_place.specs.Closing.{IsCloseOut, ClosesQueue}
 use Rattle.acc_place.specs.Batches.{batch_of, labels_with, walk_at}
 use Rattle.acc_place.specs.Histories.{after_close, after_directive, at_first, is_closed, standing, CanClose, IsQueue}
 use Rattle.acc_place.specs.inner.Places.{close_in, closing_entries, entries_left, closes_kept, new_close, no_close, queues_after, IsCloseOf, IsPlace, KeepsCloses}
@@ -320,7 +320,7 @@ none_of : {X : Type 0} (o : Option X) → is_some o ≡ false → o ≡ None
 none_of None none = refl
 none_of (Some x) none = absurd cc
 
-pub close_gone : (p : PlaceView) (cs : List Close) (at : QueueAt) (old new : Close) → p.closes ≡ map (λ (c : Close). is_some c.batch) cs → length cs ≡ queue_count p.config → IsOut p at → old ≡ close_in cs at → new.batch ≡ old.batch → new.label ≡ None
+pub close_gone : (p : PlaceView) (cs : List Close) (at : QueueAt) (old new : Close) → p.closes ≡ map (λ (c : Close). is_some c.batch) cs → length cs ≡ queue_count p.config → IsCloseOut p at → old ≡ close_in cs at → new.batch ≡ old.batch → new.label ≡ None
     → new ≡ no_close
 close_gone p cs at old new shown all out is batch label =
     let hand : is_some old.batch ≡ false =

@@ -20,7 +20,7 @@ use Rattle.acc_batch.specs.declared.label.OpLabel.{OpLabel}
 use Rattle.acc_batch.specs.declared.label.OpLabel.TheVariants.{Make, CopyIn, CopyOut, Release, Run, Await, Close}
 use Rattle.acc_batch.specs.Labels.{ops_of}
 use Rattle.acc_batch.specs.Lives.{blocks_made, blocks_released, AllUse, on_device, IsSound}
-use Rattle.acc_batch.specs.Awaits.{is_await, IsOrdered, AllOrdered, IsNumbered}
+use Rattle.acc_batch.specs.Awaits.{is_await, IsOrdered, AllOrdered, AreNumberedLabels}
 use Rattle.acc_batch.proofs.Labels.{ops_of-append}
 use Rattle.acc_batch.proofs.OrderedBatches.{behind_is, close_ordered, label_ordered, ordered_push}
 use Rattle.acc_kernel.specs.Kernels.{Loop}
@@ -32,7 +32,7 @@ use Rattle.acc_place.specs.declared.directive.PlaceEntry.{PlaceEntry}
 use Rattle.acc_place.specs.declared.directive.PlaceEntry.TheVariants as noted
 use Rattle.acc_place.specs.declared.directive.Target.{Target}
 use Rattle.acc_place.specs.declared.directive.Target.TheVariants.{Plain, Unvalued, Value}
-use Rattle.acc_place.specs.Targets.{queue_of_own, queue_of, target_queue, or_sync, queue_by}
+use Rattle.acc_place.specs.Targets.{queue_of_own, queue_meant, target_queue, or_sync, queue_by}
 use Rattle.acc_place.specs.Standings.{Standing, Walk, all_visits, walk_of, marks_behind}
 use Rattle.acc_place.specs.Batches.{walk_at, runs, runs_by, grouped, operations_of, batch_of, next_number, labels_with}
 use Rattle.acc_place.specs.Histories.{AllAccepted, standing, at_first, after_close, after_walk}
@@ -109,7 +109,7 @@ pub record Sound (config : Configuration) (st : Standing) : Type 0 where
   pub use_live : (d : ℕ) → AllUse config.arrays [] (ops_of (on_device d st.labels))
   pub booked : (d : ℕ) → Booked (st.marks d) (blocks_made (ops_of (on_device d st.labels))) (blocks_released (ops_of (on_device d st.labels)))
   pub ordered : AllOrdered [] st.labels
-  pub numbered : IsNumbered st.labels
+  pub numbered : AreNumberedLabels st.labels
 
 sound_none : (config : Configuration) → Sound config (at_first config)
 sound_none config = record {
@@ -166,7 +166,7 @@ sound_on config st host items_done d walk h b device = elim (cases_Bool (device 
     ]
 
 -- the label of a walk's batch stands behind those that it needs
-label_is : (st : Standing) (host items_done : ℕ) (walk : Walk) → IsNumbered st.labels → AllOrdered [] st.labels
+label_is : (st : Standing) (host items_done : ℕ) (walk : Walk) → AreNumberedLabels st.labels → AllOrdered [] st.labels
     → IsOrdered st.labels (record { at = walk_at walk; number = next_number (walk_at walk) st.labels; host = host; items_done = items_done; ops = batch_of st walk })
 unfolding batch_of
 label_is st host items_done walk known ordered =
@@ -230,7 +230,7 @@ own_low (negsuc zero) = omega arith
 own_low (negsuc (suc zero)) = omega arith
 own_low (negsuc (suc (suc n))) = omega arith
 
-queue_low : (default v : ℤ) → or_sync (queue_of default v) < QUEUES
+queue_low : (default v : ℤ) → or_sync (queue_meant default v) < QUEUES
 queue_low default (negsuc zero) = own_low default
 queue_low default (pos v) = own_low (pos v)
 queue_low default (negsuc (suc n)) = own_low (negsuc (suc n))

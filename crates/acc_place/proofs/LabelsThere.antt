@@ -19,7 +19,7 @@ use Rattle.acc_place.specs.declared.directive.Region.{Region}
 use Rattle.acc_place.specs.Batches.{walk_at, batch_of, labels_with}
 use Rattle.acc_place.specs.Histories.{AllAccepted, standing}
 use Rattle.acc_place.specs.Regions.{regions_of, first_region, without_open, region_of, regions_after}
-use Rattle.acc_place.specs.Standings.{Standing, walk_of, subject_by, left_by, counted_items}
+use Rattle.acc_place.specs.Standings.{Standing, walk_of, subject_by, subject_left, counted_items}
 use Rattle.acc_place.specs.Sound.{AcceptedAreThere}
 use Rattle.acc_place.proofs.InArrays.{accepted_fits}
 use Rattle.acc_place.proofs.LabelsSound.{walk_low}
@@ -34,7 +34,7 @@ record There (devices : ℕ) (st : Standing) : Type 0 where
   labels : All (IsThere devices) st.labels
   regions : All (IsIn devices) st.regions
 
-left_in : (devices : ℕ) (d : Directive) (rs : List Region) → All (IsIn devices) rs → d.device < devices → (left_by d (first_region rs)).device < devices
+left_in : (devices : ℕ) (d : Directive) (rs : List Region) → All (IsIn devices) rs → d.device < devices → (subject_left d (first_region rs)).device < devices
 left_in devices d [] h low = low
 left_in devices d (r ∷ rs) h low = All-head (IsIn devices) r rs h
 

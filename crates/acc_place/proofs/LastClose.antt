@@ -101,7 +101,7 @@ more_on at own host items_done labels (op ∷ ops) h go =
       split = one_on at labels l ∙ (ap (λ ls. ls ++ more) before ∙ sym (append-nil (h.first ++ more)));
     }
 
-none_closed : (config : Configuration) (history : List PlaceEntry) (counts : List ℕ) → AllAccepted config history counts → (standing config history counts).closing ≡ false → (standing config history counts).closed ≡ []
+pub none_closed : (config : Configuration) (history : List PlaceEntry) (counts : List ℕ) → AllAccepted config history counts → (standing config history counts).closing ≡ false → (standing config history counts).closed ≡ []
 unfolding standing
 none_closed config [] counts h early = refl
 none_closed config (Accepted host d ∷ before) counts h early = none_closed config before (drop 1 counts) h.1 early

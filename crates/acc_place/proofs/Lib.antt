@@ -1,4 +1,4 @@
-mod AcceptedDirective
+pub mod AcceptedDirective
 mod AfterClose
 pub mod AnswersKept
 pub mod AllVisits
@@ -7,7 +7,7 @@ mod BatchNotes
 pub mod CloseOut
 mod DeviceNotes
 mod DirectivesCounted
-mod EnteredRanges
+pub mod EnteredRanges
 mod EntriesAndEnds
 mod EntryWalks
 mod ExitWalks
@@ -30,13 +30,13 @@ mod NoteFound
 mod NoteOf
 mod NotedBy
 mod NotesOn
-mod OpenRegion
+pub mod OpenRegion
 mod PlaceAccept
 mod PlaceParts
 mod PlanOf
 mod QueuesAfter
 mod ReachJudged
-mod RegionsOn
+pub mod RegionsOn
 mod SliceSet
 mod StandingIn
 mod TrialPlan

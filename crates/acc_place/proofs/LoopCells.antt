@@ -25,7 +25,7 @@ use Rattle.acc_place.specs.Accepting.{fault_where, is_past, refusal}
 use Rattle.acc_place.specs.Batches.{walk_at, runs, runs_by, operations_of, batch_of, labels_with}
 use Rattle.acc_place.specs.Histories.{AllAccepted, standing}
 use Rattle.acc_place.specs.Sound.{AcceptedHaveTheirCells, HaveTheirCells}
-use Rattle.acc_place.specs.Standings.{all_visits, loop_of, marks_between, walk_of}
+use Rattle.acc_place.specs.Standings.{all_visits, loop_in, marks_between, walk_of}
 use Rattle.acc_place.specs.inner.Judging.{Holding, StaysBy, AllHeldFor, fault_or, first_fault_in, holding, past_fault}
 use Rattle.acc_place.proofs.AcceptedDirective.{accepted_device, accepted_open, device_in, is_free, items_asked, items_in, middle_is, refused_by}
 use Rattle.acc_place.proofs.DirectivesCounted.{tables}
@@ -61,7 +61,7 @@ where_none : (b : Bool) → fault_where b OutsideRange ≡ None → b ≡ false
 where_none true h = absurd cc
 where_none false h = refl
 
-stays_by : (k : Kind) (items : List DataItem) → past_fault (loop_of k) items ≡ None → StaysBy k items
+stays_by : (k : Kind) (items : List DataItem) → past_fault (loop_in k) items ≡ None → StaysBy k items
 stays_by (kind.Loop kernel) items none = (reach_judged kernel items).0 (where_none (is_past (Some kernel) items) none)
 stays_by kind.Data items none = tt
 stays_by kind.EndData items none = tt
@@ -72,7 +72,7 @@ stays_by kind.Wait items none = tt
 stays_by kind.AsyncTest items none = tt
 stays_by kind.IsPresent items none = tt
 
-run_has : (k : Kind) (items : List DataItem) (ms : List Mark) → StaysBy k items → AllHeldFor k (presences ms) items → All HasItsCells (runs_by (loop_of k) items ms)
+run_has : (k : Kind) (items : List DataItem) (ms : List Mark) → StaysBy k items → AllHeldFor k (presences ms) items → All HasItsCells (runs_by (loop_in k) items ms)
 run_has (kind.Loop kernel) items ms stays held = All-cons HasItsCells (Run kernel _) [] (run_has_its_cells items (presences ms) kernel stays held) (All-nil HasItsCells)
 run_has kind.Data items ms stays held = All-nil HasItsCells
 run_has kind.EndData items ms stays held = All-nil HasItsCells
@@ -96,12 +96,12 @@ loop_has config history counts host d all accepted =
     let before = holding h.table.presences h.blocks in
     let free = is_free config st host d h.table h.blocks h.tied accepted in
     let none = sym (refused_by config st host d h.table h.blocks h.tied (accepted_open config st host d accepted) (accepted_device config st host d accepted)) ∙ accepted in
-    let stays = stays_by d.kind items (none_behind _ (first_fault_in config d.kind before items) (past_fault (loop_of d.kind) items) none) in
+    let stays = stays_by d.kind items (none_behind _ (first_fault_in config d.kind before items) (past_fault (loop_in d.kind) items) none) in
     let middle = middle_is config st host d h.table h.blocks h.tied accepted in
     let between = marks_between ms (walk_of st host d) in
     let held : AllHeldFor d.kind (presences between) items =
     subst (λ (now : Holding). AllHeldFor d.kind now.presences items) (sym middle) free.held in
-    subst (λ is. All HasItsCells (runs_by (loop_of d.kind) is between)) (sym (items_asked d.kind items)) (run_has d.kind items between stays held)
+    subst (λ is. All HasItsCells (runs_by (loop_in d.kind) is between)) (sym (items_asked d.kind items)) (run_has d.kind items between stays held)
 
 -- ## A batch, and all labels
 

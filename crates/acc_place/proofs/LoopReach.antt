@@ -12,7 +12,7 @@ use Rattle.std.proofs.lemmas.List.Folds.{list_any_at, list_any_more}
 use Rattle.std.proofs.lemmas.List.Kept.{AllPairs-cons, AllPairs-filter}
 use Rattle.acc_base.specs.declared.range.Range.{Range}
 use Rattle.acc_kernel.specs.declared.reach.Reach.{Reach}
-use Rattle.acc_kernel.specs.Jobs.{Use, AreDistinct, HoldReached, has_cell, no_use, place_of, range_of}
+use Rattle.acc_kernel.specs.Jobs.{Use, AreDistinct, HoldReached, uses_have, no_use, place_of, used_range}
 use Rattle.acc_kernel.specs.Kernels.{Loop, Reaches, IsReach, arrays_of, distinct, reach_of, references}
 use Rattle.acc_kernel.specs.Trees.{Reference}
 use Rattle.acc_batch.specs.declared.label.OpLabel.TheVariants.{Run}
@@ -224,34 +224,34 @@ module _ (items : List DataItem) (ps : List Presence) where
 
   -- ## The cells of the uses
 
-  range_first : (u : Use) (us : List Use) (array : ℕ) → (u.1.array == array) ≡ true → range_of (u ∷ us) array ≡ u.1
+  range_first : (u : Use) (us : List Use) (array : ℕ) → (u.1.array == array) ≡ true → used_range (u ∷ us) array ≡ u.1
   range_first u us array same = ap (λ (b : Bool). (get_or (u ∷ us) (cond (not b) (1 + place_of us array) 0) no_use).1) same
 
-  range_next : (u : Use) (us : List Use) (array : ℕ) → (u.1.array == array) ≡ false → range_of (u ∷ us) array ≡ range_of us array
+  range_next : (u : Use) (us : List Use) (array : ℕ) → (u.1.array == array) ≡ false → used_range (u ∷ us) array ≡ used_range us array
   range_next u us array other =
       let behind : 1 + place_of us array ≡ suc (place_of us array) = omega arith in
       ap (λ (b : Bool). (get_or (u ∷ us) (cond (not b) (1 + place_of us array) 0) no_use).1) other
       ∙ ap (λ (n : ℕ). (get_or (u ∷ us) n no_use).1) behind
 
   range_behind : (a : ℕ) (rest : List ℕ) (array : ℕ) → (a == array) ≡ false
-      → range_of (uses_among items ps (a ∷ rest)) array ≡ range_of (uses_among items ps rest) array
+      → used_range (uses_among items ps (a ∷ rest)) array ≡ used_range (uses_among items ps rest) array
   range_behind a rest array other = elim (one_use a) [
-    | inl none ↦ ap (λ (us : List Use). range_of (us ++ uses_among items ps rest) array) none
+    | inl none ↦ ap (λ (us : List Use). used_range (us ++ uses_among items ps rest) array) none
     | inr one ↦
-        ap (λ (us : List Use). range_of (us ++ uses_among items ps rest) array) one.1
+        ap (λ (us : List Use). used_range (us ++ uses_among items ps rest) array) one.1
         ∙ range_next one.0 (uses_among items ps rest) array (ap (λ x. x == array) one.2 ∙ other)
   ]
 
   -- the range that is used of an array is that of its first item, where this is present
   range_used : (arrays : List ℕ) (array : ℕ) (i : DataItem) (p : Presence) → is_among arrays array ≡ true → item_of array items ≡ Some i → holder ps i.range ≡ Some p
-      → range_of (uses_among items ps arrays) array ≡ i.range
+      → used_range (uses_among items ps arrays) array ≡ i.range
   range_used [] array i p is found held = cc
   range_used (a ∷ rest) array i p is found held = elim (cases_Bool (a == array)) [
     | inl same ↦ (
         let whole : use_in ps (item_of a items) ≡ (p.block, i.range) ∷ [] =
         ap (λ x. use_in ps (item_of x items)) ((Decides-eqb a array).0 same)
         ∙ (ap (use_in ps) found ∙ ap (λ o. map (λ b. (b, i.range)) (found_block o)) held) in
-        ap (λ (us : List Use). range_of (us ++ uses_among items ps rest) array) whole
+        ap (λ (us : List Use). used_range (us ++ uses_among items ps rest) array) whole
         ∙ range_first (p.block, i.range) (uses_among items ps rest) array (find_passes (λ (j : DataItem). j.range.array == array) items i found)
         )
     | inr other ↦
@@ -260,7 +260,7 @@ module _ (items : List DataItem) (ps : List Presence) where
   ]
 
   held_at : (arrays : List ℕ) (array : ℕ) (cell : ℤ) → All (λ (i : DataItem). is_present ps i.range ≡ true) items → is_among arrays array ≡ true
-      → (o : Option DataItem) → item_of array items ≡ o → IsInside o cell → has_cell (uses_among items ps arrays) array cell ≡ true
+      → (o : Option DataItem) → item_of array items ≡ o → IsInside o cell → uses_have (uses_among items ps arrays) array cell ≡ true
   held_at arrays array cell present is None found inside = absurd inside
   held_at arrays array cell present is (Some i) found inside =
       let here = find_all (λ (j : DataItem). is_present ps j.range ≡ true) (λ (j : DataItem). j.range.array == array) items i present found in

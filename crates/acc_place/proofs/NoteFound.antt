@@ -27,7 +27,7 @@ use Rattle.acc_place.specs.Accepting.{refusal}
 use Rattle.acc_place.specs.Batches.{opened_blocks, ended_blocks, holding_blocks, makes, copy_ins, updates, updates_by, runs, runs_by, copy_outs, releases, copies_in, copies_out, grouped, operations_of}
 use Rattle.acc_place.specs.Histories.{AllAccepted, standing}
 use Rattle.acc_place.specs.inner.Noting.{note_of, notes_on, noted_ranges, made_ranges, used_ranges, note_found}
-use Rattle.acc_place.specs.Standings.{Standing, Asked, Walk, Visit, visits, all_visits, marks_between, walk_of, marked_by}
+use Rattle.acc_place.specs.Standings.{Standing, AskedItem, Walk, Visit, visits, all_visits, marks_between, walk_of, marked_by}
 use Rattle.acc_place.proofs.HeldAndMade.{held_first, look_finds}
 use Rattle.acc_place.proofs.AllVisits.{asks_of, all_visits_are}
 use Rattle.acc_place.proofs.EntryWalks.{opened_absent}
@@ -71,7 +71,7 @@ HasCells u = 0 < u.1.len
 in_array_cells : (arrays : List (List ℤ)) (r : Range) → IsTrue (has_range arrays r) → 0 < r.len
 in_array_cells arrays r h = ltb-true 0 r.len (and_parts (nat_lt 0 r.len) _ h).0
 
-visits_cells : (arrays : List (List ℤ)) (asks : List Asked) (ms : List Mark) → AllInArrays arrays asks → All (IsSoAt HasCells) (visits ms asks)
+visits_cells : (arrays : List (List ℤ)) (asks : List AskedItem) (ms : List Mark) → AllInArrays arrays asks → All (IsSoAt HasCells) (visits ms asks)
 visits_cells arrays [] ms h = All-nil (IsSoAt HasCells)
 visits_cells arrays (a ∷ asks) ms h =
     let cells = in_array_cells arrays a.item.range h.0 in
@@ -79,9 +79,9 @@ visits_cells arrays (a ∷ asks) ms h =
     (record { opened_so = λ b c. cells; ended_so = λ b c. cells; held_so = λ b c. cells })
     (visits_cells arrays asks (marked_by ms a) h.1)
 
-item_cells : (arrays : List (List ℤ)) (asks more : List Asked) → AllInArrays arrays (asks ++ more) → (i : DataItem) → Contains (map (λ (a : Asked). a.item) asks) i → 0 < i.range.len
+item_cells : (arrays : List (List ℤ)) (asks more : List AskedItem) → AllInArrays arrays (asks ++ more) → (i : DataItem) → Contains (map (λ (a : AskedItem). a.item) asks) i → 0 < i.range.len
 item_cells arrays [] more h i c = absurd (no_member i c)
-item_cells arrays (a ∷ asks) more h i c = elim (member_cases i a.item (map (λ (x : Asked). x.item) asks) c) [
+item_cells arrays (a ∷ asks) more h i c = elim (member_cases i a.item (map (λ (x : AskedItem). x.item) asks) c) [
   | inl same ↦ (let cells = in_array_cells arrays a.item.range h.0 in omega (arith, cells, ap (λ (z : DataItem). z.range.len) same))
   | inr rest ↦ item_cells arrays asks more h.1 i rest
 ]
@@ -113,7 +113,7 @@ operations_use config st walk w =
     let ms = st.marks walk.device in
     let between = marks_between ms walk in
     grouped_so (IsUse (middle walk w.turns ms)) (runs walk ms) (all_visits ms walk) (visits_use config st walk w)
-    (run_so (IsUse (middle walk w.turns ms)) walk.runs (map (λ (a : Asked). a.item) walk.items) between
+    (run_so (IsUse (middle walk w.turns ms)) walk.runs (map (λ (a : AskedItem). a.item) walk.items) between
     (λ i c b k. (item_cells config.arrays walk.items walk.ends w.inside i c, held_middle walk w.turns ms i.range b (held_block_is between i.range b k))))
 
 all_right : (P : Use → Type 0) (xs ys : List Use) → All P (xs ++ ys) → All P ys

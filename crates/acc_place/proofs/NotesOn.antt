@@ -25,7 +25,7 @@ use Rattle.acc_place.specs.Batches.{operations_of, batch_of, walk_at, next_numbe
 use Rattle.acc_place.specs.inner.Devices.{AreFresh}
 use Rattle.acc_place.specs.Histories.{after_walk}
 use Rattle.acc_place.specs.inner.Noting.{awaits_from, note_of, notes_on, noted_ranges, used_ranges, note_found, made_at, used_at, last_made, last_used, noted_by}
-use Rattle.acc_place.specs.Standings.{Standing, Asked, Walk, all_visits, marks_between, marks_behind}
+use Rattle.acc_place.specs.Standings.{Standing, AskedItem, Walk, all_visits, marks_between, marks_behind}
 use Rattle.acc_place.proofs.HeldAndMade.{one_maker}
 use Rattle.acc_place.proofs.ExitWalks.{AllLeave, none_opened}
 use Rattle.acc_place.proofs.NoteFound.{IsWalked, IsUse, HasCells, visits_use, operations_use, all_noted, all_used, all_ended, found_is, by_blocks, used_are, ended_are, released_are}
@@ -50,7 +50,7 @@ numbers_are config st walk w q low =
     let note = note_of walk.device st.labels in
     let used = all_used (IsUse at) ops (operations_use config st walk w) in
     let ended = all_ended (IsUse at) vs (visits_use config st walk w) in
-    let released = ended_are vs ∙ sym (released_are walk.runs (map (λ (a : Asked). a.item) walk.items) (marks_between ms walk) vs) in
+    let released = ended_are vs ∙ sym (released_are walk.runs (map (λ (a : AskedItem). a.item) walk.items) (marks_between ms walk) vs) in
     let first = by_blocks (made_at q) found note (flat_map used_ranges ops) (λ u c. found_is config st walk w u (All-contains (IsUse at) (flat_map used_ranges ops) u used c))
     ∙ ap (λ bs. map (made_at q) (map note bs)) (used_are ops) in
     let second = by_blocks (used_at q) found note (flat_map ended_uses vs) (λ u c. found_is config st walk w u (All-contains (IsUse at) (flat_map ended_uses vs) u ended c))

@@ -8,7 +8,7 @@ use Rattle.acc_place.specs.declared.directive.Kind.{Kind}
 use Rattle.acc_place.specs.declared.directive.Kind.TheVariants as kind
 use Rattle.acc_place.specs.declared.directive.Region.{Region}
 use Rattle.acc_place.specs.Regions.{open_region, regions_after, regions_on, without_open}
-use Rattle.acc_place.specs.Standings.{left_by, subject_by}
+use Rattle.acc_place.specs.Standings.{subject_left, subject_by}
 use Rattle.acc_place.specs.inner.Judging.{device_by}
 use Rattle.acc_place.proofs.OpenRegion.{none_without}
 
@@ -57,7 +57,7 @@ pub regions_beside : (rs : List Region) (host : ℕ) (d : Directive) (k : Kind) 
 regions_beside rs host d kind.Data counted device away = rw away refl
 regions_beside rs host d kind.EndData counted device away = by_open (open_region host rs) refl away
   where
-    by_open : (o : Option Region) → open_region host rs ≡ o → ((left_by d o).device == device) ≡ false → regions_on device (without_open host rs) ≡ regions_on device rs
+    by_open : (o : Option Region) → open_region host rs ≡ o → ((subject_left d o).device == device) ≡ false → regions_on device (without_open host rs) ≡ regions_on device rs
     by_open None none away = ap (regions_on device) (none_without host rs none)
     by_open (Some x) some away = without_away device host rs x some away
 regions_beside rs host d kind.EnterData counted device away = refl

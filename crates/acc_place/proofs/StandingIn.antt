@@ -42,7 +42,7 @@ use Rattle.acc_place.specs.Histories.{at_first, standing, after_directive, AllAc
 use Rattle.acc_place.specs.inner.Places.{IsPlace, IsThere, IsTied, IsTiedOn, queue_in, queues_after}
 use Rattle.acc_place.specs.Plans.{KeptByAccepting, KeptByPlanning, KeptByTaking, PlaceView, PlanView, Room, nth_batch, standing_in, IsRoomy, IsPlanOf, Fits, label_for, label_in, opened_region, region_in, place_after, queue_for}
 use Rattle.acc_place.specs.Regions.{region_of, regions_after}
-use Rattle.acc_place.specs.Standings.{Standing, Walk, all_visits, loop_of, subject_by, walk_of}
+use Rattle.acc_place.specs.Standings.{Standing, Walk, all_visits, loop_in, subject_by, walk_of}
 use Rattle.acc_place.specs.inner.Noting.{awaits_from, ended_range, last_made, last_used, note_found, notes_on, used_ranges}
 use Rattle.acc_place.specs.Targets.{is_alone, queue_by, queues_named}
 use Rattle.acc_place.specs.inner.Trials.{behind_noted, counts_in, fault_by, held_by, items_by, named_count, next_in, number_in, ops_by, placed_by, steps_by, IsKnown}
@@ -162,7 +162,7 @@ fault_known p host d k h =
     let st = standing_in p in
     let items = items_by k host d in
     let fault : Configuration → ℕ → List Region → List DataItem → Option Fault =
-    λ config n rs xs. fault_or (limit_fault n rs host d (length xs)) (fault_or (first_fault_in config d.kind (held_by k) xs) (past_fault (loop_of d.kind) xs)) in
+    λ config n rs xs. fault_or (limit_fault n rs host d (length xs)) (fault_or (first_fault_in config d.kind (held_by k) xs) (past_fault (loop_in d.kind) xs)) in
     refused_by p.config st host d k.table.now k.opened h.tied h.early h.here
     ∙ (ap (fault p.config st.accepted st.regions) (sym (items_known p host d k h))
     ∙ (ap (λ n. fault p.config n st.regions items) (sym h.accepted)
@@ -528,7 +528,7 @@ batch_known p host d k h all none =
     let at : k.at ≡ walk_at walk = h.at_queue in
     let items = items_known p host d k h in
     let ops : ops_by k host d ≡ operations_of st walk =
-    ap (λ xs. marked_ops (run_in (loop_of d.kind) xs (holding_between d.kind (held_by k) xs).presences) (all_steps d.kind (held_by k) xs)) items ∙ sym (batch_is p.config st host d k.table.now k.opened h.tied free) in
+    ap (λ xs. marked_ops (run_in (loop_in d.kind) xs (holding_between d.kind (held_by k) xs).presences) (all_steps d.kind (held_by k) xs)) items ∙ sym (batch_is p.config st host d k.table.now k.opened h.tied free) in
     let ended : flat_map ended_range (steps_by k host d) ≡ flat_map ended_uses (all_visits ms walk) =
     ap (λ xs. flat_map ended_range (all_steps d.kind (held_by k) xs)) items ∙ sym (ended_is p.config st host d k.table.now k.opened h.tied free) in
     let found : note_found notes k.table.now.presences ≡ note_found notes (presences ms) = ap (note_found notes) h.tied.presences in

@@ -16,10 +16,10 @@ use Rattle.acc_place.specs.declared.directive.TheConstants.{MAX_DIRECTIVES, MAX_
 use Rattle.acc_place.specs.declared.judge.Known.{Known}
 use Rattle.acc_place.specs.declared.marked.Marked.{Marked}
 use Rattle.acc_place.specs.Targets.{has_bad_queue, waits_on_too_many}
-use Rattle.acc_place.specs.Accepting.{first_fault, fault_where, is_deep, is_outside}
+use Rattle.acc_place.specs.Accepting.{first_fault, fault_where, is_too_deep, ends_no_region}
 use Rattle.acc_place.specs.Counters.{entered_ranges}
 use Rattle.acc_place.specs.Regions.{open_region, regions_on}
-use Rattle.acc_place.specs.Standings.{loop_of}
+use Rattle.acc_place.specs.Standings.{loop_in}
 use Rattle.acc_place.specs.inner.Trials.{fault_by, held_by, items_by, items_fault, IsKnown}
 use Rattle.acc_place.specs.inner.Judging.{Holding, holding, holding_between, ends_of, all_marked, all_steps, limit_fault, fault_or, first_fault_in, past_fault, run_in, AllEntered, AllHeldFor}
 use Rattle.acc_place.proofs.AcceptedDirective.{all_cells, ends_all, is_within}
@@ -62,8 +62,8 @@ unfolding limit_fault
 limit_taken n regions host d items =
     ap (λ many. first_fault (
     fault_where (has_bad_queue d) BadAsync
-    ∷ fault_where (many || (waits_on_too_many d.waits || (is_deep d.kind host regions || nat_le MAX_DIRECTIVES n))) TooMany
-    ∷ fault_where (is_outside d.kind (open_region host regions)) NoRegion
+    ∷ fault_where (many || (waits_on_too_many d.waits || (is_too_deep d.kind host regions || nat_le MAX_DIRECTIVES n))) TooMany
+    ∷ fault_where (ends_no_region d.kind (open_region host regions)) NoRegion
     ∷ []
     ))
     (long_taken 16 items)
@@ -97,7 +97,7 @@ is_clean k host d known table faultless =
     let items = items_by k host d in
     let capacity = k.config.now.capacity in
     let none = none_or (limit_by k host d items) (items_fault k host d) faultless in
-    let fine = all_fine k.config.now d.kind (held_by k) items (none_or (first_fault_in k.config.now d.kind (held_by k) items) (past_fault (loop_of d.kind) items) none.1).0 in
+    let fine = all_fine k.config.now d.kind (held_by k) items (none_or (first_fault_in k.config.now d.kind (held_by k) items) (past_fault (loop_in d.kind) items) none.1).0 in
     let cells = all_cells capacity d.kind (held_by k) items fine in
     record {
       short = (is_within k.accepted k.regions.now host d (length items) none.0).short;
@@ -122,6 +122,6 @@ steps_made k h ps xs items ends first all done drafted left own is =
 
 -- and the loop that runs between them
 pub run_made : (k : Kind) (h : Holding) (ps : List Presence) (xs items : List DataItem) (run : List OpLabel) → ps ≡ (holding_between k h xs).presences → xs ≡ items
-    → run ≡ run_in (loop_of k) xs ps → run ≡ run_in (loop_of k) items (holding_between k h items).presences
+    → run ≡ run_in (loop_in k) xs ps → run ≡ run_in (loop_in k) items (holding_between k h items).presences
 run_made k h ps xs items run drafted own is =
-    is ∙ (ap (run_in (loop_of k) xs) drafted ∙ ap (λ ys. run_in (loop_of k) ys (holding_between k h ys).presences) own)
+    is ∙ (ap (run_in (loop_in k) xs) drafted ∙ ap (λ ys. run_in (loop_in k) ys (holding_between k h ys).presences) own)

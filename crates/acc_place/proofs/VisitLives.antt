@@ -16,7 +16,7 @@ use Rattle.acc_present.proofs.Lives.{lives_before, ended_inside}
 use Rattle.acc_present.proofs.LifetimeNumbers.{numbered, opened_one}
 use Rattle.acc_batch.specs.declared.label.OpLabel.{OpLabel}
 use Rattle.acc_kernel.specs.Jobs.{Use}
-use Rattle.acc_place.specs.Standings.{Asked, Visit, change_at, marked_by, marks_with}
+use Rattle.acc_place.specs.Standings.{AskedItem, Visit, change_at, marked_by, marks_with}
 use Rattle.acc_place.specs.Batches.{ended_blocks, found_block, holding_blocks, makes}
 use Rattle.acc_batch.specs.Lives.{blocks_made, AllUse, Made}
 
@@ -64,11 +64,11 @@ visit_of_change ms r None = visit_of_none ms r
 visit_of_change ms r (Some change) = visit_of_mark (record { change = change; range = r }) ms
 
 -- the visit of an item in its turn does so
-pub visit_is : (ms : List Mark) (a : Asked) → IsVisit ms (marked_by ms a) a.item.range
+pub visit_is : (ms : List Mark) (a : AskedItem) → IsVisit ms (marked_by ms a) a.item.range
 visit_is ms a = visit_of_change ms a.item.range (change_at ms a)
 
 -- the visit of an item in its turn
-abbrev pub visit : List Mark → Asked → Visit
+abbrev pub visit : List Mark → AskedItem → Visit
 visit ms a = record { item = a.item; before = ms; after = marked_by ms a }
 
 -- a lifetime's block and range, as made
@@ -100,7 +100,7 @@ abbrev pub ended_uses : Visit → List Use
 ended_uses v = map (λ b. (b, v.item.range)) (ended_blocks v)
 
 -- each block that a visit ended is such a block
-pub ended_is : (ms : List Mark) (a : Asked) (b : ℕ) → Contains (ended_blocks (visit ms a)) b → IsEnded ms (marked_by ms a) b
+pub ended_is : (ms : List Mark) (a : AskedItem) (b : ℕ) → Contains (ended_blocks (visit ms a)) b → IsEnded ms (marked_by ms a) b
 ended_is ms a b c =
     let f = member_map (λ (l : Lifetime). l.block) (filter (λ l. not (lives (marked_by ms a) l)) (live_lifetimes ms)) b c in
     let g = member_filter (λ l. not (lives (marked_by ms a) l)) (live_lifetimes ms) f.source f.member in
@@ -141,7 +141,7 @@ held_block_is ms r b c =
     record { lifetime = f.lifetime; member = h.1; lived = h.0; named = f.named; around = f.around }
 
 -- the visit opened a lifetime
-abbrev pub is_opened : List Mark → Asked → Bool
+abbrev pub is_opened : List Mark → AskedItem → Bool
 is_opened ms a = nat_lt (length (opened_lifetimes ms)) (length (opened_lifetimes (marked_by ms a)))
 
 -- the block that a visit opened
@@ -151,7 +151,7 @@ pub record IsNew (ms after : List Mark) (r : Range) (x : Made) : Type 0 where
   pub longer : length (opened_lifetimes ms) < length (opened_lifetimes after)
 
 -- each block that a visit makes is the block that it opened
-pub new_made : (ms : List Mark) (a : Asked) (x : Made) → Contains (blocks_made (makes (visit ms a))) x → IsNew ms (marked_by ms a) a.item.range x
+pub new_made : (ms : List Mark) (a : AskedItem) (x : Made) → Contains (blocks_made (makes (visit ms a))) x → IsNew ms (marked_by ms a) a.item.range x
 new_made ms a x = elim (cases_Bool (is_opened ms a)) [
   | inl is_open ↦ rw is_open
       (λ c.
@@ -161,14 +161,14 @@ new_made ms a x = elim (cases_Bool (is_opened ms a)) [
 ]
 
 -- a visit that opened a lifetime makes its block
-pub new_is_made : (ms : List Mark) (a : Asked) → length (opened_lifetimes ms) < length (opened_lifetimes (marked_by ms a)) →
+pub new_is_made : (ms : List Mark) (a : AskedItem) → length (opened_lifetimes ms) < length (opened_lifetimes (marked_by ms a)) →
     Contains (blocks_made (makes (visit ms a))) (record { block = length (opened_lifetimes (marked_by ms a)); range = a.item.range })
 new_is_made ms a h =
     let t : is_opened ms a ≡ true = lt-ltb (length (opened_lifetimes ms)) (length (opened_lifetimes (marked_by ms a))) h in
     rw t (member_first (record { block = length (opened_lifetimes (marked_by ms a)); range = a.item.range }) [])
 
 -- What was made and released stands to the lifetimes after a visit too.
-pub booked_more : (ms : List Mark) (a : Asked) (makings : List Made) (gone : List ℕ) → Booked ms makings gone →
+pub booked_more : (ms : List Mark) (a : AskedItem) (makings : List Made) (gone : List ℕ) → Booked ms makings gone →
     Booked (marked_by ms a) (makings ++ blocks_made (makes (visit ms a))) (gone ++ ended_blocks (visit ms a))
 booked_more ms a makings gone h =
     let v = visit_is ms a in

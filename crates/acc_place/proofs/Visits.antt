@@ -37,7 +37,7 @@ use Rattle.acc_place.specs.declared.marked.Marked.{Marked}
 use Rattle.acc_place.specs.Accepting.{fault_at, first_fault, fault_where, has_opened, wants_whole, wants_presence}
 use Rattle.acc_place.specs.Batches.{opened_block, opened_blocks, ended_blocks, found_block, holding_blocks, makes, copy_ins, updates_by, updates, copy_outs, releases, grouped, copies_in, copies_out}
 use Rattle.acc_place.specs.inner.Noting.{ended_range}
-use Rattle.acc_place.specs.Standings.{Visit, visits, acts_if_present, asked_by, counted_among, counted_with, marked_by, marks_with, marks_after, all_asked}
+use Rattle.acc_place.specs.Standings.{Visit, visits, acts_if_present, asked_item, counted_among, counted_with, marked_by, marks_with, marks_after, all_asked}
 use Rattle.acc_place.specs.inner.Judging.{Holding, holding, change_in, counted_steps, has_counted, holding_with, mark_by, opens_one, opened_after, holding_after, holding_after_all, fault_in, fault_or, first_fault_in, block_held, block_opened, ended_by, marked_in, all_marked, update_for, group_ops, marked_ops, HasEntered, AllEntered, IsFine, AllFine}
 use Rattle.acc_place.proofs.FaultIn.{fine_item}
 use Rattle.acc_place.proofs.VisitLives.{ended_uses}
@@ -231,10 +231,10 @@ all_fine config k h (i ∷ is) none =
 
 -- what is asked of the items, once the first is marked
 record NextIs (capacity : ℕ) (k : Kind) (ms : List Mark) (i : DataItem) (is : List DataItem) : Type 0 where
-  same : holding_of (marked_by ms (asked_by k i)) ≡ holding_with k i (holding_of ms)
-  allowed : AllLegal (marked_by ms (asked_by k i))
-  entered : AllEntered k (holding_of (marked_by ms (asked_by k i))) is
-  fine : AllFine capacity k (holding_of (marked_by ms (asked_by k i))) is
+  same : holding_of (marked_by ms (asked_item k i)) ≡ holding_with k i (holding_of ms)
+  allowed : AllLegal (marked_by ms (asked_item k i))
+  entered : AllEntered k (holding_of (marked_by ms (asked_item k i))) is
+  fine : AllFine capacity k (holding_of (marked_by ms (asked_item k i))) is
 
 next_is : (capacity : ℕ) (k : Kind) (ms : List Mark) (i : DataItem) (is : List DataItem) → AllLegal ms → AllEntered k (holding_of ms) (i ∷ is)
     → AllFine capacity k (holding_of ms) (i ∷ is) → NextIs capacity k ms i is
@@ -249,7 +249,7 @@ pub marks_are : (capacity : ℕ) (k : Kind) (ms : List Mark) (items : List DataI
 marks_are capacity k ms [] h entered fine = refl
 marks_are capacity k ms (i ∷ is) h entered fine =
     let next = next_is capacity k ms i is h entered fine in
-    marks_are capacity k (marked_by ms (asked_by k i)) is next.allowed next.entered next.fine ∙ ap (λ g. holding_after_all k g is) next.same
+    marks_are capacity k (marked_by ms (asked_item k i)) is next.allowed next.entered next.fine ∙ ap (λ g. holding_after_all k g is) next.same
 
 pub legal_all : (capacity : ℕ) (k : Kind) (ms : List Mark) (items : List DataItem) → AllLegal ms → AllEntered k (holding_of ms) items
     → AllFine capacity k (holding_of ms) items
@@ -257,7 +257,7 @@ pub legal_all : (capacity : ℕ) (k : Kind) (ms : List Mark) (items : List DataI
 legal_all capacity k ms [] h entered fine = h
 legal_all capacity k ms (i ∷ is) h entered fine =
     let next = next_is capacity k ms i is h entered fine in
-    legal_all capacity k (marked_by ms (asked_by k i)) is next.allowed next.entered next.fine
+    legal_all capacity k (marked_by ms (asked_item k i)) is next.allowed next.entered next.fine
 
 -- ## The items that are counted
 
@@ -309,7 +309,7 @@ pub counted_are : (capacity : ℕ) (ms : List Mark) (items : List DataItem) → 
 counted_are capacity ms [] h entered fine = refl
 counted_are capacity ms (i ∷ is) h entered fine =
     let next = next_is capacity kind.Data ms i is h entered fine in
-    let ih = counted_are capacity (marked_by ms (asked_by kind.Data i)) is next.allowed next.entered next.fine in
+    let ih = counted_are capacity (marked_by ms (asked_item kind.Data i)) is next.allowed next.entered next.fine in
     ap (counted_with (change_in kind.Data (presences ms) i) i) (ih ∙ ap (λ g. counted_steps (all_marked kind.Data g is)) next.same)
     ∙ sym (counted_first (holding_of ms) i (all_marked kind.Data (holding_with kind.Data i (holding_of ms)) is))
 
@@ -321,7 +321,7 @@ counted_one P (Some change) i items here all = All-cons P i items here all
 pub counted_all : (P : DataItem → Type 0) (k : Kind) (ms : List Mark) (items : List DataItem) → All P items → All P (counted_among ms (all_asked k items))
 counted_all P k ms [] all = All-nil P
 counted_all P k ms (i ∷ is) all =
-    counted_one P (change_in k (presences ms) i) i _ (All-head P i is all) (counted_all P k (marked_by ms (asked_by k i)) is (All-tail P i is all))
+    counted_one P (change_in k (presences ms) i) i _ (All-head P i is all) (counted_all P k (marked_by ms (asked_item k i)) is (All-tail P i is all))
 
 counted_more : (change : Option Change) (i : DataItem) (items : List DataItem) → length (counted_with change i items) ≤ length items + 1
 counted_more None i items = omega arith
@@ -330,7 +330,7 @@ counted_more (Some change) i items = omega arith
 pub counted_few : (k : Kind) (ms : List Mark) (items : List DataItem) → length (counted_among ms (all_asked k items)) ≤ length items
 counted_few k ms [] = omega arith
 counted_few k ms (i ∷ is) =
-    let ms2 = marked_by ms (asked_by k i) in
+    let ms2 = marked_by ms (asked_item k i) in
     omega (arith, counted_few k ms2 is, counted_more (change_in k (presences ms) i) i (counted_among ms2 (all_asked k is)))
 
 -- ## Operations
@@ -404,7 +404,7 @@ ops_alike capacity k ms [] h entered fine = record { made = refl; filled = refl;
 ops_alike capacity k ms (i ∷ is) h entered fine =
     let next = next_is capacity k ms i is h entered fine in
     let e = next.same in
-    let after = marked_by ms (asked_by k i) in
+    let after = marked_by ms (asked_item k i) in
     let rest = ops_alike capacity k after is next.allowed next.entered next.fine in
     ops_first (change_in k (presences ms) i) ms i (visits after (all_asked k is)) (all_marked k (holding_with k i (holding_of ms)) is) h fine.0.cells (rw e at rest)
 

@@ -24,7 +24,7 @@ use Rattle.acc_place.specs.declared.directive.DataItem.{DataItem}
 use Rattle.acc_place.specs.declared.directive.Kind.{Kind}
 use Rattle.acc_place.specs.declared.directive.Kind.TheVariants.{Data, EndData, EnterData, ExitData, Update, Loop, Wait, AsyncTest, IsPresent}
 use Rattle.acc_place.specs.declared.marked.Marked.{Marked}
-use Rattle.acc_place.specs.Standings.{asked_by, change_by, change_where, exit_by}
+use Rattle.acc_place.specs.Standings.{asked_item, change_by, change_where, exit_by}
 use Rattle.acc_place.specs.inner.Judging.{Holding, change_in, wants_look, holding_with, holding, mark_by, opens_one, opened_after, presences_by, holding_after, holding_after_all, fault_in, fault_or, first_fault_in, block_opened, marked_in, all_marked, AllLow, HasRoomFor, CanEnter, CanMark, HasEntered, AllEntered, IsFine, AllFine}
 
 -- ## The first item, and the others
@@ -180,8 +180,8 @@ held_is_present f (p ∷ ps) r =
 same_exit : (finalize : Bool) (ps : List Presence) (i : DataItem) (n : ℕ) → is_table ps ≡ true → holding_after (Some (exit_by finalize)) i.range (holding ps n) ≡ holding_with (ExitData finalize) i (holding ps n)
 unfolding holding_after
 same_exit finalize ps i n t = elim (cases_Bool (is_present ps i.range)) [
-  | inl held ↦ ap (λ b. holding_after (change_where (asked_by (ExitData finalize) i) b) i.range (holding ps n)) (sym held)
-  | inr absent ↦ kept finalize absent ∙ ap (λ b. holding_after (change_where (asked_by (ExitData finalize) i) b) i.range (holding ps n)) (sym absent)
+  | inl held ↦ ap (λ b. holding_after (change_where (asked_item (ExitData finalize) i) b) i.range (holding ps n)) (sym held)
+  | inr absent ↦ kept finalize absent ∙ ap (λ b. holding_after (change_where (asked_item (ExitData finalize) i) b) i.range (holding ps n)) (sym absent)
 ]
   where
     kept : (f : Bool) → is_present ps i.range ≡ false → holding_after (Some (exit_by f)) i.range (holding ps n) ≡ holding ps n

@@ -10,7 +10,7 @@ use Rattle.acc_present.specs.Marks.{Mark}
 use Rattle.acc_present.specs.Lifetimes.{Lifetime, opened_lifetimes}
 use Rattle.acc_batch.specs.declared.label.OpLabel.{OpLabel}
 use Rattle.acc_batch.specs.declared.label.OpLabel.TheVariants.{Make}
-use Rattle.acc_place.specs.Standings.{Asked, Walk, Visit, visits, all_visits, marks_after, marks_between, marks_behind, marked_by}
+use Rattle.acc_place.specs.Standings.{AskedItem, Walk, Visit, visits, all_visits, marks_after, marks_between, marks_behind, marked_by}
 use Rattle.acc_place.specs.Batches.{opened_blocks, ended_blocks, makes, copy_ins, runs, updates, copy_outs, releases, grouped}
 use Rattle.acc_batch.specs.Lives.{blocks_made, blocks_released, AllUse, Made}
 use Rattle.acc_base.proofs.Members.{no_member}
@@ -54,7 +54,7 @@ released_by (v ∷ vs) =
     ∙ (ap (λ r. r ++ blocks_released (flat_map releases vs)) (released_releases (ended_blocks v)) ∙ ap (λ r. ended_blocks v ++ r) (released_by vs))
 
 -- what was made and released stands to the lifetimes after all visits of a directive
-booked_all : (asks : List Asked) (ms : List Mark) (makings : List Made) (gone : List ℕ) → Booked ms makings gone →
+booked_all : (asks : List AskedItem) (ms : List Mark) (makings : List Made) (gone : List ℕ) → Booked ms makings gone →
     Booked (marks_after ms asks) (makings ++ makings_of (visits ms asks)) (gone ++ flat_map ended_blocks (visits ms asks))
 booked_all [] ms makings gone h = rw (append-nil makings, append-nil gone) h
 booked_all (a ∷ asks) ms makings gone h =
@@ -65,12 +65,12 @@ booked_all (a ∷ asks) ms makings gone h =
     (booked_all asks (marked_by ms a) (makings ++ here) (gone ++ ended_blocks (visit ms a)) (booked_more ms a makings gone h))
 
 -- A batch behind operations that stand to the marks so far.
-pub record Batched (arrays : List (List ℤ)) (ms : List Mark) (asks : List Asked) (run before : List OpLabel) : Type 0 where
+pub record Batched (arrays : List (List ℤ)) (ms : List Mark) (asks : List AskedItem) (run before : List OpLabel) : Type 0 where
   pub use_live : AllUse arrays before (grouped run (visits ms asks))
   pub booked : Booked (marks_after ms asks) (blocks_made (before ++ grouped run (visits ms asks))) (blocks_released (before ++ grouped run (visits ms asks)))
 
 -- a batch of ranges in their arrays uses live blocks, and stands to the lifetimes after it
-pub batch_uses : (arrays : List (List ℤ)) (ms : List Mark) (asks : List Asked) (run before : List OpLabel) → Booked ms (blocks_made before) (blocks_released before) → AllInArrays arrays asks
+pub batch_uses : (arrays : List (List ℤ)) (ms : List Mark) (asks : List AskedItem) (run before : List OpLabel) → Booked ms (blocks_made before) (blocks_released before) → AllInArrays arrays asks
     → All (Copies (blocks_made before ++ makings_of (visits ms asks)) (blocks_released before)) run → Batched arrays ms asks run before
 batch_uses arrays ms asks run before h inside runs_live =
     let vs = visits ms asks in

@@ -64,19 +64,19 @@ abbrev pub fault_at : Configuration → Kind → Visit → Option Fault
 fault_at config k v = first_fault (faults_at config k v)
 
 -- the host is inside as many regions as it can be
-abbrev pub is_deep : Kind → ℕ → List Region → Bool
-is_deep kind.Data host rs = nat_le MAX_REGIONS (length (regions_of host rs))
-is_deep k host rs = false
+abbrev pub is_too_deep : Kind → ℕ → List Region → Bool
+is_too_deep kind.Data host rs = nat_le MAX_REGIONS (length (regions_of host rs))
+is_too_deep k host rs = false
 
 abbrev pub has_too_many : Standing → ℕ → Directive → Walk → Bool
 has_too_many st host d walk =
     nat_lt MAX_ITEMS (length walk.items)
-    || (waits_on_too_many d.waits || (is_deep d.kind host st.regions || nat_le MAX_DIRECTIVES st.accepted))
+    || (waits_on_too_many d.waits || (is_too_deep d.kind host st.regions || nat_le MAX_DIRECTIVES st.accepted))
 
 -- a region's end without a region
-abbrev pub is_outside : Kind → Option Region → Bool
-is_outside kind.EndData None = true
-is_outside k r = false
+abbrev pub ends_no_region : Kind → Option Region → Bool
+ends_no_region kind.EndData None = true
+ends_no_region k r = false
 
 -- a loop reaches a cell of an array outside the range that it uses
 abbrev pub reaches_past : Option Reach → Option DataItem → Bool
@@ -98,7 +98,7 @@ refusal_on config st host d walk =
     ∷ fault_where (nat_le config.devices d.device) BadDevice
     ∷ fault_where (has_bad_queue d) BadAsync
     ∷ fault_where (has_too_many st host d walk) TooMany
-    ∷ fault_where (is_outside d.kind (open_region host st.regions)) NoRegion
+    ∷ fault_where (ends_no_region d.kind (open_region host st.regions)) NoRegion
     ∷ (map (fault_at config d.kind) (visits (st.marks walk.device) walk.items)
     ++ fault_where (is_past walk.runs (map (λ a. a.item) walk.items)) OutsideRange ∷ [])
     )

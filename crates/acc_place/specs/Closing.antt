@@ -15,7 +15,7 @@ abbrev pub is_at_hand : PlaceView → QueueAt → Bool
 is_at_hand p at = nat_lt at.queue QUEUES && slice_index_or p.closes (seat at) false
 
 -- It is out: neither at hand nor placed.
-pub record IsOut (p : PlaceView) (at : QueueAt) : Type 0 where
+pub record IsCloseOut (p : PlaceView) (at : QueueAt) : Type 0 where
   pub there : IsQueue p.config at
   pub given : is_at_hand p at ≡ false
   pub unplaced : is_closed (standing_in p) at ≡ false

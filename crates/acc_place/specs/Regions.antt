@@ -1,6 +1,6 @@
 -- The data constructs that hosts are inside (OpenACC API 3.0, 2.6.5, Data Construct): one list for all hosts, the latest
 -- first.
-use Rattle.std.specs.Prelude.{ℕ, List, [], ◌∷◌, filter, Option, Some, None, ◌==◌, if◌then◌else◌}
+use Rattle.std.specs.Prelude.{ℕ, Bool, true, false, List, [], ◌∷◌, filter, Option, Some, None, ◌==◌, if◌then◌else◌}
 use Rattle.acc_place.specs.Directives.{Directive}
 use Rattle.acc_place.specs.declared.directive.DataItem.{DataItem}
 use Rattle.acc_place.specs.declared.directive.Kind.{Kind}
@@ -27,6 +27,11 @@ open_region host rs = first_region (regions_of host rs)
 abbrev pub without_open : ℕ → List Region → List Region
 without_open host [] = []
 without_open host (r ∷ rs) = if r.host == host then rs else r ∷ without_open host rs
+
+-- the directive is the end of a data construct
+abbrev pub ends_region : Kind → Bool
+ends_region kind.EndData = true
+ends_region k = false
 
 -- it has the items that its entry counted
 abbrev pub region_of : ℕ → Directive → List DataItem → Region

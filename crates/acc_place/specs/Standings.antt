@@ -33,7 +33,7 @@ pub record Standing : Type 0 where
   pub closed : List QueueAt
 
 -- An item in its turn; the change that is asked for, if any; and whether it is asked for only where the item's range is present.
-pub record Asked : Type 0 where
+pub record AskedItem : Type 0 where
   pub item : DataItem
   pub change : Option Change
   pub if_present : Bool
@@ -45,9 +45,9 @@ pub record Walk : Type 0 where
   pub queue : ℕ
   pub waits : List ℕ
   pub alone : Bool
-  pub items : List Asked
+  pub items : List AskedItem
   pub runs : Option Loop
-  pub ends : List Asked
+  pub ends : List AskedItem
 
 -- what a directive asks of each of its items
 abbrev pub exit_by : Bool → Change
@@ -71,34 +71,34 @@ acts_if_present kind.Data NoCreate = true
 acts_if_present (kind.ExitData finalize) c = true
 acts_if_present k c = false
 
-abbrev pub asked_by : Kind → DataItem → Asked
-asked_by k i = record { item = i; change = change_by k; if_present = acts_if_present k i.clause }
+abbrev pub asked_item : Kind → DataItem → AskedItem
+asked_item k i = record { item = i; change = change_by k; if_present = acts_if_present k i.clause }
 
-abbrev pub all_asked : Kind → List DataItem → List Asked
-all_asked k items = map (asked_by k) items
+abbrev pub all_asked : Kind → List DataItem → List AskedItem
+all_asked k items = map (asked_item k) items
 
 -- What a directive acts on.
 pub record Subject : Type 0 where
   pub device : ℕ
   pub items : List DataItem
 
-abbrev pub left_by : Directive → Option Region → Subject
-left_by d None = record { device = d.device; items = [] }
-left_by d (Some r) = record { device = r.device; items = r.items }
+abbrev pub subject_left : Directive → Option Region → Subject
+subject_left d None = record { device = d.device; items = [] }
+subject_left d (Some r) = record { device = r.device; items = r.items }
 
 -- The end of a data construct acts on the device and the items of its entry, each other directive on its own; a loop has
 -- implicit items behind them.
 abbrev pub subject_by : List ℕ → List Region → ℕ → Directive → Kind → Subject
-subject_by lengths rs host d kind.EndData = left_by d (open_region host rs)
+subject_by lengths rs host d kind.EndData = subject_left d (open_region host rs)
 subject_by lengths rs host d (kind.Loop k) = record { device = d.device; items = d.items ++ implicit_items lengths rs host d k }
 subject_by lengths rs host d k = record { device = d.device; items = d.items }
 
-abbrev pub loop_of : Kind → Option Loop
-loop_of (kind.Loop k) = Some k
-loop_of k = None
+abbrev pub loop_in : Kind → Option Loop
+loop_in (kind.Loop k) = Some k
+loop_in k = None
 
 -- all items of a loop leave at its end, as those of a data construct do
-abbrev pub ends_by : Kind → List DataItem → List Asked
+abbrev pub ends_by : Kind → List DataItem → List AskedItem
 ends_by (kind.Loop k) items = all_asked kind.EndData items
 ends_by k items = []
 
@@ -110,7 +110,7 @@ walk_on s d =
       waits = queues_named d;
       alone = is_alone d;
       items = all_asked d.kind s.items;
-      runs = loop_of d.kind;
+      runs = loop_in d.kind;
       ends = ends_by d.kind s.items;
     }
 
@@ -118,10 +118,10 @@ unfoldable pub walk_of : Standing → ℕ → Directive → Walk
 walk_of st host d = walk_on (subject_by st.lengths st.regions host d d.kind) d
 
 -- the change of an item in its turn, where its range is present or not
-abbrev pub change_where : Asked → Bool → Option Change
+abbrev pub change_where : AskedItem → Bool → Option Change
 change_where a present = if a.if_present && not present then None else a.change
 
-abbrev pub change_at : List Mark → Asked → Option Change
+abbrev pub change_at : List Mark → AskedItem → Option Change
 change_at before a = change_where a (is_present (presences before) a.item.range)
 
 -- it leaves a mark
@@ -130,7 +130,7 @@ marks_with before r None = before
 marks_with before r (Some change) = record { change = change; range = r } ∷ before
 
 -- the marks after an item in its turn
-abbrev pub marked_by : List Mark → Asked → List Mark
+abbrev pub marked_by : List Mark → AskedItem → List Mark
 marked_by before a = marks_with before a.item.range (change_at before a)
 
 -- A visit of an item: all marks of the device before it and after it.
@@ -140,12 +140,12 @@ pub record Visit : Type 0 where
   pub after : List Mark
 
 -- The items are walked in order, each after the marks of those before it.
-abbrev pub visits : List Mark → List Asked → List Visit
+abbrev pub visits : List Mark → List AskedItem → List Visit
 visits before [] = []
 visits before (a ∷ rest) =
     record { item = a.item; before = before; after = marked_by before a } ∷ visits (marked_by before a) rest
 
-abbrev pub marks_after : List Mark → List Asked → List Mark
+abbrev pub marks_after : List Mark → List AskedItem → List Mark
 marks_after before [] = before
 marks_after before (a ∷ rest) = marks_after (marked_by before a) rest
 
@@ -154,7 +154,7 @@ abbrev pub counted_with : Option Change → DataItem → List DataItem → List 
 counted_with None i items = items
 counted_with (Some change) i items = i ∷ items
 
-abbrev pub counted_among : List Mark → List Asked → List DataItem
+abbrev pub counted_among : List Mark → List AskedItem → List DataItem
 counted_among before [] = []
 counted_among before (a ∷ rest) = counted_with (change_at before a) a.item (counted_among (marked_by before a) rest)
 

@@ -20,21 +20,21 @@ queue_of_own (negsuc (suc zero)) = Some sync
 queue_of_own (negsuc (suc (suc n))) = None
 
 -- where a clause says acc_async_noval, the host's default is meant
-abbrev pub queue_of : ℤ → ℤ → Option ℕ
-queue_of default (negsuc zero) = queue_of_own default
-queue_of default v = queue_of_own v
+abbrev pub queue_meant : ℤ → ℤ → Option ℕ
+queue_meant default (negsuc zero) = queue_of_own default
+queue_meant default v = queue_of_own v
 
 -- the queue that an async clause names; without one it is sync
 abbrev pub target_queue : ℤ → Target → Option ℕ
 target_queue default Plain = Some sync
 target_queue default Unvalued = queue_of_own default
-target_queue default (Value v) = queue_of default v
+target_queue default (Value v) = queue_meant default v
 
 -- the queues that a wait names, as they are written; without arguments all of the device are meant
 abbrev pub queues_written : ℤ → Waits → List (Option ℕ)
 queues_written default waits.Nothing = []
 queues_written default waits.All = map Some every_queue
-queues_written default (waits.Listed vs) = map (queue_of default) vs
+queues_written default (waits.Listed vs) = map (queue_meant default) vs
 
 -- the queues that a directive waits for
 abbrev pub queues_named : Directive → List ℕ

@@ -11,7 +11,7 @@ ghost use Rattle.acc_batch.specs.Awaits.{await_of};
 ghost use Rattle.acc_present.specs.Notes.{Note, HasNotes};
 ghost use Rattle.acc_place.specs.inner.Noting.{awaits_from, ended_range, last_made, last_used, made_at, note_found, used_at, used_ranges, Raises};
 ghost use Rattle.acc_place.specs.inner.Places.{queue_in};
-ghost use Rattle.acc_place.specs.Targets.{queue_of, queues_named};
+ghost use Rattle.acc_place.specs.Targets.{queue_meant, queues_named};
 ghost use Rattle.acc_place.specs.inner.Trials.{named_count, number_in};
 ghost use Rattle.acc_place.specs.inner.Judging.{group_ops, marked_ops};
 
@@ -57,7 +57,7 @@ fn placed_on(labels: &Labels, device: DeviceId, queue: QueueId) -> u64
 
 // How many batches were placed on each queue that these values name, for a host with this default.
 fn listed_counts(labels: &Labels, device: DeviceId, default: i64, values: &[i64]) -> QueueCounts
-    ensures { result ≡ map (named_count labels.now.queues device (flat_map option_to_list (map (queue_of default) values.now))) every_queue }
+    ensures { result ≡ map (named_count labels.now.queues device (flat_map option_to_list (map (queue_meant default) values.now))) every_queue }
 {
     let mut counts = [0; QUEUES as usize];
     raise_named(labels, device, default, values, &mut counts);
@@ -72,7 +72,7 @@ fn raise_named(
     values: &[i64],
     numbers: &mut QueueCounts,
 )
-    ensures { Raises numbers.old (named_count labels.now.queues device (flat_map option_to_list (map (queue_of default) values.now))) numbers.new }
+    ensures { Raises numbers.old (named_count labels.now.queues device (flat_map option_to_list (map (queue_meant default) values.now))) numbers.new }
 {
     match values {
         [] => {}

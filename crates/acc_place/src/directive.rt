@@ -128,7 +128,7 @@ impl Model for Directive {
 }
 
 impl Kind {
-    ghost use Rattle.acc_place.specs.Standings.{acts_if_present, asked_by, change_by, change_where};
+    ghost use Rattle.acc_place.specs.Standings.{acts_if_present, asked_item, change_by, change_where};
 
     // The change that it asks for at each of its items, if any; a loop's items leave again at its end.
     pub(crate) fn change(&self) -> Option<Change>
@@ -158,7 +158,7 @@ impl Kind {
 
     // The change that it makes at an item whose range is present or not, if any.
     pub(crate) fn change_where(&self, item: &DataItem, present: bool) -> Option<Change>
-        ensures { result ≡ change_where (asked_by self.now item.now) present }
+        ensures { result ≡ change_where (asked_item self.now item.now) present }
     {
         if !present && self.acts_if_present(item.clause) {
             None

@@ -5,7 +5,7 @@ ghost use Rattle.acc_present.specs.Drafts.{drafted, IsDraft};
 ghost use Rattle.acc_present.specs.Presences.{is_present};
 ghost use Rattle.acc_present.specs.declared.entry.TheConstants.{COUNTER_LIMIT};
 ghost use Rattle.acc_present.specs.Tables.{IsFound, entry_mark, presences_after};
-ghost use Rattle.acc_place.specs.Accepting.{is_deep, is_outside, wants_presence};
+ghost use Rattle.acc_place.specs.Accepting.{is_too_deep, ends_no_region, wants_presence};
 ghost use Rattle.acc_place.specs.Regions.{open_region};
 ghost use Rattle.acc_place.specs.declared.directive.Kind.TheVariants.{EndData};
 ghost use Rattle.acc_place.specs.inner.Judging.{change_in, is_found, holding, holding_after_all, presences_by, can_open_by, fault_in, found_fault, limit_fault, first_fault_in, block_found, block_opened, block_ended, marked_in, all_marked, opened_after, AllLow, HasEntered, AllEntered, CanEnter, CanMark};
@@ -65,14 +65,14 @@ pub(crate) fn limit_fault(
 
 // Whether a host that enters a data construct is inside as many as it can be.
 fn is_deep(regions: &[Region], host: HostId, kind: &Kind) -> bool
-    ensures { result ≡ is_deep kind.now host regions.now }
+    ensures { result ≡ is_too_deep kind.now host regions.now }
 {
     matches!(kind, Kind::Data) && depth(regions, host) >= MAX_REGIONS
 }
 
 // Whether a host leaves a data construct, and is inside none.
 fn is_outside(regions: &[Region], host: HostId, kind: &Kind) -> bool
-    ensures { result ≡ is_outside kind.now (open_region host regions.now) }
+    ensures { result ≡ ends_no_region kind.now (open_region host regions.now) }
 {
     matches!(kind, Kind::EndData) && open_index(regions, host).is_none()
 }

@@ -11,7 +11,7 @@ ghost use Rattle.acc_present.specs.Tables.{entry_presence};
 ghost use Rattle.acc_place.specs.Accepting.{refusal};
 ghost use Rattle.acc_place.specs.Answers.{answers_of, GoTogether};
 ghost use Rattle.acc_place.specs.Batches.{answer_of, next_number};
-ghost use Rattle.acc_place.specs.Closing.{place_after_begin, close_of, place_after_close, handed_back, handed_out, is_at_hand, ClosesQueue, IsOut};
+ghost use Rattle.acc_place.specs.Closing.{place_after_begin, close_of, place_after_close, handed_back, handed_out, is_at_hand, ClosesQueue, IsCloseOut};
 ghost use Rattle.acc_place.specs.declared.directive.PlaceEntry.TheVariants.{Accepted};
 ghost use Rattle.acc_place.specs.Histories.{is_closed, AllAccepted, IsQueue};
 ghost use Rattle.acc_place.specs.Plans.{nth_batch, standing_in, IsPlanOf, IsRoomy, Fits, place_after, queue_for};
@@ -331,7 +331,7 @@ impl Place {
     pub fn close_batch(&mut self, at: QueueAt) -> Option<Batch>
         ensures batch { result ≡ close_of self.old at }
         ensures place { self.new ≡ handed_out self.old at }
-        ensures out { OnSome result (IsOut self.new at) }
+        ensures out { OnSome result (IsCloseOut self.new at) }
     {
         let QueueAt { device, queue } = at;
         if !self.config.has_queue(QueueAt { device, queue }) {
@@ -345,7 +345,7 @@ impl Place {
 
     /// Takes back the close of a queue, as `close_batch` handed it out. Takes no memory.
     pub fn close_back(&mut self, at: QueueAt, batch: Batch)
-        requires out { IsOut self.old at }
+        requires out { IsCloseOut self.old at }
         requires batch { ClosesQueue at batch }
         ensures { self.new ≡ handed_back self.old at }
     {
@@ -354,7 +354,7 @@ impl Place {
 
     /// A queue's close is placed, which `close_batch` handed out, once closing has begun. Takes no memory.
     pub fn close_done(&mut self, at: QueueAt)
-        requires out { IsOut self.old at }
+        requires out { IsCloseOut self.old at }
         requires begun { (standing_in self.old).closing ≡ true }
         ensures { self.new ≡ place_after_close self.old at }
     {

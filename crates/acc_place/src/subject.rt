@@ -8,7 +8,7 @@ ghost use Rattle.acc_present.specs.Drafts.{drafted, IsDraft};
 ghost use Rattle.acc_present.specs.Presences.{is_present};
 ghost use Rattle.acc_place.specs.declared.directive.TheConstants.{MAX_ITEMS};
 ghost use Rattle.acc_base.specs.Configurations.{lengths_of};
-ghost use Rattle.acc_place.specs.Standings.{loop_of, subject_by};
+ghost use Rattle.acc_place.specs.Standings.{loop_in, subject_by};
 ghost use Rattle.acc_place.specs.inner.Judging.{ends_of, past_fault, run_in, AllHeldFor, StaysBy};
 
 use crate::directive::{DataItem, Directive, Kind, Region};
@@ -53,7 +53,7 @@ pub(crate) fn ends_of<'a>(kind: &Kind, items: &'a [DataItem]) -> &'a [DataItem]
 
 /// The fault of a loop that reaches a cell outside the ranges of its items.
 pub(crate) fn past_fault(kind: &Kind, items: &[DataItem]) -> Option<Fault>
-    ensures fault { result ≡ past_fault (loop_of kind.now) items.now }
+    ensures fault { result ≡ past_fault (loop_in kind.now) items.now }
     ensures stays { IfNone result (StaysBy kind.now items.now) }
 {
     match kind {
@@ -86,7 +86,7 @@ pub(crate) fn run_in(
     requires cells { All (λ i. 0 < i.range.len) items.now }
     requires stays { StaysBy kind.now items.now }
     requires held { AllHeldFor kind.now (drafted table.now draft.now) items.now }
-    ensures run { IfOk result (λ run. option_to_list run ≡ run_in (loop_of kind.now) items.now (drafted table.now draft.now)) }
+    ensures run { IfOk result (λ run. option_to_list run ≡ run_in (loop_in kind.now) items.now (drafted table.now draft.now)) }
     ensures cells { IfOk result (λ run. IfSome run HasItsCells) }
     ensures fault { IfErr result (λ f. f ≡ Memory) }
 {

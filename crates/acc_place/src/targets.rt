@@ -2,7 +2,7 @@
 
 ghost use Rattle.std.specs.Prelude.{◌≡◌, negsuc, map};
 ghost use Rattle.std.specs.List.{list_any};
-ghost use Rattle.acc_place.specs.Targets.{queue_of_own, queue_of, target_queue, queue_by, queues_written, has_bad_queue, is_alone, is_bad, waits_on_too_many};
+ghost use Rattle.acc_place.specs.Targets.{queue_of_own, queue_meant, target_queue, queue_by, queues_written, has_bad_queue, is_alone, is_bad, waits_on_too_many};
 
 use crate::directive::{ASYNC_NOVAL, ASYNC_SYNC, Directive, Kind, MAX_WAITS, Target, Waits};
 use acc_base::QueueId;
@@ -45,7 +45,7 @@ fn has_bad_wait(directive: &Directive) -> bool
 
 // Whether one of these values names no queue.
 fn one_is_bad(default: i64, values: &[i64]) -> bool
-    ensures { result ≡ list_any is_bad (map (queue_of default) values.now) }
+    ensures { result ≡ list_any is_bad (map (queue_meant default) values.now) }
 {
     for value in values {
         if queue_of(default, *value).is_none() {
@@ -79,7 +79,7 @@ pub fn target_queue(default: i64, target: Target) -> Option<QueueId>
 
 /// The queue that a value of a clause names, for a host with this default.
 pub(crate) fn queue_of(default: i64, value: i64) -> Option<QueueId>
-    ensures { result ≡ queue_of default value }
+    ensures { result ≡ queue_meant default value }
 {
     match value {
         ASYNC_NOVAL => queue_of_own(default),

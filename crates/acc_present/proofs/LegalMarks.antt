@@ -8,7 +8,7 @@ use Rattle.acc_base.specs.declared.range.Range.{Range}
 use Rattle.acc_base.specs.Ranges.{range_contains}
 use Rattle.acc_present.specs.declared.change.Counter.TheVariants.{Dynamic}
 use Rattle.acc_present.specs.Legality.{IsEntered, MeetsCondition, IsLegal, AllLegal, StructuredIsTheDifference}
-use Rattle.acc_present.specs.Lifetimes.{Lifetime, opened_lifetimes, live_lifetimes, lives, opens, can_open, is_counted, marks_since, stays_counted, structured_of, entries_of, exits_of}
+use Rattle.acc_present.specs.Lifetimes.{Lifetime, opened_lifetimes, live_lifetimes, lives, opens, can_open, is_counted, marks_since, stays_counted, structured_of, times_entered, times_left}
 use Rattle.acc_present.specs.declared.change.Change.{Change}
 use Rattle.acc_present.specs.declared.change.Change.TheVariants.{StructuredUp, StructuredDown, DynamicUp, DynamicDown, DynamicZero}
 use Rattle.acc_present.specs.Marks.{Mark, inside, region_entries, region_exits}
@@ -116,7 +116,7 @@ each_leaves DynamicZero r ms t cells h = Each-trivial (opened_lifetimes ms)
 
 -- ## Exits stay below entries
 
-region_exits-le : (change : Change) (inner : Range) (ms : List Mark) (l : Lifetime) → lives ms l ≡ true → exits_of ms l ≤ entries_of ms l → LeavesIn change inner ms l
+region_exits-le : (change : Change) (inner : Range) (ms : List Mark) (l : Lifetime) → lives ms l ≡ true → times_left ms l ≤ times_entered ms l → LeavesIn change inner ms l
     → region_exits l.range (record { change = change; range = inner } ∷ marks_since ms l) ≤ region_entries l.range (record { change = change; range = inner } ∷ marks_since ms l)
 region_exits-le StructuredUp inner ms l alive fewer leaves = elim (cases_Bool (range_contains l.range inner)) [ inl has ↦ rw has (omega (arith, fewer)) | inr misses ↦ rw misses fewer ]
 region_exits-le StructuredDown inner ms l alive fewer leaves =
@@ -196,6 +196,6 @@ All-from_each P L (x ∷ xs) h = elim (cases_Bool (L x)) [
 pub structured_is_the_difference : StructuredIsTheDifference
 unfolding live_lifetimes
 structured_is_the_difference ms h =
-    All-from_each (λ l. structured_of ms l + exits_of ms l ≡ entries_of ms l) (lives ms) (opened_lifetimes ms)
-    (Each-weaker (IsBalanced ms) (λ l. lives ms l ≡ true → structured_of ms l + exits_of ms l ≡ entries_of ms l) (opened_lifetimes ms)
+    All-from_each (λ l. structured_of ms l + times_left ms l ≡ times_entered ms l) (lives ms) (opened_lifetimes ms)
+    (Each-weaker (IsBalanced ms) (λ l. lives ms l ≡ true → structured_of ms l + times_left ms l ≡ times_entered ms l) (opened_lifetimes ms)
     (λ l balanced alive. let fewer = balanced alive in omega (arith, fewer)) (legal ms h).balanced)

@@ -12,7 +12,7 @@ use Rattle.acc_base.specs.Ranges.{range_contains}
 use Rattle.acc_present.specs.declared.change.Change.{Change}
 use Rattle.acc_present.specs.declared.change.Change.TheVariants.{StructuredUp, StructuredDown, DynamicUp, DynamicDown, DynamicZero}
 use Rattle.acc_present.specs.Marks.{Mark, inside, dynamic_after, structured_count}
-use Rattle.acc_present.specs.Lifetimes.{Lifetime, opens, lifetime_inserted, is_before, can_open, opened_lifetimes, live_lifetimes, lives, is_counted, marks_since, structured_of, entries_of, exits_of}
+use Rattle.acc_present.specs.Lifetimes.{Lifetime, opens, lifetime_inserted, is_before, can_open, opened_lifetimes, live_lifetimes, lives, is_counted, marks_since, structured_of, times_entered, times_left}
 use Rattle.acc_present.specs.Presences.{presence_of, presences, is_present}
 use Rattle.acc_present.specs.Tables.{structured_after, presence_after, has_count, kept_after, presences_after, opening}
 
@@ -25,7 +25,7 @@ marks_since-more m ms l h =
 
 -- no live lifetime was left by more regions than entered it
 abbrev pub IsBalanced : List Mark → Lifetime → Type 0
-IsBalanced ms l = lives ms l ≡ true → exits_of ms l ≤ entries_of ms l
+IsBalanced ms l = lives ms l ≡ true → times_left ms l ≤ times_entered ms l
 
 -- what the counter of a lifetime asks of the marks before a change, so that it changes with it: an entry is not to make
 -- up for an exit that had none

@@ -4,7 +4,7 @@ use Rattle.acc_base.specs.declared.range.Range.{Range}
 use Rattle.acc_present.specs.declared.change.Change.{Change}
 use Rattle.acc_present.specs.declared.change.Change.TheVariants.{StructuredUp, StructuredDown, DynamicUp, DynamicDown, DynamicZero}
 use Rattle.acc_present.specs.Marks.{Mark}
-use Rattle.acc_present.specs.Lifetimes.{live_lifetimes, entries_of, exits_of, structured_of}
+use Rattle.acc_present.specs.Lifetimes.{live_lifetimes, times_entered, times_left, structured_of}
 use Rattle.acc_present.specs.Presences.{Presence, presences, holder, is_partly_present}
 
 -- what a region leaves, a region has entered: it is present, and its structured counter is positive
@@ -31,4 +31,4 @@ AllLegal (m ∷ before) = IsLegal m (presences before) × AllLegal before
 -- together are the entries.
 abbrev pub StructuredIsTheDifference : Type 0
 StructuredIsTheDifference = (marks : List Mark) → AllLegal marks
-    → All (λ l. structured_of marks l + exits_of marks l ≡ entries_of marks l) (live_lifetimes marks)
+    → All (λ l. structured_of marks l + times_left marks l ≡ times_entered marks l) (live_lifetimes marks)

@@ -21,11 +21,11 @@ abbrev pub marks_since : List Mark → Lifetime → List Mark
 marks_since marks l = take (length marks - l.since) marks
 
 -- how often regions entered its range, and left it
-abbrev pub entries_of : List Mark → Lifetime → ℕ
-entries_of marks l = region_entries l.range (marks_since marks l)
+abbrev pub times_entered : List Mark → Lifetime → ℕ
+times_entered marks l = region_entries l.range (marks_since marks l)
 
-abbrev pub exits_of : List Mark → Lifetime → ℕ
-exits_of marks l = region_exits l.range (marks_since marks l)
+abbrev pub times_left : List Mark → Lifetime → ℕ
+times_left marks l = region_exits l.range (marks_since marks l)
 
 abbrev pub structured_of : List Mark → Lifetime → ℕ
 structured_of marks l = structured_count l.range (marks_since marks l)

@@ -7,7 +7,7 @@ use Rattle.atomic_table.specs.Table.{State, Step, Me, Act, step, keeps, stepped,
 use Rattle.atomic_table.proofs.Lists.{at_set, set_again, at_snoc}
 use Rattle.acc_queue.specs.Seen.{more, max_each}
 use Rattle.acc_queue.specs.declared.knows.Knows.{Knows}
-use Rattle.acc_queue.specs.Published.{knows, Below, Fits, Published, Raises, Reads}
+use Rattle.acc_queue.specs.Published.{knows, Below, FitsWords, Published, Raises, ReadsWord}
 
 pub below_self : (ws : List ℕ) → Below ws ws
 below_self [] = tt
@@ -49,8 +49,8 @@ module _ {S : Type 0} where
   pub begins : (ws : List ℕ) (xs : List S) → Published (opening ws xs (knows true ws 0))
   begins ws xs = (0, λ seat v at. alone seat v at)
     where
-      alone : (seat : ℕ) (v : Knows) → get_elem? (knows true ws 0 ∷ []) seat ≡ some v → Fits 0 ws seat v
-      alone zero v at = subst (λ u. Fits 0 ws 0 u) (some-injective _ v at) ((λ t. (refl, refl)), below_self ws)
+      alone : (seat : ℕ) (v : Knows) → get_elem? (knows true ws 0 ∷ []) seat ≡ some v → FitsWords 0 ws seat v
+      alone zero v at = subst (λ u. FitsWords 0 ws 0 u) (some-injective _ v at) ((λ t. (refl, refl)), below_self ws)
       alone (suc seat) v at = absurd (some-ne-none v (sym at))
 
   pub raises : (slots id k : ℕ) (me : Me S Knows) → me.0.writes ≡ true → slice_index me.0.numbers k < 2 ^ 62
@@ -70,14 +70,14 @@ module _ {S : Type 0} where
         (
           holds.0,
           λ j u e. ⊎_elim
-              (λ (x : (j ≡ id) × (w ≡ u)). subst (λ (y : ℕ × Knows). Fits holds.0 ws y.0 y.1) (λ i. (sym x.0 i, x.1 i)) ((λ _. (mine.0, now)), subst (λ l. Below l ws) (sym now) (below_self ws)))
+              (λ (x : (j ≡ id) × (w ≡ u)). subst (λ (y : ℕ × Knows). FitsWords holds.0 ws y.0 y.1) (λ i. (sym x.0 i, x.1 i)) ((λ _. (mine.0, now)), subst (λ l. Below l ws) (sym now) (below_self ws)))
               (λ (x : (j ≢ id) × (get_elem? s.views j ≡ some u)). ((λ t. absurd (x.0 (((holds.1 j u x.1).0 t).0 ∙ sym mine.0))), below_raise u.numbers s.words k _ up (holds.1 j u x.1).1))
               (at_set s.views id j w u e),
         ),
         (same, refl),
       )
 
-  pub reads : (slots id k : ℕ) (me : Me S Knows) → me.0.writes ≡ false → Allows Published slots id me k (λ n. n) (Reads (step slots k 0 0 none) me)
+  pub reads : (slots id k : ℕ) (me : Me S Knows) → me.0.writes ≡ false → Allows Published slots id me k (λ n. n) (ReadsWord (step slots k 0 0 none) me)
   reads slots id k me writes s holds homes at fits =
       let v : Knows = me.0 in let mine = (holds.1 id v at).1 in
       let found : ℕ = slice_index s.words k in
@@ -88,8 +88,8 @@ module _ {S : Type 0} where
         tt,
         (
           holds.0,
-          λ j u e. subst (λ l. Fits holds.0 l j u) (sym kept) (⊎_elim
-              (λ (x : (j ≡ id) × (w ≡ u)). subst (λ (y : ℕ × Knows). Fits holds.0 s.words y.0 y.1) (λ i. (sym x.0 i, x.1 i)) ((λ t. absurd (not_false v.writes writes t)), below_see v.numbers s.words k mine))
+          λ j u e. subst (λ l. FitsWords holds.0 l j u) (sym kept) (⊎_elim
+              (λ (x : (j ≡ id) × (w ≡ u)). subst (λ (y : ℕ × Knows). FitsWords holds.0 s.words y.0 y.1) (λ i. (sym x.0 i, x.1 i)) ((λ t. absurd (not_false v.writes writes t)), below_see v.numbers s.words k mine))
               (λ (x : (j ≢ id) × (get_elem? s.views j ≡ some u)). holds.1 j u x.1)
               (at_set s.views id j w u e)),
         ),
@@ -101,7 +101,7 @@ module _ {S : Type 0} where
     holds.0,
     λ j u e. ⊎_elim
         (λ (x : get_elem? (slice_set s.views id v) j ≡ some u). holds.1 j u (ap (λ l. get_elem? l j) (sym (set_again s.views id v at)) ∙ x))
-        (λ (x : knows false v.numbers 0 ≡ u). subst (λ y. Fits holds.0 s.words j y) x ((λ t. absurd (true≢false (sym t))), (holds.1 id v at).1))
+        (λ (x : knows false v.numbers 0 ≡ u). subst (λ y. FitsWords holds.0 s.words j y) x ((λ t. absurd (true≢false (sym t))), (holds.1 id v at).1))
         (at_snoc (slice_set s.views id v) (knows false v.numbers 0) u j e),
   )
 
@@ -111,9 +111,9 @@ module _ {S : Type 0} where
       let theirs : get_elem? s.views other ≡ some w = ⊎_elim (λ x. absurd (two x.0)) (λ x. x.1) (at_set s.views id other both w at') in (
         holds.0,
         λ j u e. ⊎_elim
-            (λ (x : (j ≡ other) × (knows false [] 0 ≡ u)). subst (λ y. Fits holds.0 s.words j y) x.1 ((λ t. absurd (true≢false (sym t))), tt))
+            (λ (x : (j ≡ other) × (knows false [] 0 ≡ u)). subst (λ y. FitsWords holds.0 s.words j y) x.1 ((λ t. absurd (true≢false (sym t))), tt))
             (λ (x : (j ≢ other) × (get_elem? (slice_set s.views id both) j ≡ some u)). ⊎_elim
-            (λ (y : (j ≡ id) × (both ≡ u)). subst (λ z. Fits holds.0 s.words j z) y.1 ((λ t. absurd (not_false v.writes writes t)), below_max v.numbers w.numbers s.words (holds.1 id v at).1 (holds.1 other w theirs).1))
+            (λ (y : (j ≡ id) × (both ≡ u)). subst (λ z. FitsWords holds.0 s.words j z) y.1 ((λ t. absurd (not_false v.writes writes t)), below_max v.numbers w.numbers s.words (holds.1 id v at).1 (holds.1 other w theirs).1))
             (λ (y : (j ≢ id) × (get_elem? s.views j ≡ some u)). holds.1 j u y.1)
             (at_set s.views id j both u x.1))
             (at_set (slice_set s.views id both) other j (knows false [] 0) u e),

@@ -15,16 +15,16 @@ Below [] ws = Unit {0}
 Below (x ∷ xs) [] = ⊥
 Below (x ∷ xs) (w ∷ ws) = (x ≤ w) × Below xs ws
 
-abbrev pub Fits : ℕ → List ℕ → ℕ → Knows → Type 0
-Fits writer words seat v = (v.writes ≡ true → (seat ≡ writer) × (v.numbers ≡ words)) × Below v.numbers words
+abbrev pub FitsWords : ℕ → List ℕ → ℕ → Knows → Type 0
+FitsWords writer words seat v = (v.writes ≡ true → (seat ≡ writer) × (v.numbers ≡ words)) × Below v.numbers words
 
 abbrev pub Published : {S : Type 0} → State S Knows → Type 0
-Published s = (writer : ℕ) × ((seat : ℕ) (v : Knows) → get_elem? s.views seat ≡ some v → Fits writer s.words seat v)
+Published s = (writer : ℕ) × ((seat : ℕ) (v : Knows) → get_elem? s.views seat ≡ some v → FitsWords writer s.words seat v)
 
 -- the writer's number rose by one
 abbrev pub Raises : {S : Type 0} → Step S → Me S Knows → ℕ → Me S Knows → Type 0
 Raises s v found w = (found ≡ slice_index v.0.numbers s.word) × (w ≡ (knows v.0.writes (slice_set v.0.numbers s.word (found + 1)) v.0.reads, v.1))
 
 -- the reader saw the word, which was not less than what it had seen
-abbrev pub Reads : {S : Type 0} → Step S → Me S Knows → ℕ → Me S Knows → Type 0
-Reads s v found w = (slice_index v.0.numbers s.word ≤ found) × (w ≡ (knows v.0.writes (slice_set v.0.numbers s.word found) (more v.0.reads), v.1))
+abbrev pub ReadsWord : {S : Type 0} → Step S → Me S Knows → ℕ → Me S Knows → Type 0
+ReadsWord s v found w = (slice_index v.0.numbers s.word ≤ found) × (w ≡ (knows v.0.writes (slice_set v.0.numbers s.word found) (more v.0.reads), v.1))

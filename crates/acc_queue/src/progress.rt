@@ -36,9 +36,9 @@ impl Play<u64, Knows> for Raise {
 struct Read;
 
 impl Play<u64, Knows> for Read {
-    ghost use Rattle.acc_queue.specs.Published.{Reads};
+    ghost use Rattle.acc_queue.specs.Published.{ReadsWord};
 
-    ghost then = { Reads };
+    ghost then = { ReadsWord };
 }
 
 // A reader beside the writer, or beside another reader.

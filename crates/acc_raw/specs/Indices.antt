@@ -7,5 +7,5 @@ pub record IndexedView (X : Type 0) : Type 0 where
   pub room : ℕ
 
 -- the same with w as the i-th value
-abbrev pub with_item : {X : Type 0} → IndexedView X → ℕ → X → IndexedView X
-with_item v i w = record { items = slice_set v.items i w; room = v.room }
+abbrev pub with_value : {X : Type 0} → IndexedView X → ℕ → X → IndexedView X
+with_value v i w = record { items = slice_set v.items i w; room = v.room }

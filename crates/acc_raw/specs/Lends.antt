@@ -6,8 +6,8 @@ use Rattle.acc_raw.specs.declared.block.Block.{Block}
 use Rattle.acc_raw.specs.contracts.block.Block.{the_row}
 
 -- the block with the cells replaced, as many
-abbrev pub with_cells : Block → List ℤ → Block
-with_cells b xs = record { at = b.at; len = b.len; cells = refill (length b.cells) b.cells xs }
+abbrev pub with_refill : Block → List ℤ → Block
+with_refill b xs = record { at = b.at; len = b.len; cells = refill (length b.cells) b.cells xs }
 
 abbrev pub lends_cells : MutBor Block → MutBor (List ℤ) → Fml
-lends_cells b r = Lends the_row (Array cell 0) b r (with_cells b.now)
+lends_cells b r = Lends the_row (Array cell 0) b r (with_refill b.now)

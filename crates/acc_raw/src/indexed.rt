@@ -36,7 +36,7 @@ impl<T> Model for Indexed<T> {
 }
 
 impl<T> Indexed<T> {
-    ghost use Rattle.acc_raw.specs.Indices.{with_item};
+    ghost use Rattle.acc_raw.specs.Indices.{with_value};
     ghost use Rattle.acc_raw.specs.contracts.indexed.Indexed.{the_row};
 
     /// No nodes; those to come are in this allocator's blocks.
@@ -98,7 +98,7 @@ impl<T> Indexed<T> {
     pub fn get_mut(&mut self, at: usize) -> &mut T
         requires { at < length self.old.items }
         ensures value { slice_get self.old.items at ≡ Some result.now }
-        ensures* writes_back { sem 𝓛 (Lends (the_row T.row) T.row self.entry result (with_item self.old at)) }
+        ensures* writes_back { sem 𝓛 (Lends (the_row T.row) T.row self.entry result (with_value self.old at)) }
     {
         let place = self.places.get(at);
         let link = self.nodes.store.get_mut(place, Nth::of(at));

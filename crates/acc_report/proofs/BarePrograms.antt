@@ -14,12 +14,12 @@ use Rattle.acc_host.specs.declared.state.HostState.TheVariants as state
 use Rattle.acc_host.specs.Engines.{HostEntry}
 use Rattle.acc_host.specs.Hosts.{bare, bare_act, bare_statements}
 use Rattle.acc_report.specs.Lines.{each_below, line_text, state_text}
-use Rattle.acc_report.specs.Prints.{device_after, entries_taken, line_of, lines}
+use Rattle.acc_report.specs.Prints.{device_after, entries_taken, statement_lines, printed_lines}
 use Rattle.acc_report.specs.Reports.{Left, IdsAreNotTold, device_text, queues_text, ended_in, entries_left, host_text, host_text_by, nth_host_text, report}
 
 -- ## One statement
 
-line_bare : (devices device : ℕ) (a : Act) (es : List HostEntry) → line_of devices device (bare_act a) es ≡ line_of devices device a es
+line_bare : (devices device : ℕ) (a : Act) (es : List HostEntry) → statement_lines devices device (bare_act a) es ≡ statement_lines devices device a es
 line_bare devices device (act.Place d) es = refl
 line_bare devices device (act.Print range) es = refl
 line_bare devices device (act.Write array cell value) es = refl
@@ -48,12 +48,12 @@ taken_bare act.ShowDevices es = refl
 
 -- ## All that a host has ended
 
-lines_bare : (devices device : ℕ) (statements : List Statement) (es : List HostEntry) → lines devices device (map bare statements) es ≡ lines devices device statements es
+lines_bare : (devices device : ℕ) (statements : List Statement) (es : List HostEntry) → printed_lines devices device (map bare statements) es ≡ printed_lines devices device statements es
 lines_bare devices device [] es = refl
 lines_bare devices device (s ∷ statements) es =
     let rest = drop (entries_taken s.act es) es in
     rw (line_bare devices device s.act es, device_bare s.act device, taken_bare s.act es)
-    (ap (λ (more : List (List ℤ)). line_of devices device s.act es ++ more) (lines_bare devices (device_after s.act device) statements rest))
+    (ap (λ (more : List (List ℤ)). statement_lines devices device s.act es ++ more) (lines_bare devices (device_after s.act device) statements rest))
 
 ended_bare : (here : HostState) (statements : List Statement) → ended_in here (map bare statements) ≡ map bare (ended_in here statements)
 ended_bare state.Finished statements = refl
@@ -63,11 +63,11 @@ ended_bare (state.Refused ended line fault) statements = take-map bare ended sta
 -- ## Hosts, and the report
 
 lines_same : (devices : ℕ) (here : HostState) (program other : HostProgram) (es : List HostEntry) → bare_statements program ≡ bare_statements other
-    → lines devices 0 (ended_in here program.statements) es ≡ lines devices 0 (ended_in here other.statements) es
+    → printed_lines devices 0 (ended_in here program.statements) es ≡ printed_lines devices 0 (ended_in here other.statements) es
 lines_same devices here program other es same =
-    let bared : (p : HostProgram) → lines devices 0 (ended_in here p.statements) es ≡ lines devices 0 (ended_in here (bare_statements p)) es =
-    λ p. sym (lines_bare devices 0 (ended_in here p.statements) es) ∙ ap (λ (ss : List Statement). lines devices 0 ss es) (sym (ended_bare here p.statements)) in
-    bared program ∙ (ap (λ (ss : List Statement). lines devices 0 (ended_in here ss) es) same ∙ sym (bared other))
+    let bared : (p : HostProgram) → printed_lines devices 0 (ended_in here p.statements) es ≡ printed_lines devices 0 (ended_in here (bare_statements p)) es =
+    λ p. sym (lines_bare devices 0 (ended_in here p.statements) es) ∙ ap (λ (ss : List Statement). printed_lines devices 0 ss es) (sym (ended_bare here p.statements)) in
+    bared program ∙ (ap (λ (ss : List Statement). printed_lines devices 0 (ended_in here ss) es) same ∙ sym (bared other))
 
 host_same : (left : Left) (h : ℕ) (program other : HostProgram) (here : HostState) → bare_statements program ≡ bare_statements other
     → host_text left h program here ≡ host_text left h other here

@@ -11,12 +11,12 @@ use Rattle.acc_host.specs.declared.state.Ids.{Ids}
 use Rattle.acc_host.specs.Engines.{HostEntry, Gave}
 use Rattle.acc_host.specs.Following.{Ends, Settles}
 use Rattle.acc_host.specs.Steps.{Owed, nothing_owed, owes_seen, owes_test, owed_by, with_ids, ids_after}
-use Rattle.acc_report.specs.Prints.{LinesAreFound, answer_line, device_after, entries_taken, line_of, lines, size_of, test_answer}
+use Rattle.acc_report.specs.Prints.{LinesAreFound, answer_line, device_after, entries_taken, statement_lines, printed_lines, entry_count, tested_value}
 
 -- ## One statement, with other entries behind its own
 
 -- the answer of a test is told by what settles it
-own_test : (o : Owed) (items more : List HostEntry) → Settles o items → test_answer o (items ++ more) ≡ test_answer o items
+own_test : (o : Owed) (items more : List HostEntry) → Settles o items → tested_value o (items ++ more) ≡ tested_value o items
 own_test nothing_owed items more settled = refl
 own_test (owes_seen device counts) items more settled = refl
 own_test (owes_test device counts) items more (answer, is) = rw is refl
@@ -35,13 +35,13 @@ own_answer (kind.Loop k) d placed items more settled = refl
 
 -- a directive has one entry, and one that settles what is owed
 own_count : (o : Owed) (d : Directive) (placed : Placed) (items more : List HostEntry) → Settles o items
-    → drop (size_of o) (Gave d placed ∷ (items ++ more)) ≡ more
+    → drop (entry_count o) (Gave d placed ∷ (items ++ more)) ≡ more
 own_count nothing_owed d placed items more settled = rw settled refl
 own_count (owes_seen device counts) d placed items more settled = rw settled refl
 own_count (owes_test device counts) d placed items more (answer, is) = rw is refl
 
 own_line : (devices : ℕ) (ids : Ids) (a : Act) (first more : List HostEntry) → Ends devices ids a first
-    → line_of devices ids.device a (first ++ more) ≡ line_of devices ids.device a first
+    → statement_lines devices ids.device a (first ++ more) ≡ statement_lines devices ids.device a first
 own_line devices ids (act.Place d) first more (placed, items, is, settled) = rw is (own_answer d.kind (with_ids ids d) placed items more settled)
 own_line devices ids (act.Print range) first more (values, is) = rw is refl
 own_line devices ids (act.Write array cell value) first more ends = refl
@@ -75,10 +75,10 @@ pub lines_found : LinesAreFound
 lines_found devices ids zero statements past behind ended = refl
 lines_found devices ids (suc n) [] past behind ended = absurd ended
 lines_found devices ids (suc n) (s ∷ statements) past behind (first, later, is, ends, others) =
-    (first, later, lines devices (ids_after s.act ids).device (take n statements) (later ++ behind), is, ends, here, lines_found devices (ids_after s.act ids) n statements later behind others)
+    (first, later, printed_lines devices (ids_after s.act ids).device (take n statements) (later ++ behind), is, ends, here, lines_found devices (ids_after s.act ids) n statements later behind others)
   where
     whole : past ++ behind ≡ first ++ (later ++ behind)
     whole = ap (λ es. es ++ behind) is ∙ append_assoc first later behind
 
-    here : lines devices ids.device (s ∷ take n statements) (past ++ behind) ≡ line_of devices ids.device s.act first ++ lines devices (ids_after s.act ids).device (take n statements) (later ++ behind)
+    here : printed_lines devices ids.device (s ∷ take n statements) (past ++ behind) ≡ statement_lines devices ids.device s.act first ++ printed_lines devices (ids_after s.act ids).device (take n statements) (later ++ behind)
     here = rw (whole, own_line devices ids s.act first (later ++ behind) ends, own_entries devices ids s.act first (later ++ behind) ends, device_behind s.act ids) refl

@@ -12,7 +12,7 @@ use Rattle.acc_batch.specs.Labels.{ops_of}
 use Rattle.acc_batch.proofs.Labels.{ops_of-append}
 use Rattle.acc_place.specs.Plans.{nth_batch}
 use Rattle.acc_place.specs.Sound.{is_close}
-use Rattle.acc_report.specs.Totals.{is_plain, plain_batches, plain_ops}
+use Rattle.acc_report.specs.Totals.{has_plain_ops, plain_batches, plain_ops}
 use Rattle.acc_report.specs.inner.Counting.{plain_count}
 
 -- one where there are some
@@ -52,7 +52,7 @@ one_placed (d ∷ labels) i batches operations count after low is counted fits h
     let l = get_or all i d in
     let ops : count ≡ length (plain_ops l.ops) = is ∙ count_is all i d low in
     let mine : one_if count ≡ one_if (length (plain_ops l.ops)) = ap one_if ops in
-    let more = length-filter_more is_plain all i d low in
+    let more = length-filter_more has_plain_ops all i d low in
     let most = most_one (nat_lt 0 count) in
     record {
       all_batches = omega (arith, counted, h.all_batches, mine, more);

@@ -4,7 +4,7 @@ use Rattle.std.specs.Fmt.{signed_decimal}
 use Rattle.std.specs.List.{flat_map}
 use Rattle.acc_base.specs.declared.fault.Fault.{Fault}
 use Rattle.acc_base.specs.declared.ids.QueueAt.{QueueAt}
-use Rattle.acc_base.specs.Faults.{number_of, name_of}
+use Rattle.acc_base.specs.Faults.{fault_number, fault_name}
 use Rattle.acc_present.specs.Presences.{Presence}
 use Rattle.acc_host.specs.declared.state.HostState.{HostState}
 use Rattle.acc_host.specs.declared.state.HostState.TheVariants.{Running, Finished, Refused}
@@ -26,7 +26,7 @@ line_text values = values_text values ++ codes "\n"
 -- refused LINE Fn NAME
 unfoldable pub refusal_text : ℕ → Fault → List ℕ
 refusal_text line fault =
-    codes "refused " ++ (decimal line ++ (codes " F" ++ (decimal (number_of fault) ++ (codes " " ++ (name_of fault ++ codes "\n")))))
+    codes "refused " ++ (decimal line ++ (codes " F" ++ (decimal (fault_number fault) ++ (codes " " ++ (fault_name fault ++ codes "\n")))))
 
 -- where a host stands
 unfoldable pub state_text : HostState → List ℕ

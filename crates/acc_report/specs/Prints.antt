@@ -15,14 +15,14 @@ use Rattle.acc_host.specs.Following.{Ended, Ends}
 use Rattle.acc_host.specs.Steps.{Owed, nothing_owed, owes_seen, owes_test, owed_by, ids_after}
 
 -- A directive has an entry, and, where something is owed for it, the item that settles this.
-abbrev pub size_of : Owed → ℕ
-size_of nothing_owed = 1
-size_of (owes_seen device counts) = 2
-size_of (owes_test device counts) = 2
+abbrev pub entry_count : Owed → ℕ
+entry_count nothing_owed = 1
+entry_count (owes_seen device counts) = 2
+entry_count (owes_test device counts) = 2
 
 abbrev pub placed_size : List HostEntry → ℕ
 placed_size [] = 0
-placed_size (Gave d placed ∷ more) = size_of (owed_by d placed)
+placed_size (Gave d placed ∷ more) = entry_count (owed_by d placed)
 placed_size (Had what ∷ more) = 1
 
 -- how many of the entries are those of the statement
@@ -45,15 +45,15 @@ tested (Had (told.Write array cell value) ∷ more) = pos 1
 tested (Had (told.Print range values) ∷ more) = pos 1
 
 -- A test for which nothing is owed was answered at once: nothing that it asks for was placed.
-abbrev pub test_answer : Owed → List HostEntry → ℤ
-test_answer nothing_owed more = pos 1
-test_answer (owes_seen device counts) more = pos 1
-test_answer (owes_test device counts) more = tested more
+abbrev pub tested_value : Owed → List HostEntry → ℤ
+tested_value nothing_owed more = pos 1
+tested_value (owes_seen device counts) more = pos 1
+tested_value (owes_test device counts) more = tested more
 
 -- A question that is a directive prints its answer.
 abbrev pub answer_line : Kind → Directive → Placed → List HostEntry → List (List ℤ)
 answer_line kind.IsPresent d placed more = (truth placed.present ∷ []) ∷ []
-answer_line kind.AsyncTest d placed more = (test_answer (owed_by d placed) more ∷ []) ∷ []
+answer_line kind.AsyncTest d placed more = (tested_value (owed_by d placed) more ∷ []) ∷ []
 answer_line kind.Data d placed more = []
 answer_line kind.EndData d placed more = []
 answer_line kind.EnterData d placed more = []
@@ -76,14 +76,14 @@ shown_line (Had (told.Seen device counts) ∷ more) = []
 shown_line (Had (told.Write array cell value) ∷ more) = []
 
 -- what a statement prints where the host's current device is this one, and these entries are the next ones: no line or one
-abbrev pub line_of : ℕ → ℕ → Act → List HostEntry → List (List ℤ)
-line_of devices device (act.Place d) es = placed_line es
-line_of devices device (act.Print range) es = shown_line es
-line_of devices device act.ShowDevice es = (pos device ∷ []) ∷ []
-line_of devices device act.ShowDevices es = (pos devices ∷ []) ∷ []
-line_of devices device (act.Write array cell value) es = []
-line_of devices device (act.SetDevice n) es = []
-line_of devices device (act.SetAsync v) es = []
+abbrev pub statement_lines : ℕ → ℕ → Act → List HostEntry → List (List ℤ)
+statement_lines devices device (act.Place d) es = placed_line es
+statement_lines devices device (act.Print range) es = shown_line es
+statement_lines devices device act.ShowDevice es = (pos device ∷ []) ∷ []
+statement_lines devices device act.ShowDevices es = (pos devices ∷ []) ∷ []
+statement_lines devices device (act.Write array cell value) es = []
+statement_lines devices device (act.SetDevice n) es = []
+statement_lines devices device (act.SetAsync v) es = []
 
 -- the current device behind a statement
 abbrev pub device_after : Act → ℕ → ℕ
@@ -96,10 +96,10 @@ device_after act.ShowDevice device = device
 device_after act.ShowDevices device = device
 
 -- The lines of statements one after another, each by its own entries.
-abbrev pub lines : ℕ → ℕ → List Statement → List HostEntry → List (List ℤ)
-lines devices device [] es = []
-lines devices device (s ∷ statements) es =
-    line_of devices device s.act es ++ lines devices (device_after s.act device) statements (drop (entries_taken s.act es) es)
+abbrev pub printed_lines : ℕ → ℕ → List Statement → List HostEntry → List (List ℤ)
+printed_lines devices device [] es = []
+printed_lines devices device (s ∷ statements) es =
+    statement_lines devices device s.act es ++ printed_lines devices (device_after s.act device) statements (drop (entries_taken s.act es) es)
 
 -- These are the lines of the first statements, as many as have ended, each printed by its own entries.
 abbrev pub ArePrinted : ℕ → Ids → ℕ → List Statement → List HostEntry → List (List ℤ) → Type 0
@@ -107,7 +107,7 @@ ArePrinted devices ids zero statements es shown = shown ≡ []
 ArePrinted devices ids (suc ended) [] es shown = ⊥
 ArePrinted devices ids (suc ended) (s ∷ statements) es shown =
     (first : List HostEntry) × (later : List HostEntry) × (rest : List (List ℤ))
-    × (es ≡ first ++ later) × Ends devices ids s.act first × (shown ≡ line_of devices ids.device s.act first ++ rest)
+    × (es ≡ first ++ later) × Ends devices ids s.act first × (shown ≡ statement_lines devices ids.device s.act first ++ rest)
     × ArePrinted devices (ids_after s.act ids) ended statements later rest
 
 -- Where a host's entries are those of statements that have ended, and others stand behind them, the lines that are read off all
@@ -116,4 +116,4 @@ abbrev pub LinesAreFound : Type 0
 LinesAreFound =
     (devices : ℕ) (ids : Ids) (ended : ℕ) (statements : List Statement) (past behind : List HostEntry)
     → Ended devices ids ended statements past
-    → ArePrinted devices ids ended statements past (lines devices ids.device (take ended statements) (past ++ behind))
+    → ArePrinted devices ids ended statements past (printed_lines devices ids.device (take ended statements) (past ++ behind))

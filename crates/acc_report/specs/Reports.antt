@@ -24,7 +24,7 @@ use Rattle.acc_host.specs.Engines.{HostEntry}
 use Rattle.acc_host.specs.Entries.{entries_merged, items_shown, own_of}
 use Rattle.acc_host.specs.Hosts.{bare_statements}
 use Rattle.acc_report.specs.Lines.{each_below, line_text, presence_text, state_text, totals_text}
-use Rattle.acc_report.specs.Prints.{lines}
+use Rattle.acc_report.specs.Prints.{printed_lines}
 use Rattle.acc_report.specs.declared.remains.Run.{Run}
 
 -- What a run leaves: the configuration, the place history with its counts and the work log, each with its latest entry first;
@@ -83,7 +83,7 @@ ended_in (state.Refused ended line fault) statements = take ended statements
 unfoldable pub host_text : Left → ℕ → HostProgram → HostState → List ℕ
 host_text left h program here =
     codes "host " ++ (decimal h ++ (codes "\n"
-    ++ (flat_map line_text (lines left.config.devices 0 (ended_in here program.statements) (entries_left left h)) ++ state_text here)))
+    ++ (flat_map line_text (printed_lines left.config.devices 0 (ended_in here program.statements) (entries_left left h)) ++ state_text here)))
 
 abbrev pub host_text_by : Left → ℕ → Option HostProgram → Option HostState → List ℕ
 host_text_by left h None here = []

@@ -10,8 +10,8 @@ abbrev pub plain_ops : List OpLabel → List OpLabel
 plain_ops ops = filter (λ op. not (is_close op)) ops
 
 -- a batch has another operation than a close
-abbrev pub is_plain : Label → Bool
-is_plain l = nat_lt 0 (length (plain_ops l.ops))
+abbrev pub has_plain_ops : Label → Bool
+has_plain_ops l = nat_lt 0 (length (plain_ops l.ops))
 
 abbrev pub plain_batches : List Label → List Label
-plain_batches labels = filter is_plain labels
+plain_batches labels = filter has_plain_ops labels

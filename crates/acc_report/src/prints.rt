@@ -6,7 +6,7 @@ ghost use Rattle.acc_kernel.specs.Values.{truth};
 ghost use Rattle.acc_host.specs.Engines.{Had};
 ghost use Rattle.acc_host.specs.Steps.{nothing_owed, owed_by};
 ghost use Rattle.acc_report.specs.Lines.{line_text};
-ghost use Rattle.acc_report.specs.Prints.{answer_line, device_after, entries_taken, line_of, lines, placed_line, placed_size, shown_line, size_of, test_answer, tested};
+ghost use Rattle.acc_report.specs.Prints.{answer_line, device_after, entries_taken, statement_lines, printed_lines, placed_line, placed_size, shown_line, entry_count, tested_value, tested};
 ghost use Rattle.acc_report.specs.Puts.{Puts, sink};
 
 use crate::bytes::{put, put_number};
@@ -25,7 +25,7 @@ pub(crate) fn put_lines<W: Write>(
     statements: &[Statement],
     entries: &mut OwnEntries,
 )
-    ensures { Puts (sink (W.contents out.old) failed.old) (sink (W.contents out.new) failed.new) (flat_map line_text (lines devices 0 statements.now entries.old)) }
+    ensures { Puts (sink (W.contents out.old) failed.old) (sink (W.contents out.new) failed.new) (flat_map line_text (printed_lines devices 0 statements.now entries.old)) }
 {
     let mut device = 0u32;
     for statement in statements {
@@ -42,7 +42,7 @@ fn put_statement<W: Write>(
     act: &Act,
     entries: &mut OwnEntries,
 ) -> u32
-    ensures puts { Puts (sink (W.contents out.old) failed.old) (sink (W.contents out.new) failed.new) (flat_map line_text (line_of devices device act.now entries.old)) }
+    ensures puts { Puts (sink (W.contents out.old) failed.old) (sink (W.contents out.new) failed.new) (flat_map line_text (statement_lines devices device act.now entries.old)) }
     ensures device { result ≡ device_after act.now device }
     ensures left { entries.new ≡ drop (entries_taken act.now entries.old) entries.old }
 {
@@ -118,7 +118,7 @@ fn put_answer<W: Write>(
     entries: &mut OwnEntries,
 )
     ensures puts { Puts (sink (W.contents out.old) failed.old) (sink (W.contents out.new) failed.new) (flat_map line_text (answer_line directive.now.kind directive.now answer.now entries.old)) }
-    ensures left { entries.new ≡ drop (size_of (owed_by directive.now answer.now) - 1) entries.old }
+    ensures left { entries.new ≡ drop (entry_count (owed_by directive.now answer.now) - 1) entries.old }
 {
     let owed = is_owed(directive, answer);
     match directive.kind() {
@@ -136,7 +136,7 @@ fn put_answer<W: Write>(
 
 // Whether something is owed for a directive that was answered so, which the next item settles.
 fn is_owed(directive: &Directive, answer: &Answer) -> bool
-    ensures size { size_of (owed_by directive.now answer.now) ≡ (if result then 2 else 1) }
+    ensures size { entry_count (owed_by directive.now answer.now) ≡ (if result then 2 else 1) }
     ensures none { result ≡ false → owed_by directive.now answer.now ≡ nothing_owed }
 {
     match directive.kind() {

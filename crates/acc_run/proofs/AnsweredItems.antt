@@ -17,7 +17,7 @@ is_answer w (to_record.Seen device counts) what got tells is = is ∙ ap shown_b
 is_answer w (to_record.Test device counts) what got tells is = (_, is ∙ ap shown_by tells)
 
 -- an item as its host knows it tells what the item is, and gives back what the host got
-pub known_tells : (item : ItemLabel) (got : Shown) → MayRecord item → IsAnswerTo item got → engine.Tells item (known_by item got)
+pub known_tells : (item : ItemLabel) (got : Shown) → MayRecord item → IsAnswerTo item got → engine.MayTell item (known_by item got)
 known_tells (to_record.Write array cell value) got may is = refl
 known_tells (to_record.Print range) got may is = ([], refl)
 known_tells (to_record.Seen device counts) got may is = refl

@@ -17,7 +17,7 @@ use Rattle.acc_place.specs.Histories.{AllAccepted, IsQueue}
 use Rattle.acc_place.proofs.LabelsThere.{labels_there}
 use Rattle.acc_work.specs.Lanes.{LaneView, no_lane}
 use Rattle.acc_work.specs.Works.{WorkView, KeepsOrder, lane_at, taken_labels}
-use Rattle.acc_run.specs.Finishing.{AllTookFirst, TookFirst, held_on}
+use Rattle.acc_run.specs.Finishing.{AllTookFirst, TookFirst, untaken_on}
 use Rattle.acc_run.specs.PlaceSides.{PlaceSideView}
 use Rattle.acc_run.specs.WorkSides.{WorkSideView}
 
@@ -76,7 +76,7 @@ took_first p w accepted keeps devices took at = elim (there_or_not p.place.confi
 ]
 
 -- what was placed behind these batches has operations
-pub held_filled : (p : PlaceSideView) (w : WorkSideView) (at : QueueAt) → AllAccepted p.place.config p.place.history p.place.counts → All (λ (l : Label). 0 < length l.ops) (held_on p w at)
+pub held_filled : (p : PlaceSideView) (w : WorkSideView) (at : QueueAt) → AllAccepted p.place.config p.place.history p.place.counts → All (λ (l : Label). 0 < length l.ops) (untaken_on p w at)
 held_filled p w at accepted =
     let filled = λ (l : Label). 0 < length l.ops in
     let all : All filled (standing_in p.place).labels =

@@ -12,7 +12,7 @@ use Rattle.acc_work.specs.declared.item.ItemLabel.TheVariants as to_record
 use Rattle.acc_work.specs.declared.item.Shown.{Shown}
 use Rattle.acc_host.specs.Engines.{HostEntry, Gave, Had, Call, Place, Wait, Record}
 use Rattle.acc_host.specs.Following.{Stands, Follows}
-use Rattle.acc_host.specs.Hosts.{HostView, Adds, Asks, wants, wants_at, ready, refused_at, host_after, phase_after, state_of, after_place, after_wait, after_item}
+use Rattle.acc_host.specs.Hosts.{HostView, Adds, Asks, wants, wants_at, ready, refused_at, host_after, phase_after, state_of, after_place, after_wait, after_answer}
 use Rattle.acc_host.specs.Steps.{Want, stays, sets, refuses, places, awaits, records, wanted, with_ids, set_or_refuse, is_async}
 use Rattle.acc_host.specs.declared.program.Act.{Act}
 use Rattle.acc_host.specs.declared.program.Act.TheVariants as act
@@ -103,7 +103,7 @@ wait_goes old new device counts (Ok true) call = call.1
 wait_goes old new device counts (Ok false) call = call.1
 wait_goes old new device counts (Err f) call = call
 
-item_goes : (old new : CallingView) (item : ItemLabel) (answer : Result Shown Fault) → IsCalled old (Record item answer) new → GoesOn old (after_item answer) new
+item_goes : (old new : CallingView) (item : ItemLabel) (answer : Result Shown Fault) → IsCalled old (Record item answer) new → GoesOn old (after_answer answer) new
 item_goes old new item (Ok answer) call = call.1
 item_goes old new item (Err f) call = call
 

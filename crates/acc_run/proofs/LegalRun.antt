@@ -26,10 +26,10 @@ use Rattle.acc_work.specs.Lanes.{LaneView, last_of}
 use Rattle.acc_work.specs.Logs.{one_more, performed}
 use Rattle.acc_work.specs.Works.{IsInOrder, lane_at, taken_labels}
 use Rattle.acc_work.proofs.Extended.{kept_more}
-use Rattle.acc_run.specs.Finishing.{AllTookFirst, AreOfOneRun, EndedSidesAreFinished, EndsWithClose, KeepsWork, Leaves, StoppedSidesAreLegal, TookFirst, held_on, histories_in, left_on}
+use Rattle.acc_run.specs.Finishing.{AllTookFirst, AreOfOneRun, EndedSidesAreFinished, EndsWithClose, KeepsWork, Leaves, StoppedSidesAreLegal, TookFirst, untaken_on, histories_in, left_on}
 use Rattle.acc_run.specs.PlaceSides.{PlaceSideView}
 use Rattle.acc_run.specs.Tokens.{TokenView}
-use Rattle.acc_run.specs.WorkSides.{WorkSideView, closes, is_ended}
+use Rattle.acc_run.specs.WorkSides.{WorkSideView, are_a_close, is_ended}
 use Rattle.acc_run.specs.WorkSides.{closes_last as is_last_a_close}
 use Rattle.acc_run.proofs.AllRise.{all_rise}
 use Rattle.acc_run.proofs.EachQueue.{held_filled, none_placed, there_or_not, took_first}
@@ -83,7 +83,7 @@ is_the_close (Release b) e = cc
 is_the_close (Run k uses) e = cc
 is_the_close (Await q n) e = cc
 
-close_alone : (ops : List OpLabel) → closes ops ≡ true → ops ≡ Close ∷ []
+close_alone : (ops : List OpLabel) → are_a_close ops ≡ true → ops ≡ Close ∷ []
 close_alone [] e = cc
 close_alone (op ∷ []) e = ap (λ o. o ∷ []) (is_the_close op e)
 close_alone (op ∷ next ∷ ops) e = cc
@@ -120,7 +120,7 @@ none_behind (op ∷ before) rest h = none_behind before rest h.1
 leaves : (p : PlaceSideView) (w : WorkSideView) → KeepsWork w → ((at : QueueAt) → TookFirst p w at) → Leaves (histories_in p w) (left_on p w)
 leaves p w keeps took at =
     let taken = on_queue at (taken_labels w.work) in
-    let held = held_on p w at in
+    let held = untaken_on p w at in
     let left = (lane_at w.work at).left in
     let done : ops_of taken ≡ performed at w.work.work ++ left = ap ops_of (keeps.order.taken at) ∙ sym (keeps.order.order at).in_order in
     ap ops_of (took at) ∙ (ops_of-append taken held ∙ (ap (λ (ops : List OpLabel). ops ++ ops_of held) done ∙ append_assoc (performed at w.work.work) left (ops_of held)))
@@ -138,7 +138,7 @@ stopped_legal = λ config p w tokens accepted keeps one.
     let rest = leaves p w keeps firsts in
     let arrays : w.work.arrays ≡ p.place.config.arrays = keeps.arrays ∙ ap (λ (c : Configuration). c.arrays) (one.performed_for ∙ sym one.placed_for) in
     let kept : IsKept p.place.config.arrays (taken_labels w.work) w.work.work = subst (λ a. IsKept a (taken_labels w.work) w.work.work) arrays keeps.kept in
-    let more : Extends (taken_labels w.work) (standing_in p.place).labels = λ at. record { more = held_on p w at; is = firsts at; filled = held_filled p w at accepted } in
+    let more : Extends (taken_labels w.work) (standing_in p.place).labels = λ at. record { more = untaken_on p w at; is = firsts at; filled = held_filled p w at accepted } in
     let last : (at : QueueAt) → CloseLast (performed at w.work.work) =
     λ at. close_last_before (performed at w.work.work) (left_on p w at) (subst CloseLast (rest at) (closes_last p.place.config p.place.history p.place.counts at accepted)) in (
       record {

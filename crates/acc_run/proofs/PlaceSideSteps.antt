@@ -21,7 +21,7 @@ use Rattle.acc_batch.specs.Awaits.{close_label}
 use Rattle.acc_place.proofs.LeftOpen.{place_seat}
 use Rattle.acc_place.specs.declared.directive.PlaceEntry.TheVariants as noted
 use Rattle.acc_place.specs.Batches.{batch_of, labels_with, next_number, walk_at}
-use Rattle.acc_place.specs.Closing.{left_open, is_at_hand, place_after_begin, place_after_close, close_of, handed_out, handed_back, IsOut}
+use Rattle.acc_place.specs.Closing.{left_open, is_at_hand, place_after_begin, place_after_close, close_of, handed_out, handed_back, IsCloseOut}
 use Rattle.acc_place.specs.Histories.{is_closed, standing, AllAccepted, IsQueue}
 use Rattle.acc_place.specs.Plans.{PlaceView, PlanView, Fits, label_for, place_after, standing_in}
 use Rattle.acc_place.specs.Standings.{Standing, walk_of}
@@ -231,7 +231,7 @@ close_sends p ends at b s there is = rw is (record {
 })
 
 -- and is placed
-pub closed_sent : (p : PlaceView) (ends : List Line) (at : QueueAt) (b : Label) → IsPlaceSide p ends → IsQueue p.config at → is_at_hand p at ≡ true → IsOut (handed_out p at) at → b ≡ close_label at (standing_in p).labels
+pub closed_sent : (p : PlaceView) (ends : List Line) (at : QueueAt) (b : Label) → IsPlaceSide p ends → IsQueue p.config at → is_at_hand p at ≡ true → IsCloseOut (handed_out p at) at → b ≡ close_label at (standing_in p).labels
     → IsPlaceSide (place_after_close (handed_out p at) at) (lines_with ends b)
 closed_sent p ends at b s there hand out is =
     let st = standing_in p in

@@ -12,7 +12,7 @@ use Rattle.acc_batch.specs.declared.label.OpLabel.{OpLabel}
 use Rattle.acc_batch.specs.declared.label.OpLabel.TheVariants as op_label
 use Rattle.acc_batch.proofs.Seats.{each_seat, seat_absent, seat_kept, seat_set, seat_there}
 use Rattle.acc_queue.specs.Seen.{HasWord, Raised}
-use Rattle.acc_run.specs.WorkSides.{IsPublished, number_in, published_by, raised_by}
+use Rattle.acc_run.specs.WorkSides.{IsPublished, queue_number, published_by, raised_by}
 use Rattle.acc_run.proofs.WorkSideSteps.{filled_with, seat_lane}
 use Rattle.acc_batch.specs.declared.entry.Told.{Told}
 use Rattle.acc_work.specs.declared.work.Done.{Done}
@@ -276,7 +276,7 @@ published_first w words n k fresh none count = record {
   count = ap length none ∙ (length-replicate n 0 ∙ sym count);
 }
   where
-    zero_at : (at : QueueAt) → number_in words at ≡ 0
+    zero_at : (at : QueueAt) → queue_number words at ≡ 0
     zero_at at = elim (cases_lt at.queue QUEUES) [
       | inl low ↦ seat_there 0 words at low ∙ (ap (λ ws. slice_index_or ws (seat at) 0) none ∙ no_numbers n (seat at))
       | inr past ↦ seat_absent 0 words at past

@@ -4,13 +4,13 @@ use Rattle.std.specs.Prelude.{nat_le, map, not, IfSome}
 use Rattle.acc_base.specs.declared.fault.Fault.{Fault}
 use Rattle.acc_base.specs.declared.fault.Fault.TheVariants.{BadAsync, BadDevice, BadRange, Closed, Memory, NoRegion, OutsideRange, TooMany}
 use Rattle.acc_base.specs.Configurations.{Configuration}
-use Rattle.acc_place.specs.Accepting.{fault_at, fault_where, faults_at, first_fault, has_too_many, is_outside, is_past, refusal}
+use Rattle.acc_place.specs.Accepting.{fault_at, fault_where, faults_at, first_fault, has_too_many, ends_no_region, is_past, refusal}
 use Rattle.acc_place.specs.Directives.{Directive}
 use Rattle.acc_place.specs.declared.directive.Kind.{Kind}
 use Rattle.acc_base.specs.Configurations.{IsRefusal}
 use Rattle.acc_place.specs.Plans.{standing_in}
 use Rattle.acc_place.specs.Regions.{open_region}
-use Rattle.acc_place.specs.Standings.{Asked, Standing, Visit, visits, walk_of}
+use Rattle.acc_place.specs.Standings.{AskedItem, Standing, Visit, visits, walk_of}
 use Rattle.acc_place.specs.Targets.{has_bad_queue}
 use Rattle.acc_run.specs.PlaceSides.{HasRefused, PlaceSideView, is_of_ending}
 use Rattle.acc_work.specs.declared.log.TheConstants.{MAX_HOST_ITEMS}
@@ -53,15 +53,15 @@ unfolding refusal
 refusal_plain config st host d =
     let walk = walk_of st host d in
     let items = map (fault_at config d.kind) (visits (st.marks walk.device) walk.items) in
-    let last = fault_where (is_past walk.runs (map (λ (a : Asked). a.item) walk.items)) OutsideRange in
+    let last = fault_where (is_past walk.runs (map (λ (a : AskedItem). a.item) walk.items)) OutsideRange in
     first_plain
     (fault_where st.closing Closed
     ∷ fault_where (nat_le config.devices d.device) BadDevice
     ∷ fault_where (has_bad_queue d) BadAsync
     ∷ fault_where (has_too_many st host d walk) TooMany
-    ∷ fault_where (is_outside d.kind (open_region host st.regions)) NoRegion
+    ∷ fault_where (ends_no_region d.kind (open_region host st.regions)) NoRegion
     ∷ (items ++ last ∷ []))
-    (where_plain st.closing Closed refl, (where_plain (nat_le config.devices d.device) BadDevice refl, (where_plain (has_bad_queue d) BadAsync refl, (where_plain (has_too_many st host d walk) TooMany refl, (where_plain (is_outside d.kind (open_region host st.regions)) NoRegion refl, both_plain items (last ∷ []) (visits_plain config d.kind (visits (st.marks walk.device) walk.items)) (where_plain (is_past walk.runs (map (λ (a : Asked). a.item) walk.items)) OutsideRange refl, tt))))))
+    (where_plain st.closing Closed refl, (where_plain (nat_le config.devices d.device) BadDevice refl, (where_plain (has_bad_queue d) BadAsync refl, (where_plain (has_too_many st host d walk) TooMany refl, (where_plain (ends_no_region d.kind (open_region host st.regions)) NoRegion refl, both_plain items (last ∷ []) (visits_plain config d.kind (visits (st.marks walk.device) walk.items)) (where_plain (is_past walk.runs (map (λ (a : AskedItem). a.item) walk.items)) OutsideRange refl, tt))))))
 
 refusal_is : (o : Option Fault) (f : Fault) → IsPlain o → IsRefusal o f → is_of_ending f ≡ false
 refusal_is (Some g) f plain is = ap is_of_ending is ∙ plain

@@ -73,12 +73,12 @@ abbrev pub AllEnded : Configuration → WorkSideView → Type 0
 AllEnded config w = (at : QueueAt) → IsQueue config at → is_ended (lane_at w.work at) ≡ true
 
 -- the batches that were placed on a queue, and that it didn't take
-abbrev pub held_on : PlaceSideView → WorkSideView → QueueAt → List Label
-held_on p w at = drop (length (on_queue at (taken_labels w.work))) (on_queue at (standing_in p.place).labels)
+abbrev pub untaken_on : PlaceSideView → WorkSideView → QueueAt → List Label
+untaken_on p w at = drop (length (on_queue at (taken_labels w.work))) (on_queue at (standing_in p.place).labels)
 
 -- The batches that a queue took are the first that were placed on it.
 abbrev pub TookFirst : PlaceSideView → WorkSideView → QueueAt → Type 0
-TookFirst p w at = on_queue at (standing_in p.place).labels ≡ on_queue at (taken_labels w.work) ++ held_on p w at
+TookFirst p w at = on_queue at (standing_in p.place).labels ≡ on_queue at (taken_labels w.work) ++ untaken_on p w at
 
 abbrev pub AllTookFirst : Configuration → PlaceSideView → WorkSideView → Type 0
 AllTookFirst config p w = (at : QueueAt) → IsQueue config at → TookFirst p w at
@@ -115,7 +115,7 @@ pub record KeepsWork (w : WorkSideView) : Type 0 where
 
 -- what is left of a queue: in its lane, and of the batches that it didn't take
 abbrev pub left_on : PlaceSideView → WorkSideView → QueueAt → List OpLabel
-left_on p w at = (lane_at w.work at).left ++ ops_of (held_on p w at)
+left_on p w at = (lane_at w.work at).left ++ ops_of (untaken_on p w at)
 
 -- A run that stops anywhere is legal, and leaves of each queue what is left of it;
 abbrev pub StoppedSidesAreLegal : Type 0

@@ -57,13 +57,13 @@ pub record IsWorkSide (config : Configuration) (w : WorkView) (ends : List Line)
   pub devices : length w.memory.devices ≡ config.devices
 
 -- the number of a queue; a queue that isn't there has none
-abbrev pub number_in : List ℕ → QueueAt → ℕ
-number_in numbers at = if nat_lt at.queue QUEUES then slice_index_or numbers (seat at) 0 else 0
+abbrev pub queue_number : List ℕ → QueueAt → ℕ
+queue_number numbers at = if nat_lt at.queue QUEUES then slice_index_or numbers (seat at) 0 else 0
 
 -- What is published whenever the lock is free: of each queue how many batches it has performed, its close among them. It took fewer
 -- than 2^62.
 pub record IsPublished (w : WorkView) (numbers : List ℕ) : Type 0 where
-  pub each : (at : QueueAt) → number_in numbers at ≡ batches_done (taken_labels w) w.work at
+  pub each : (at : QueueAt) → queue_number numbers at ≡ batches_done (taken_labels w) w.work at
   pub few : (at : QueueAt) → length (lane_at w at).taken < 2 ^ 62
   pub count : length numbers ≡ length w.lanes
 
@@ -140,7 +140,7 @@ pub record IsStray (old new : WorkSideView) (job : JobView) : Type 0 where
   pub stray : IsOut old.work job → ⊥
 
 -- A host's item was recorded: it joined the log with what it tells, which is its answer.
-pub record HasRecorded (old new : WorkSideView) (host : ℕ) (item : ItemLabel) (answer : Shown) : Type 0 where
+pub record HasLogged (old new : WorkSideView) (host : ℕ) (item : ItemLabel) (answer : Shown) : Type 0 where
   pub config : new.config ≡ old.config
   pub what : Told
   pub tells : Tells old.work item what
@@ -154,14 +154,14 @@ abbrev pub number_left : LaneView → Option ℕ
 number_left lane = if length lane.left == 0 then None else option_map (λ (l : Label). l.number) (last_of lane.taken)
 
 -- the operations of a close
-abbrev pub closes : List OpLabel → Bool
-closes [] = false
-closes (op ∷ []) = is_close op
-closes (op ∷ next ∷ ops) = false
+abbrev pub are_a_close : List OpLabel → Bool
+are_a_close [] = false
+are_a_close (op ∷ []) = is_close op
+are_a_close (op ∷ next ∷ ops) = false
 
 abbrev pub closes_last : Option Label → Bool
 closes_last None = false
-closes_last (Some l) = closes l.ops
+closes_last (Some l) = are_a_close l.ops
 
 -- A queue has performed its close: it was the last batch, and nothing is left of it.
 abbrev pub is_ended : LaneView → Bool

@@ -4,7 +4,7 @@ ghost use Rattle.std.specs.Prelude.{IfErr, IfOk, OnOk, [], ◌++◌, ◌≡◌, 
 ghost use Rattle.acc_base.specs.declared.fault.Fault.TheVariants.{Memory};
 ghost use Rattle.acc_base.specs.Queues.{queue_count};
 ghost use Rattle.acc_batch.specs.Labels.{ops_of};
-ghost use Rattle.acc_run.specs.Finishing.{Abandoned, AreOfOneRun, CannotAbandon, HasCounts, held_on, histories_in, histories_of, left_on};
+ghost use Rattle.acc_run.specs.Finishing.{Abandoned, AreOfOneRun, CannotAbandon, HasCounts, untaken_on, histories_in, histories_of, left_on};
 ghost use Rattle.acc_work.specs.Works.{lane_at};
 ghost use Rattle.acc_run.specs.inner.Discarding.{discarded, discards};
 
@@ -125,7 +125,7 @@ fn left_in_lane(work: &WorkSide, at: QueueAt) -> &[OpLabel]
 
 // The batches that were placed on a queue, and that it didn't take.
 fn held_on<'a>(place: &'a PlaceSide, work: &WorkSide, at: QueueAt) -> &'a [Label]
-    ensures { result.now ≡ held_on place.now work.now at }
+    ensures { result.now ≡ untaken_on place.now work.now at }
 {
     let QueueAt { device, queue } = at;
     let placed = place.as_place().labels_on(QueueAt { device, queue });

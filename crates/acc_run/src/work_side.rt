@@ -8,7 +8,7 @@ ghost use Rattle.acc_base.specs.Queues.{queue_count, seat};
 ghost use Rattle.acc_batch.specs.Ops.{first_loop};
 ghost use Rattle.acc_host.specs.Engines.{MayRecord};
 ghost use Rattle.acc_queue.specs.Seen.{HasWord};
-ghost use Rattle.acc_run.specs.WorkSides.{AreEnds, HasComeBack, HasGoneOut, HasTaken, HasRecorded, Goes, IsLine, IsStray, closes, is_ended, line_in, number_in, number_left, published_by, raised_by};
+ghost use Rattle.acc_run.specs.WorkSides.{AreEnds, HasComeBack, HasGoneOut, HasTaken, HasLogged, Goes, IsLine, IsStray, are_a_close, is_ended, line_in, queue_number, number_left, published_by, raised_by};
 ghost use Rattle.acc_work.specs.declared.item.ItemLabel.TheVariants as to_record;
 ghost use Rattle.acc_work.specs.declared.item.Shown.TheVariants as shown;
 ghost use Rattle.acc_work.specs.Items.{has_cells};
@@ -68,7 +68,7 @@ impl WorkSide {
         ensures memory { Remembers self.now.work.arrays self.now.work.work self.now.work.memory }
         ensures order { KeepsOrder self.now.work }
         ensures lines { (at : QueueAt) → IsLine self.now.work at (line_in self.now.lines at) }
-        ensures progress { (at : QueueAt) → number_in self.now.progress.numbers at ≡ batches_done (taken_labels self.now.work) self.now.work.work at }
+        ensures progress { (at : QueueAt) → queue_number self.now.progress.numbers at ≡ batches_done (taken_labels self.now.work) self.now.work.work at }
     {
         self.work.keeps();
         let _ = &self.takers;
@@ -254,7 +254,7 @@ impl WorkSide {
     pub fn item(&mut self, host: HostId, item: Item) -> Result<Shown, (Item, Fault)>
         requires host { host < MAX_HOSTS }
         requires item { MayRecord item }
-        ensures told { IfOk result (λ shown. HasRecorded self.old self.new host item shown) }
+        ensures told { IfOk result (λ shown. HasLogged self.old self.new host item shown) }
         ensures back { IfErr result (λ r. r.0 ≡ item) }
         ensures kept { OnErr result (self.new ≡ self.old) }
         ensures fault { IfErr result (λ r. (lacks : Bool) × (item_fault lacks self.old.work.work (has_cells self.old.work.arrays item) ≡ Some r.1)) }
@@ -281,7 +281,7 @@ impl WorkSide {
         counts: QueueCounts,
     ) -> Result<bool, Fault>
         requires host { host < MAX_HOSTS }
-        ensures seen { result ≡ Ok true → HasRecorded self.old self.new host (to_record.Seen device counts) shown.Nothing }
+        ensures seen { result ≡ Ok true → HasLogged self.old self.new host (to_record.Seen device counts) shown.Nothing }
         ensures not_yet { result ≡ Ok false → (self.new ≡ self.old) × (all_done (taken_labels self.old.work) self.old.work.work device 0 counts ≡ false) }
         ensures kept { OnErr result (self.new ≡ self.old) }
         ensures fault { IfErr result (λ f. (lacks : Bool) × (item_fault lacks self.old.work.work true ≡ Some f)) }
@@ -304,7 +304,7 @@ impl WorkSide {
         requires host { host < MAX_HOSTS }
         requires item { CanTell self.old.work item }
         requires few { all_items self.old.work.work < 2 ^ 63 }
-        ensures told { IfOk result (λ shown. HasRecorded self.old self.new host item shown) }
+        ensures told { IfOk result (λ shown. HasLogged self.old self.new host item shown) }
         ensures back { IfErr result (λ r. (r.0 ≡ item) × (r.1 ≡ Memory) × (self.new ≡ self.old)) }
     {
         match self.work.try_item(host, item) {
@@ -370,7 +370,7 @@ fn publish(work: &Work, progress: &mut Publisher, at: QueueAt)
 
 // Whether these are the operations of a close.
 fn closes(ops: &[OpLabel]) -> bool
-    ensures { result ≡ closes ops.now }
+    ensures { result ≡ are_a_close ops.now }
 {
     match ops {
         [OpLabel::Close] => true,

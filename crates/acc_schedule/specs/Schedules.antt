@@ -47,8 +47,8 @@ is_skipped [] = true
 is_skipped (b ∷ bs) = b == 35
 
 -- a byte that can stand in a line: a tab, and those from the space to `~`
-abbrev pub is_plain : ℕ → Bool
-is_plain b = b == 9 || nat_lt 31 b && nat_lt b 127
+abbrev pub is_line_byte : ℕ → Bool
+is_line_byte b = b == 9 || nat_lt 31 b && nat_lt b 127
 
 -- decimal digits without a leading zero
 abbrev pub is_number : List ℕ → Bool
@@ -70,8 +70,8 @@ abbrev pub async_queue : List ℕ → Option ℕ
 async_queue word = if is_number word then option_map queue_of_value (number_below VALUES word) else None
 
 -- the queue that a word stands for, by its number
-abbrev pub queue_of : List ℕ → Option ℕ
-queue_of q =
+abbrev pub queue_by_word : List ℕ → Option ℕ
+queue_by_word q =
     if bytes_eq q (codes "sync") then Some sync
     else (if bytes_eq q (codes "noval") then Some noval
     else async_queue q)
@@ -83,7 +83,7 @@ queue_on None queue = None
 
 -- a queue of a device that is there
 abbrev pub queue_named : ℕ → List ℕ → List ℕ → Option QueueAt
-queue_named devices d q = queue_on (number_below devices d) (queue_of q)
+queue_named devices d q = queue_on (number_below devices d) (queue_by_word q)
 
 -- ## Turns
 
@@ -174,7 +174,7 @@ events_of hosts devices (first ∷ others) = events_by hosts devices first other
 
 unfoldable pub line_events : ℕ → ℕ → List ℕ → Result (List Event) ReadKind
 line_events hosts devices line =
-    if list_all is_plain line then events_of hosts devices (words line) else Err Text
+    if list_all is_line_byte line then events_of hosts devices (words line) else Err Text
 
 -- ## The whole schedule
 

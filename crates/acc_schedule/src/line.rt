@@ -3,7 +3,7 @@
 ghost use Rattle.std.specs.Prelude.{◌≡◌, ℕ, option_map, List, MatchOption, if◌then◌else◌};
 ghost use Rattle.acc_host.specs.declared.event.Event.{Event};
 ghost use Rattle.acc_host.specs.declared.event.Event.TheVariants.{Take, Perform};
-ghost use Rattle.acc_schedule.specs.Schedules.{words, host_named, async_queue, queue_of, queue_named, turn_of, one_turn, times_of, asked_turn, times_word, host_events, queue_events, close_events, round_events, events_by, line_events, turn_read, line_read};
+ghost use Rattle.acc_schedule.specs.Schedules.{words, host_named, async_queue, queue_by_word, queue_named, turn_of, one_turn, times_of, asked_turn, times_word, host_events, queue_events, close_events, round_events, events_by, line_events, turn_read, line_read};
 
 use crate::turn::{MAX_TIMES, ScheduleLine, Turn, queue_at};
 use crate::words::{are_plain, is_number, next_word, number_below};
@@ -31,7 +31,7 @@ fn async_queue(word: &[u8]) -> Option<u8>
 
 // The queue that a word stands for.
 fn queue_of(word: &[u8]) -> Option<u8>
-    ensures { result ≡ queue_of word.now }
+    ensures { result ≡ queue_by_word word.now }
 {
     if is(word, b"sync") {
         Some(QueueId::SYNC.number())

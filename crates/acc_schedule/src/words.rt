@@ -2,7 +2,7 @@
 
 ghost use Rattle.std.specs.Prelude.{◌≡◌, ◌<◌, ◌≤◌, not, [], ◌∷◌, length, IfSome, MatchOption};
 ghost use Rattle.std.specs.List.{list_all, prefix_len};
-ghost use Rattle.acc_schedule.specs.Schedules.{lines, is_space, words, with_first, is_skipped, is_plain, is_number, number_below};
+ghost use Rattle.acc_schedule.specs.Schedules.{lines, is_space, words, with_first, is_skipped, is_line_byte, is_number, number_below};
 ghost use Rattle.acc_token.specs.Tokens.{is_digit};
 
 use acc_token::{line_len, value_of};
@@ -27,7 +27,7 @@ fn is_space(byte: u8) -> bool
 
 // Whether a byte can stand in a line.
 fn is_plain(byte: u8) -> bool
-    ensures { result ≡ is_plain byte }
+    ensures { result ≡ is_line_byte byte }
 {
     byte == b'\t' || 31 < byte && byte < 127
 }
@@ -83,7 +83,7 @@ fn are_digits(word: &[u8]) -> bool
 }
 
 pub(crate) fn are_plain(line: &[u8]) -> bool
-    ensures { result ≡ list_all is_plain line.now }
+    ensures { result ≡ list_all is_line_byte line.now }
 {
     line.iter().all(|byte| is_plain(*byte))
 }

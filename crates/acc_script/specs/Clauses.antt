@@ -56,9 +56,9 @@ needs_item head.Wait = false
 needs_item head.Loop = false
 needs_item h = true
 
-abbrev pub may_be_async : Head → Bool
-may_be_async head.Data = false
-may_be_async h = true
+abbrev pub may_have_async : Head → Bool
+may_have_async head.Data = false
+may_have_async h = true
 
 -- Whether it may have a wait clause.
 abbrev pub may_wait : Head → Bool
@@ -81,13 +81,13 @@ abbrev pub is_plain : Target → Bool
 is_plain Plain = true
 is_plain t = false
 
-abbrev pub is_nothing : Waits → Bool
-is_nothing Nothing = true
-is_nothing w = false
+abbrev pub waits_for_nothing : Waits → Bool
+waits_for_nothing Nothing = true
+waits_for_nothing w = false
 
 -- Whether none has been read, in a directive that isn't `wait`.
 abbrev pub is_bare : Clauses → Bool
-is_bare c = (length c.items == 0 && is_plain c.target) && (is_nothing c.waits && not c.marked)
+is_bare c = (length c.items == 0 && is_plain c.target) && (waits_for_nothing c.waits && not c.marked)
 
 -- Whether the directive can end here.
 abbrev pub is_complete : Head → Clauses → Bool
@@ -126,9 +126,9 @@ data_clause arrays h clauses t (Some clause) =
 -- Each but the data clauses stands once at most.
 unfoldable pub clause_of : Declared → Head → Clauses → Lexeme → Result (Clauses × Spot) ReadFault
 clause_of arrays h clauses t =
-    if bytes_eq t.text (codes "async") && (may_be_async h && is_plain clauses.target) then
+    if bytes_eq t.text (codes "async") && (may_have_async h && is_plain clauses.target) then
     (target_at t.after >>= λ target. Ok (record clauses { target = target.0 }, target.1))
-    else (if bytes_eq t.text (codes "wait") && (may_wait h && is_nothing clauses.waits) then
+    else (if bytes_eq t.text (codes "wait") && (may_wait h && waits_for_nothing clauses.waits) then
     (waits_at t.after >>= λ waits. Ok (record clauses { waits = waits.0 }, waits.1))
     else (if is_mark h t.text && not clauses.marked then
     Ok (record clauses { marked = true }, t.after)

@@ -186,5 +186,5 @@ names_in s = names s.arrays.now s.index.now
 abbrev pub below : Scope → Option Deeper
 below s = deeper (names_in s) s.deep
 
-abbrev pub inside : Scope → Deeper
-inside s = record { unary = unary_at (names_in s) (below s); expr = expr_at (names_in s) (below s) }
+abbrev pub deeper_in : Scope → Deeper
+deeper_in s = record { unary = unary_at (names_in s) (below s); expr = expr_at (names_in s) (below s) }

@@ -3,7 +3,7 @@ use Rattle.std.specs.Prelude.{ℕ, true, false, ◌&&◌, ◌||◌, nat_lt, List
 use Rattle.acc_kernel.specs.declared.assign.Assign.{Assign}
 use Rattle.acc_kernel.specs.declared.fault.KernelFault.{KernelFault}
 use Rattle.acc_kernel.specs.declared.fault.KernelFault.TheVariants.{ReadsAssigned, NoStatement, TooDeep, TooFar, TooMany, Memory}
-use Rattle.acc_kernel.specs.Faults.{fault_of}
+use Rattle.acc_kernel.specs.Faults.{loop_fault}
 use Rattle.acc_kernel.specs.Kernels.{Loop, loop}
 use Rattle.acc_token.specs.declared.read_fault.ReadError.{ReadError}
 use Rattle.acc_token.specs.declared.read_fault.ReadError.TheVariants as error
@@ -24,8 +24,8 @@ pub record Opening : Type 0 where
   pub hi : ℤ
 
 -- the same as a program holds it
-abbrev pub opening : Header → Opening
-opening h = record { index = h.index.now; lo = h.lo; hi = h.hi }
+abbrev pub opening_of : Header → Opening
+opening_of h = record { index = h.index.now; lo = h.lo; hi = h.hi }
 
 -- [ "int" | "long" ]
 unfoldable pub type_at : Spot → Result Spot ReadFault
@@ -46,8 +46,8 @@ first_at arrays at =
     Ok ((name.0, lo.0), at)
 
 -- name "<" value ";"
-unfoldable pub bound_at : List ℕ → Spot → Result (ℤ × Spot) ReadFault
-bound_at index at =
+unfoldable pub upper_bound_at : List ℕ → Spot → Result (ℤ × Spot) ReadFault
+upper_bound_at index at =
     index_at index at >>= λ at.
     expect false (codes "<") at >>= λ at.
     token_at false at >>= λ t.
@@ -60,7 +60,7 @@ unfoldable pub header_at : Declared → Spot → Result (Opening × Spot) ReadFa
 header_at arrays at =
     expect false (codes "(") at >>= λ at.
     first_at arrays at >>= λ first.
-    bound_at first.0.0 first.1 >>= λ bound.
+    upper_bound_at first.0.0 first.1 >>= λ bound.
     index_at first.0.0 bound.1 >>= λ at.
     expect false (codes "++") at >>= λ at.
     expect false (codes ")") at >>= λ at.
@@ -116,7 +116,7 @@ judged_loop line k (Some fault) = fails line (kind_of fault)
 
 -- A loop keeps its limits; where it doesn't, its first fault has this line.
 unfoldable pub accepted_loop : ℕ → Loop → Result Loop ReadFault
-accepted_loop line k = judged_loop line k (fault_of k)
+accepted_loop line k = judged_loop line k (loop_fault k)
 
 -- loop = "for" "(" [ "int" | "long" ] name "=" value ";" name "<" value ";" name "++" ")"
 -- ( assign | "{" assign { assign } "}" ); it is judged behind its last token, with the line of its first

@@ -11,19 +11,19 @@ use Rattle.acc_token.specs.Turns.{Turn, turn, all_turns}
 use Rattle.acc_script.specs.Arrays.{negative, begins_value}
 
 -- acc_async_noval and acc_async_sync
-abbrev pub noval : ℤ
-noval = negsuc 0
+abbrev pub noval_value : ℤ
+noval_value = negsuc 0
 
-abbrev pub sync : ℤ
-sync = negsuc 1
+abbrev pub sync_value : ℤ
+sync_value = negsuc 1
 
 -- queue = [ "-" ] number | "acc_async_sync" | "acc_async_noval"
 unfoldable pub queue_of : Bool → Lexeme → Result (ℤ × Spot) ReadFault
 queue_of in_directive t =
     if bytes_eq t.text (codes "-") then
     (token_at in_directive t.after >>= λ u. number_of 9223372036854775807 u >>= λ n. Ok (negative n.0, n.1))
-    else (if bytes_eq t.text (codes "acc_async_sync") then Ok (sync, t.after)
-    else (if bytes_eq t.text (codes "acc_async_noval") then Ok (noval, t.after)
+    else (if bytes_eq t.text (codes "acc_async_sync") then Ok (sync_value, t.after)
+    else (if bytes_eq t.text (codes "acc_async_noval") then Ok (noval_value, t.after)
     else (number_of 9223372036854775807 t >>= λ n. Ok (pos n.0, n.1))))
 
 abbrev pub begins_queue : List ℕ → Bool
@@ -38,8 +38,8 @@ queue_behind values t =
     else (exactly (codes ")") u >>= λ at. Ok (turn false (values ++ queue.0 ∷ []) at))
 
 -- queues = queue { "," queue }, with the ) behind it; one too many is told at its first token
-unfoldable pub queue_turn : List ℤ → Spot → Result (Turn (List ℤ)) ReadFault
-queue_turn values at =
+unfoldable pub queues_turn : List ℤ → Spot → Result (Turn (List ℤ)) ReadFault
+queues_turn values at =
     token_at true at >>= λ t.
     if nat_le MAX_QUEUES (length values) && begins_queue t.text then fails t.line Limit
     else queue_behind values t
@@ -49,5 +49,5 @@ unfoldable pub waits_at : Spot → Result (Waits × Spot) ReadFault
 waits_at at =
     token_at true at >>= λ t.
     if bytes_eq t.text (codes "(") then
-    (all_turns queue_turn [] t.after >>= λ queues. Ok (Listed queues.so_far, queues.at))
+    (all_turns queues_turn [] t.after >>= λ queues. Ok (Listed queues.so_far, queues.at))
     else Ok (All, at)

@@ -16,8 +16,8 @@ use Rattle.acc_script.specs.Arrays.{Declared, array_of, value_of}
 use Rattle.acc_script.specs.Directives.{placed, directive_at}
 use Rattle.acc_script.specs.Routines.{is_routine, call_of, print_at}
 
-unfoldable pub value_at : Spot → Result (ℤ × Spot) ReadFault
-value_at at = token_at false at >>= value_of
+unfoldable pub signed_number_at : Spot → Result (ℤ × Spot) ReadFault
+signed_number_at at = token_at false at >>= value_of
 
 unfoldable pub cell_at : Spot → Result (ℕ × Spot) ReadFault
 cell_at at = token_at false at >>= number_of MAX_INDEX
@@ -29,7 +29,7 @@ write_at array at =
     cell_at at >>= λ cell.
     expect false (codes "]") cell.1 >>= λ at.
     expect false (codes "=") at >>= λ at.
-    value_at at >>= λ value.
+    signed_number_at at >>= λ value.
     Ok (Write array cell.0 value.0, value.1)
 
 -- name "[" number "]" "=" value | "print" "(" shown ")" | call

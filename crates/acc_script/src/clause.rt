@@ -1,7 +1,7 @@
 //! The clauses of a directive.
 
 ghost use Rattle.std.specs.Prelude.{◌≡◌, ◌+◌, ◌≤◌, ◌<◌, true, false, not, [], ◌∷◌, length, IfOk, OnOk, IfSome, if◌then◌else◌};
-ghost use Rattle.acc_script.specs.Clauses.{is_one_of, clause_named, allows, no_clauses, is_plain, is_nothing, is_bare, is_complete, may_have_comma, target_at, ranges_at, data_clause, clause_of, ends_line, clause_turn};
+ghost use Rattle.acc_script.specs.Clauses.{is_one_of, clause_named, allows, no_clauses, is_plain, waits_for_nothing, is_bare, is_complete, may_have_comma, target_at, ranges_at, data_clause, clause_of, ends_line, clause_turn};
 ghost use Rattle.acc_token.specs.Faults.{Gives, Reads};
 ghost use Rattle.acc_token.specs.Tokens.{spot, lexeme};
 ghost use Rattle.acc_token.specs.Turns.{turn, all_turns};
@@ -81,7 +81,7 @@ impl Clauses {
     }
 
     fn is_waiting(&self) -> bool
-        ensures { result ≡ not (is_nothing self.now.waits) }
+        ensures { result ≡ not (waits_for_nothing self.now.waits) }
     {
         !matches!(self.waits, Waits::Nothing)
     }

@@ -1,7 +1,7 @@
 //! The expressions of a loop.
 
 ghost use Rattle.std.specs.Prelude.{◌≡◌, ◌+◌, ◌≤◌, ◌<◌, false, length, IfOk, IfSome, if◌then◌else◌};
-ghost use Rattle.acc_script.specs.Expressions.{names, names_in, below, inside, one_deeper, index_at, number_at, offset_at, read_behind, leaf_of, group_of, negated_of, unary_at, operator_of, part_at, chain_turn, chain_at, choice_of, expr_at, expression_at};
+ghost use Rattle.acc_script.specs.Expressions.{names, names_in, below, deeper_in, one_deeper, index_at, number_at, offset_at, read_behind, leaf_of, group_of, negated_of, unary_at, operator_of, part_at, chain_turn, chain_at, choice_of, expr_at, expression_at};
 ghost use Rattle.acc_token.specs.Faults.{Gives, Reads};
 ghost use Rattle.acc_token.specs.Tokens.{spot, lexeme};
 ghost use Rattle.acc_token.specs.Turns.{turn, all_turns};
@@ -41,7 +41,7 @@ pub struct Scope<'s, 't> {
 
 // What stands one deeper, behind this token.
 fn one_deeper<'s, 't>(scope: Scope<'s, 't>, t: Token) -> Result<Scope<'s, 't>, ReadFault>
-    ensures found { Reads inside result (one_deeper (below scope.entry) (lexeme t.entry)) }
+    ensures found { Reads deeper_in result (one_deeper (below scope.entry) (lexeme t.entry)) }
     ensures less { IfOk result (λ s. s.deep < scope.entry.deep) }
 {
     if scope.deep == 0 {

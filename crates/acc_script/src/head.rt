@@ -1,7 +1,7 @@
 //! What a directive begins with, and the clauses that may follow.
 
 ghost use Rattle.std.specs.Prelude.{◌≡◌, ◌<◌, true, length};
-ghost use Rattle.acc_script.specs.Clauses.{allows, needs_item, may_be_async, may_wait, is_mark};
+ghost use Rattle.acc_script.specs.Clauses.{allows, needs_item, may_have_async, may_wait, is_mark};
 
 use acc_place::{Clause, Kind};
 use acc_token::is;
@@ -39,7 +39,7 @@ impl Head {
     }
 
     pub(crate) fn may_be_async(self) -> bool
-        ensures { result ≡ may_be_async self }
+        ensures { result ≡ may_have_async self }
     {
         !matches!(self, Head::Data)
     }

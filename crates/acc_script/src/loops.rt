@@ -3,10 +3,10 @@
 ghost use Rattle.std.specs.Prelude.{◌≡◌, ◌+◌, ◌≤◌, ◌<◌, false, length, IfOk, OnOk, if◌then◌else◌, IfErr, None};
 ghost use Rattle.acc_token.specs.declared.read_fault.ReadError.TheVariants.{Memory};
 ghost use Rattle.acc_kernel.specs.Kernels.{loop};
-ghost use Rattle.acc_kernel.specs.Faults.{fault_of};
+ghost use Rattle.acc_kernel.specs.Faults.{loop_fault};
 ghost use Rattle.acc_script.specs.Expressions.{names};
 ghost use Rattle.acc_token.specs.Faults.{Gives, Reads};
-ghost use Rattle.acc_script.specs.Loops.{type_at, first_at, bound_at, header_at, opening, assign_of, assign_turn, body_at, told_fault, accepted_loop, loop_at};
+ghost use Rattle.acc_script.specs.Loops.{type_at, first_at, upper_bound_at, header_at, opening_of, assign_of, assign_turn, body_at, told_fault, accepted_loop, loop_at};
 ghost use Rattle.acc_token.specs.Tokens.{spot, lexeme};
 ghost use Rattle.acc_token.specs.Turns.{turn, all_turns};
 
@@ -55,9 +55,9 @@ fn first_at<'a>(arrays: &Arrays, at: At<'a>) -> Result<(&'a [u8], i64, At<'a>), 
 }
 
 // The index behind the last.
-#[tactic(auto, unfolding(crate::specs::Loops::bound_at))]
+#[tactic(auto, unfolding(crate::specs::Loops::upper_bound_at))]
 fn bound_at<'a>(at: At<'a>, index: &[u8]) -> Result<(i64, At<'a>), ReadFault>
-    ensures found { Reads (λ x. (x.0, spot x.1)) result (bound_at index.now (spot at.entry)) }
+    ensures found { Reads (λ x. (x.0, spot x.1)) result (upper_bound_at index.now (spot at.entry)) }
     ensures shorter { IfOk result (λ x. length x.1.bytes.now ≤ length at.entry.bytes.now) }
 {
     let at = index_at(at, index)?;
@@ -70,7 +70,7 @@ fn bound_at<'a>(at: At<'a>, index: &[u8]) -> Result<(i64, At<'a>), ReadFault>
 // What a loop begins with, behind its `for`.
 #[tactic(auto, unfolding(crate::specs::Loops::header_at))]
 fn header_at<'a>(arrays: &Arrays, at: At<'a>) -> Result<(Header<'a>, At<'a>), ReadFault>
-    ensures found { Reads (λ x. (opening x.0, spot x.1)) result (header_at arrays.now (spot at.entry)) }
+    ensures found { Reads (λ x. (opening_of x.0, spot x.1)) result (header_at arrays.now (spot at.entry)) }
     ensures shorter { IfOk result (λ x. length x.1.bytes.now ≤ length at.entry.bytes.now) }
 {
     let at = expect(at, false, b"(")?;
@@ -197,7 +197,7 @@ fn accepted_loop(
     assigns: Vec<Assign>,
 ) -> Result<Kernel, ReadError>
     ensures found { Gives (λ k. k) result (accepted_loop line (loop header.entry.lo header.entry.hi assigns.items)) }
-    ensures told { IfErr result (λ error. error ≡ Memory → fault_of (loop header.entry.lo header.entry.hi assigns.items) ≡ None) }
+    ensures told { IfErr result (λ error. error ≡ Memory → loop_fault (loop header.entry.lo header.entry.hi assigns.items) ≡ None) }
 {
     match Kernel::new(alloc, header.lo, header.hi, assigns) {
         Ok(kernel) => Ok(kernel),

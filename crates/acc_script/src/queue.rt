@@ -2,8 +2,8 @@
 
 ghost use Rattle.std.specs.Prelude.{◌≡◌, ◌+◌, ◌≤◌, ◌<◌, [], false, length, IfOk, OnOk, if◌then◌else◌};
 ghost use Rattle.acc_token.specs.Faults.{Gives, Reads};
-ghost use Rattle.acc_script.specs.Clauses.{is_nothing};
-ghost use Rattle.acc_script.specs.Queues.{queue_of, begins_queue, queue_behind, queue_turn, waits_at};
+ghost use Rattle.acc_script.specs.Clauses.{waits_for_nothing};
+ghost use Rattle.acc_script.specs.Queues.{queue_of, begins_queue, queue_behind, queues_turn, waits_at};
 ghost use Rattle.acc_token.specs.Tokens.{spot, lexeme};
 ghost use Rattle.acc_token.specs.Turns.{turn, all_turns};
 
@@ -63,9 +63,9 @@ fn queue_behind<'a>(values: &mut Vec<i64>, t: Token<'a>) -> Result<(bool, At<'a>
 }
 
 // A queue of a list.
-#[tactic(auto, unfolding(crate::specs::Queues::queue_turn))]
+#[tactic(auto, unfolding(crate::specs::Queues::queues_turn))]
 fn queue_turn<'a>(values: &mut Vec<i64>, at: At<'a>) -> Result<(bool, At<'a>), ReadError>
-    ensures found { Gives (λ x. turn x.0 values.new.items (spot x.1)) result (queue_turn values.old.items (spot at.entry)) }
+    ensures found { Gives (λ x. turn x.0 values.new.items (spot x.1)) result (queues_turn values.old.items (spot at.entry)) }
     ensures shorter { IfOk result (λ x. length x.1.bytes.now < length at.entry.bytes.now) }
 {
     let t = token_at(at, true)?;
@@ -79,7 +79,7 @@ fn queue_turn<'a>(values: &mut Vec<i64>, at: At<'a>) -> Result<(bool, At<'a>), R
 // The queues of a list up to the ).
 #[tactic(auto, using(acc_token::proofs::Turns::goes_on, acc_token::proofs::Turns::ends, acc_token::proofs::Turns::fails_too))]
 fn queues_at<'a>(values: &mut Vec<i64>, at: At<'a>) -> Result<At<'a>, ReadError>
-    ensures found { Gives (λ a. turn false values.new.items (spot a)) result (all_turns queue_turn values.old.items (spot at.entry)) }
+    ensures found { Gives (λ a. turn false values.new.items (spot a)) result (all_turns queues_turn values.old.items (spot at.entry)) }
     ensures shorter { IfOk result (λ a. length a.bytes.now ≤ length at.entry.bytes.now) }
 {
     let turns = at.bytes.len() + 1;
@@ -98,7 +98,7 @@ fn queues_at<'a>(values: &mut Vec<i64>, at: At<'a>) -> Result<At<'a>, ReadError>
 #[tactic(auto, unfolding(crate::specs::Queues::waits_at))]
 pub(crate) fn waits_at<'a>(alloc: Global, at: At<'a>) -> Result<(Waits, At<'a>), ReadError>
     ensures found { Gives (λ x. (x.0, spot x.1)) result (waits_at (spot at.entry)) }
-    ensures some { IfOk result (λ x. is_nothing x.0 ≡ false) }
+    ensures some { IfOk result (λ x. waits_for_nothing x.0 ≡ false) }
     ensures shorter { IfOk result (λ x. length x.1.bytes.now ≤ length at.entry.bytes.now) }
 {
     let t = sign_at(at, true)?;

@@ -3,7 +3,7 @@
 ghost use Rattle.std.specs.Prelude.{◌≡◌, ◌+◌, ◌≤◌, ◌<◌, ◌^◌, false, length, IfOk, OnOk, if◌then◌else◌};
 ghost use Rattle.acc_token.specs.Faults.{Gives, Reads};
 ghost use Rattle.acc_script.specs.Directives as directives;
-ghost use Rattle.acc_script.specs.Statements.{value_at, cell_at, write_at, simple_of, act_of, body, depth_behind, with_statement, end_of_construct, statement_turn};
+ghost use Rattle.acc_script.specs.Statements.{signed_number_at, cell_at, write_at, simple_of, act_of, body, depth_behind, with_statement, end_of_construct, statement_turn};
 ghost use Rattle.acc_token.specs.Tokens.{spot, lexeme};
 ghost use Rattle.acc_token.specs.Turns.{turn, all_turns};
 
@@ -18,9 +18,9 @@ use acc_place::{Kind, Target, Waits, Written};
 use acc_token::{At, ReadError, ReadFault, Token, expect, is, number_at, number_of, token_at};
 use std::alloc::Global;
 
-#[tactic(auto, unfolding(crate::specs::Statements::value_at))]
+#[tactic(auto, unfolding(crate::specs::Statements::signed_number_at))]
 fn value_at<'a>(at: At<'a>) -> Result<(i64, At<'a>), ReadFault>
-    ensures found { Reads (λ x. (x.0, spot x.1)) result (value_at (spot at.entry)) }
+    ensures found { Reads (λ x. (x.0, spot x.1)) result (signed_number_at (spot at.entry)) }
     ensures shorter { IfOk result (λ x. length x.1.bytes.now ≤ length at.entry.bytes.now) }
 {
     let t = number_at(at, false)?;

@@ -18,7 +18,7 @@ use Rattle.acc_schedule.specs.declared.schedule.TheConstants.{MAX_EVENTS}
 use Rattle.acc_schedule.specs.Schedules.{lines, is_skipped, joined_events, line_events as read_line, events_behind, events_from as read_from, schedule_of}
 use Rattle.acc_script.specs.Arrays.{texts}
 use Rattle.acc_steps.specs.declared.walk.Numbered.{Numbered}
-use Rattle.acc_steps.specs.Walks.{EventsAreByLine, events_from, events_or_none, line_events, on_line}
+use Rattle.acc_steps.specs.Walks.{EventsAreByLine, numbered_from, events_or_none, events_in_line, on_line}
 
 -- ## Parts of a list
 
@@ -81,7 +81,7 @@ read_behind hosts devices number before line is = rw is refl
 
 -- what a line adds is what it is alone
 adds : (hosts devices number : ℕ) (before after : List Event) (line : List ℕ) → IsPart (λ b. b == 10) MAX_TEXT line
-    → events_behind hosts devices number before line ≡ Ok after → after ≡ before ++ line_events hosts devices line
+    → events_behind hosts devices number before line ≡ Ok after → after ≡ before ++ events_in_line hosts devices line
 adds hosts devices number before after line is found = elim (cases_Bool (is_skipped line)) [
   | inl skipped ↦
       let same : before ≡ after = ap events_or_none (sym (skipped_behind hosts devices number before line skipped) ∙ found) in
@@ -92,7 +92,7 @@ adds hosts devices number before after line is found = elim (cases_Bool (is_skip
 ]
   where
     by_events : (theirs : Result (List Event) ReadKind) → read_line hosts devices line ≡ theirs → joined_events number before (read_line hosts devices line) ≡ Ok after → is_skipped line ≡ false
-        → after ≡ before ++ line_events hosts devices line
+        → after ≡ before ++ events_in_line hosts devices line
     by_events (Err kind) is_theirs joined read = absurd (let wrong : fails number kind ≡ Ok after = rw is_theirs at joined in cc)
     by_events (Ok more) is_theirs joined read =
         let here : joined_events number before (Ok more) ≡ Ok after = rw is_theirs at joined in
@@ -119,26 +119,26 @@ map_joined [] ys = refl
 map_joined (x ∷ xs) ys = ap (λ es. x.event ∷ es) (map_joined xs ys)
 
 from_lines : (hosts devices number : ℕ) (before all : List Event) (ls : List (List ℕ)) → All (IsPart (λ b. b == 10) MAX_TEXT) ls
-    → read_from hosts devices number before ls ≡ Ok all → all ≡ before ++ map (λ (n : Numbered). n.event) (events_from hosts devices number ls)
+    → read_from hosts devices number before ls ≡ Ok all → all ≡ before ++ map (λ (n : Numbered). n.event) (numbered_from hosts devices number ls)
 from_lines hosts devices number before all [] parts found = ap events_or_none (sym found) ∙ sym (append-nil before)
 from_lines hosts devices number before all (line ∷ ls) parts found =
     by_first (λ more here. from_lines hosts devices (number + 1) more all ls (All-tail (IsPart (λ b. b == 10) MAX_TEXT) line ls parts) here)
     (events_behind hosts devices number before line) refl found
   where
     others : List Event
-    others = map (λ (n : Numbered). n.event) (events_from hosts devices (number + 1) ls)
+    others = map (λ (n : Numbered). n.event) (numbered_from hosts devices (number + 1) ls)
 
-    by_first : ((more : List Event) → read_from hosts devices (number + 1) more ls ≡ Ok all → all ≡ more ++ map (λ (n : Numbered). n.event) (events_from hosts devices (number + 1) ls))
+    by_first : ((more : List Event) → read_from hosts devices (number + 1) more ls ≡ Ok all → all ≡ more ++ map (λ (n : Numbered). n.event) (numbered_from hosts devices (number + 1) ls))
         → (r : Result (List Event) ReadFault) → events_behind hosts devices number before line ≡ r
         → (events_behind hosts devices number before line >>= λ more. read_from hosts devices (number + 1) more ls) ≡ Ok all
-        → all ≡ before ++ map (λ (n : Numbered). n.event) (events_from hosts devices number (line ∷ ls))
+        → all ≡ before ++ map (λ (n : Numbered). n.event) (numbered_from hosts devices number (line ∷ ls))
     by_first later (Err fault) is joined = absurd (let wrong : Err fault ≡ Ok all = rw is at joined in cc)
     by_first later (Ok more) is joined =
         let here : read_from hosts devices (number + 1) more ls ≡ Ok all = rw is at joined in
         let added = adds hosts devices number before more line (All-head (IsPart (λ b. b == 10) MAX_TEXT) line ls parts) is in
-        later more here ∙ ap (λ es. es ++ others) added ∙ append_assoc before (line_events hosts devices line) others
-        ∙ ap (λ es. before ++ (es ++ others)) (sym (events_on_line number (line_events hosts devices line)))
-        ∙ ap (λ es. before ++ es) (sym (map_joined (on_line number (line_events hosts devices line)) (events_from hosts devices (number + 1) ls)))
+        later more here ∙ ap (λ es. es ++ others) added ∙ append_assoc before (events_in_line hosts devices line) others
+        ∙ ap (λ es. before ++ (es ++ others)) (sym (events_on_line number (events_in_line hosts devices line)))
+        ∙ ap (λ es. before ++ es) (sym (map_joined (on_line number (events_in_line hosts devices line)) (numbered_from hosts devices (number + 1) ls)))
 
 by_line : (hosts devices : ℕ) (text : List ℕ) (events : List Event) → schedule_of hosts devices text ≡ Ok events → (nat_lt MAX_TEXT (length text) ≡ false) × (read_from hosts devices 1 [] (lines text) ≡ Ok events)
 unfolding schedule_of
@@ -180,25 +180,25 @@ on_line_more number [] ys = refl
 on_line_more number (x ∷ xs) ys = ap (λ ns. record { line = number; event = x } ∷ ns) (on_line_more number xs ys)
 
 pub from_more : (hosts devices number : ℕ) (ls : List (List ℕ)) (line : List ℕ)
-    → events_from hosts devices number (ls ++ line ∷ []) ≡ events_from hosts devices number ls ++ on_line (number + length ls) (line_events hosts devices line)
+    → numbered_from hosts devices number (ls ++ line ∷ []) ≡ numbered_from hosts devices number ls ++ on_line (number + length ls) (events_in_line hosts devices line)
 from_more hosts devices number [] line =
     let here : number + 0 ≡ number = omega arith in
-    rw here (append-nil (on_line number (line_events hosts devices line)))
+    rw here (append-nil (on_line number (events_in_line hosts devices line)))
 from_more hosts devices number (l ∷ ls) line =
     let count : (number + 1) + length ls ≡ number + length (l ∷ ls) = omega arith in
-    ap (λ ns. on_line number (line_events hosts devices l) ++ ns) (from_more hosts devices (number + 1) ls line)
-    ∙ ap (λ k. on_line number (line_events hosts devices l) ++ (events_from hosts devices (number + 1) ls ++ on_line k (line_events hosts devices line))) count
-    ∙ sym (append_assoc (on_line number (line_events hosts devices l)) (events_from hosts devices (number + 1) ls) (on_line (number + length (l ∷ ls)) (line_events hosts devices line)))
+    ap (λ ns. on_line number (events_in_line hosts devices l) ++ ns) (from_more hosts devices (number + 1) ls line)
+    ∙ ap (λ k. on_line number (events_in_line hosts devices l) ++ (numbered_from hosts devices (number + 1) ls ++ on_line k (events_in_line hosts devices line))) count
+    ∙ sym (append_assoc (on_line number (events_in_line hosts devices l)) (numbered_from hosts devices (number + 1) ls) (on_line (number + length (l ∷ ls)) (events_in_line hosts devices line)))
 
 -- the events of one line more
 pub events_more : (hosts devices i number : ℕ) (d : Bor (List ℕ)) (ls : List (Bor (List ℕ))) (old : List Numbered) → i < length ls → number ≡ i + 1
-    → old ≡ events_from hosts devices 1 (texts (take i ls))
-    → old ++ on_line number (line_events hosts devices (get_or ls i d).now) ≡ events_from hosts devices 1 (texts (take (i + 1) ls))
+    → old ≡ numbered_from hosts devices 1 (texts (take i ls))
+    → old ++ on_line number (events_in_line hosts devices (get_or ls i d).now) ≡ numbered_from hosts devices 1 (texts (take (i + 1) ls))
 events_more hosts devices i number d ls old below is before =
     let line = (get_or ls i d).now in
     let count : 1 + length (texts (take i ls)) ≡ number =
     omega (arith, is, below, length-map (take i ls) (λ (name : Bor (List ℕ)). name.now), length-take-le i ls (omega (arith, below))) in
-    ap (λ es. es ++ on_line number (line_events hosts devices line)) before
-    ∙ ap (λ n. events_from hosts devices 1 (texts (take i ls)) ++ on_line n (line_events hosts devices line)) (sym count)
+    ap (λ es. es ++ on_line number (events_in_line hosts devices line)) before
+    ∙ ap (λ n. numbered_from hosts devices 1 (texts (take i ls)) ++ on_line n (events_in_line hosts devices line)) (sym count)
     ∙ sym (from_more hosts devices 1 (texts (take i ls)) line)
-    ∙ ap (events_from hosts devices 1) (sym (texts_more (take i ls) (get_or ls i d)) ∙ ap texts (sym (take_more ls i d below)))
+    ∙ ap (numbered_from hosts devices 1) (sym (texts_more (take i ls) (get_or ls i d)) ∙ ap texts (sym (take_more ls i d below)))

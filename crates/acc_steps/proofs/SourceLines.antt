@@ -6,7 +6,8 @@ use Rattle.std.proofs.Math.Numerals.{add-one}
 use Rattle.std.proofs.lemmas.Bool.Decides.{nat_tests}
 use Rattle.std.proofs.lemmas.List.{length-take-le, take_all, take_more}
 use Rattle.acc_token.specs.Tokens.{front}
-use Rattle.acc_steps.specs.Lines.{code_len, filled_len, is_blank}
+use Rattle.acc_schedule.specs.Schedules.{is_space}
+use Rattle.acc_steps.specs.Lines.{code_len, filled_len}
 
 more_of : (n x : ℕ) → replicate (suc n) x ≡ replicate n x ++ x ∷ []
 more_of zero x = refl
@@ -23,28 +24,28 @@ not_zero true n =
     ap (λ t. if t then 0 else n + 1 + 1) some
 not_zero false n = refl
 
-filled_blank : (xs : List ℕ) (b : ℕ) → is_blank b ≡ true → filled_len (xs ++ b ∷ []) ≡ filled_len xs
+filled_blank : (xs : List ℕ) (b : ℕ) → is_space b ≡ true → filled_len (xs ++ b ∷ []) ≡ filled_len xs
 unfolding filled_len
 filled_blank [] b is = ap (λ t. if t && 0 == 0 then 0 else 0 + 1) is
-filled_blank (x ∷ xs) b is = ap (λ n. if is_blank x && n == 0 then 0 else n + 1) (filled_blank xs b is)
+filled_blank (x ∷ xs) b is = ap (λ n. if is_space x && n == 0 then 0 else n + 1) (filled_blank xs b is)
 
-filled_solid : (xs : List ℕ) (b : ℕ) → is_blank b ≡ false → filled_len (xs ++ b ∷ []) ≡ length xs + 1
+filled_solid : (xs : List ℕ) (b : ℕ) → is_space b ≡ false → filled_len (xs ++ b ∷ []) ≡ length xs + 1
 unfolding filled_len
 filled_solid [] b is = ap (λ t. if t && 0 == 0 then 0 else 0 + 1) is
 filled_solid (x ∷ xs) b is =
     let longer : length xs + 1 + 1 ≡ length (x ∷ xs) + 1 = omega arith in
-    ap (λ n. if is_blank x && n == 0 then 0 else n + 1) (filled_solid xs b is) ∙ not_zero (is_blank x) (length xs) ∙ longer
+    ap (λ n. if is_space x && n == 0 then 0 else n + 1) (filled_solid xs b is) ∙ not_zero (is_space x) (length xs) ∙ longer
 
 pub none_filled : 0 ≡ filled_len []
 unfolding filled_len
 none_filled = refl
 
-pub filled_past_blank : (line : List ℕ) (i n : ℕ) → i < length line → n ≡ filled_len (take i line) → is_blank (get_or line i 0) ≡ true
+pub filled_past_blank : (line : List ℕ) (i n : ℕ) → i < length line → n ≡ filled_len (take i line) → is_space (get_or line i 0) ≡ true
     → n ≡ filled_len (take (i + 1) line)
 filled_past_blank line i n below is blank =
     is ∙ sym (ap filled_len (take_more line i 0 below) ∙ filled_blank (take i line) (get_or line i 0) blank)
 
-pub filled_past_solid : (line : List ℕ) (i n : ℕ) → i < length line → n ≡ i + 1 → is_blank (get_or line i 0) ≡ false
+pub filled_past_solid : (line : List ℕ) (i n : ℕ) → i < length line → n ≡ i + 1 → is_space (get_or line i 0) ≡ false
     → n ≡ filled_len (take (i + 1) line)
 filled_past_solid line i n below is solid =
     let long : n ≡ length (take i line) + 1 = omega (arith, is, below, length-take-le i line (omega (arith, below))) in

@@ -9,7 +9,7 @@ use Rattle.acc_report.proofs.JoinedPuts.{puts_nothing, puts_then}
 use Rattle.acc_steps.specs.declared.walk.Numbered.{Numbered}
 use Rattle.acc_steps.specs.Deeds.{deed_of, line_at}
 use Rattle.acc_steps.specs.Lines.{Words, step_text}
-use Rattle.acc_steps.specs.Walks.{AreTold, Tells, TellsOne}
+use Rattle.acc_steps.specs.Walks.{AreTold, TellsSteps, TellsOne}
 
 told_more : (t : Words) (first number : ℕ) (events : List Numbered) (n : Numbered) (answer : Reply) (old mid new : State) (text : List ℕ)
     → number ≡ first + length events → AreTold t first events old mid text → Step mid n.event answer new
@@ -22,16 +22,16 @@ told_more t first number (e ∷ events) n answer old mid new text is (reply, beh
     (reply, behind, rest ++ step_text t number n.line n.event (line_at mid n.event) (deed_of mid n.event answer new) new, made, later, ap (λ x. x ++ step_text t number n.line n.event (line_at mid n.event) (deed_of mid n.event answer new) new) whole ∙ append_assoc _ rest _)
 
 pub tells_more : (t : Words) (number : ℕ) (events : List Numbered) (n : Numbered) (old mid new : State) (a b c : Sink)
-    → number ≡ 1 + length events → Tells t events old mid a b → TellsOne t number n mid new b c → Tells t (events ++ n ∷ []) old new a c
+    → number ≡ 1 + length events → TellsSteps t events old mid a b → TellsOne t number n mid new b c → TellsSteps t (events ++ n ∷ []) old new a c
 tells_more t number events n old mid new a b c is (text, told, puts) (answer, step, one) =
     (_, told_more t 1 number events n answer old mid new text is told step, puts_then puts one)
 
-pub tells_none : (t : Words) (w : State) (a : Sink) → Tells t [] w w a a
+pub tells_none : (t : Words) (w : State) (a : Sink) → TellsSteps t [] w w a a
 tells_none t w a = ([], (refl, refl), puts_nothing a)
 
 pub tells_next : (t : Words) (number i : ℕ) (events : List Numbered) (d : Numbered) (old mid new : State) (a b c : Sink) → i < length events
-    → number ≡ i + 1 → Tells t (take i events) old mid a b → TellsOne t number (get_or events i d) mid new b c
-    → Tells t (take (i + 1) events) old new a c
+    → number ≡ i + 1 → TellsSteps t (take i events) old mid a b → TellsOne t number (get_or events i d) mid new b c
+    → TellsSteps t (take (i + 1) events) old new a c
 tells_next t number i events d old mid new a b c below is told step =
     let count : number ≡ 1 + length (take i events) = omega (arith, is, below, length-take-le i events (omega (arith, below))) in
     rw (take_more events i d below) (tells_more t number (take i events) (get_or events i d) old mid new a b c count told step)

@@ -13,7 +13,7 @@ use Rattle.acc_host.specs.declared.state.Phase.{Phase}
 use Rattle.acc_host.specs.declared.state.Phase.TheVariants as phase
 use Rattle.acc_host.specs.declared.state.Reply.{Reply}
 use Rattle.acc_host.specs.declared.state.Reply.TheVariants as reply
-use Rattle.acc_host.specs.Hosts.{HostView}
+use Rattle.acc_host.specs.Hosts.{HostView, line_of}
 use Rattle.acc_work.specs.Logs.{all_done}
 use Rattle.acc_steps.specs.declared.deed.Deed.{Deed}
 use Rattle.acc_steps.specs.declared.deed.Deed.TheVariants as deed
@@ -25,11 +25,6 @@ statement_of host = slice_get host.statements host.ended
 abbrev pub statement_by : Option HostView → Option Statement
 statement_by None = None
 statement_by (Some host) = statement_of host
-
--- its line, or 0
-abbrev pub line_of : Option Statement → ℕ
-line_of None = 0
-line_of (Some s) = s.line
 
 -- the line of the statement that an event makes its host go on with, or 0
 abbrev pub line_at : State → Event → ℕ
@@ -73,15 +68,15 @@ made w (event.Perform at) = performed_by (taken_by w at) (next_by w at)
 made w event.Close = deed.Nothing
 
 -- what an event did that was made
-abbrev pub did : State → State → Event → Deed
-did old new (event.Host h) = made old (event.Host h)
-did old new (event.Take at) = deed.Took (taken_by new at)
-did old new (event.Perform at) = made old (event.Perform at)
-did old new event.Close = deed.Nothing
+abbrev pub deed_by : State → State → Event → Deed
+deed_by old new (event.Host h) = made old (event.Host h)
+deed_by old new (event.Take at) = deed.Took (taken_by new at)
+deed_by old new (event.Perform at) = made old (event.Perform at)
+deed_by old new event.Close = deed.Nothing
 
 -- What an event did that was answered so, and led from one state to another.
 abbrev pub deed_of : State → Event → Reply → State → Deed
-deed_of old e reply.Did new = did old new e
+deed_of old e reply.Did new = deed_by old new e
 deed_of old e reply.Idle new = deed.Nothing
 deed_of old e (reply.Refused fault) new = deed.Refused fault
 deed_of old e (reply.Remaining count) new = deed.Closed count

@@ -7,7 +7,7 @@ use Rattle.acc_base.specs.declared.fault.Fault.{Fault}
 use Rattle.acc_base.specs.declared.fault.Fault.TheVariants as fault
 use Rattle.acc_base.specs.declared.ids.QueueAt.{QueueAt}
 use Rattle.acc_base.specs.declared.range.Range.{Range}
-use Rattle.acc_base.specs.Faults.{number_of, name_of}
+use Rattle.acc_base.specs.Faults.{fault_number, fault_name}
 use Rattle.acc_kernel.specs.Jobs.{Use}
 use Rattle.acc_present.specs.Presences.{Presence, holder, is_partly_present, presences, used_cells}
 use Rattle.acc_batch.specs.declared.label.Label.{Label}
@@ -17,10 +17,9 @@ use Rattle.acc_batch.specs.Labels.{on_queue}
 use Rattle.acc_place.specs.Answers.{answers_of}
 use Rattle.acc_place.specs.Plans.{nth_batch}
 use Rattle.acc_place.specs.Directives.{Directive}
+use Rattle.acc_place.specs.Regions.{ends_region}
 use Rattle.acc_place.specs.Targets.{or_sync, target_queue}
 use Rattle.acc_place.specs.declared.directive.DataItem.{DataItem}
-use Rattle.acc_place.specs.declared.directive.Kind.{Kind}
-use Rattle.acc_place.specs.declared.directive.Kind.TheVariants as kind
 use Rattle.acc_place.specs.declared.directive.PlaceEntry.{PlaceEntry}
 use Rattle.acc_place.specs.declared.directive.PlaceEntry.TheVariants as entry
 use Rattle.acc_place.specs.declared.directive.Placed.{Placed}
@@ -35,6 +34,7 @@ use Rattle.acc_host.specs.declared.state.Ids.{Ids}
 use Rattle.acc_host.specs.Hosts.{HostView}
 use Rattle.acc_core.specs.Machine.{State, labels_of, standing_of}
 use Rattle.acc_core.specs.Progress.{next_by}
+use Rattle.acc_schedule.specs.Schedules.{is_space}
 use Rattle.acc_report.specs.Lines.{each_below, queue_name}
 use Rattle.acc_script.specs.Arrays.{texts}
 use Rattle.acc_token.specs.Tokens.{front}
@@ -49,8 +49,8 @@ pub record Words : Type 0 where
   pub source : List (List ℕ)
   pub idle : Bool
 
-abbrev pub words_of : Telling → Words
-words_of t = record { names = texts t.names.now; source = texts t.source.now; idle = t.idle }
+abbrev pub words_told : Telling → Words
+words_told t = record { names = texts t.names.now; source = texts t.source.now; idle = t.idle }
 
 -- ## Who, and when
 
@@ -58,14 +58,14 @@ abbrev pub spaces : ℕ → List ℕ
 spaces n = replicate n 32
 
 -- queue D Q
-unfoldable pub queue_text : QueueAt → List ℕ
-queue_text at = codes "queue " ++ (decimal at.device ++ (codes " " ++ queue_name at.queue))
+unfoldable pub queue_at_text : QueueAt → List ℕ
+queue_at_text at = codes "queue " ++ (decimal at.device ++ (codes " " ++ queue_name at.queue))
 
 -- host H, queue D Q, or the owner
 unfoldable pub who_text : Event → List ℕ
 who_text (event.Host h) = codes "host " ++ decimal h
-who_text (event.Take at) = queue_text at
-who_text (event.Perform at) = queue_text at
+who_text (event.Take at) = queue_at_text at
+who_text (event.Perform at) = queue_at_text at
 who_text event.Close = codes "owner"
 
 -- N  line L  who: the number of the event among all, and the line of the schedule, in columns
@@ -114,7 +114,7 @@ ops_text (Some l) = codes ": " ++ op_words l.ops
 -- a batch by its number and its queue, and its operations
 unfoldable pub batch_text : State → QueueAt → ℕ → List ℕ
 batch_text w at number =
-    codes " | batch " ++ (decimal number ++ (codes " of " ++ (queue_text at ++ ops_text (nth_batch (on_queue at (labels_of w)) number))))
+    codes " | batch " ++ (decimal number ++ (codes " of " ++ (queue_at_text at ++ ops_text (nth_batch (on_queue at (labels_of w)) number))))
 
 abbrev pub batch_by : State → Option (QueueAt × ℕ) → List ℕ
 batch_by w None = []
@@ -155,13 +155,13 @@ op_text names device (op.CopyOut range block) = codes "copies " ++ (range_text n
 op_text names device (op.Release block) = codes "releases block " ++ decimal block
 op_text names device (op.Run kernel uses) = codes "runs its loop, with" ++ flat_map (use_text names) uses
 op_text names device (op.Await queue number) =
-    codes "has awaited batch " ++ (decimal number ++ (codes " of " ++ queue_text (record { device = device; queue = queue })))
+    codes "has awaited batch " ++ (decimal number ++ (codes " of " ++ queue_at_text (record { device = device; queue = queue })))
 op_text names device op.Close = codes "closes"
 
 -- the host of a batch
-abbrev pub host_text : Option Label → List ℕ
-host_text None = []
-host_text (Some l) = codes " of host " ++ decimal l.host
+abbrev pub batch_host_text : Option Label → List ℕ
+batch_host_text None = []
+batch_host_text (Some l) = codes " of host " ++ decimal l.host
 
 abbrev pub device_in : Event → ℕ
 device_in (event.Host h) = 0
@@ -169,16 +169,16 @@ device_in (event.Take at) = at.device
 device_in (event.Perform at) = at.device
 device_in event.Close = 0
 
-abbrev pub label_in : State → Event → ℕ → Option Label
-label_in w (event.Host h) number = None
-label_in w (event.Take at) number = nth_batch (on_queue at (labels_of w)) number
-label_in w (event.Perform at) number = nth_batch (on_queue at (labels_of w)) number
-label_in w event.Close number = None
+abbrev pub batch_label : State → Event → ℕ → Option Label
+batch_label w (event.Host h) number = None
+batch_label w (event.Take at) number = nth_batch (on_queue at (labels_of w)) number
+batch_label w (event.Perform at) number = nth_batch (on_queue at (labels_of w)) number
+batch_label w event.Close number = None
 
 -- what keeps a queue from performing its next operation
 abbrev pub waits_text : ℕ → Option OpLabel → List ℕ
 waits_text device (Some (op.Await queue number)) =
-    codes "waits for batch " ++ (decimal number ++ (codes " of " ++ queue_text (record { device = device; queue = queue })))
+    codes "waits for batch " ++ (decimal number ++ (codes " of " ++ queue_at_text (record { device = device; queue = queue })))
 waits_text device other = codes "performs nothing"
 
 -- an event that did nothing
@@ -203,8 +203,8 @@ unfoldable pub named_text : List (List ℕ) → Range → List ℕ
 named_text names r = codes " | " ++ range_text names r
 
 -- how a range stands on a device: what holds it has these counters, or it is absent, or partly present
-unfoldable pub stand_text : List (List ℕ) → State → ℕ → Range → List ℕ
-stand_text names w device r =
+unfoldable pub standing_text : List (List ℕ) → State → ℕ → Range → List ℕ
+standing_text names w device r =
     named_text names r ++ (if is_partly_present (present_on w device) r then codes " partly present" else counters_text (held_on w device r))
 
 -- how many cells of a device are in use, and how many it has
@@ -214,7 +214,7 @@ cells_text w device =
 
 -- a queue that holds as many batches as it has room for
 unfoldable pub room_text : State → QueueAt → List ℕ
-room_text w at = codes " | " ++ (queue_text at ++ (codes " holds its room of " ++ (decimal w.config.room ++ codes " batches")))
+room_text w at = codes " | " ++ (queue_at_text at ++ (codes " holds its room of " ++ (decimal w.config.room ++ codes " batches")))
 
 -- the limit that a directive on this queue has met
 abbrev pub limit_by : State → QueueAt → Fault → List ℕ
@@ -222,18 +222,14 @@ limit_by w at fault.DeviceFull = cells_text w at.device
 limit_by w at fault.QueueFull = room_text w at
 limit_by w at other = []
 
-abbrev pub is_end : Kind → Bool
-is_end kind.EndData = true
-is_end k = false
-
 -- a directive of a host with these ids, on the queue that its async clause names; the end of a data construct acts where that was entered
 unfoldable pub limit_text : State → Ids → Fault → Directive → List ℕ
 limit_text w ids f d =
-    if is_end d.kind then [] else limit_by w (record { device = ids.device; queue = or_sync (target_queue ids.default d.target) }) f
+    if ends_region d.kind then [] else limit_by w (record { device = ids.device; queue = or_sync (target_queue ids.default d.target) }) f
 
 -- of a directive its own ranges, and the limit; of a write or a print its range
 abbrev pub act_reason : List (List ℕ) → State → Ids → Fault → Act → List ℕ
-act_reason names w ids f (act.Place d) = flat_map (λ i. stand_text names w ids.device i.range) d.items ++ limit_text w ids f d
+act_reason names w ids f (act.Place d) = flat_map (λ i. standing_text names w ids.device i.range) d.items ++ limit_text w ids f d
 act_reason names w ids f (act.Write array cell value) = named_text names (record { array = array; lo = cell; len = 1 })
 act_reason names w ids f (act.Print r) = named_text names r
 act_reason names w ids f (act.SetDevice n) = []
@@ -257,8 +253,8 @@ host_in w (event.Perform at) = None
 host_in w event.Close = None
 
 -- the fault, and where it comes from
-unfoldable pub refusal_text : List (List ℕ) → State → Event → Fault → List ℕ
-refusal_text names w e f = codes " | refused F" ++ (decimal (number_of f) ++ (codes " " ++ (name_of f ++ reason_by names w f (host_in w e))))
+unfoldable pub refused_text : List (List ℕ) → State → Event → Fault → List ℕ
+refused_text names w e f = codes " | refused F" ++ (decimal (fault_number f) ++ (codes " " ++ (fault_name f ++ reason_by names w f (host_in w e))))
 
 -- ## What an event did, in a state that it led to
 
@@ -270,15 +266,12 @@ deed_text names w e deed.Wrote = []
 deed_text names w e (deed.Printed r) = codes " | prints" ++ each_below r.len (λ i. cell_text w r.array (r.lo + i))
 deed_text names w e (deed.Tested answer) = answer_text answer
 deed_text names w e deed.Set = []
-deed_text names w e (deed.Refused fault) = refusal_text names w e fault
-deed_text names w e (deed.Took number) = codes "takes batch " ++ (decimal number ++ host_text (label_in w e number))
+deed_text names w e (deed.Refused fault) = refused_text names w e fault
+deed_text names w e (deed.Took number) = codes "takes batch " ++ (decimal number ++ batch_host_text (batch_label w e number))
 deed_text names w e (deed.Performed number o) = codes "batch " ++ (decimal number ++ (codes ": " ++ op_text names (device_in e) o))
 deed_text names w e (deed.Closed left) = codes "closes; " ++ (decimal left ++ codes " queues hold their room and stay open")
 
 -- ## The whole line
-
-abbrev pub is_blank : ℕ → Bool
-is_blank b = b == 32 || b == 9
 
 -- how many bytes stand before a comment that goes to the end of the line
 unfoldable pub code_len : List ℕ → ℕ
@@ -288,11 +281,11 @@ code_len (b ∷ bs) = if b == 47 && front bs == 47 then 0 else code_len bs + 1
 -- how many bytes stand up to the last that isn't a blank
 unfoldable pub filled_len : List ℕ → ℕ
 filled_len [] = 0
-filled_len (b ∷ bs) = if is_blank b && filled_len bs == 0 then 0 else filled_len bs + 1
+filled_len (b ∷ bs) = if is_space b && filled_len bs == 0 then 0 else filled_len bs + 1
 
 -- a line without blanks at its ends and without a comment at its end
 abbrev pub unindented : List ℕ → List ℕ
-unindented line = drop (prefix_len is_blank line) line
+unindented line = drop (prefix_len is_space line) line
 
 abbrev pub filled : List ℕ → List ℕ
 filled line = take (filled_len line) line
@@ -310,22 +303,22 @@ statement_text source line =
     if line == 0 then []
     else codes "line " ++ (decimal line ++ (codes ": " ++ behind_pragma (code_in (unindented (slice_index_or source (line - 1) [])))))
 
-abbrev pub is_nothing : Deed → Bool
-is_nothing deed.Nothing = true
-is_nothing deed.Accepted = false
-is_nothing deed.Saw = false
-is_nothing deed.Wrote = false
-is_nothing (deed.Printed r) = false
-is_nothing (deed.Tested answer) = false
-is_nothing deed.Set = false
-is_nothing (deed.Refused fault) = false
-is_nothing (deed.Took number) = false
-is_nothing (deed.Performed number o) = false
-is_nothing (deed.Closed left) = false
+abbrev pub did_nothing : Deed → Bool
+did_nothing deed.Nothing = true
+did_nothing deed.Accepted = false
+did_nothing deed.Saw = false
+did_nothing deed.Wrote = false
+did_nothing (deed.Printed r) = false
+did_nothing (deed.Tested answer) = false
+did_nothing deed.Set = false
+did_nothing (deed.Refused fault) = false
+did_nothing (deed.Took number) = false
+did_nothing (deed.Performed number o) = false
+did_nothing (deed.Closed left) = false
 
 -- The line of an event, by its number and the line of the schedule; the line of its statement, and what it did. One that did nothing has a
 -- line only if that is asked for.
 unfoldable pub step_text : Words → ℕ → ℕ → Event → ℕ → Deed → State → List ℕ
 step_text t number line e statement d w =
-    if is_nothing d && not t.idle then []
+    if did_nothing d && not t.idle then []
     else head_text number line e ++ (statement_text t.source statement ++ (deed_text t.names w e d ++ codes "\n"))

@@ -12,11 +12,11 @@ use Rattle.acc_steps.specs.Walks.{AreTold}
 -- ## A line in SVG
 
 -- a tab, and the ends of lines
-abbrev pub is_space : ℕ → Bool
-is_space b = b == 9 || (b == 10 || b == 13)
+abbrev pub is_white : ℕ → Bool
+is_white b = b == 9 || (b == 10 || b == 13)
 
-abbrev pub is_printed : ℕ → Bool
-is_printed b = nat_le 32 b && nat_lt b 127
+abbrev pub is_drawn : ℕ → Bool
+is_drawn b = nat_le 32 b && nat_lt b 127
 
 -- a byte that means something to SVG is named, and one that isn't printed is a question mark
 abbrev pub escaped_byte : ℕ → List ℕ
@@ -24,8 +24,8 @@ escaped_byte b =
     if b == 60 then codes "&lt;"
     else (if b == 62 then codes "&gt;"
     else (if b == 38 then codes "&amp;"
-    else (if is_space b then codes " "
-    else (if is_printed b then b ∷ [] else codes "?"))))
+    else (if is_white b then codes " "
+    else (if is_drawn b then b ∷ [] else codes "?"))))
 
 abbrev pub escaped : List ℕ → List ℕ
 escaped text = flat_map escaped_byte text
@@ -42,7 +42,7 @@ AreBoxes [] text = text ≡ []
 AreBoxes (line ∷ lines) text = (layout : List ℕ) × (others : List ℕ) × AreBoxes lines others × (text ≡ box_text line layout ++ others)
 
 -- A picture shows these lines, each in a box, in their order.
-pub record Shows (lines : List (List ℕ)) (picture : List ℕ) : Type 0 where
+pub record ShowsLines (lines : List (List ℕ)) (picture : List ℕ) : Type 0 where
   pub head : List ℕ
   pub boxes : List ℕ
   pub tail : List ℕ
@@ -82,12 +82,12 @@ PicturesTellAll =
 pub record IsPicture (t : Words) (events : List Numbered) (old new : State) (picture : List ℕ) : Type 0 where
   pub lines : List (List ℕ)
   pub drawn : AreDrawn t 1 events old new lines
-  pub shows : Shows lines picture
+  pub shows : ShowsLines lines picture
 
 -- too many boxes, too long lines, or too large a picture of them
 abbrev pub PassesALimit : List (List ℕ) → Type 0
 PassesALimit lines =
-    (MAX_BOXES < length lines) ⊎ ((MAX_PICTURE < length (joined lines)) ⊎ ((picture : List ℕ) × Shows lines picture × (MAX_PICTURE < length picture)))
+    (MAX_BOXES < length lines) ⊎ ((MAX_PICTURE < length (joined lines)) ⊎ ((picture : List ℕ) × ShowsLines lines picture × (MAX_PICTURE < length picture)))
 
 -- The machine makes the first of these steps, and their picture would be too large.
 pub record IsTooLarge (t : Words) (events : List Numbered) (old new : State) : Type 0 where

@@ -17,22 +17,22 @@ events_or_none (Ok events) = events
 events_or_none (Err fault) = []
 
 -- the events of a line: those of a schedule that has no other line
-abbrev pub line_events : ℕ → ℕ → List ℕ → List Event
-line_events hosts devices line = events_or_none (schedule_of hosts devices line)
+abbrev pub events_in_line : ℕ → ℕ → List ℕ → List Event
+events_in_line hosts devices line = events_or_none (schedule_of hosts devices line)
 
 -- events of the line with this number
 abbrev pub on_line : ℕ → List Event → List Numbered
 on_line number events = map (λ e. record { line = number; event = e }) events
 
 -- the events of lines that are numbered from here on
-abbrev pub events_from : ℕ → ℕ → ℕ → List (List ℕ) → List Numbered
-events_from hosts devices number [] = []
-events_from hosts devices number (line ∷ others) =
-    on_line number (line_events hosts devices line) ++ events_from hosts devices (number + 1) others
+abbrev pub numbered_from : ℕ → ℕ → ℕ → List (List ℕ) → List Numbered
+numbered_from hosts devices number [] = []
+numbered_from hosts devices number (line ∷ others) =
+    on_line number (events_in_line hosts devices line) ++ numbered_from hosts devices (number + 1) others
 
 -- the events of a schedule, each with the number of its line, from 1
 abbrev pub numbered_events : ℕ → ℕ → List ℕ → List Numbered
-numbered_events hosts devices text = events_from hosts devices 1 (lines text)
+numbered_events hosts devices text = numbered_from hosts devices 1 (lines text)
 
 -- The events of a schedule are those of its lines.
 abbrev pub EventsAreByLine : Type 0
@@ -50,8 +50,8 @@ AreTold t number (n ∷ others) old new text =
     × (text ≡ step_text t number n.line n.event (line_at old n.event) (deed_of old n.event answer mid) mid ++ rest)
 
 -- The machine makes these steps, and their lines are put, numbered from 1.
-abbrev pub Tells : Words → List Numbered → State → State → Sink → Sink → Type 0
-Tells t events old new was is = (text : List ℕ) × AreTold t 1 events old new text × Puts was is text
+abbrev pub TellsSteps : Words → List Numbered → State → State → Sink → Sink → Type 0
+TellsSteps t events old new was is = (text : List ℕ) × AreTold t 1 events old new text × Puts was is text
 
 -- The machine makes this step, and its line is put.
 abbrev pub TellsOne : Words → ℕ → Numbered → State → State → Sink → Sink → Type 0

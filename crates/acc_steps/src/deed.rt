@@ -4,9 +4,9 @@ ghost use Rattle.std.specs.Prelude.{◌≡◌, IfOk, IfErr, OnErr};
 ghost use Rattle.std.specs.Option.{option_map};
 ghost use Rattle.acc_base.specs.declared.fault.Fault.TheVariants.{Memory};
 ghost use Rattle.acc_core.specs.Machine.{State, Step};
-ghost use Rattle.acc_host.specs.Hosts.{bare_act};
+ghost use Rattle.acc_host.specs.Hosts.{bare_act, line_of};
 ghost use Rattle.acc_host.specs.declared.state.Reply.{Reply};
-ghost use Rattle.acc_steps.specs.Deeds.{deed_of, did, first_step, line_at, line_of, made, performed_by, statement_of, step_by};
+ghost use Rattle.acc_steps.specs.Deeds.{deed_of, deed_by, first_step, line_at, made, performed_by, statement_of, step_by};
 
 use acc_base::{Fault, Range};
 use acc_batch::OpLabel;
@@ -61,7 +61,7 @@ pub fn take_step(world: &mut World, event: Event) -> Result<Deed, Fault>
 
 // What an event did that was made, behind it.
 fn did(made_before: Deed, world: &World, event: Event) -> Deed
-    ensures { (old : State) → made_before ≡ made old event → result ≡ did old world.now event }
+    ensures { (old : State) → made_before ≡ made old event → result ≡ deed_by old world.now event }
 {
     match event {
         Event::Take(at) => Deed::Took {

@@ -3,7 +3,7 @@
 ghost use Rattle.std.specs.Prelude.{◌≡◌, ◌<◌, ◌-◌, ◌++◌, length, decimal};
 ghost use Rattle.acc_report.specs.Puts.{Puts, sink};
 ghost use Rattle.acc_report.specs.Lines.{queue_name};
-ghost use Rattle.acc_steps.specs.Lines.{head_text, queue_text, spaces, who_text};
+ghost use Rattle.acc_steps.specs.Lines.{head_text, queue_at_text, spaces, who_text};
 
 use acc_base::{FIRST_VALUE, QueueAt, QueueId};
 use acc_host::Event;
@@ -63,9 +63,9 @@ fn put_who<W: Write>(out: &mut W, failed: &mut bool, event: &Event)
 }
 
 /// A queue, by its device and its name.
-#[tactic(auto, unfolding(crate::specs::Lines::queue_text))]
+#[tactic(auto, unfolding(crate::specs::Lines::queue_at_text))]
 pub(crate) fn put_queue<W: Write>(out: &mut W, failed: &mut bool, at: QueueAt)
-    ensures { Puts (sink (W.contents out.old) failed.old) (sink (W.contents out.new) failed.new) (queue_text at) }
+    ensures { Puts (sink (W.contents out.old) failed.old) (sink (W.contents out.new) failed.new) (queue_at_text at) }
 {
     put(out, failed, b"queue ");
     put_number(out, failed, at.device.number());
@@ -74,7 +74,7 @@ pub(crate) fn put_queue<W: Write>(out: &mut W, failed: &mut bool, at: QueueAt)
 }
 
 // How many bytes that takes.
-#[tactic(auto, unfolding(crate::specs::Lines::who_text, crate::specs::Lines::queue_text))]
+#[tactic(auto, unfolding(crate::specs::Lines::who_text, crate::specs::Lines::queue_at_text))]
 fn who_len(event: &Event) -> usize
     ensures { result ≡ length (who_text event.now) }
 {

@@ -4,7 +4,7 @@ ghost use Rattle.std.specs.Prelude.{◌≡◌};
 ghost use Rattle.std.specs.Option.{option_map};
 ghost use Rattle.acc_script.specs.Arrays.{texts};
 ghost use Rattle.acc_report.specs.Puts.{Puts, sink};
-ghost use Rattle.acc_steps.specs.Lines.{answer_text, deed_text, device_in, host_text, is_nothing, label_in, nothing_text, step_text, words_of};
+ghost use Rattle.acc_steps.specs.Lines.{answer_text, deed_text, device_in, batch_host_text, did_nothing, batch_label, nothing_text, step_text, words_told};
 
 use crate::deed::Deed;
 use crate::head::put_head;
@@ -40,7 +40,7 @@ pub fn put_step<W: Write>(
     deed: &Deed,
     world: &World,
 )
-    ensures { Puts (sink (W.contents out.old) failed.old) (sink (W.contents out.new) failed.new) (step_text (words_of telling.now) number line event statement deed.now world.now) }
+    ensures { Puts (sink (W.contents out.old) failed.old) (sink (W.contents out.new) failed.new) (step_text (words_told telling.now) number line event statement deed.now world.now) }
 {
     if is_nothing(deed) && !telling.idle {
         return;
@@ -52,7 +52,7 @@ pub fn put_step<W: Write>(
 }
 
 pub(crate) fn is_nothing(deed: &Deed) -> bool
-    ensures { result ≡ is_nothing deed.now }
+    ensures { result ≡ did_nothing deed.now }
 {
     match deed {
         Deed::Nothing => true,
@@ -130,7 +130,7 @@ fn put_nothing<W: Write>(out: &mut W, failed: &mut bool, world: &World, event: E
 
 // The label of the batch with this number on the queue of an event.
 fn label_in(world: &World, event: Event, number: u64) -> Option<&Label>
-    ensures { option_map (λ l. l.now) result ≡ label_in world.now event number }
+    ensures { option_map (λ l. l.now) result ≡ batch_label world.now event number }
 {
     match event {
         Event::Take(at) | Event::Perform(at) => world.place().placed(at, number),
@@ -149,7 +149,7 @@ fn device_in(event: Event) -> DeviceId
 
 // The host of a batch.
 fn put_host<W: Write>(out: &mut W, failed: &mut bool, label: Option<&Label>)
-    ensures { Puts (sink (W.contents out.old) failed.old) (sink (W.contents out.new) failed.new) (host_text (option_map (λ l. l.now) label.entry)) }
+    ensures { Puts (sink (W.contents out.old) failed.old) (sink (W.contents out.new) failed.new) (batch_host_text (option_map (λ l. l.now) label.entry)) }
 {
     if let Some(label) = label {
         put(out, failed, b" of host ");

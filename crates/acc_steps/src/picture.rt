@@ -2,8 +2,8 @@
 
 ghost use Rattle.std.specs.Prelude.{◌≡◌, ◌++◌, ◌||◌, List, ℕ, length, nat_lt, IfOk, IfErr, IfNone, IfSome, OnOk};
 ghost use Rattle.acc_base.specs.declared.fault.Fault.TheVariants.{Memory};
-ghost use Rattle.acc_steps.specs.Lines.{words_of};
-ghost use Rattle.acc_steps.specs.Pictures.{AreBoxes, box_text, escaped, escaped_byte, is_printed, is_space, IsPicture, IsTooLarge, Shows};
+ghost use Rattle.acc_steps.specs.Lines.{words_told};
+ghost use Rattle.acc_steps.specs.Pictures.{AreBoxes, box_text, escaped, escaped_byte, is_drawn, is_white, IsPicture, IsTooLarge, ShowsLines};
 ghost use Rattle.acc_steps.specs.Scenes.{lines_in};
 
 use crate::layout::Frame;
@@ -34,8 +34,8 @@ pub fn draw_steps(
     events: &[Numbered],
     world: &mut World,
 ) -> Result<Option<Vec<u8>>, Fault>
-    ensures picture { IfOk result (λ drawn. IfSome drawn (λ picture. IsPicture (words_of telling.now) events.now world.old world.new picture.items)) }
-    ensures none { IfOk result (λ drawn. IfNone drawn (IsTooLarge (words_of telling.now) events.now world.old world.new)) }
+    ensures picture { IfOk result (λ drawn. IfSome drawn (λ picture. IsPicture (words_told telling.now) events.now world.old world.new picture.items)) }
+    ensures none { IfOk result (λ drawn. IfNone drawn (IsTooLarge (words_told telling.now) events.now world.old world.new)) }
     ensures fault { IfErr result (λ f. f ≡ Memory) }
 {
     let mut scene = Scene::new(alloc);
@@ -63,7 +63,7 @@ fn is_too_large(scene: &Scene) -> bool
 
 // The picture of a scene.
 fn picture_of(alloc: Global, names: &[&[u8]], scene: &Scene) -> Result<Vec<u8>, Fault>
-    ensures shows { IfOk result (λ picture. Shows (lines_in scene.now.boxes.items) picture.items) }
+    ensures shows { IfOk result (λ picture. ShowsLines (lines_in scene.now.boxes.items) picture.items) }
     ensures fault { IfErr result (λ f. f ≡ Memory) }
 {
     let frame = Frame::new(alloc, names, scene)?;
@@ -125,13 +125,13 @@ fn push_byte(picture: &mut Vec<u8>, byte: u8) -> Result<(), AllocError>
 }
 
 fn is_space(byte: u8) -> bool
-    ensures { result ≡ is_space byte }
+    ensures { result ≡ is_white byte }
 {
     byte == b'\t' || byte == b'\n' || byte == b'\r'
 }
 
 fn is_printed(byte: u8) -> bool
-    ensures { result ≡ is_printed byte }
+    ensures { result ≡ is_drawn byte }
 {
     b' ' <= byte && byte < 127
 }

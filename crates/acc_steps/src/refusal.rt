@@ -6,7 +6,7 @@ ghost use Rattle.std.specs.Option.{option_map};
 ghost use Rattle.acc_host.specs.Hosts.{bare_act};
 ghost use Rattle.acc_report.specs.Puts.{Puts, sink};
 ghost use Rattle.acc_script.specs.Arrays.{texts};
-ghost use Rattle.acc_steps.specs.Lines.{act_reason, cells_text, host_in, limit_by, limit_text, named_text, reason_by, refusal_text, room_text, stand_text};
+ghost use Rattle.acc_steps.specs.Lines.{act_reason, cells_text, host_in, limit_by, limit_text, named_text, reason_by, refused_text, room_text, standing_text};
 
 use crate::found::{held_on, is_partly_present, used_cells};
 use crate::head::put_queue;
@@ -19,7 +19,7 @@ use acc_report::{put, put_number};
 use std::io::Write;
 
 /// The fault that an event's host was refused for, and where it comes from. The host stands at the statement.
-#[tactic(auto, unfolding(crate::specs::Lines::refusal_text))]
+#[tactic(auto, unfolding(crate::specs::Lines::refused_text))]
 pub(crate) fn put_refusal<W: Write>(
     out: &mut W,
     failed: &mut bool,
@@ -28,7 +28,7 @@ pub(crate) fn put_refusal<W: Write>(
     event: Event,
     fault: Fault,
 )
-    ensures { Puts (sink (W.contents out.old) failed.old) (sink (W.contents out.new) failed.new) (refusal_text (texts names.now) world.now event fault) }
+    ensures { Puts (sink (W.contents out.old) failed.old) (sink (W.contents out.new) failed.new) (refused_text (texts names.now) world.now event fault) }
 {
     put(out, failed, b" | refused F");
     put_number(out, failed, fault.number());
@@ -134,14 +134,14 @@ fn put_items<W: Write>(
     device: DeviceId,
     items: &[DataItem],
 )
-    ensures { Puts (sink (W.contents out.old) failed.old) (sink (W.contents out.new) failed.new) (flat_map (λ i. stand_text (texts names.now) world.now device i.range) items.now) }
+    ensures { Puts (sink (W.contents out.old) failed.old) (sink (W.contents out.new) failed.new) (flat_map (λ i. standing_text (texts names.now) world.now device i.range) items.now) }
 {
     for item in items {
         put_stand(out, failed, names, world, device, item.range);
     }
 }
 
-#[tactic(auto, unfolding(crate::specs::Lines::stand_text))]
+#[tactic(auto, unfolding(crate::specs::Lines::standing_text))]
 fn put_stand<W: Write>(
     out: &mut W,
     failed: &mut bool,
@@ -150,7 +150,7 @@ fn put_stand<W: Write>(
     device: DeviceId,
     range: Range,
 )
-    ensures { Puts (sink (W.contents out.old) failed.old) (sink (W.contents out.new) failed.new) (stand_text (texts names.now) world.now device range) }
+    ensures { Puts (sink (W.contents out.old) failed.old) (sink (W.contents out.new) failed.new) (standing_text (texts names.now) world.now device range) }
 {
     put_named(out, failed, names, range);
     if is_partly_present(world, device, range) {

@@ -2,7 +2,7 @@
 
 ghost use Rattle.std.specs.Prelude.{◌≡◌, ◌≤◌, [], length, IfOk, IfErr, OnOk};
 ghost use Rattle.acc_base.specs.declared.fault.Fault.TheVariants.{Memory};
-ghost use Rattle.acc_steps.specs.Lines.{step_text, words_of};
+ghost use Rattle.acc_steps.specs.Lines.{step_text, words_told};
 ghost use Rattle.acc_steps.specs.Pictures.{DrawsOne, joined};
 ghost use Rattle.acc_steps.specs.Scenes.{lines_in};
 
@@ -78,7 +78,7 @@ impl Scene {
         next: &Numbered,
         world: &mut World,
     ) -> Result<(), Fault>
-        ensures drawn { OnOk result (DrawsOne (words_of telling.now) number next.now world.old world.new (lines_in self.old.boxes.items) (lines_in self.new.boxes.items)) }
+        ensures drawn { OnOk result (DrawsOne (words_told telling.now) number next.now world.old world.new (lines_in self.old.boxes.items) (lines_in self.new.boxes.items)) }
         ensures bytes { OnOk result (self.old.bytes ≤ length (joined (lines_in self.old.boxes.items)) → self.new.bytes ≤ length (joined (lines_in self.new.boxes.items))) }
         ensures fault { IfErr result (λ f. f ≡ Memory) }
     {
@@ -115,7 +115,7 @@ fn step_line(
     deed: &Deed,
     world: &World,
 ) -> Result<Vec<u8>, Fault>
-    ensures line { IfOk result (λ line. line.items ≡ step_text (words_of telling.now) number next.now.line next.now.event statement deed.now world.now) }
+    ensures line { IfOk result (λ line. line.items ≡ step_text (words_told telling.now) number next.now.line next.now.event statement deed.now world.now) }
     ensures fault { IfErr result (λ f. f ≡ Memory) }
 {
     let mut line = Vec::new(alloc);

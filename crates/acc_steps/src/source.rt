@@ -2,9 +2,10 @@
 
 ghost use Rattle.std.specs.Prelude.{◌≡◌, ◌≤◌, [], drop, length, slice_index_or};
 ghost use Rattle.std.specs.List.{prefix_len};
+ghost use Rattle.acc_schedule.specs.Schedules.{is_space};
 ghost use Rattle.acc_script.specs.Arrays.{texts};
 ghost use Rattle.acc_report.specs.Puts.{Puts, sink};
-ghost use Rattle.acc_steps.specs.Lines.{behind_pragma, code_in, code_len, filled_len, is_blank, statement_text, unindented};
+ghost use Rattle.acc_steps.specs.Lines.{behind_pragma, code_in, code_len, filled_len, statement_text, unindented};
 
 use acc_report::{put, put_number};
 use acc_token::{front, is};
@@ -36,7 +37,7 @@ fn line_at<'a>(source: &[&'a [u8]], index: u32) -> &'a [u8]
 }
 
 fn is_blank(byte: u8) -> bool
-    ensures { result ≡ is_blank byte }
+    ensures { result ≡ is_space byte }
 {
     byte == b' ' || byte == b'\t'
 }
@@ -50,7 +51,7 @@ fn unindented(line: &[u8]) -> &[u8]
 
 // How many blanks stand at the front.
 fn blanks_len(line: &[u8]) -> usize
-    ensures value { result ≡ prefix_len is_blank line.now }
+    ensures value { result ≡ prefix_len is_space line.now }
     ensures within { result ≤ length line.now }
 {
     line.iter().take_while(|byte| is_blank(**byte)).count()

@@ -5,8 +5,8 @@ ghost use Rattle.acc_base.specs.declared.fault.Fault.TheVariants.{Memory};
 ghost use Rattle.acc_report.specs.Puts.{Puts, sink};
 ghost use Rattle.acc_schedule.specs.Schedules.{kept_events, lines};
 ghost use Rattle.acc_script.specs.Arrays.{texts};
-ghost use Rattle.acc_steps.specs.Lines.{words_of};
-ghost use Rattle.acc_steps.specs.Walks.{events_from, line_events, on_line, Tells, TellsOne};
+ghost use Rattle.acc_steps.specs.Lines.{words_told};
+ghost use Rattle.acc_steps.specs.Walks.{numbered_from, events_in_line, on_line, TellsSteps, TellsOne};
 
 use crate::deed::{line_at, take_step};
 use crate::line::{Telling, put_step};
@@ -64,7 +64,7 @@ pub fn numbered_events(
     hosts: u8,
     devices: u8,
 ) -> Result<Vec<Numbered>, Fault>
-    ensures events { IfOk result (λ list. list.items ≡ events_from hosts devices 1 (texts lines.now)) }
+    ensures events { IfOk result (λ list. list.items ≡ numbered_from hosts devices 1 (texts lines.now)) }
     ensures fault { IfErr result (λ f. f ≡ Memory) }
 {
     let mut list = Vec::new(alloc);
@@ -88,7 +88,7 @@ fn push_line(
     hosts: u8,
     devices: u8,
 ) -> Result<(), Fault>
-    ensures events { OnOk result (list.new.items ≡ list.old.items ++ on_line number (line_events hosts devices line.now)) }
+    ensures events { OnOk result (list.new.items ≡ list.old.items ++ on_line number (events_in_line hosts devices line.now)) }
     ensures fault { IfErr result (λ f. f ≡ Memory) }
 {
     let schedule = match Schedule::read(alloc, line, hosts, devices) {
@@ -145,8 +145,8 @@ pub fn tell_steps<W: Write>(
     events: &[Numbered],
     world: &mut World,
 ) -> Result<(), Fault>
-    ensures told { OnOk result (Tells (words_of telling.now) events.now world.old world.new (sink (W.contents out.old) failed.old) (sink (W.contents out.new) failed.new)) }
-    ensures front { OnErr result ((n : ℕ) × Tells (words_of telling.now) (take n events.now) world.old world.new (sink (W.contents out.old) failed.old) (sink (W.contents out.new) failed.new)) }
+    ensures told { OnOk result (TellsSteps (words_told telling.now) events.now world.old world.new (sink (W.contents out.old) failed.old) (sink (W.contents out.new) failed.new)) }
+    ensures front { OnErr result ((n : ℕ) × TellsSteps (words_told telling.now) (take n events.now) world.old world.new (sink (W.contents out.old) failed.old) (sink (W.contents out.new) failed.new)) }
     ensures fault { IfErr result (λ f. f ≡ Memory) }
 {
     let mut number = 0u64;
@@ -166,7 +166,7 @@ fn tell_step<W: Write>(
     next: &Numbered,
     world: &mut World,
 ) -> Result<(), Fault>
-    ensures told { OnOk result (TellsOne (words_of telling.now) number next.now world.old world.new (sink (W.contents out.old) failed.old) (sink (W.contents out.new) failed.new)) }
+    ensures told { OnOk result (TellsOne (words_told telling.now) number next.now world.old world.new (sink (W.contents out.old) failed.old) (sink (W.contents out.new) failed.new)) }
     ensures kept { OnErr result ((world.new ≡ world.old) × (sink (W.contents out.new) failed.new ≡ sink (W.contents out.old) failed.old)) }
     ensures fault { IfErr result (λ f. f ≡ Memory) }
 {

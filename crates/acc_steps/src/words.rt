@@ -7,7 +7,7 @@ ghost use Rattle.acc_present.specs.Presences.{Presence};
 ghost use Rattle.acc_script.specs.Arrays.{texts};
 ghost use Rattle.acc_report.specs.Puts.{Puts, sink};
 ghost use Rattle.acc_report.specs.Lines.{each_below};
-ghost use Rattle.acc_steps.specs.Lines.{accepted_text, batch_by, batch_in, batch_text, cell_text, counters_text, entry_text, item_text, op_text, op_word, op_words, queue_text, range_text, use_text, waits_text};
+ghost use Rattle.acc_steps.specs.Lines.{accepted_text, batch_by, batch_in, batch_text, cell_text, counters_text, entry_text, item_text, op_text, op_word, op_words, queue_at_text, range_text, use_text, waits_text};
 
 use crate::found::held_on;
 use crate::head::put_queue;
@@ -228,7 +228,7 @@ fn put_batch_of<W: Write>(
     queue: QueueId,
     number: u64,
 )
-    ensures { Puts (sink (W.contents out.old) failed.old) (sink (W.contents out.new) failed.new) (decimal number ++ (codes " of " ++ queue_text (record { device = device; queue = queue }))) }
+    ensures { Puts (sink (W.contents out.old) failed.old) (sink (W.contents out.new) failed.new) (decimal number ++ (codes " of " ++ queue_at_text (record { device = device; queue = queue }))) }
 {
     put_number(out, failed, number);
     put(out, failed, b" of ");

@@ -70,16 +70,16 @@ step_of Block in_directive b = if b == 42 then Skip Star else Skip Block
 step_of Star in_directive b = if b == 47 then Skip Plain else (if b == 42 then Skip Star else Skip Block)
 
 -- the text ends in a gap
-abbrev pub ends_in : Gap → ℕ → Result Spot ReadFault
-ends_in Plain line = Ok (record { line = line; bytes = [] })
-ends_in Line line = Ok (record { line = line; bytes = [] })
-ends_in Slash line = fails line Text
-ends_in Block line = fails line End
-ends_in Star line = fails line End
+abbrev pub gap_ends : Gap → ℕ → Result Spot ReadFault
+gap_ends Plain line = Ok (record { line = line; bytes = [] })
+gap_ends Line line = Ok (record { line = line; bytes = [] })
+gap_ends Slash line = fails line Text
+gap_ends Block line = fails line End
+gap_ends Star line = fails line End
 
 -- where the next token begins
 unfoldable pub gap_at : Gap → Bool → ℕ → List ℕ → Result Spot ReadFault
-gap_at gap in_directive line [] = ends_in gap line
+gap_at gap in_directive line [] = gap_ends gap line
 gap_at gap in_directive line (b ∷ bs) =
     elim (step_of gap in_directive b) [
       | Skip next ↦ gap_at next in_directive (line_after line b) bs

@@ -3,7 +3,7 @@
 ghost use Rattle.std.specs.Prelude.{ℕ, Bool, ◌≡◌, ◌+◌, ◌==◌, ◌<◌, ◌≤◌, ◌&&◌, ◌^◌, not, length, take, drop, bytes_eq, Ok, IfOk, if◌then◌else◌};
 ghost use Rattle.std.specs.List.{prefix_len};
 ghost use Rattle.acc_token.specs.Faults.{fails, Reads};
-ghost use Rattle.acc_token.specs.Tokens.{spot, lexeme, front, is_digit, is_letter, is_word_byte, is_blank, is_pair, is_sign, line_after, step_of, ends_in, gap_at, number_len, token_len, token_at};
+ghost use Rattle.acc_token.specs.Tokens.{spot, lexeme, front, is_digit, is_letter, is_word_byte, is_blank, is_pair, is_sign, line_after, step_of, gap_ends, gap_at, number_len, token_len, token_at};
 ghost use Rattle.acc_token.specs.inner.Spans.{is_single, no_token, spanned};
 
 use crate::at::At;
@@ -204,7 +204,7 @@ fn step_of(gap: Gap, in_directive: bool, byte: u8) -> Step
 
 // The text ends in a gap.
 fn ends_in<'a>(gap: Gap, line: u32) -> Result<At<'a>, ReadFault>
-    ensures end { Reads spot result (ends_in gap line) }
+    ensures end { Reads spot result (gap_ends gap line) }
     ensures empty { IfOk result (λ a. length a.bytes.now ≡ 0) }
 {
     match gap {

@@ -10,10 +10,10 @@ use Rattle.acc_batch.specs.declared.label.OpLabel.TheVariants.{Make, CopyIn, Cop
 use Rattle.acc_batch.specs.Lives.{Made, blocks_made}
 use Rattle.acc_batch.proofs.Lives.{made-append}
 use Rattle.acc_work.specs.Lives.{was_made}
-use Rattle.acc_memory.specs.Memories.{made_by}
+use Rattle.acc_memory.specs.Memories.{is_made_by}
 
 -- one operation makes a block, or another, or none
-made_one : (op : OpLabel) (block : ℕ) → was_made (op ∷ []) block ≡ made_by block op
+made_one : (op : OpLabel) (block : ℕ) → was_made (op ∷ []) block ≡ is_made_by block op
 made_one (Make r b) block = or-false (b == block)
 made_one (CopyIn r b) block = refl
 made_one (CopyOut r b) block = refl
@@ -28,9 +28,9 @@ either_first true y = sym (or-true y)
 either_first false y = sym (or-false y)
 
 -- one more operation
-pub made_more : (ops : List OpLabel) (op : OpLabel) (block : ℕ) → was_made (ops ++ op ∷ []) block ≡ (made_by block op || was_made ops block)
+pub made_more : (ops : List OpLabel) (op : OpLabel) (block : ℕ) → was_made (ops ++ op ∷ []) block ≡ (is_made_by block op || was_made ops block)
 made_more ops op block =
     ap (λ ms. list_any (λ k. k == block) (map (λ (m : Made). m.block) ms)) (made-append ops (op ∷ []))
     ∙ (ap (list_any (λ k. k == block)) (map-append (λ (m : Made). m.block) (blocks_made ops) (blocks_made (op ∷ [])))
     ∙ (list_any-append (λ k. k == block) (map (λ (m : Made). m.block) (blocks_made ops)) (map (λ (m : Made). m.block) (blocks_made (op ∷ [])))
-    ∙ (ap (λ b. was_made ops block || b) (made_one op block) ∙ either_first (was_made ops block) (made_by block op))))
+    ∙ (ap (λ b. was_made ops block || b) (made_one op block) ∙ either_first (was_made ops block) (is_made_by block op))))

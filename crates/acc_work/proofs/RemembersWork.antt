@@ -18,7 +18,7 @@ use Rattle.acc_batch.specs.Lives.{blocks_made, blocks_released, UsesLive, HoldsB
 use Rattle.acc_kernel.specs.Jobs.{Use}
 use Rattle.acc_memory.proofs.HeldBlocks.{same_after}
 use Rattle.acc_memory.specs.Values.{Host_cell, Block_cell, or_empty, or_zero}
-use Rattle.acc_memory.specs.Memories.{MemoryView, SameBlocks, Shows, made_by, made_of, rows_on, held_blocks, was_made_on, blocks_after, HasRange, reaches, ends_in, has_array, find_block, is_within, finds_blocks, MayPerform, PerformsOn}
+use Rattle.acc_memory.specs.Memories.{MemoryView, SameBlocks, Shows, is_made_by, made_of, rows_on, held_blocks, was_made_on, blocks_after, HasRange, reaches, ends_in, has_array, find_block, is_within, finds_blocks, MayPerform, PerformsOn}
 use Rattle.acc_batch.specs.declared.entry.Told.{Told}
 use Rattle.acc_batch.specs.declared.entry.WorkEntry.{WorkEntry}
 use Rattle.acc_batch.specs.declared.entry.WorkEntry.TheVariants as entry
@@ -48,8 +48,8 @@ made_after_op : (work : List WorkEntry) (at : QueueAt) (op : OpLabel) (old new :
 made_after_op work at op old new d b h was = elim (eqb_tells d at.device) [
   | inl here ↦
       let same : (at.device == d) ≡ true = eq-eqb at.device d (sym here.1) in
-      let more : was_made_on new d b ≡ (made_by b op || was_made_on old d b) = subst (λ m. was_made_on new m b ≡ (made_by b op || was_made_on old m b)) (sym here.1) (h.made b) in
-      rw same (more ∙ (ap (λ t. made_by b op || t) was ∙ sym (made_more (device_ops d work) op b)))
+      let more : was_made_on new d b ≡ (is_made_by b op || was_made_on old d b) = subst (λ m. was_made_on new m b ≡ (is_made_by b op || was_made_on old m b)) (sym here.1) (h.made b) in
+      rw same (more ∙ (ap (λ t. is_made_by b op || t) was ∙ sym (made_more (device_ops d work) op b)))
   | inr away ↦
       let other : (at.device == d) ≡ false = ne_eqb at.device d (λ e. away.1 (sym e)) in
       rw other (h.others_made d away.1 b ∙ was)

@@ -27,12 +27,12 @@ can_take held [] = nat_lt 0 held
 can_take held (op ∷ ops) = false
 
 -- an operation can be performed where it comes next, what it awaits is performed, and its host has the items before its batch
-abbrev pub can_perform : List Label → List WorkEntry → QueueAt → List OpLabel → Bool
-can_perform labels work at [] = false
-can_perform labels work at (op ∷ ops) = await_allows labels work at.device op && host_allows (next_label labels work at) work
+abbrev pub can_perform_next : List Label → List WorkEntry → QueueAt → List OpLabel → Bool
+can_perform_next labels work at [] = false
+can_perform_next labels work at (op ∷ ops) = await_allows labels work at.device op && host_allows (next_label labels work at) work
 
 abbrev pub enabled_by : List Label → List WorkEntry → ℕ → QueueAt → List OpLabel → Bool
-enabled_by labels work held at rest = can_take held rest || can_perform labels work at rest
+enabled_by labels work held at rest = can_take held rest || can_perform_next labels work at rest
 
 -- A queue can take a batch, or perform an operation.
 abbrev pub enabled : List Label → List WorkEntry → ℕ → QueueAt → Bool

@@ -1,5 +1,4 @@
 mod CasesTested
-mod NumberWords
 mod StatusExplorations
 mod StatusReplay
 mod StatusSteps

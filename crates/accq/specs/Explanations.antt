@@ -25,16 +25,16 @@ abbrev pub kinds : List (List ℕ × List ℕ)
 kinds =
     (codes "Text", TEXT.now) ∷ (codes "End", END.now) ∷ (codes "Name", NAME.now) ∷ (codes "Limit", LIMIT.now) ∷ (codes "Form", FORM.now) ∷ []
 
-abbrev pub fault_text : List ℕ → Option (List ℕ)
-fault_text word = option_map (λ f. f.2) (find (λ f. is_fault f.0 f.1 word) faults)
+abbrev pub fault_explained : List ℕ → Option (List ℕ)
+fault_explained word = option_map (λ f. f.2) (find (λ f. is_fault f.0 f.1 word) faults)
 
-abbrev pub kind_text : List ℕ → Option (List ℕ)
-kind_text word = option_map (λ k. k.1) (find (λ k. same_word k.0 word) kinds)
+abbrev pub kind_explained : List ℕ → Option (List ℕ)
+kind_explained word = option_map (λ k. k.1) (find (λ k. same_word k.0 word) kinds)
 
 abbrev pub or_kind : List ℕ → Option (List ℕ) → Option (List ℕ)
 or_kind word (Some text) = Some text
-or_kind word None = kind_text word
+or_kind word None = kind_explained word
 
 -- the text of the fault that a word names, or else of the kind
 abbrev pub text_for : List ℕ → Option (List ℕ)
-text_for word = or_kind word (fault_text word)
+text_for word = or_kind word (fault_explained word)

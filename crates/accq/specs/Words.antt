@@ -1,10 +1,8 @@
 -- What the words of a command line ask for. How a parser goes over words is told by the crate clap (`subcommand_of` gives what they say, `fault_of`
 -- what is wrong with them); which words there are, and what they mean, stands here.
-use Rattle.std.specs.Prelude.{◌&&◌, ◌≤◌, ℕ, Bool, false, List, [], ◌∷◌, Option, Some, None, option_and_then, option_map, bytes_eq, codes, nat_le, true, if◌then◌else◌}
-use Rattle.std.specs.Char.{is_ascii_digit}
-use Rattle.std.specs.List.{list_all}
-use Rattle.std.specs.Str.Parse.{digits_value}
+use Rattle.std.specs.Prelude.{◌≤◌, ℕ, Bool, false, List, [], ◌∷◌, Option, Some, None, option_and_then, option_map, bytes_eq, codes, true, if◌then◌else◌}
 use Rattle.acc_base.specs.declared.config.TheConstants.{MAX_DEVICES, MAX_CAPACITY, MAX_ROOM}
+use Rattle.acc_cases.specs.Options.{number_in}
 use Rattle.acc_driver.specs.declared.explorations.Aim.{Aim}
 use Rattle.acc_driver.specs.declared.explorations.Aim.TheVariants.{Prefixes, Reports}
 use Rattle.acc_driver.specs.declared.explorations.Exploring.{Exploring}
@@ -150,24 +148,18 @@ pub data Asked : Type 0 where
   ToExplain : Text → Asked
   ToTest : AskedTest → Asked
 
--- a number that is written in digits alone, from 1 to the most
-abbrev pub number_in : ℕ → Text → Option ℕ
-number_in most text =
-    let n = digits_value 10 text in
-    if list_all is_ascii_digit text && (nat_le 1 n && nat_le n most) then Some n else None
+abbrev pub number_given : List Row → Text → ℕ → Option ℕ
+number_given rows id most = option_and_then (number_in most) (first_of id rows)
 
-abbrev pub number_of : List Row → Text → ℕ → Option ℕ
-number_of rows id most = option_and_then (number_in most) (first_of id rows)
-
-abbrev pub options_in : List Row → Option Options
-options_in rows =
+abbrev pub options_given : List Row → Option Options
+options_given rows =
     option_and_then (λ devices. option_and_then (λ cells. option_map (λ room. record { devices = devices; cells = cells; room = room })
-    (number_of rows (codes "room") MAX_ROOM)) (number_of rows (codes "cells") MAX_CAPACITY)) (number_of rows (codes "devices") MAX_DEVICES)
+    (number_given rows (codes "room") MAX_ROOM)) (number_given rows (codes "cells") MAX_CAPACITY)) (number_given rows (codes "devices") MAX_DEVICES)
 
 abbrev pub replay_in : List Row → Option AskedReplay
 replay_in rows =
     option_and_then (λ options. option_and_then (λ script. option_map (λ schedule. record { script = script; schedule = schedule; options = options })
-    (first_of (codes "SCHEDULE") rows)) (first_of (codes "SCRIPT") rows)) (options_in rows)
+    (first_of (codes "SCHEDULE") rows)) (first_of (codes "SCRIPT") rows)) (options_given rows)
 
 -- a flag stands there
 abbrev pub is_true : Option Text → Bool
@@ -180,7 +172,7 @@ has_flag rows id = is_true (first_of id rows)
 abbrev pub run_in : List Row → Option AskedRun
 run_in rows =
     option_and_then (λ options. option_map (λ script. record { script = script; options = options; progress = has_flag rows (codes "progress") })
-    (first_of (codes "SCRIPT") rows)) (options_in rows)
+    (first_of (codes "SCRIPT") rows)) (options_given rows)
 
 -- how steps are shown, by flags: as a picture, or as lines, of all events where that is asked for
 abbrev pub form_in : List Row → StepsAs
@@ -189,7 +181,7 @@ form_in rows = if has_flag rows (codes "picture") then Picture else (if has_flag
 abbrev pub steps_in : List Row → Option AskedSteps
 steps_in rows =
     option_and_then (λ options. option_map (λ script. record { script = script; schedule = first_of (codes "SCHEDULE") rows; options = options; form = form_in rows })
-    (first_of (codes "SCRIPT") rows)) (options_in rows)
+    (first_of (codes "SCRIPT") rows)) (options_given rows)
 
 -- what is told of an exploration: each report, on one line where the short form is asked for; or, where a depth stands there, prefixes, which have no
 -- short form
@@ -204,23 +196,23 @@ aim_in rows = aim_of (first_of (codes "depth") rows) (has_flag rows (codes "shor
 abbrev pub exploring_in : List Row → Option Exploring
 exploring_in rows =
     option_and_then (λ states. option_map (λ aim. record { closing = has_flag rows (codes "close"); states = states; aim = aim }) (aim_in rows))
-    (number_of rows (codes "states") MAX_STATES)
+    (number_given rows (codes "states") MAX_STATES)
 
 abbrev pub explore_in : List Row → Option AskedExplore
 explore_in rows =
     option_and_then (λ options. option_and_then (λ exploring. option_map (λ script.
     record { script = script; schedule = first_of (codes "SCHEDULE") rows; options = options; exploring = exploring })
-    (first_of (codes "SCRIPT") rows)) (exploring_in rows)) (options_in rows)
+    (first_of (codes "SCRIPT") rows)) (exploring_in rows)) (options_given rows)
 
 abbrev pub check_in : List Row → Option AskedCheck
 check_in rows =
     option_and_then (λ devices. option_map (λ script. record { script = script; schedule = first_of (codes "SCHEDULE") rows; devices = devices })
-    (first_of (codes "SCRIPT") rows)) (number_of rows (codes "devices") MAX_DEVICES)
+    (first_of (codes "SCRIPT") rows)) (number_given rows (codes "devices") MAX_DEVICES)
 
 abbrev pub test_in : List Row → Option AskedTest
 test_in rows =
     option_and_then (λ options. option_map (λ folder. record { folder = folder; options = options; bless = has_flag rows (codes "bless") })
-    (first_of (codes "FOLDER") rows)) (options_in rows)
+    (first_of (codes "FOLDER") rows)) (options_given rows)
 
 -- what is asked for behind the name of a subcommand
 abbrev pub asked_behind : Text → List Row → Option Asked

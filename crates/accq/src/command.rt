@@ -1,16 +1,15 @@
 //! What the words of a command line ask for.
 
 ghost use Rattle.std.specs.Prelude.{◌≡◌, ◌≤◌, ◌⊎◌, codes, map, option_and_then, option_map, Some, None, IfOk, IfErr, IfSome};
-ghost use Rattle.std.specs.Char.{is_ascii_digit};
-ghost use Rattle.std.specs.List.{list_all};
 ghost use Rattle.clap.specs.Words.{app_of, first_of, found_of, kind_of, rows_of, subcommand_rows_of};
 ghost use Rattle.clap.specs.declared.error.kind.ErrorKind.TheVariants.{OutOfMemory};
 ghost use Rattle.acc_base.specs.declared.config.TheConstants.{MAX_DEVICES};
-ghost use Rattle.accq.specs.Words.{accq_app, aim_in, asked_behind, asked_by, asked_of, check_by, check_in, explore_by, explore_in, exploring_in, form_in, has_flag, number_in, number_of, options_in, replay_by, replay_in, run_by, run_in, steps_by, steps_in, test_by, test_in, IsUsable};
+ghost use Rattle.accq.specs.Words.{accq_app, aim_in, asked_behind, asked_by, asked_of, check_by, check_in, explore_by, explore_in, exploring_in, form_in, has_flag, number_given, options_given, replay_by, replay_in, run_by, run_in, steps_by, steps_in, test_by, test_in, IsUsable};
 ghost use Rattle.acc_driver.specs.Replays.{AreUsable};
 
 use crate::words::{MAX_DEPTH, MAX_STATES, accq_words};
 use acc_base::{MAX_CAPACITY, MAX_DEVICES, MAX_ROOM};
+use acc_cases::number_in;
 use acc_driver::{Aim, Exploring, Form, Options, StepsAs};
 use clap::error::ErrorKind;
 use clap::{ArgMatches, Command, Error};
@@ -88,27 +87,6 @@ pub enum Task<'a> {
     Test(Test<'a>),
 }
 
-// Whether a text has digits alone.
-fn is_digits(text: &str) -> bool
-    ensures { result ≡ list_all is_ascii_digit text.now }
-{
-    text.as_bytes().iter().all(|b| b.is_ascii_digit())
-}
-
-// A number that is written in digits alone, and is from 1 to the most.
-fn number_in(text: &str, most: u64) -> Option<u64>
-    ensures value { result ≡ number_in most text.now }
-    ensures bounds { IfSome result (λ n. (1 ≤ n) × (n ≤ most)) }
-{
-    if !is_digits(text) {
-        return None;
-    }
-    match text.parse::<u64>() {
-        Ok(value) => (1 <= value && value <= most).then_some(value),
-        Err(_) => None,
-    }
-}
-
 // What a word of the subcommand says, by its name.
 fn text_of<'a>(matches: &ArgMatches<'a>, id: &str) -> Option<&'a str>
     ensures { option_map (λ s. s.now) result ≡ first_of id.now (rows_of (found_of matches.now)) }
@@ -118,18 +96,18 @@ fn text_of<'a>(matches: &ArgMatches<'a>, id: &str) -> Option<&'a str>
 
 // The number of an option.
 fn number_of(matches: &ArgMatches, name: &str, most: u64) -> Option<u64>
-    ensures value { result ≡ number_of (rows_of (found_of matches.now)) name.now most }
+    ensures value { result ≡ number_given (rows_of (found_of matches.now)) name.now most }
     ensures bounds { IfSome result (λ n. (1 ≤ n) × (n ≤ most)) }
 {
     match text_of(matches, name) {
-        Some(text) => number_in(text, most),
+        Some(text) => number_in(text.as_bytes(), most),
         None => None,
     }
 }
 
 // The options that there are, unless a number isn't written in digits.
 fn options_in(matches: &ArgMatches) -> Option<Options>
-    ensures value { result ≡ options_in (rows_of (found_of matches.now)) }
+    ensures value { result ≡ options_given (rows_of (found_of matches.now)) }
     ensures usable { IfSome result AreUsable }
 {
     let devices = number_of(matches, "devices", u64::from(MAX_DEVICES))?;
@@ -218,7 +196,7 @@ fn aim_in(matches: &ArgMatches) -> Option<Aim>
         (None, false) => Some(Aim::Reports(Form::Whole)),
         (None, true) => Some(Aim::Reports(Form::Short)),
         (Some(text), false) => {
-            let depth = number_in(text, u64::from(MAX_DEPTH))?;
+            let depth = number_in(text.as_bytes(), u64::from(MAX_DEPTH))?;
             Some(Aim::Prefixes(depth as u32))
         }
         (Some(_), true) => None,

@@ -2,7 +2,7 @@
 
 ghost use Rattle.std.specs.Prelude.{◌≡◌, ◌<◌, option_map, OnOk};
 ghost use Rattle.std.specs.Io.KnownBytes.{Appends};
-ghost use Rattle.accq.specs.Explanations.{fault_text, is_fault, kind_text, same_word, text_for};
+ghost use Rattle.accq.specs.Explanations.{fault_explained, is_fault, kind_explained, same_word, text_for};
 ghost use Rattle.accq.specs.Statuses.{Explains};
 
 use crate::explanations::{
@@ -30,7 +30,7 @@ fn is_fault(number: &str, name: &str, word: &str) -> bool
 
 // What the guide says of a fault of a statement.
 fn fault_text(word: &str) -> Option<&'static str>
-    ensures { option_map (λ t. t.now) result ≡ fault_text word.now }
+    ensures { option_map (λ t. t.now) result ≡ fault_explained word.now }
 {
     if is_fault("F1", "Closed", word) {
         Some(CLOSED)
@@ -67,7 +67,7 @@ fn fault_text(word: &str) -> Option<&'static str>
 
 // What the guide says of a kind of fault of a text.
 fn kind_text(word: &str) -> Option<&'static str>
-    ensures { option_map (λ t. t.now) result ≡ kind_text word.now }
+    ensures { option_map (λ t. t.now) result ≡ kind_explained word.now }
 {
     if same_word("Text", word) {
         Some(TEXT)

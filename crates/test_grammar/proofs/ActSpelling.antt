@@ -29,10 +29,10 @@ use Rattle.acc_script.specs.declared.range.TheConstants.{MAX_INDEX}
 use Rattle.acc_token.specs.Tokens.{Spot, Lexeme, front, is_letter, is_digit, is_reserved, gap_at, token_len, token_at, exactly, expect, number_of}
 use Rattle.acc_script.specs.Arrays.{Declared, size_of, value_of}
 use Rattle.acc_script.specs.Ranges.{range_of}
-use Rattle.acc_script.specs.Clauses.{is_plain, is_nothing, needs_item, may_be_async, may_wait, allows}
+use Rattle.acc_script.specs.Clauses.{is_plain, waits_for_nothing, needs_item, may_have_async, may_wait, allows}
 use Rattle.acc_script.specs.Directives.{head_of, placed, placed_with, act_behind, directive_at}
 use Rattle.acc_script.specs.Routines.{range_argument, queue_argument, number_argument, no_argument, other_call, call_of, question_of, shown_of, print_at}
-use Rattle.acc_script.specs.Statements.{value_at, cell_at, write_at, simple_of, act_of, depth_behind, depth_behind_kind, statement_turn}
+use Rattle.acc_script.specs.Statements.{signed_number_at, cell_at, write_at, simple_of, act_of, depth_behind, depth_behind_kind, statement_turn}
 use Rattle.test_grammar.specs.RangeSpellings as range
 use Rattle.test_grammar.specs.RangeSpellings.{AreNames}
 use Rattle.test_grammar.specs.ExpressionSpellings.{AreApart}
@@ -89,7 +89,7 @@ pub loop_line : (arrays : Declared) (depth : ℕ) (c : Clauses) (line : ℕ) (re
 unfolding directive_at head_of token_at gap_at token_len expect exactly
 loop_line arrays depth c line rest names can = rw (clauses_here arrays head.Loop c line rest names can) refl
 
-wait_line : (arrays : Declared) (depth : ℕ) (target : Target) (w : Waits) (line : ℕ) (rest : List ℕ) → is_nothing w ≡ false → AreSayable w → IsSayableTarget target
+wait_line : (arrays : Declared) (depth : ℕ) (target : Target) (w : Waits) (line : ℕ) (rest : List ℕ) → waits_for_nothing w ≡ false → AreSayable w → IsSayableTarget target
     → directive_at arrays depth (at_line line (codes "pragma acc " ++ spelled_waits w (spelled_target target (10 ∷ rest)))) ≡ Ok (placed kind.Wait [] target w, at_line (line + 1) rest)
 unfolding directive_at head_of act_behind token_at gap_at token_len expect exactly
 wait_line arrays depth target waits.Nothing line rest some said valued = absurd (false≢true (sym some))
@@ -145,14 +145,14 @@ no_waits waits.Nothing may = refl
 no_waits waits.All may = absurd (false≢true may)
 no_waits (waits.Listed values) may = absurd (false≢true may)
 
-some_waits : (w : Waits) → allows_waits kind.Wait w ≡ true → is_nothing w ≡ false
+some_waits : (w : Waits) → allows_waits kind.Wait w ≡ true → waits_for_nothing w ≡ false
 some_waits waits.Nothing may = absurd (false≢true may)
 some_waits waits.All may = refl
 some_waits (waits.Listed values) may = refl
 
 can_have : (n : Names) (h : Head) (k : Kind) (items : List DataItem) (target : Target) (w : Waits) (marked : Bool) → IsSayableWritten n (written k items target w)
     → list_all (λ (i : DataItem). allows h i.clause) items ≡ true → (length items == 0) ≡ false
-    → (is_plain target || may_be_async h) ≡ true → (is_nothing w || may_wait h) ≡ true → (not marked || can_mark h) ≡ true
+    → (is_plain target || may_have_async h) ≡ true → (waits_for_nothing w || may_wait h) ≡ true → (not marked || can_mark h) ≡ true
     → CanHave n.arrays.names h (clauses_of (written k items target w) marked)
 can_have n h k items target w marked said allowed some async wait mark = record {
   items = said.items;
@@ -180,7 +180,7 @@ module _ (n : Names) (depth line : ℕ) (behind : List ℕ) (names : AreNames n.
       let c : Clauses = clauses_of (written kind.EnterData items target w) false in
       directive_here n.arrays depth line (codes "enter data " ++ spelled_clauses n.arrays.names head.EnterData c behind) (placed_with kind.EnterData c) (at_line (line + 1) behind)
       (enter_line n.arrays depth c line behind names
-      (can_have n head.EnterData kind.EnterData items target w false said form.0 (some_items items form.1) (or_true (is_plain target)) (or_true (is_nothing w)) refl))
+      (can_have n head.EnterData kind.EnterData items target w false said form.0 (some_items items form.1) (or_true (is_plain target)) (or_true (waits_for_nothing w)) refl))
 
   exit_here : (finalize : Bool) (items : List DataItem) (target : Target) (w : Waits) → IsSayableWritten n (written (kind.ExitData finalize) items target w)
       → IsRead (spelled_kind n (kind.ExitData finalize) (written (kind.ExitData finalize) items target w) behind) (placed (kind.ExitData finalize) items target w) (line + 1)
@@ -190,7 +190,7 @@ module _ (n : Names) (depth line : ℕ) (behind : List ℕ) (names : AreNames n.
       let c : Clauses = clauses_of (written (kind.ExitData finalize) items target w) finalize in
       directive_here n.arrays depth line (codes "exit data " ++ spelled_clauses n.arrays.names head.ExitData c behind) (placed_with (kind.ExitData finalize) c) (at_line (line + 1) behind)
       (exit_line n.arrays depth c line behind names
-      (can_have n head.ExitData (kind.ExitData finalize) items target w finalize said form.0 (some_items items form.1) (or_true (is_plain target)) (or_true (is_nothing w)) (or_true (not finalize))))
+      (can_have n head.ExitData (kind.ExitData finalize) items target w finalize said form.0 (some_items items form.1) (or_true (is_plain target)) (or_true (waits_for_nothing w)) (or_true (not finalize))))
 
   update_here : (if_present : Bool) (items : List DataItem) (target : Target) (w : Waits) → IsSayableWritten n (written (kind.Update if_present) items target w)
       → IsRead (spelled_kind n (kind.Update if_present) (written (kind.Update if_present) items target w) behind) (placed (kind.Update if_present) items target w) (line + 1)
@@ -200,7 +200,7 @@ module _ (n : Names) (depth line : ℕ) (behind : List ℕ) (names : AreNames n.
       let c : Clauses = clauses_of (written (kind.Update if_present) items target w) if_present in
       directive_here n.arrays depth line (codes "update " ++ spelled_clauses n.arrays.names head.Update c behind) (placed_with (kind.Update if_present) c) (at_line (line + 1) behind)
       (update_line n.arrays depth c line behind names
-      (can_have n head.Update (kind.Update if_present) items target w if_present said form.0 (some_items items form.1) (or_true (is_plain target)) (or_true (is_nothing w)) (or_true (not if_present))))
+      (can_have n head.Update (kind.Update if_present) items target w if_present said form.0 (some_items items form.1) (or_true (is_plain target)) (or_true (waits_for_nothing w)) (or_true (not if_present))))
 
   data_here : (items : List DataItem) (target : Target) (w : Waits) → IsSayableWritten n (written kind.Data items target w) → depth < MAX_CONSTRUCTS
       → IsRead (spelled_kind n kind.Data (written kind.Data items target w) behind) (placed kind.Data items target w) (line + 1)
@@ -241,7 +241,7 @@ module _ (n : Names) (depth line : ℕ) (behind : List ℕ) (names : AreNames n.
         complete = refl;
         async = or_true (is_plain target);
         target = said.target;
-        wait = or_true (is_nothing w);
+        wait = or_true (waits_for_nothing w);
         queues = said.queues;
         mark = refl;
       } in
@@ -478,7 +478,7 @@ equals line rest = refl
 
 written_behind : (array line cell : ℕ) (value : ℤ) (behind : List ℕ) → cell ≤ MAX_INDEX → IsValue value
     → write_at array (at_line line (91 ∷ (decimal cell ++ 93 ∷ 32 ∷ 61 ∷ 32 ∷ (signed value ++ 59 ∷ behind)))) ≡ Ok (Write array cell value, at_line line (59 ∷ behind))
-unfolding write_at cell_at value_at expect exactly
+unfolding write_at cell_at signed_number_at expect exactly
 written_behind array line cell value behind small valued =
     let after : List ℕ = 32 ∷ 61 ∷ 32 ∷ (signed value ++ 59 ∷ behind) in
     let number = number_here line cell (93 ∷ after) small refl refl in

@@ -23,8 +23,8 @@ use Rattle.acc_token.specs.Tokens.{Spot, Lexeme, front, is_letter, is_digit, gap
 use Rattle.acc_token.specs.Turns.{Turn, turn, all_turns}
 use Rattle.acc_script.specs.Arrays.{Declared, size_of}
 use Rattle.acc_script.specs.Ranges.{item, range_behind, item_behind, item_turn}
-use Rattle.acc_script.specs.Queues.{queue_of, queue_behind, queue_turn, waits_at}
-use Rattle.acc_script.specs.Clauses.{allows, is_mark, may_be_async, may_wait, is_plain, is_nothing, is_complete, data_clause, target_at, ranges_at, clause_of, ends_line, clause_turn, no_clauses}
+use Rattle.acc_script.specs.Queues.{queue_of, queue_behind, queues_turn, waits_at}
+use Rattle.acc_script.specs.Clauses.{allows, is_mark, may_have_async, may_wait, is_plain, waits_for_nothing, is_complete, data_clause, target_at, ranges_at, clause_of, ends_line, clause_turn, no_clauses}
 use Rattle.test_grammar.specs.RangeSpellings.{AreNames, spelled}
 use Rattle.test_grammar.specs.ActSpellings.{signed, more_queues, spelled_queues, IsQueue, word_of, spelled_items, spelled_waits, spelled_target, spelled_mark, spelled_clauses, IsSayableRange, AreSayable, IsSayableTarget}
 use Rattle.test_grammar.proofs.RangeSpelling.{array_named, bounds_here}
@@ -114,34 +114,34 @@ queue_here in_directive line (negsuc n) rest small ends apart = by (decimal (suc
 
 -- a queue of a list, with a comma or the ) behind it
 queue_goes_on : (line : ℕ) (value : ℤ) (so_far : List ℤ) (rest : List ℕ) → IsQueue value → length so_far < MAX_QUEUES
-    → queue_turn so_far (at_line line (signed value ++ 44 ∷ rest)) ≡ Ok (turn true (so_far ++ value ∷ []) (at_line line rest))
-unfolding queue_turn queue_behind
+    → queues_turn so_far (at_line line (signed value ++ 44 ∷ rest)) ≡ Ok (turn true (so_far ++ value ∷ []) (at_line line rest))
+unfolding queues_turn queue_behind
 queue_goes_on line value so_far rest is few =
     let here = queue_here true line value (44 ∷ rest) is refl refl in
     rw (here.first, lt-leb MAX_QUEUES (length so_far) few, here.queue, comma true line rest) refl
 
 queue_ends : (line : ℕ) (value : ℤ) (so_far : List ℤ) (rest : List ℕ) → IsQueue value → length so_far < MAX_QUEUES
-    → queue_turn so_far (at_line line (signed value ++ 41 ∷ rest)) ≡ Ok (turn false (so_far ++ value ∷ []) (at_line line rest))
-unfolding queue_turn queue_behind exactly
+    → queues_turn so_far (at_line line (signed value ++ 41 ∷ rest)) ≡ Ok (turn false (so_far ++ value ∷ []) (at_line line rest))
+unfolding queues_turn queue_behind exactly
 queue_ends line value so_far rest is few =
     let here = queue_here true line value (41 ∷ rest) is refl refl in
     rw (here.first, lt-leb MAX_QUEUES (length so_far) few, here.queue, closes true line rest) refl
 
 -- the queues of a list that are left
 queues_behind : (line : ℕ) (value : ℤ) (values so_far : List ℤ) (rest : List ℕ) → IsQueue value → All IsQueue values → length so_far + length values < MAX_QUEUES
-    → all_turns queue_turn so_far (at_line line (signed value ++ more_queues values (41 ∷ rest))) ≡ Ok (turn false (so_far ++ value ∷ values) (at_line line rest))
+    → all_turns queues_turn so_far (at_line line (signed value ++ more_queues values (41 ∷ rest))) ≡ Ok (turn false (so_far ++ value ∷ values) (at_line line rest))
 unfolding more_queues
 queues_behind line value [] so_far rest is all few =
-    last_turn queue_turn so_far (so_far ++ value ∷ []) (at_line line (signed value ++ 41 ∷ rest)) (at_line line rest) (queue_ends line value so_far rest is (omega arith))
+    last_turn queues_turn so_far (so_far ++ value ∷ []) (at_line line (signed value ++ 41 ∷ rest)) (at_line line rest) (queue_ends line value so_far rest is (omega arith))
 queues_behind line value (next ∷ values) so_far rest is all few =
     let behind : List ℕ = signed next ++ more_queues values (41 ∷ rest) in
     let more = queues_behind line next values (so_far ++ value ∷ []) rest (all 0 next (omega arith)) (All-tail IsQueue next values all) (omega (arith, length-append so_far (value ∷ []))) in
-    one_turn queue_turn so_far (so_far ++ value ∷ []) (at_line line (signed value ++ 44 ∷ behind)) (at_line line behind) (turn false (so_far ++ value ∷ next ∷ values) (at_line line rest))
+    one_turn queues_turn so_far (so_far ++ value ∷ []) (at_line line (signed value ++ 44 ∷ behind)) (at_line line behind) (turn false (so_far ++ value ∷ next ∷ values) (at_line line rest))
     (queue_goes_on line value so_far behind is (omega arith)) (omega (arith, length-append (signed value) (44 ∷ behind)))
     (rw append_assoc at more)
 
 queues_here : (line : ℕ) (values : List ℤ) (rest : List ℕ) → 1 ≤ length values → length values ≤ MAX_QUEUES → All IsQueue values
-    → all_turns queue_turn [] (at_line line (spelled_queues values (41 ∷ rest))) ≡ Ok (turn false values (at_line line rest))
+    → all_turns queues_turn [] (at_line line (spelled_queues values (41 ∷ rest))) ≡ Ok (turn false values (at_line line rest))
 unfolding spelled_queues
 queues_here line [] rest some few all = absurd (omega arith)
 queues_here line (value ∷ values) rest some few all =
@@ -380,12 +380,12 @@ async_value_token : (line : ℕ) (rest : List ℕ) → token_at true (at_line li
 unfolding token_at gap_at token_len
 async_value_token line rest = refl
 
-wait_clause : (arrays : Declared) (h : Head) (c : Clauses) (line : ℕ) (w : Waits) (at after : Spot) → may_wait h ≡ true → is_nothing c.waits ≡ true → waits_at at ≡ Ok (w, after)
+wait_clause : (arrays : Declared) (h : Head) (c : Clauses) (line : ℕ) (w : Waits) (at after : Spot) → may_wait h ≡ true → waits_for_nothing c.waits ≡ true → waits_at at ≡ Ok (w, after)
     → clause_of arrays h c (record { text = codes "wait"; line = line; after = at }) ≡ Ok (record c { waits = w }, after)
 unfolding clause_of
 wait_clause arrays h c line w at after may none read = rw (may, none, read) refl
 
-async_clause : (arrays : Declared) (h : Head) (c : Clauses) (line : ℕ) (target : Target) (at after : Spot) → may_be_async h ≡ true → is_plain c.target ≡ true → target_at at ≡ Ok (target, after)
+async_clause : (arrays : Declared) (h : Head) (c : Clauses) (line : ℕ) (target : Target) (at after : Spot) → may_have_async h ≡ true → is_plain c.target ≡ true → target_at at ≡ Ok (target, after)
     → clause_of arrays h c (record { text = codes "async"; line = line; after = at }) ≡ Ok (record c { target = target }, after)
 unfolding clause_of
 async_clause arrays h c line target at after may none read = rw (may, none, read) refl
@@ -406,7 +406,7 @@ module _ (arrays : Declared) (h : Head) (items : List DataItem) (marked : Bool) 
   abbrev Reads : Target → Waits → List ℕ → Type 0
   Reads target w rest = all_turns (clause_turn arrays h) (clauses items target w marked) (at_line line rest) ≡ Ok total
 
-  waits_behind : (w : Waits) (rest : List ℕ) → (is_nothing w || may_wait h) ≡ true → AreSayable w → IsApart rest
+  waits_behind : (w : Waits) (rest : List ℕ) → (waits_for_nothing w || may_wait h) ≡ true → AreSayable w → IsApart rest
       → Reads Plain w (32 ∷ rest) → Reads Plain waits.Nothing (32 ∷ spelled_waits w rest)
   waits_behind waits.Nothing rest may said apart read = read
   waits_behind waits.All rest may said apart read =
@@ -426,7 +426,7 @@ module _ (arrays : Declared) (h : Head) (items : List DataItem) (marked : Bool) 
       (wait_clause arrays h c line (waits.Listed values) (at_line line (40 ∷ list)) (at_line line (32 ∷ rest)) may refl (waits_listed line values (32 ∷ rest) said.0 said.1 said.2)))
       (omega (arith, queues_long values (41 ∷ 32 ∷ rest))) read
 
-  target_behind : (target : Target) (w : Waits) (rest : List ℕ) → (is_plain target || may_be_async h) ≡ true → IsSayableTarget target → IsApart rest
+  target_behind : (target : Target) (w : Waits) (rest : List ℕ) → (is_plain target || may_have_async h) ≡ true → IsSayableTarget target → IsApart rest
       → Reads target w (32 ∷ rest) → Reads Plain w (32 ∷ spelled_target target rest)
   target_behind Plain w rest may said apart read = read
   target_behind Unvalued w rest may said apart read =
@@ -499,9 +499,9 @@ pub record CanHave (names : List (List ℕ)) (h : Head) (c : Clauses) : Type 0 w
   pub allowed : list_all (λ (i : DataItem). allows h i.clause) c.items ≡ true
   pub few : length c.items ≤ MAX_RANGES
   pub complete : is_complete h c ≡ true
-  pub async : (is_plain c.target || may_be_async h) ≡ true
+  pub async : (is_plain c.target || may_have_async h) ≡ true
   pub target : IsSayableTarget c.target
-  pub wait : (is_nothing c.waits || may_wait h) ≡ true
+  pub wait : (waits_for_nothing c.waits || may_wait h) ≡ true
   pub queues : AreSayable c.waits
   pub mark : (not c.marked || can_mark h) ≡ true
 

@@ -12,13 +12,13 @@ use Rattle.acc_kernel.specs.declared.assign.Assign.{Assign}
 use Rattle.acc_kernel.specs.declared.fault.KernelFault.TheVariants.{ReadsAssigned, NoStatement, TooDeep, TooFar}
 use Rattle.acc_kernel.specs.declared.limits.TheConstants.{MAX_DEPTH}
 use Rattle.acc_kernel.specs.declared.operator.Operator.TheVariants.{Less}
-use Rattle.acc_kernel.specs.Faults.{fault_of, reads_assigned, is_deep, is_far, has_far}
+use Rattle.acc_kernel.specs.Faults.{loop_fault, reads_assigned, is_deep, is_far, has_far}
 use Rattle.acc_kernel.specs.Kernels.{Loop, references}
 use Rattle.acc_kernel.specs.Trees.{Tree, Number, Index, Read, Negate, Binary, Choose, Reference, depth_of}
 use Rattle.acc_script.specs.Arrays.{fresh_name}
 use Rattle.acc_script.specs.Expressions.{Names, names, unary_at, chain_at, expr_at, index_at, expression_at}
 use Rattle.test_grammar.specs.ExpressionSpellings.{sign_of, array_name, literal, distance, spelled, AreApart}
-use Rattle.acc_script.specs.Loops.{type_at, first_at, bound_at, header_at, assign_of, assign_turn, body_at, judged_loop, accepted_loop, loop_at}
+use Rattle.acc_script.specs.Loops.{type_at, first_at, upper_bound_at, header_at, assign_of, assign_turn, body_at, judged_loop, accepted_loop, loop_at}
 use Rattle.test_grammar.specs.LoopSpellings.{spelled_assign, spelled_assigns, spelled_loop, IsSayableAssign, LoopIsReadAgain}
 use Rattle.test_grammar.specs.RangeSpellings.{IsName}
 use Rattle.acc_token.specs.Tokens.{Spot, front, is_word_byte, is_reserved, gap_at, token_len, token_at, exactly, expect}
@@ -225,8 +225,8 @@ unfolding index_at
 index_behind_space index line rest = rw (behind_space line rest) refl
 
 bound_read : (names : Names) (line : ℕ) (hi : ℤ) (rest : List ℕ) → AreApart names → IsLong hi
-    → bound_at names.index (at_line line (32 ∷ (names.index ++ 32 ∷ 60 ∷ 32 ∷ (value_text hi ++ 59 ∷ rest)))) ≡ Ok (hi, at_line line rest)
-unfolding bound_at expect exactly
+    → upper_bound_at names.index (at_line line (32 ∷ (names.index ++ 32 ∷ 60 ∷ 32 ∷ (value_text hi ++ 59 ∷ rest)))) ≡ Ok (hi, at_line line rest)
+unfolding upper_bound_at expect exactly
 bound_read names line hi rest are small =
     let value_on : List ℕ = value_text hi ++ 59 ∷ rest in
     let value = value_here line hi (59 ∷ rest) small refl refl in
@@ -288,7 +288,7 @@ record IsFree (k : Loop) : Type 0 where
   some : 0 < length k.statements
   room : All IsShallow k.statements
 
-is_free : (k : Loop) → fault_of k ≡ None → IsFree k
+is_free : (k : Loop) → loop_fault k ≡ None → IsFree k
 is_free k none =
     let a = none_else (reads_assigned k.statements) ReadsAssigned _ none in
     let b = none_else (length k.statements == 0) NoStatement _ a.1 in
@@ -303,7 +303,7 @@ is_free k none =
       room = All-weaker (λ (a : Assign). is_deep a ≡ false) IsShallow shallow k.statements (none_passes is_deep k.statements c.0);
     }
 
-accepted_is : (line : ℕ) (k : Loop) → fault_of k ≡ None → accepted_loop line k ≡ Ok k
+accepted_is : (line : ℕ) (k : Loop) → loop_fault k ≡ None → accepted_loop line k ≡ Ok k
 unfolding accepted_loop
 accepted_is line k none = ap (judged_loop line k) none
 

@@ -2,12 +2,12 @@
 use Rattle.std.proofs.Common.{refl}
 use Rattle.acc_script.specs.Arrays.{value_of, fresh_name, array_of}
 use Rattle.acc_script.specs.Expressions.{index_at, number_at, offset_at, read_behind, leaf_of, group_of, primary_of, negated_of, unary_at, chain_turn, chain_at, choice_of, expr_at, deeper, expression_at}
-use Rattle.acc_script.specs.Loops.{type_at, first_at, bound_at, header_at, assign_of, assign_turn, body_at, accepted_loop, loop_at}
+use Rattle.acc_script.specs.Loops.{type_at, first_at, upper_bound_at, header_at, assign_of, assign_turn, body_at, accepted_loop, loop_at}
 use Rattle.acc_token.specs.Tokens.{gap_at, number_len, token_len, token_at, exactly, expect, number_of, name_of}
 use Rattle.test_grammar.specs.worked.Loops.{LoopTexts, LoopForms, LoopFaults}
 
 pub loop_texts : LoopTexts
-unfolding value_of fresh_name array_of index_at number_at offset_at read_behind leaf_of group_of primary_of negated_of unary_at chain_turn chain_at choice_of expr_at deeper expression_at type_at first_at bound_at header_at assign_of assign_turn body_at accepted_loop loop_at gap_at number_len token_len token_at exactly expect number_of name_of
+unfolding value_of fresh_name array_of index_at number_at offset_at read_behind leaf_of group_of primary_of negated_of unary_at chain_turn chain_at choice_of expr_at deeper expression_at type_at first_at upper_bound_at header_at assign_of assign_turn body_at accepted_loop loop_at gap_at number_len token_len token_at exactly expect number_of name_of
 loop_texts = record {
   by_precedence = refl;
   choices_to_the_right = refl;
@@ -27,7 +27,7 @@ loop_texts = record {
 }
 
 pub loop_forms : LoopForms
-unfolding value_of fresh_name array_of index_at number_at offset_at read_behind leaf_of group_of primary_of negated_of unary_at chain_turn chain_at choice_of expr_at deeper expression_at type_at first_at bound_at header_at assign_of assign_turn body_at accepted_loop loop_at gap_at number_len token_len token_at exactly expect number_of name_of
+unfolding value_of fresh_name array_of index_at number_at offset_at read_behind leaf_of group_of primary_of negated_of unary_at chain_turn chain_at choice_of expr_at deeper expression_at type_at first_at upper_bound_at header_at assign_of assign_turn body_at accepted_loop loop_at gap_at number_len token_len token_at exactly expect number_of name_of
 loop_forms = record {
   int = refl;
   long = refl;
@@ -37,7 +37,7 @@ loop_forms = record {
 }
 
 pub loop_faults : LoopFaults
-unfolding value_of fresh_name array_of index_at number_at offset_at read_behind leaf_of group_of primary_of negated_of unary_at chain_turn chain_at choice_of expr_at deeper expression_at type_at first_at bound_at header_at assign_of assign_turn body_at accepted_loop loop_at gap_at number_len token_len token_at exactly expect number_of name_of
+unfolding value_of fresh_name array_of index_at number_at offset_at read_behind leaf_of group_of primary_of negated_of unary_at chain_turn chain_at choice_of expr_at deeper expression_at type_at first_at upper_bound_at header_at assign_of assign_turn body_at accepted_loop loop_at gap_at number_len token_len token_at exactly expect number_of name_of
 loop_faults = record {
   cut_off = refl;
   cut_off_later = refl;

@@ -1,7 +1,7 @@
 -- How a loop is spelled in one line, and that it is read so.
 use Rattle.std.specs.Prelude.{◌≡◌, ◌<◌, ℕ, List, [], ◌∷◌, ◌++◌, All, length, None, Ok, codes}
 use Rattle.acc_kernel.specs.declared.assign.Assign.{Assign}
-use Rattle.acc_kernel.specs.Faults.{fault_of}
+use Rattle.acc_kernel.specs.Faults.{loop_fault}
 use Rattle.acc_kernel.specs.Kernels.{Loop}
 use Rattle.test_grammar.specs.ExpressionSpellings.{array_name, spelled, IsSayable, AreApart}
 use Rattle.acc_script.specs.Expressions.{Names}
@@ -28,7 +28,7 @@ abbrev pub IsSayableAssign : Names → Assign → Type 0
 IsSayableAssign names a = (a.array < length names.arrays.names) × IsSayable names a.value
 
 abbrev pub IsSayableLoop : Names → Loop → Type 0
-IsSayableLoop names k = All (λ (a : Assign). IsSayableAssign names a) k.statements × (fault_of k ≡ None)
+IsSayableLoop names k = All (λ (a : Assign). IsSayableAssign names a) k.statements × (loop_fault k ≡ None)
 
 -- A loop that has no fault is read again as it is spelled, whatever follows.
 abbrev pub LoopIsReadAgain : Type 0

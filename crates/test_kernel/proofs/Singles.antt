@@ -6,7 +6,7 @@ use Rattle.std.proofs.Math.Path.{fun_ext}
 use Rattle.std.proofs.lemmas.Bool.Decides.{Decides-eqb, Decides-int_eq}
 use Rattle.std.proofs.lemmas.Int.{ints}
 use Rattle.acc_kernel.specs.Cells.{with_cell}
-use Rattle.acc_kernel.specs.Jobs.{Use, has_cell, place_of, no_use}
+use Rattle.acc_kernel.specs.Jobs.{Use, uses_have, place_of, no_use}
 use Rattle.test_kernel.specs.Singles.{is_single, single}
 
 both_true : (a b : Bool) → (a && b) ≡ true → (a ≡ true) × (b ≡ true)
@@ -54,7 +54,7 @@ module _ (block array : ℕ) (cell : ℤ) where
       (int_le (pos (get_or (one_use block) place no_use).1.lo) cell
       && int_lt cell (pos ((get_or (one_use block) place no_use).1.lo + (get_or (one_use block) place no_use).1.len))) ≡ true
 
-  by_array : (b : Bool) → (0 == array) ≡ b → has_cell (one_use block) array cell ≡ true → is_single array cell ≡ true
+  by_array : (b : Bool) → (0 == array) ≡ b → uses_have (one_use block) array cell ≡ true → is_single array cell ≡ true
   by_array true e h =
       let at : place_of (one_use block) array ≡ 0 = ap (λ (x : Bool). cond (not x) 1 0) e in
       ap (λ (x : Bool). x && int_eq (pos 0) cell) e ∙ zero_of cell (subst HasAt at h)
@@ -62,5 +62,5 @@ module _ (block array : ℕ) (cell : ℤ) where
       let at : place_of (one_use block) array ≡ 1 = ap (λ (x : Bool). cond (not x) 1 0) e in
       absurd (none_of cell (subst HasAt at h))
 
-  pub is_the_cell : has_cell (one_use block) array cell ≡ true → is_single array cell ≡ true
+  pub is_the_cell : uses_have (one_use block) array cell ≡ true → is_single array cell ≡ true
   is_the_cell h = by_array (0 == array) refl h

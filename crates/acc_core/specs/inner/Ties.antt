@@ -6,7 +6,7 @@ use Rattle.acc_base.specs.Configurations.{Configuration}
 use Rattle.acc_base.specs.Queues.{queue_count}
 use Rattle.acc_batch.specs.declared.label.Label.{Label}
 use Rattle.acc_batch.specs.Labels.{on_queue}
-use Rattle.acc_core.specs.Legality.{Legal}
+use Rattle.acc_core.specs.Legality.{IsLegalState}
 use Rattle.acc_core.specs.Machine.{State, is_empty, labels_of}
 use Rattle.acc_core.specs.inner.Queues.{QueueView, queue_in}
 use Rattle.acc_place.specs.Closing.{is_at_hand}
@@ -57,7 +57,7 @@ HasPlaces p queues = (at : QueueAt) → IsQueue p.config at → is_at_hand p at 
 
 -- What holds of an accelerator between two calls. The work side began with the configuration's arrays.
 pub record IsAccelerator (w : State) (v : WorkView) (queues : List QueueView) : Type 0 where
-  pub legal : Legal w
+  pub legal : IsLegalState w
   pub few_items : all_items w.work ≤ MAX_HOST_ITEMS
   pub parts : Queued w v queues
   pub opening : v.arrays ≡ w.config.arrays

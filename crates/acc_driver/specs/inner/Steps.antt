@@ -2,7 +2,7 @@
 use Rattle.std.specs.Prelude.{◌≡◌, ◌⊎◌, ℕ, Bool, List, [], map, take, Option, Some, None, Result, Ok, Err}
 use Rattle.std.specs.Io.KnownBytes.{Appends}
 use Rattle.std.specs.List.{list_any}
-use Rattle.acc_core.specs.Legality.{AllFollow, Legal}
+use Rattle.acc_core.specs.Legality.{AllFollow, IsLegalState}
 use Rattle.acc_core.specs.Machine.{State}
 use Rattle.acc_core.specs.Worlds.{statements_in}
 use Rattle.acc_host.specs.declared.event.Event.{Event}
@@ -46,7 +46,7 @@ pub record WorldShown (form : StepsAs) (words : Words) (events : List Numbered) 
   pub final : State
   pub told : List ℕ
   pub steps : AreTold words 1 events begun final told
-  pub legal : Legal final
+  pub legal : IsLegalState final
   pub follow : AllFollow final 0 final.hosts
   pub written : (programs : List HostProgram) → map bare_statements programs ≡ statements_in final
       → (shown : List ℕ) × ShowsSteps form told (report words.names programs (left_in final)) shown × Appends old new shown

@@ -9,7 +9,7 @@ use Rattle.acc_batch.specs.declared.entry.WorkEntry.TheVariants as entry
 use Rattle.acc_batch.specs.declared.label.OpLabel.TheVariants.{Make}
 use Rattle.acc_batch.specs.Labels.{on_queue}
 use Rattle.acc_core.specs.Machine.{State}
-use Rattle.acc_core.specs.Progress.{left_by, taken_by}
+use Rattle.acc_core.specs.Progress.{left_there, taken_by}
 use Rattle.acc_host.specs.Entries.{Own, own_of}
 use Rattle.acc_host.specs.Hosts.{HostView}
 use Rattle.acc_memory.specs.Memories.{find_block, has_cell}
@@ -52,7 +52,7 @@ IsShownBelow hosts (entry.Item host what) = host < hosts
 
 -- A queue has taken as many batches in both, of which as many operations are left.
 abbrev pub HasSameProgress : State → State → QueueAt → Type 0
-HasSameProgress old new at = (taken_by old at ≡ taken_by new at) × (length (left_by old at) ≡ length (left_by new at))
+HasSameProgress old new at = (taken_by old at ≡ taken_by new at) × (length (left_there old at) ≡ length (left_there new at))
 
 -- So has each queue that is there.
 abbrev pub HaveSameProgress : State → State → Type 0

@@ -11,7 +11,7 @@ use Rattle.acc_explore.specs.declared.search.Task.{Task}
 use Rattle.acc_explore.specs.declared.worlds.Kept.{Kept}
 use Rattle.acc_explore.specs.Explorations.{HoldsAlike, IsEnd}
 use Rattle.acc_explore.specs.Reductions.{FollowsEnough}
-use Rattle.acc_explore.specs.Runs.{after, close_events, events_of, host_events, queue_events}
+use Rattle.acc_explore.specs.Runs.{after, closing_events, open_events, events_of_hosts, events_of_queues}
 use Rattle.acc_host.specs.declared.event.Event.{Event}
 use Rattle.acc_host.specs.declared.event.Event.TheVariants as event
 use Rattle.acc_host.specs.declared.state.Reply.TheVariants as reply
@@ -22,7 +22,7 @@ start_of t = after (first_state t.config.now t.programs.now) t.before.now
 
 -- the events of so many hosts and queues, in their order, then the owner's close
 abbrev pub events_in_turn : Bool → ℕ → ℕ → List Event
-events_in_turn closing hosts queues = reverse (host_events hosts) ++ reverse (queue_events queues) ++ close_events closing
+events_in_turn closing hosts queues = reverse (events_of_hosts hosts) ++ reverse (events_of_queues queues) ++ closing_events closing
 
 -- One of those that were found is like a state.
 pub record IsLikeOne (start : State) (arrivals : List Arrival) (w : State) : Type 0 where
@@ -69,7 +69,7 @@ AreRising (n ∷ numbers) = All (λ (m : ℕ). n ≤ m) numbers × AreRising num
 
 -- How far a search has come: of each state before the next one enough events are followed, and these of the next one.
 pub record IsFollowed (closing : Bool) (most : ℕ) (start : State) (arrivals : List Arrival) (numbers : List ℕ) (next : ℕ) (done : List Event) : Type 0 where
-  pub events : All (λ (a : Arrival). Contains (events_of closing start) a.by) arrivals
+  pub events : All (λ (a : Arrival). Contains (open_events closing start) a.by) arrivals
   pub few : length arrivals ≤ most
   pub there : next ≤ length arrivals + 1
   -- no state is found before one that is less deep, and those that are found behind the next one are one deeper at most

@@ -1,11 +1,11 @@
 -- The cells of a job as its loop sees them: of an array that has outputs these, of another the inputs.
 use Rattle.std.specs.Prelude.{◌≡◌, ℕ, ℤ, ◌<◌, Bool, true, [], length, slice_index_or, if◌then◌else◌}
-use Rattle.acc_kernel.specs.Jobs.{no_use, has_cell, cell_in, is_used}
+use Rattle.acc_kernel.specs.Jobs.{no_use, uses_have, cell_in, is_used}
 use Rattle.acc_kernel.specs.inner.RowTables.{RowsView}
 
 abbrev pub has_either : RowsView → RowsView → ℕ → ℤ → Bool
 has_either inputs outputs array cell =
-    if is_used outputs.uses array then has_cell outputs.uses array cell else has_cell inputs.uses array cell
+    if is_used outputs.uses array then uses_have outputs.uses array cell else uses_have inputs.uses array cell
 
 abbrev pub cell_in_either : RowsView → RowsView → ℕ → ℤ → ℤ
 cell_in_either inputs outputs array cell =

@@ -35,11 +35,11 @@ use Rattle.acc_batch.specs.declared.label.OpLabel.TheVariants as op
 use Rattle.acc_place.specs.declared.ops.Group.{Group}
 use Rattle.acc_place.specs.declared.ops.Group.TheVariants.{Makes, CopyIns, Updates, CopyOuts, Releases}
 use Rattle.acc_place.specs.declared.marked.Marked.{Marked}
-use Rattle.acc_place.specs.Accepting.{fault_where, first_fault, item_faults, wants_whole, wants_presence, is_deep, is_outside, is_past}
+use Rattle.acc_place.specs.Accepting.{fault_where, first_fault, item_faults, wants_whole, wants_presence, is_too_deep, ends_no_region, is_past}
 use Rattle.acc_place.specs.Batches.{copies_in, copies_out}
 use Rattle.acc_place.specs.Loops.{StaysInside, uses_in}
 use Rattle.acc_place.specs.Regions.{open_region}
-use Rattle.acc_place.specs.Standings.{acts_if_present, asked_by, change_where, left_by}
+use Rattle.acc_place.specs.Standings.{acts_if_present, asked_item, change_where, subject_left}
 use Rattle.acc_place.specs.Targets.{has_bad_queue, waits_on_too_many}
 
 -- What a device has: what is present there, and how many lifetimes were opened.
@@ -75,7 +75,7 @@ holding_after change r h =
 
 -- the change of an item in its turn, where these are present
 abbrev pub change_in : Kind → List Presence → DataItem → Option Change
-change_in k ps i = change_where (asked_by k i) (is_present ps i.range)
+change_in k ps i = change_where (asked_item k i) (is_present ps i.range)
 
 abbrev pub holding_with : Kind → DataItem → Holding → Holding
 holding_with k i h = holding_after (change_in k h.presences i) i.range h
@@ -94,12 +94,12 @@ holding_after_all k h (i ∷ is) = holding_after_all k (holding_with k i h) is
 
 -- the items that are written: a directive's own, or those of the data construct that it ends
 abbrev pub written_by : List Region → ℕ → Directive → Kind → List DataItem
-written_by rs host d kind.EndData = (left_by d (open_region host rs)).items
+written_by rs host d kind.EndData = (subject_left d (open_region host rs)).items
 written_by rs host d k = d.items
 
 -- the device where it acts: its own, or that of the data construct
 abbrev pub device_by : List Region → ℕ → Directive → Kind → ℕ
-device_by rs host d kind.EndData = (left_by d (open_region host rs)).device
+device_by rs host d kind.EndData = (subject_left d (open_region host rs)).device
 device_by rs host d k = d.device
 
 -- the items that leave once more at a directive's end: all of a loop's
@@ -132,7 +132,7 @@ found_fault k i (look.Present e) free = None
 found_fault k i look.Absent free =
     first_fault (
     fault_where (wants_presence k i.clause) NotPresent
-    ∷ fault_where (can_open_by (change_where (asked_by k i) false) && nat_lt free i.range.len) DeviceFull
+    ∷ fault_where (can_open_by (change_where (asked_item k i) false) && nat_lt free i.range.len) DeviceFull
     ∷ []
     )
 
@@ -141,8 +141,8 @@ unfoldable pub limit_fault : ℕ → List Region → ℕ → Directive → ℕ �
 limit_fault accepted rs host d count =
     first_fault (
     fault_where (has_bad_queue d) BadAsync
-    ∷ fault_where (nat_lt MAX_ITEMS count || (waits_on_too_many d.waits || (is_deep d.kind host rs || nat_le MAX_DIRECTIVES accepted))) TooMany
-    ∷ fault_where (is_outside d.kind (open_region host rs)) NoRegion
+    ∷ fault_where (nat_lt MAX_ITEMS count || (waits_on_too_many d.waits || (is_too_deep d.kind host rs || nat_le MAX_DIRECTIVES accepted))) TooMany
+    ∷ fault_where (ends_no_region d.kind (open_region host rs)) NoRegion
     ∷ []
     )
 

@@ -27,7 +27,7 @@ use Rattle.acc_base.specs.Configurations.{lengths_of}
 use Rattle.acc_place.specs.inner.Noting.{awaits_from, ended_range, last_made, last_used, note_found, used_ranges}
 use Rattle.acc_place.specs.inner.Places.{queue_in}
 use Rattle.acc_place.specs.Regions.{regions_on}
-use Rattle.acc_place.specs.Standings.{loop_of, subject_by}
+use Rattle.acc_place.specs.Standings.{loop_in, subject_by}
 use Rattle.acc_place.specs.Targets.{is_alone, queue_by, queues_named}
 use Rattle.acc_place.specs.inner.Judging.{Holding, holding, holding_between, limit_fault, fault_or, first_fault_in, past_fault, all_marked, all_steps, run_in, marked_ops, AllLow, StaysBy}
 
@@ -48,7 +48,7 @@ items_by k host d = (subject_by (lengths_of k.config.now.arrays) k.regions.now h
 -- the faults of its items, and then of its loop
 abbrev pub items_fault : Known → ℕ → Directive → Option Fault
 items_fault k host d =
-    fault_or (first_fault_in k.config.now d.kind (held_by k) (items_by k host d)) (past_fault (loop_of d.kind) (items_by k host d))
+    fault_or (first_fault_in k.config.now d.kind (held_by k) (items_by k host d)) (past_fault (loop_in d.kind) (items_by k host d))
 
 -- its first fault, where its device is there
 abbrev pub fault_by : Known → ℕ → Directive → Option Fault
@@ -62,7 +62,7 @@ steps_by k host d = all_steps d.kind (held_by k) (items_by k host d)
 -- the operations of its batch but for the awaits
 abbrev pub ops_by : Known → ℕ → Directive → List OpLabel
 ops_by k host d =
-    marked_ops (run_in (loop_of d.kind) (items_by k host d) (holding_between d.kind (held_by k) (items_by k host d)).presences)
+    marked_ops (run_in (loop_in d.kind) (items_by k host d) (holding_between d.kind (held_by k) (items_by k host d)).presences)
     (steps_by k host d)
 
 -- how many batches were placed on a queue of a device, if it is named

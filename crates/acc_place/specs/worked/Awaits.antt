@@ -23,7 +23,7 @@ use Rattle.acc_place.specs.Batches.{answer_of}
 use Rattle.acc_place.specs.worked.Directives.{directive, item}
 use Rattle.acc_place.specs.Histories.{standing}
 use Rattle.acc_place.specs.Standings.{Standing, walk_of}
-use Rattle.acc_place.specs.Targets.{queue_of, target_queue}
+use Rattle.acc_place.specs.Targets.{queue_meant, target_queue}
 
 -- two devices of eight cells, one host, an array of eight cells, and one of one
 abbrev pub few_cells : Configuration
@@ -132,10 +132,10 @@ CountsOfWaits =
 -- the host's default, and -2 names queue sync.
 abbrev pub QueuesOfValues : Type 0
 QueuesOfValues =
-    (queue_of (negsuc 0) (pos (VALUES + 1)) ≡ queue_of (negsuc 0) (pos 1))
-    × (queue_of (negsuc 0) (pos 1) ≡ Some 3)
-    × (queue_of (pos 3) (negsuc 0) ≡ Some 5)
-    × (queue_of (negsuc 0) (negsuc 0) ≡ Some 1)
+    (queue_meant (negsuc 0) (pos (VALUES + 1)) ≡ queue_meant (negsuc 0) (pos 1))
+    × (queue_meant (negsuc 0) (pos 1) ≡ Some 3)
+    × (queue_meant (pos 3) (negsuc 0) ≡ Some 5)
+    × (queue_meant (negsuc 0) (negsuc 0) ≡ Some 1)
     × (target_queue (pos 3) Unvalued ≡ Some 5)
     × (target_queue (pos 3) (Value (negsuc 1)) ≡ Some 0)
     × (target_queue (pos 3) (Value (negsuc 2)) ≡ None)

@@ -9,14 +9,14 @@ use Rattle.acc_place.specs.declared.directive.Waits.TheVariants.{Nothing}
 use Rattle.acc_script.specs.declared.head.Head.{Head}
 use Rattle.acc_script.specs.declared.head.Head.TheVariants as head
 use Rattle.acc_script.specs.declared.clause.Clauses.{Clauses}
-use Rattle.acc_script.specs.Clauses.{allows, may_be_async, may_wait}
+use Rattle.acc_script.specs.Clauses.{allows, may_have_async, may_wait}
 
 pub record AreAllowed (h : Head) (items : List DataItem) : Type 0 where
   pub each : list_all (λ (i : DataItem). allows h i.clause) items ≡ true
 
 abbrev pub allows_target : Head → Target → Bool
 allows_target h Plain = true
-allows_target h t = may_be_async h
+allows_target h t = may_have_async h
 
 -- A `wait` names queues by itself.
 abbrev pub allows_waits : Head → Waits → Bool

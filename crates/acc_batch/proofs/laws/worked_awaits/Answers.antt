@@ -5,7 +5,7 @@ use Rattle.acc_base.proofs.Members.{no_member, member_first, member_rest, member
 use Rattle.acc_base.specs.declared.ids.TheConstants.{QUEUES}
 use Rattle.acc_batch.specs.declared.label.OpLabel.TheVariants.{Make, CopyIn, Release, Await}
 use Rattle.acc_batch.specs.declared.label.Label.{Label}
-use Rattle.acc_batch.specs.Awaits.{is_await, IsOrdered, IsNumbered, StandsBehind, one_queue, awaited, uses_made, releases_used}
+use Rattle.acc_batch.specs.Awaits.{is_await, IsOrdered, AreNumberedLabels, StandsBehind, one_queue, awaited, uses_made, releases_used}
 use Rattle.acc_batch.specs.worked.Awaits.{queue, cells, first_batch, maker, user}
 use Rattle.acc_batch.proofs.OrderedBatches.{label_ordered}
 use Rattle.acc_batch.proofs.laws.worked_awaits.Goals as goal
@@ -25,7 +25,7 @@ returns-clause-ordered c = (maker_ordered, (label_ordered false [] (queue 4) (ma
     maker_ordered : IsOrdered [] maker
     maker_ordered = label_ordered false [] (queue 2) [] 0 0 (Make cells 1 ∷ CopyIn cells 1 ∷ []) (λ m h. absurd (no_member m h)) tt own_make
 
-    numbered : IsNumbered (maker ∷ [])
+    numbered : AreNumberedLabels (maker ∷ [])
     numbered m h = subst (λ (l : Label). (0 < l.number) × (l.at.queue < QUEUES)) (member_one m maker h) (omega arith, omega arith)
 
 -- a batch that awaits nothing stands only behind those of its queue

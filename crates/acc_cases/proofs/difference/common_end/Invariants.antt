@@ -1,12 +1,12 @@
 use Rattle.std.proofs.Common.{◌≡◌, ◌≤◌, ◌-◌, length, drop}
-use Rattle.acc_cases.specs.Differences.{joined}
+use Rattle.acc_cases.specs.Differences.{joined_lines}
 use Rattle.acc_cases.proofs.difference.common_end.Given as goal
 
 abbrev pub invariant-loop-common : goal.invariant-loop-common
 invariant-loop-common l = record {
   wanted : l.common ≤ length l.wanted;
   came : l.common ≤ length l.came;
-  common : joined (drop (length l.wanted - l.common) l.wanted) ≡ joined (drop (length l.came - l.common) l.came);
+  common : joined_lines (drop (length l.wanted - l.common) l.wanted) ≡ joined_lines (drop (length l.came - l.common) l.came);
 }
 
 abbrev pub decreases-loop-common : goal.decreases-loop-common

@@ -1,6 +1,6 @@
 use Rattle.std.proofs.Common.{◌≡◌, ◌-◌, length, take, ap, ◌∙◌, arith}
 use Rattle.std.proofs.lemmas.List.{take_all}
-use Rattle.acc_check.specs.Languages.{goes_on}
+use Rattle.acc_check.specs.Languages.{may_go_on}
 use Rattle.acc_check.specs.Places.{end_of}
 use Rattle.acc_check.proofs.Ends.{nothing_goes_on}
 use Rattle.acc_check.proofs.place.number_of_stop.Goals as goal
@@ -13,5 +13,5 @@ loop-low-init c =
       ordered = omega arith;
       there = omega (arith, c.requires.some);
       before = nothing_goes_on c.args.language;
-      behind = ap (goes_on c.args.language) whole ∙ c.requires.stops;
+      behind = ap (may_go_on c.args.language) whole ∙ c.requires.stops;
     }

@@ -1,10 +1,10 @@
 use Rattle.std.proofs.Common.{◌≡◌, ◌+◌, [], arith, length, map, refl, reverse, subst, take}
 use Rattle.std.proofs.lemmas.List.{length-map, length-reverse}
-use Rattle.acc_core.specs.Legality.{Legal}
+use Rattle.acc_core.specs.Legality.{IsLegalState}
 use Rattle.acc_core.specs.Worlds.{first_state}
 use Rattle.acc_report.proofs.JoinedPuts.{puts_then}
 use Rattle.acc_explore.specs.Arrivals.{events_to}
-use Rattle.acc_explore.specs.Origins.{setting_of}
+use Rattle.acc_explore.specs.Origins.{setting_from}
 use Rattle.acc_explore.specs.inner.Leaves.{HaveLeaves}
 use Rattle.acc_explore.proofs.Explored.{legal_after}
 use Rattle.acc_explore.proofs.ToldPrefixes.{are_prefixes, first_listed}
@@ -13,7 +13,7 @@ use Rattle.acc_explore.proofs.prefixes.tell_prefixes.Goals as goal
 pub returns-in-Err-tell_each-clause-begun : goal.returns-in-Err-tell_each-clause-begun
 returns-in-Err-tell_each-clause-begun g c =
     let o = c.args.origin.now in
-    let x = setting_of o in
+    let x = setting_from o in
     let found = c.in-Ok.found in
     let arrivals = reverse found.arrivals.items in
     let numbers = c.push_leaves.new.numbers.items in
@@ -29,7 +29,7 @@ returns-in-Err-tell_each-clause-begun g c =
 pub returns-clause-told : goal.returns-clause-told
 returns-clause-told g c =
     let o = c.args.origin.now in
-    let x = setting_of o in
+    let x = setting_from o in
     let found = c.in-Ok.found in
     let arrivals = reverse found.arrivals.items in
     let numbers = c.push_leaves.new.numbers.items in
@@ -39,7 +39,7 @@ returns-clause-told g c =
     let count : c.len.result + 1 ≡ length arrivals + 1 = omega (arith, c.len.ensures, length-reverse found.arrivals.items) in
     let h = subst (λ n. HaveLeaves found.followed n found.ends.items numbers) count c.in-Ok-push_leaves.ensures.pushed in
     let begun = first_state o.config.now o.script.now.programs.items in
-    let legal : Legal begun = (c.runs_are_legal.ensures o.config.now o.script.now.programs.items [] [] begun c.requires.numbered refl).0 in
+    let legal : IsLegalState begun = (c.runs_are_legal.ensures o.config.now o.script.now.programs.items [] [] begun c.requires.numbered refl).0 in
     record {
       prefixes = map (events_to arrivals) numbers;
       are = are_prefixes x o.most c.args.depth arrivals found.ends.items found.followed found.whole c.in-Ok.ensures.found numbers h (legal_after o.events.now begun legal);

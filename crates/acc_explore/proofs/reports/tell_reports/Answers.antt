@@ -1,9 +1,9 @@
 use Rattle.std.proofs.Common.{◌-◌, ◌^◌, [], arith, refl, reverse, take}
 use Rattle.std.proofs.lemmas.List.{length-reverse}
-use Rattle.acc_core.specs.Legality.{Legal}
+use Rattle.acc_core.specs.Legality.{IsLegalState}
 use Rattle.acc_core.specs.Worlds.{first_state}
 use Rattle.acc_report.proofs.JoinedPuts.{puts_then}
-use Rattle.acc_explore.specs.Origins.{setting_of}
+use Rattle.acc_explore.specs.Origins.{setting_from}
 use Rattle.acc_explore.specs.inner.Telling.{told_of}
 use Rattle.acc_explore.proofs.Explored.{legal_after}
 use Rattle.acc_explore.proofs.ToldEndings.{are_endings, are_some}
@@ -12,7 +12,7 @@ use Rattle.acc_explore.proofs.reports.tell_reports.Goals as goal
 pub returns-in-Err-tell_ends-clause-begun : goal.returns-in-Err-tell_ends-clause-begun
 returns-in-Err-tell_ends-clause-begun g c =
     let o = c.args.origin.now in
-    let x = setting_of o in
+    let x = setting_from o in
     let found = c.in-Ok.found in
     let arrivals = reverse found.arrivals.items in
     let s = c.in-Ok.ensures.found in
@@ -23,13 +23,13 @@ returns-in-Err-tell_ends-clause-begun g c =
 pub returns-clause-told : goal.returns-clause-told
 returns-clause-told g c =
     let o = c.args.origin.now in
-    let x = setting_of o in
+    let x = setting_from o in
     let found = c.in-Ok.found in
     let arrivals = reverse found.arrivals.items in
     let s = c.in-Ok.ensures.found in
     let t = rw (c.as_slice.ensures.value, c.as_slice-2.ensures.value) at c.in-Ok-tell_ends.ensures.told in
     let begun = first_state o.config.now o.script.now.programs.items in
-    let legal : Legal begun = (c.runs_are_legal.ensures o.config.now o.script.now.programs.items [] [] begun c.requires.numbered refl).0 in
+    let legal : IsLegalState begun = (c.runs_are_legal.ensures o.config.now o.script.now.programs.items [] [] begun c.requires.numbered refl).0 in
     let count = length-reverse found.arrivals.items in
     record {
       endings = told_of x arrivals found.ends.items;

@@ -11,7 +11,7 @@ use Rattle.acc_explore.specs.declared.search.Course.TheVariants.{Full}
 use Rattle.acc_explore.specs.declared.search.Task.{Task}
 use Rattle.acc_explore.specs.Explorations.{FollowsAll, Found, HoldsAlike, IsEnd}
 use Rattle.acc_explore.specs.inner.Searching.{AreNear, IsFollowed, Takes, events_in_turn, start_of}
-use Rattle.acc_explore.specs.Runs.{events_of}
+use Rattle.acc_explore.specs.Runs.{open_events}
 use Rattle.acc_explore.proofs.FollowedEvents.{goes_on, still_busy, still_here, still_idle, still_there}
 use Rattle.acc_explore.proofs.SearchEvents.{IsIdleAt, each_listed, ends_idle, so_of_every}
 use Rattle.acc_explore.proofs.SearchSteps.{drops, goes_past, goes_past_end, near_still}
@@ -82,8 +82,8 @@ loop-event-preserved c =
     let inv = c.loop-event.invariant in
     let low : n ≤ length old = omega (arith, inv.there, length-reverse c.loop-event.found.arrivals.items) in
     let room : course ≡ Full → ⊥ = λ is. let yes : c.is_full.result ≡ true = c.is_full.ensures.1 is in let wrong : true ≡ false = sym yes ∙ c.if-is_full.false in cc in
-    let listed : Contains (events_of t.closing start) e =
-    subst (Contains (events_of t.closing start)) (sym c.event-item.is)
+    let listed : Contains (open_events t.closing start) e =
+    subst (Contains (open_events t.closing start)) (sym c.event-item.is)
     (each_listed t.closing t.config.now t.programs.now t.before.now c.requires.hosts events c.requires.events i e c.loop-event-test.true) in
     let still : found_at start new n ≡ found_at start old n = still_here t.most start old new n w e course takes low in
     let further : take (i + 1) events ≡ done ++ e ∷ [] = take_more events i e c.loop-event-test.true ∙ ap (λ x. done ++ x ∷ []) (sym c.event-item.is) in

@@ -1,7 +1,7 @@
 use Rattle.std.proofs.Common.{◌≡◌, ◌+◌, true, false, ap, ◌∙◌, arith}
 use Rattle.acc_present.specs.Drafts.{drafted}
 use Rattle.acc_base.specs.Configurations.{has_range}
-use Rattle.acc_place.specs.Standings.{asked_by, change_where}
+use Rattle.acc_place.specs.Standings.{asked_item, change_where}
 use Rattle.acc_place.specs.inner.Judging.{change_in, holding, marked_in, presences_by}
 use Rattle.acc_place.proofs.FaultIn.{fault-outside, found_is, found_present, fine_item}
 use Rattle.acc_place.proofs.WalkItem.{can_mark}
@@ -25,7 +25,7 @@ mark-requires-clause-can c =
     c.requires.draft c.requires.capacity c.capacity.ensures c.used_cells.ensures c.found_fault.ensures in
     let fine = fine_item config k (drafted t d) item (fault ∙ c.in-None.is) in
     let change : c.change_where-change.result ≡ change_in k (drafted t d) item =
-    c.change_where-change.ensures ∙ ap (change_where (asked_by k item)) (c.is_found.ensures ∙ found_present c.look-found.result (drafted t d) item.range c.look-found.ensures) in
+    c.change_where-change.ensures ∙ ap (change_where (asked_item k item)) (c.is_found.ensures ∙ found_present c.look-found.result (drafted t d) item.range c.look-found.ensures) in
     rw (c.requires.capacity, change) (can_mark (change_in k (drafted t d) item) (drafted t d) item.range config.capacity 1 fine c.requires.entered c.requires.low (omega arith))
 
 pub returns-in-Some-clause-refused : goal.returns-in-Some-clause-refused
@@ -52,7 +52,7 @@ returns-in-None-clause-marked c =
     let item = c.args.item.now in
     let ps = drafted c.args.known.now.table.now c.args.draft.now in
     let change : c.change_where-change.result ≡ change_in k ps item =
-    c.change_where-change.ensures ∙ ap (change_where (asked_by k item)) (c.is_found.ensures ∙ found_present c.look-found.result ps item.range c.look-found.ensures) in
+    c.change_where-change.ensures ∙ ap (change_where (asked_item k item)) (c.is_found.ensures ∙ found_present c.look-found.result ps item.range c.look-found.ensures) in
     c.mark.ensures.result ∙ ap (λ made. marked_in made (holding ps c.args.opened) item) change
 
 pub returns-in-None-clause-drafted : goal.returns-in-None-clause-drafted
@@ -61,5 +61,5 @@ returns-in-None-clause-drafted c =
     let item = c.args.item.now in
     let ps = drafted c.args.known.now.table.now c.args.draft.now in
     let change : c.change_where-change.result ≡ change_in k ps item =
-    c.change_where-change.ensures ∙ ap (change_where (asked_by k item)) (c.is_found.ensures ∙ found_present c.look-found.result ps item.range c.look-found.ensures) in
+    c.change_where-change.ensures ∙ ap (change_where (asked_item k item)) (c.is_found.ensures ∙ found_present c.look-found.result ps item.range c.look-found.ensures) in
     c.mark.ensures.drafted ∙ ap (λ made. presences_by made item.range (c.args.opened + 1) ps) change

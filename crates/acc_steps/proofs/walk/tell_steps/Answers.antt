@@ -1,6 +1,6 @@
 use Rattle.std.proofs.Common.{◌≡◌, ◌+◌, arith}
 use Rattle.acc_report.specs.Puts.{sink}
-use Rattle.acc_steps.specs.Lines.{words_of}
+use Rattle.acc_steps.specs.Lines.{words_told}
 use Rattle.acc_steps.proofs.ToldSteps.{tells_next}
 use Rattle.acc_steps.proofs.walk.tell_steps.Goals as goal
 
@@ -14,6 +14,6 @@ loop-next-preserved g c =
     let step = rw c.next-item.is at c.in_ok-tell_step.ensures.told in
     record {
       number = number;
-      told = tells_next (words_of c.args.telling.now) (l.number + 1) l.next-index c.args.events.now _ c.args.world.now l.world c.tell_step.new.world before now after
+      told = tells_next (words_told c.args.telling.now) (l.number + 1) l.next-index c.args.events.now _ c.args.world.now l.world c.tell_step.new.world before now after
           c.loop-next-test.true number l.invariant.told step;
     }

@@ -2,16 +2,16 @@ use Rattle.std.proofs.Common.{refl}
 use Rattle.acc_script.specs.Arrays.{value_of, value_turn_behind, value_turn, size_at, initial_values_at, fresh_name, array_at, array_turn, array_of}
 use Rattle.acc_script.specs.Clauses.{target_at, ranges_at, clause_of, clause_turn}
 use Rattle.acc_script.specs.Directives.{head_of, act_behind, directive_at}
-use Rattle.acc_script.specs.Queues.{queue_of, queue_behind, queue_turn, waits_at}
+use Rattle.acc_script.specs.Queues.{queue_of, queue_behind, queues_turn, waits_at}
 use Rattle.acc_script.specs.Ranges.{bound_at, bounds_at, range_behind, range_of, range_at, item_behind, item_turn}
 use Rattle.acc_script.specs.Routines.{range_argument, queue_argument, two_queues, number_argument, no_argument, data_call, other_call, call_of, question_of, shown_of, print_at}
 use Rattle.acc_script.specs.Scripts.{host_at, host_turn, script_at, script_of}
-use Rattle.acc_script.specs.Statements.{value_at, cell_at, write_at, simple_of, act_of, statement_turn}
+use Rattle.acc_script.specs.Statements.{signed_number_at, cell_at, write_at, simple_of, act_of, statement_turn}
 use Rattle.acc_token.specs.Tokens.{gap_at, number_len, token_len, token_at, exactly, expect, number_of, name_of}
 use Rattle.test_grammar.proofs.worked.worked_script_faults.Goals as goal
 
 pub returns-clause-faults : goal.returns-clause-faults
-unfolding value_of value_turn_behind value_turn size_at initial_values_at fresh_name array_at array_turn array_of bound_at bounds_at range_behind range_of range_at item_behind item_turn queue_of queue_behind queue_turn waits_at target_at ranges_at clause_of clause_turn head_of act_behind directive_at range_argument queue_argument two_queues number_argument no_argument data_call other_call call_of question_of shown_of print_at value_at cell_at write_at simple_of act_of statement_turn host_at host_turn script_at script_of gap_at number_len token_len token_at exactly expect number_of name_of
+unfolding value_of value_turn_behind value_turn size_at initial_values_at fresh_name array_at array_turn array_of bound_at bounds_at range_behind range_of range_at item_behind item_turn queue_of queue_behind queues_turn waits_at target_at ranges_at clause_of clause_turn head_of act_behind directive_at range_argument queue_argument two_queues number_argument no_argument data_call other_call call_of question_of shown_of print_at signed_number_at cell_at write_at simple_of act_of statement_turn host_at host_turn script_at script_of gap_at number_len token_len token_at exactly expect number_of name_of
 returns-clause-faults c = record {
   nothing = refl;
   cut_off = refl;
@@ -40,7 +40,7 @@ returns-clause-faults c = record {
 }
 
 pub returns-clause-directives : goal.returns-clause-directives
-unfolding value_of value_turn_behind value_turn size_at initial_values_at fresh_name array_at array_turn array_of bound_at bounds_at range_behind range_of range_at item_behind item_turn queue_of queue_behind queue_turn waits_at target_at ranges_at clause_of clause_turn head_of act_behind directive_at range_argument queue_argument two_queues number_argument no_argument data_call other_call call_of question_of shown_of print_at value_at cell_at write_at simple_of act_of statement_turn host_at host_turn script_at script_of gap_at number_len token_len token_at exactly expect number_of name_of
+unfolding value_of value_turn_behind value_turn size_at initial_values_at fresh_name array_at array_turn array_of bound_at bounds_at range_behind range_of range_at item_behind item_turn queue_of queue_behind queues_turn waits_at target_at ranges_at clause_of clause_turn head_of act_behind directive_at range_argument queue_argument two_queues number_argument no_argument data_call other_call call_of question_of shown_of print_at signed_number_at cell_at write_at simple_of act_of statement_turn host_at host_turn script_at script_of gap_at number_len token_len token_at exactly expect number_of name_of
 returns-clause-directives c = record {
   hash_alone = refl;
   other_pragma = refl;
@@ -76,7 +76,7 @@ returns-clause-directives c = record {
 }
 
 pub returns-clause-routines : goal.returns-clause-routines
-unfolding value_of value_turn_behind value_turn size_at initial_values_at fresh_name array_at array_turn array_of bound_at bounds_at range_behind range_of range_at item_behind item_turn queue_of queue_behind queue_turn waits_at target_at ranges_at clause_of clause_turn head_of act_behind directive_at range_argument queue_argument two_queues number_argument no_argument data_call other_call call_of question_of shown_of print_at value_at cell_at write_at simple_of act_of statement_turn host_at host_turn script_at script_of gap_at number_len token_len token_at exactly expect number_of name_of
+unfolding value_of value_turn_behind value_turn size_at initial_values_at fresh_name array_at array_turn array_of bound_at bounds_at range_behind range_of range_at item_behind item_turn queue_of queue_behind queues_turn waits_at target_at ranges_at clause_of clause_turn head_of act_behind directive_at range_argument queue_argument two_queues number_argument no_argument data_call other_call call_of question_of shown_of print_at signed_number_at cell_at write_at simple_of act_of statement_turn host_at host_turn script_at script_of gap_at number_len token_len token_at exactly expect number_of name_of
 returns-clause-routines c = record {
   other_routine = refl;
   call_in_print = refl;

@@ -2,24 +2,24 @@ use Rattle.std.proofs.Common.{refl}
 use Rattle.acc_script.specs.Arrays.{value_of, value_turn_behind, value_turn, size_at, initial_values_at, fresh_name, array_at, array_turn, array_of}
 use Rattle.acc_script.specs.Clauses.{target_at, ranges_at, clause_of, clause_turn}
 use Rattle.acc_script.specs.Directives.{head_of, act_behind, directive_at}
-use Rattle.acc_script.specs.Queues.{queue_of, queue_behind, queue_turn, waits_at}
+use Rattle.acc_script.specs.Queues.{queue_of, queue_behind, queues_turn, waits_at}
 use Rattle.acc_script.specs.Ranges.{bound_at, bounds_at, range_behind, range_of, range_at, item_behind, item_turn}
 use Rattle.acc_script.specs.Routines.{range_argument, queue_argument, two_queues, number_argument, no_argument, data_call, other_call, call_of, question_of, shown_of, print_at}
 use Rattle.acc_script.specs.Scripts.{host_at, host_turn, script_at, script_of}
-use Rattle.acc_script.specs.Statements.{value_at, cell_at, write_at, simple_of, act_of, statement_turn}
+use Rattle.acc_script.specs.Statements.{signed_number_at, cell_at, write_at, simple_of, act_of, statement_turn}
 use Rattle.acc_token.specs.Tokens.{gap_at, number_len, token_len, token_at, exactly, expect, number_of, name_of}
 use Rattle.test_grammar.proofs.worked.worked_scripts.Goals as goal
 
 pub returns-clause-stale_copy : goal.returns-clause-stale_copy
-unfolding value_of value_turn_behind value_turn size_at initial_values_at fresh_name array_at array_turn array_of bound_at bounds_at range_behind range_of range_at item_behind item_turn queue_of queue_behind queue_turn waits_at target_at ranges_at clause_of clause_turn head_of act_behind directive_at range_argument queue_argument two_queues number_argument no_argument data_call other_call call_of question_of shown_of print_at value_at cell_at write_at simple_of act_of statement_turn host_at host_turn script_at script_of gap_at number_len token_len token_at exactly expect number_of name_of
+unfolding value_of value_turn_behind value_turn size_at initial_values_at fresh_name array_at array_turn array_of bound_at bounds_at range_behind range_of range_at item_behind item_turn queue_of queue_behind queues_turn waits_at target_at ranges_at clause_of clause_turn head_of act_behind directive_at range_argument queue_argument two_queues number_argument no_argument data_call other_call call_of question_of shown_of print_at signed_number_at cell_at write_at simple_of act_of statement_turn host_at host_turn script_at script_of gap_at number_len token_len token_at exactly expect number_of name_of
 returns-clause-stale_copy c = refl
 
 pub returns-clause-ranges : goal.returns-clause-ranges
-unfolding value_of value_turn_behind value_turn size_at initial_values_at fresh_name array_at array_turn array_of bound_at bounds_at range_behind range_of range_at item_behind item_turn queue_of queue_behind queue_turn waits_at target_at ranges_at clause_of clause_turn head_of act_behind directive_at range_argument queue_argument two_queues number_argument no_argument data_call other_call call_of question_of shown_of print_at value_at cell_at write_at simple_of act_of statement_turn host_at host_turn script_at script_of gap_at number_len token_len token_at exactly expect number_of name_of
+unfolding value_of value_turn_behind value_turn size_at initial_values_at fresh_name array_at array_turn array_of bound_at bounds_at range_behind range_of range_at item_behind item_turn queue_of queue_behind queues_turn waits_at target_at ranges_at clause_of clause_turn head_of act_behind directive_at range_argument queue_argument two_queues number_argument no_argument data_call other_call call_of question_of shown_of print_at signed_number_at cell_at write_at simple_of act_of statement_turn host_at host_turn script_at script_of gap_at number_len token_len token_at exactly expect number_of name_of
 returns-clause-ranges c = refl
 
 pub returns-clause-clause_names : goal.returns-clause-clause_names
-unfolding value_of value_turn_behind value_turn size_at initial_values_at fresh_name array_at array_turn array_of bound_at bounds_at range_behind range_of range_at item_behind item_turn queue_of queue_behind queue_turn waits_at target_at ranges_at clause_of clause_turn head_of act_behind directive_at range_argument queue_argument two_queues number_argument no_argument data_call other_call call_of question_of shown_of print_at value_at cell_at write_at simple_of act_of statement_turn host_at host_turn script_at script_of gap_at number_len token_len token_at exactly expect number_of name_of
+unfolding value_of value_turn_behind value_turn size_at initial_values_at fresh_name array_at array_turn array_of bound_at bounds_at range_behind range_of range_at item_behind item_turn queue_of queue_behind queues_turn waits_at target_at ranges_at clause_of clause_turn head_of act_behind directive_at range_argument queue_argument two_queues number_argument no_argument data_call other_call call_of question_of shown_of print_at signed_number_at cell_at write_at simple_of act_of statement_turn host_at host_turn script_at script_of gap_at number_len token_len token_at exactly expect number_of name_of
 returns-clause-clause_names c = record {
   copy = refl;
   copyin = refl;
@@ -32,7 +32,7 @@ returns-clause-clause_names c = record {
 }
 
 pub returns-clause-async_forms : goal.returns-clause-async_forms
-unfolding value_of value_turn_behind value_turn size_at initial_values_at fresh_name array_at array_turn array_of bound_at bounds_at range_behind range_of range_at item_behind item_turn queue_of queue_behind queue_turn waits_at target_at ranges_at clause_of clause_turn head_of act_behind directive_at range_argument queue_argument two_queues number_argument no_argument data_call other_call call_of question_of shown_of print_at value_at cell_at write_at simple_of act_of statement_turn host_at host_turn script_at script_of gap_at number_len token_len token_at exactly expect number_of name_of
+unfolding value_of value_turn_behind value_turn size_at initial_values_at fresh_name array_at array_turn array_of bound_at bounds_at range_behind range_of range_at item_behind item_turn queue_of queue_behind queues_turn waits_at target_at ranges_at clause_of clause_turn head_of act_behind directive_at range_argument queue_argument two_queues number_argument no_argument data_call other_call call_of question_of shown_of print_at signed_number_at cell_at write_at simple_of act_of statement_turn host_at host_turn script_at script_of gap_at number_len token_len token_at exactly expect number_of name_of
 returns-clause-async_forms c = record {
   values = refl;
   bare = refl;
@@ -44,7 +44,7 @@ returns-clause-async_forms c = record {
 }
 
 pub returns-clause-routines : goal.returns-clause-routines
-unfolding value_of value_turn_behind value_turn size_at initial_values_at fresh_name array_at array_turn array_of bound_at bounds_at range_behind range_of range_at item_behind item_turn queue_of queue_behind queue_turn waits_at target_at ranges_at clause_of clause_turn head_of act_behind directive_at range_argument queue_argument two_queues number_argument no_argument data_call other_call call_of question_of shown_of print_at value_at cell_at write_at simple_of act_of statement_turn host_at host_turn script_at script_of gap_at number_len token_len token_at exactly expect number_of name_of
+unfolding value_of value_turn_behind value_turn size_at initial_values_at fresh_name array_at array_turn array_of bound_at bounds_at range_behind range_of range_at item_behind item_turn queue_of queue_behind queues_turn waits_at target_at ranges_at clause_of clause_turn head_of act_behind directive_at range_argument queue_argument two_queues number_argument no_argument data_call other_call call_of question_of shown_of print_at signed_number_at cell_at write_at simple_of act_of statement_turn host_at host_turn script_at script_of gap_at number_len token_len token_at exactly expect number_of name_of
 returns-clause-routines c = record {
   copyin = refl;
   create = refl;
@@ -62,7 +62,7 @@ returns-clause-routines c = record {
 }
 
 pub returns-clause-questions : goal.returns-clause-questions
-unfolding value_of value_turn_behind value_turn size_at initial_values_at fresh_name array_at array_turn array_of bound_at bounds_at range_behind range_of range_at item_behind item_turn queue_of queue_behind queue_turn waits_at target_at ranges_at clause_of clause_turn head_of act_behind directive_at range_argument queue_argument two_queues number_argument no_argument data_call other_call call_of question_of shown_of print_at value_at cell_at write_at simple_of act_of statement_turn host_at host_turn script_at script_of gap_at number_len token_len token_at exactly expect number_of name_of
+unfolding value_of value_turn_behind value_turn size_at initial_values_at fresh_name array_at array_turn array_of bound_at bounds_at range_behind range_of range_at item_behind item_turn queue_of queue_behind queues_turn waits_at target_at ranges_at clause_of clause_turn head_of act_behind directive_at range_argument queue_argument two_queues number_argument no_argument data_call other_call call_of question_of shown_of print_at signed_number_at cell_at write_at simple_of act_of statement_turn host_at host_turn script_at script_of gap_at number_len token_len token_at exactly expect number_of name_of
 returns-clause-questions c = record {
   range = refl;
   is_present = refl;
@@ -73,7 +73,7 @@ returns-clause-questions c = record {
 }
 
 pub returns-clause-constructs : goal.returns-clause-constructs
-unfolding value_of value_turn_behind value_turn size_at initial_values_at fresh_name array_at array_turn array_of bound_at bounds_at range_behind range_of range_at item_behind item_turn queue_of queue_behind queue_turn waits_at target_at ranges_at clause_of clause_turn head_of act_behind directive_at range_argument queue_argument two_queues number_argument no_argument data_call other_call call_of question_of shown_of print_at value_at cell_at write_at simple_of act_of statement_turn host_at host_turn script_at script_of gap_at number_len token_len token_at exactly expect number_of name_of
+unfolding value_of value_turn_behind value_turn size_at initial_values_at fresh_name array_at array_turn array_of bound_at bounds_at range_behind range_of range_at item_behind item_turn queue_of queue_behind queues_turn waits_at target_at ranges_at clause_of clause_turn head_of act_behind directive_at range_argument queue_argument two_queues number_argument no_argument data_call other_call call_of question_of shown_of print_at signed_number_at cell_at write_at simple_of act_of statement_turn host_at host_turn script_at script_of gap_at number_len token_len token_at exactly expect number_of name_of
 returns-clause-constructs c = record {
   nested = refl;
   hosts = refl;

@@ -1,7 +1,7 @@
 use Rattle.std.proofs.Common.{◌≡◌, ◌+◌, ◌<◌, length, sym, ap, ◌∙◌, arith}
 use Rattle.acc_base.specs.Configurations.{IsWithinLimits}
 use Rattle.acc_batch.proofs.Seats.{seat_found}
-use Rattle.acc_place.specs.Closing.{handed_back, handed_out, IsOut}
+use Rattle.acc_place.specs.Closing.{handed_back, handed_out, IsCloseOut}
 use Rattle.acc_place.specs.Histories.{CanClose, IsQueue}
 use Rattle.acc_core.specs.Machine.{standing_of}
 use Rattle.acc_core.specs.inner.Queues.{QueueView, held_with, no_queue, queue_in}
@@ -22,7 +22,7 @@ invariant_of-self-in-Some c =
     let k = c.keeps.ensures.order in
     let q = c.self.invariant.0.parts in
     let s = seated w i.work i.queues.items at q k there.0 there.1 in
-    let out : IsOut (handed_out i.place at) at = rw c.close_batch.ensures.place at c.in-Some.ensures.out in
+    let out : IsCloseOut (handed_out i.place at) at = rw c.close_batch.ensures.place at c.in-Some.ensures.out in
     let b = c.in-Some.batch in
     let given = close_some i.place at b (sym c.in-Some.is ∙ c.close_batch.ensures.batch) in
     let queue = seat_found no_queue i.queues.items at c.index.result.now s.queue s.held (rw c.seat-seat.ensures at c.index.ensures) in
@@ -48,7 +48,7 @@ returns-else-room-len-clause-state c =
     let k = c.keeps.ensures.order in
     let q = c.self.invariant.0.parts in
     let s = seated w i.work i.queues.items at q k there.0 there.1 in
-    let out : IsOut (handed_out i.place at) at = rw c.close_batch.ensures.place at c.in-Some.ensures.out in
+    let out : IsCloseOut (handed_out i.place at) at = rw c.close_batch.ensures.place at c.in-Some.ensures.out in
     let b = c.in-Some.batch in
     let given = close_some i.place at b (sym c.in-Some.is ∙ c.close_batch.ensures.batch) in
     let queue = seat_found no_queue i.queues.items at c.index.result.now s.queue s.held (rw c.seat-seat.ensures at c.index.ensures) in
@@ -80,7 +80,7 @@ returns-then-room-len-clause-state c =
     let there : IsQueue w.config at = rw (← c.self.view_is) at c.requires.there in
     let q = c.self.invariant.0.parts in
     let s = seated w i.work i.queues.items at q c.keeps.ensures.order there.0 there.1 in
-    let out : IsOut (handed_out i.place at) at = rw c.close_batch.ensures.place at c.in-Some.ensures.out in
+    let out : IsCloseOut (handed_out i.place at) at = rw c.close_batch.ensures.place at c.in-Some.ensures.out in
     let given = close_some i.place at c.in-Some.batch (sym c.in-Some.is ∙ c.close_batch.ensures.batch) in
     let same : c.close_back.new.self ≡ i.place = c.close_back.ensures ∙ (ap (λ p. handed_back p at) c.close_batch.ensures.place ∙ handed_both i.place at given.0) in
     let queue = seat_found no_queue i.queues.items at c.index.result.now s.queue s.held (rw c.seat-seat.ensures at c.index.ensures) in

@@ -1,7 +1,7 @@
 use Rattle.std.proofs.Common.{◌≡◌, ℕ, ◌<◌, List, true, length, get_or, ◌∙◌, ap, sym, subst}
 use Rattle.std.specs.Prelude.{ℤ, pos, ◌+ℤ◌}
-use Rattle.acc_kernel.specs.Faults.{IsWithinLimits}
-use Rattle.acc_kernel.specs.Jobs.{Use, Computation, AreRows, no_use, computed, has_cell, is_used, read_uses, written_uses}
+use Rattle.acc_kernel.specs.Faults.{IsLoopWithinLimits}
+use Rattle.acc_kernel.specs.Jobs.{Use, Computation, AreRows, no_use, computed, uses_have, is_used, read_uses, written_uses}
 use Rattle.acc_kernel.specs.Kernels.{Loop, Reaches, value_after}
 use Rattle.acc_kernel.specs.inner.JobViews.{cell_in_either}
 use Rattle.acc_kernel.proofs.JobValues.{computes}

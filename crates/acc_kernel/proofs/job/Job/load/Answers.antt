@@ -1,5 +1,5 @@
 use Rattle.std.proofs.Common.{◌≡◌, List, true, subst}
-use Rattle.acc_kernel.specs.Jobs.{Use, has_cell}
+use Rattle.acc_kernel.specs.Jobs.{Use, uses_have}
 use Rattle.acc_kernel.proofs.ReadAndWritten.{has_if_read}
 use Rattle.acc_kernel.proofs.job.Job.load.Goals as goal
 
@@ -9,5 +9,5 @@ load-requires g c =
     let uses = c.self.inside.uses in
     record {
       has = λ array cell has.
-          (rw (← c.self.view_is) at c.requires) array cell (has_if_read k uses array cell c.self.invariant.0 (subst (λ (us : List Use). has_cell us array cell ≡ true) c.self.invariant.2 has));
+          (rw (← c.self.view_is) at c.requires) array cell (has_if_read k uses array cell c.self.invariant.0 (subst (λ (us : List Use). uses_have us array cell ≡ true) c.self.invariant.2 has));
     }

@@ -7,7 +7,7 @@ use Rattle.std.specs.Int.Signed.{mag}
 use Rattle.std.proofs.Math.Facts.{sfits_lit}
 use Rattle.std.proofs.lemmas.Bool.{lt-ltb}
 use mir.Syntax.{w64}
-use Rattle.acc_kernel.specs.Jobs.{Use, no_use, has_cell}
+use Rattle.acc_kernel.specs.Jobs.{Use, no_use, uses_have}
 use Rattle.acc_kernel.specs.inner.RowTables.{RowsView}
 use Rattle.acc_kernel.proofs.CellIn.{spot_of, read_one}
 use Rattle.acc_kernel.proofs.rows.RowsWindow.get.Goals as goal
@@ -16,7 +16,7 @@ pub index-requires : goal.index-requires
 index-requires c =
     let s = spot_of c.self.inside.uses.items c.self.inside.places.items c.self.inside.rows.items c.args.array c.args.cell c.from.result c.index-place.result.now
     c.self.invariant c.from.ensures c.ranges.array.fits c.index-place.ensures
-    (subst (λ (v : RowsView). IsTrue (has_cell v.uses c.args.array c.args.cell)) (sym c.self.view_is) c.requires) in
+    (subst (λ (v : RowsView). IsTrue (uses_have v.uses c.args.array c.args.cell)) (sym c.self.view_is) c.requires) in
     let there = s.there in
     omega arith
 
@@ -24,7 +24,7 @@ pub index-requires-2 : goal.index-requires-2
 index-requires-2 c =
     let s = spot_of c.self.inside.uses.items c.self.inside.places.items c.self.inside.rows.items c.args.array c.args.cell c.from.result c.index-place.result.now
     c.self.invariant c.from.ensures c.ranges.array.fits c.index-place.ensures
-    (subst (λ (v : RowsView). IsTrue (has_cell v.uses c.args.array c.args.cell)) (sym c.self.view_is) c.requires) in
+    (subst (λ (v : RowsView). IsTrue (uses_have v.uses c.args.array c.args.cell)) (sym c.self.view_is) c.requires) in
     let here = s.here in
     omega arith
 
@@ -32,7 +32,7 @@ pub distance-requires : goal.distance-requires
 distance-requires c =
     let s = spot_of c.self.inside.uses.items c.self.inside.places.items c.self.inside.rows.items c.args.array c.args.cell c.from.result c.index-place.result.now
     c.self.invariant c.from.ensures c.ranges.array.fits c.index-place.ensures
-    (subst (λ (v : RowsView). IsTrue (has_cell v.uses c.args.array c.args.cell)) (sym c.self.view_is) c.requires) in
+    (subst (λ (v : RowsView). IsTrue (uses_have v.uses c.args.array c.args.cell)) (sym c.self.view_is) c.requires) in
     let e = c.index-2.ensures ∙ get_or_default c.self.inside.uses.items c.index-place.result.now c.index-2.result.now no_use s.here in
     let lo = ap (λ (u : Use). u.1.lo) e in
     let low = s.low in
@@ -42,7 +42,7 @@ pub get-requires : goal.get-requires
 get-requires c =
     let s = spot_of c.self.inside.uses.items c.self.inside.places.items c.self.inside.rows.items c.args.array c.args.cell c.from.result c.index-place.result.now
     c.self.invariant c.from.ensures c.ranges.array.fits c.index-place.ensures
-    (subst (λ (v : RowsView). IsTrue (has_cell v.uses c.args.array c.args.cell)) (sym c.self.view_is) c.requires) in
+    (subst (λ (v : RowsView). IsTrue (uses_have v.uses c.args.array c.args.cell)) (sym c.self.view_is) c.requires) in
     let e = c.index-2.ensures ∙ get_or_default c.self.inside.uses.items c.index-place.result.now c.index-2.result.now no_use s.here in
     let lo = ap (λ (u : Use). u.1.lo) e in
     let far = rw (to_z-of_z w64 c.args.cell c.ranges.cell, lo) at c.distance.ensures in
@@ -55,7 +55,7 @@ pub returns : goal.returns
 returns c =
     let s = spot_of c.self.inside.uses.items c.self.inside.places.items c.self.inside.rows.items c.args.array c.args.cell c.from.result c.index-place.result.now
     c.self.invariant c.from.ensures c.ranges.array.fits c.index-place.ensures
-    (subst (λ (v : RowsView). IsTrue (has_cell v.uses c.args.array c.args.cell)) (sym c.self.view_is) c.requires) in
+    (subst (λ (v : RowsView). IsTrue (uses_have v.uses c.args.array c.args.cell)) (sym c.self.view_is) c.requires) in
     let e = c.index-2.ensures ∙ get_or_default c.self.inside.uses.items c.index-place.result.now c.index-2.result.now no_use s.here in
     let lo = ap (λ (u : Use). u.1.lo) e in
     let far = rw (to_z-of_z w64 c.args.cell c.ranges.cell, lo) at c.distance.ensures in

@@ -1,5 +1,5 @@
 use Rattle.std.proofs.Common.{reverse, length, refl}
-use Rattle.acc_place.specs.Closing.{IsOut}
+use Rattle.acc_place.specs.Closing.{IsCloseOut}
 use Rattle.acc_place.specs.Histories.{standing}
 use Rattle.acc_place.specs.inner.Places.{IsCloseOf}
 use Rattle.acc_place.proofs.KeptCloses.{at_hand_set, close_at, close_set, close_with}
@@ -11,7 +11,7 @@ invariant_of-self c =
     let w = c.self.inside in
     let at_queue = c.args.at in
     let h = c.self.invariant.1 in
-    let out : IsOut (seen w) at_queue = rw (← c.self.view_is) at c.requires.out in
+    let out : IsCloseOut (seen w) at_queue = rw (← c.self.view_is) at c.requires.out in
     let st = standing w.config (reverse w.history.items) (reverse w.counts.items) in
     let old = c.index_mut.result.now in
     let is = close_at w.config w.closes.items at_queue c.seat.result old h.all_queues out.there c.seat.ensures c.index_mut.ensures.value in

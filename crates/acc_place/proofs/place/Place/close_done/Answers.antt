@@ -5,7 +5,7 @@ use Rattle.acc_batch.specs.Awaits.{close_label}
 use Rattle.acc_batch.specs.Labels.{on_queue}
 use Rattle.acc_place.specs.declared.closes.Close.{Close}
 use Rattle.acc_place.specs.declared.directive.PlaceEntry.TheVariants.{Closed}
-use Rattle.acc_place.specs.Closing.{IsOut, ClosesQueue}
+use Rattle.acc_place.specs.Closing.{IsCloseOut, ClosesQueue}
 use Rattle.acc_place.specs.Histories.{CanClose}
 use Rattle.acc_place.specs.inner.Places.{no_close, IsCloseOf}
 use Rattle.acc_place.specs.Plans.{standing_in}
@@ -18,7 +18,7 @@ use Rattle.acc_place.proofs.place.Place.close_done.Goals as goal
 pub push_reserved-requires : goal.push_reserved-requires
 push_reserved-requires c =
     let w = c.self.inside in
-    let out : IsOut (seen w) c.args.at = rw (← c.self.view_is) at c.requires.out in
+    let out : IsCloseOut (seen w) c.args.at = rw (← c.self.view_is) at c.requires.out in
     let some = entry_room w.config (standing_in (seen w)) w.closing w.closes.items (length w.history.items) _ w.labels.room c.args.at c.self.invariant.1 out.there out.unplaced in
     omega (arith, some, w.history.ok.0)
 
@@ -28,7 +28,7 @@ invariant_of-self-in-Some c =
     let at_queue = c.args.at in
     let h = c.self.invariant.1 in
     let st = standing_in (seen w) in
-    let out : IsOut (seen w) at_queue = rw (← c.self.view_is) at c.requires.out in
+    let out : IsCloseOut (seen w) at_queue = rw (← c.self.view_is) at c.requires.out in
     let begun : st.closing ≡ true = rw (← c.self.view_is) at c.requires.begun in
     let can : CanClose w.config st at_queue = record { there = out.there; begun = begun; unplaced = out.unplaced } in
     let old = c.index_mut.result.now in

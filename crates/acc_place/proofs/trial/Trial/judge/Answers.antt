@@ -3,7 +3,7 @@ use Rattle.std.specs.Prelude.{is_some}
 use Rattle.acc_present.specs.declared.entry.TheConstants.{COUNTER_LIMIT}
 use Rattle.acc_present.specs.Drafts.{drafted, IsDraft}
 use Rattle.acc_base.specs.Configurations.{lengths_of}
-use Rattle.acc_place.specs.Standings.{loop_of}
+use Rattle.acc_place.specs.Standings.{loop_in}
 use Rattle.acc_place.specs.inner.Trials.{held_by, items_by, items_fault, IsTried}
 use Rattle.acc_place.specs.inner.Judging.{holding, holding_after_all, limit_fault, first_fault_in, past_fault, StaysBy}
 use Rattle.acc_place.proofs.AcceptedDirective.{is_within}
@@ -65,7 +65,7 @@ returns-then-is_some-2-clause-fault c =
     let own = all_put k host d xs put none in
     let some : is_some c.judge_all-found.result ≡ true = cc in
     let found : c.judge_all-found.result ≡ first_fault_in k.config.now d.kind (held_by k) items = rw (c.kind-kind.ensures, c.begin.ensures.drafted, own) at c.judge_all-found.ensures.fault in
-    first_or c.judge_all-found.result (first_fault_in k.config.now d.kind (held_by k) items) (past_fault (loop_of d.kind) items) found some
+    first_or c.judge_all-found.result (first_fault_in k.config.now d.kind (held_by k) items) (past_fault (loop_in d.kind) items) found some
     ∙ sym (none_first (limit_fault k.accepted k.regions.now host d (length items)) (items_fault k host d) (sym (limit_put k host d xs put) ∙ none))
 
 pub returns-clause-fault : goal.returns-clause-fault
@@ -81,9 +81,9 @@ returns-clause-fault c =
     let own = all_put k host d xs put none in
     let no_fault : is_some c.judge_all-found.result ≡ false = cc in
     let found : c.judge_all-found.result ≡ first_fault_in k.config.now d.kind (held_by k) items = rw (c.kind-kind.ensures, c.begin.ensures.drafted, own) at c.judge_all-found.ensures.fault in
-    let past : c.past_fault.result ≡ past_fault (loop_of d.kind) items = (rw c.kind-kind.ensures at c.past_fault.ensures.fault) ∙ ap (past_fault (loop_of d.kind)) own in
+    let past : c.past_fault.result ≡ past_fault (loop_in d.kind) items = (rw c.kind-kind.ensures at c.past_fault.ensures.fault) ∙ ap (past_fault (loop_in d.kind)) own in
     past
-    ∙ (sym (none_first (first_fault_in k.config.now d.kind (held_by k) items) (past_fault (loop_of d.kind) items) (sym found ∙ none_of c.judge_all-found.result no_fault))
+    ∙ (sym (none_first (first_fault_in k.config.now d.kind (held_by k) items) (past_fault (loop_in d.kind) items) (sym found ∙ none_of c.judge_all-found.result no_fault))
     ∙ sym (none_first (limit_fault k.accepted k.regions.now host d (length items)) (items_fault k host d) (sym (limit_put k host d xs put) ∙ none)))
 
 pub returns-clause-tried : goal.returns-clause-tried

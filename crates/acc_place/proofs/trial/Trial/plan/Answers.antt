@@ -6,7 +6,7 @@ use Rattle.acc_present.specs.Drafts.{drafted}
 use Rattle.acc_place.specs.declared.trial.Trial.TheInside.{Inside}
 use Rattle.acc_place.specs.Batches.{is_answered}
 use Rattle.acc_place.specs.Plans.{label_for, opened_region}
-use Rattle.acc_place.specs.Standings.{loop_of}
+use Rattle.acc_place.specs.Standings.{loop_in}
 use Rattle.acc_place.specs.declared.marked.Marked.{Marked}
 use Rattle.acc_place.specs.inner.Trials.{behind_noted, held_by, items_by, next_in, placed_by, IsTried, TrialView}
 use Rattle.acc_place.specs.inner.Judging.{counted_steps, holding_between, ends_of, marked_ops, all_steps, run_in}
@@ -98,8 +98,8 @@ plan_of-requires-clause-run_cells c =
     let w = c.self.inside in
     let ps = drafted k.table.now w.draft in
     let tried : IsTried k host d (seen w) = rw (← c.self.view_is) at c.requires.tried in
-    let made = (rw c.kind-kind.ensures at c.in_ok-run.ensures.run) ∙ ap (λ ys. run_in (loop_of d.kind) ys ps) (c.as_slice-items.ensures.value ∙ tried.whole) in
-    rw made (run_cells (loop_of d.kind) (items_by k host d) ps (is_clean k host d c.requires.known tried.draft.table tried.faultless).cells)
+    let made = (rw c.kind-kind.ensures at c.in_ok-run.ensures.run) ∙ ap (λ ys. run_in (loop_in d.kind) ys ps) (c.as_slice-items.ensures.value ∙ tried.whole) in
+    rw made (run_cells (loop_in d.kind) (items_by k host d) ps (is_clean k host d c.requires.known tried.draft.table tried.faultless).cells)
 
 pub plan_of-requires-clause-cells : goal.plan_of-requires-clause-cells
 plan_of-requires-clause-cells c =
@@ -133,12 +133,12 @@ returns-clause-label c = λ notes noted.
     let steps : c.as_slice.result.now ≡ all_steps d.kind h items =
     steps_made d.kind h ps w.items.items items c.ends_of-ends.result.now w.steps.items c.as_slice.result.now
     tried.became tried.marks ends tried.whole (c.as_slice.ensures.value ∙ c.leave_all.ensures.steps) in
-    let made = (rw c.kind-kind.ensures at c.in_ok-run.ensures.run) ∙ ap (λ ys. run_in (loop_of d.kind) ys ps) here in
-    let run : option_to_list c.in_ok-run.run' ≡ run_in (loop_of d.kind) items (holding_between d.kind h items).presences =
+    let made = (rw c.kind-kind.ensures at c.in_ok-run.ensures.run) ∙ ap (λ ys. run_in (loop_in d.kind) ys ps) here in
+    let run : option_to_list c.in_ok-run.run' ≡ run_in (loop_in d.kind) items (holding_between d.kind h items).presences =
     run_made d.kind h ps w.items.items items (option_to_list c.in_ok-run.run') tried.marks tried.whole made in
     let behind : List OpLabel → List Marked → Type 0 =
     λ run_ops ts. IfOk c.plan_of.result (λ q. q.label ≡ label_for k.at (next_in k) host c.args.items_done (behind_noted k notes d (marked_ops run_ops ts) ts)) in
-    let loop = run_in (loop_of d.kind) items (holding_between d.kind h items).presences in
+    let loop = run_in (loop_in d.kind) items (holding_between d.kind h items).presences in
     subst (λ (ts : List Marked). behind loop ts) steps (subst (λ (os : List OpLabel). behind os c.as_slice.result.now) run (c.plan_of.ensures.label notes noted))
 
 pub returns-clause-answer : goal.returns-clause-answer

@@ -37,7 +37,7 @@ use types.SemTy.{cells}
 use Rattle.std.proofs.raw_atomic.Walks.{proved, leaves}
 use Rattle.acc_raw.specs.Blocks.{room_for, block_owns}
 use Rattle.acc_raw.specs.inner.Ownership.{frees}
-use Rattle.acc_raw.specs.Lends.{with_cells}
+use Rattle.acc_raw.specs.Lends.{with_refill}
 use Rattle.acc_raw.specs.declared.block.Block.{Block}
 use Rattle.acc_raw.specs.contracts.block.Block as block
 use Rattle.acc_raw.specs.contracts.block.Start as start
@@ -57,17 +57,17 @@ module _ {M : Type 1} {𝓤 : Ura M} (𝓛 : Logic 𝓤) (rb ro : ℕ) (owner : 
 
   -- it makes args block again with other cells, as many
   back : owner.at ≡ block_ptr b o → owner.len * 8 < 2 ^ 63 → (ws : List ℤ) → length ws ≡ length owner.cells
-      → ent 𝓤 (sep 𝓤 (sem 𝓛 (cells (mem i64) ws b o)) (sem 𝓛 Rest)) (sem 𝓛 ((mem block.the_row).own_at (with_cells owner ws) rb ro))
+      → ent 𝓤 (sep 𝓤 (sem 𝓛 (cells (mem i64) ws b o)) (sem 𝓛 Rest)) (sem 𝓛 ((mem block.the_row).own_at (with_refill owner ws) rb ro))
   unfolding part_of
   back there small ws same =
-      let zs : List ℤ = (with_cells owner ws).cells in
+      let zs : List ℤ = (with_refill owner ws).cells in
       let all : zs ≡ ws = take_at ws (drop (length ws) owner.cells) (length owner.cells) same in
       let long : length zs ≡ length owner.cells = ap length all ∙ same in
       qed 𝓛 (‵ (cells (mem i64) ws b o) ∷ ‵ Rest ∷ []) ∵ rewrite ! 0 (λ (spots : List ℤ). ‵ (cells (mem i64) spots b o)) (sym all) refl $
       move ! (1 ∷ []) $ fsplit3 ! $ fsplit ! $ rewrite ! 0 (λ (k : ℕ). ‵ (froom (room_for (owner.len - k)) b (k * 8 + o))) (sym long) refl $ move ! (4 ∷ 0 ∷ []) $ fjoin ! $
       move ! (1 ∷ []) $ flt_i ! (owner.len * 8) (2 ^ 63) small $ fjoin ! $ fjoin ! $ rewrite ! 0 (λ (p : Ptr). ‵ (block_owns p owner.len zs)) (sym there) refl $ move ! (1 ∷ 0 ∷ []) $ fjoin ! $
       move ! (1 ∷ 0 ∷ []) $ fjoin ! $
-      fpack ! (List Val) (λ us. fsep (cell_at full_share block.the_row.mir us rb ro) (block.the_row.own_val (with_cells owner ws) us)) vs $ by ! (id⊢ 𝓤 _)
+      fpack ! (List Val) (λ us. fsep (cell_at full_share block.the_row.mir us rb ro) (block.the_row.own_val (with_refill owner ws) us)) vs $ by ! (id⊢ 𝓤 _)
 
 abbrev stayed : Stays f.ended.signature.params f.ended.kept
 stayed = (stay_dropped _ no, (stay_dropped _ yes, (stay_dropped _ yes, tt)))
@@ -96,18 +96,18 @@ slice_mut_spec 𝓤 𝓛 𝓜 𝓡 wired =
     let roomy : length xs < 2 ^ 64 = subst (λ (k : ℕ). k < 2 ^ 64) asked.1 fits in
     let fitting : length xs * 8 < 2 ^ 63 = subst (λ (k : ℕ). k * 8 < 2 ^ 63) (sym asked.2 ∙ asked.1) small in
     let way = back 𝓛 rb ro owner vs b o (sym asked.0 ∙ there) small in
-    let Out : GName → SProp 𝓤 = Elements 𝓛 block.the_row i64 (with_cells owner) (named 0) κ q rb ro b o γ xs (roomy, fitting) (sem 𝓛 (Rest 𝓛 rb ro owner vs b o)) way in
+    let Out : GName → SProp 𝓤 = Elements 𝓛 block.the_row i64 (with_refill owner) (named 0) κ q rb ro b o γ xs (roomy, fitting) (sem 𝓛 (Rest 𝓛 rb ro owner vs b o)) way in
     sets_last ! (is ! (agg ! (and_then ! (get_in ! (fld ! refl (stop !)) (sub ! 0 refl (whole !))) (and_then ! (get ! refl) (no_more !))))
     (λ j. vstruct (vcons (ptr_val (there j)) (vcons (vint w64 (asked.1 j)) vnil)))) refl (tt, (tt, (record { fits = roomy }, tt))) $
     exec ! table.C table.Λ (env code.Mir.locals spots) code.Mir.t-2 (at_ret _ (Walk.post entry)) $
     sets ! (of_opd ! (get ! refl)) refl (tt, (tt, (record { fits = roomy }, tt))) $
     move ! (2 ∷ 3 ∷ 4 ∷ 1 ∷ 0 ∷ []) $ group ! 5 $
     use1 𝓛 (later (some (λ (δ : GName). raw (Out δ))))
-    (lends_Elements 𝓛 block.the_row i64 (with_cells owner) (named 0) κ q rb ro b o γ xs (roomy, fitting) (sem 𝓛 (Rest 𝓛 rb ro owner vs b o)) way (block.the_row.coded.code owner) (block.the_row.coded.code owner)) $
+    (lends_Elements 𝓛 block.the_row i64 (with_refill owner) (named 0) κ q rb ro b o γ xs (roomy, fitting) (sem 𝓛 (Rest 𝓛 rb ro owner vs b o)) way (block.the_row.coded.code owner) (block.the_row.coded.code owner)) $
     await ! tt $ pick ! (λ δ.
     let r : MutBor (List ℤ) = record { ref_ptr = (b, o); ghost_name = δ; now = xs } in
     returns ! (look_at ! 0 refl) $ free_all ! refl $ keep ! (0 ∷ []) $
-    use1 𝓛 (‵ ((MutSlice (named 0) κ i64).own_val r (slice_val (b, o) (length xs) ∷ [])) ⊛ ‵ (flft κ q) ⊛ ‵ (follows block.the_row (Array i64 0) γ δ (with_cells owner))) (id⊢ 𝓤 _) $ split3 ! $
+    use1 𝓛 (‵ ((MutSlice (named 0) κ i64).own_val r (slice_val (b, o) (length xs) ∷ [])) ⊛ ‵ (flft κ q) ⊛ ‵ (follows block.the_row (Array i64 0) γ δ (with_refill owner))) (id⊢ 𝓤 _) $ split3 ! $
     -- [the slice; the token; what the block ends as]
     use0 𝓛 (raw (fact 𝓤 (xs ≡ xs))) (fact_i 𝓤 _ (emp 𝓤) refl) $ move ! (3 ∷ 0 ∷ []) $ join ! $ nothing ! $ move ! (3 ∷ 0 ∷ []) $ join ! $
     nothing ! $ nothing ! $ fjoin ! $ nothing ! $ fjoin ! $ nothing ! $ fjoin ! $ move ! (1 ∷ 0 ∷ 3 ∷ 2 ∷ []) $

@@ -1,5 +1,5 @@
 use Rattle.std.proofs.Common.{◌≡◌, sym, ap, subst, ◌∙◌, slice_get, slice_set, refl, Some}
-use Rattle.acc_raw.specs.Indices.{with_item}
+use Rattle.acc_raw.specs.Indices.{with_value}
 use Rattle.acc_raw.specs.inner.Links.{IsAt}
 use Rattle.acc_raw.specs.inner.Wired.{values}
 use Rattle.acc_raw.proofs.Changing.{other, values-other, wired-other}
@@ -21,6 +21,6 @@ pub returns : goal.returns
 returns g c =
     let ps = c.self.inside.nodes.store.links in let p = c.get-place.result.ptr in let l = c.get_mut-link.result.now in let i = c.args.at in
     let e = subst (λ k. slice_get ps k ≡ Some (p, l)) c.of.ensures c.get_mut-link.ensures.value in let room = c.self.inside.places.room in (
-      (refl, λ w. ap (λ k. viewed (values (slice_set ps k (other p l w))) room) c.of.ensures ∙ ap (λ vs. viewed vs room) (values-other p l w ps i e) ∙ ap (λ v. with_item v i w) c.self.view_is),
+      (refl, λ w. ap (λ k. viewed (values (slice_set ps k (other p l w))) room) c.of.ensures ∙ ap (λ vs. viewed vs room) (values-other p l w ps i e) ∙ ap (λ v. with_value v i w) c.self.view_is),
       record { value = ap (λ v. slice_get v.items i) (sym c.self.view_is) ∙ value_at ps i p l e; writes_back = tt },
     )

@@ -2,7 +2,7 @@ use Rattle.std.proofs.Common.{◌≡◌, ◌++◌, length, ap, refl, ◌∙◌, 
 use Rattle.std.proofs.lemmas.Bool.Decides.{nat_tests}
 use Rattle.acc_steps.specs.declared.scene.Scene.{Scene}
 use Rattle.acc_steps.specs.Deeds.{deed_of, line_at}
-use Rattle.acc_steps.specs.Lines.{step_text, words_of}
+use Rattle.acc_steps.specs.Lines.{step_text, words_told}
 use Rattle.acc_steps.specs.Pictures.{boxed}
 use Rattle.acc_steps.specs.Scenes.{lines_in}
 use Rattle.acc_steps.proofs.DrawnBoxes.{box_added}
@@ -14,7 +14,7 @@ returns-clause-drawn c =
     let made = c.in_ok-deed.ensures.step in
     let event = c.args.next.now.event in
     let items = c.in_ok-line.line.items in
-    let line : items ≡ step_text (words_of c.args.telling.now) c.args.number c.args.next.now.line event (line_at c.args.world.now event)
+    let line : items ≡ step_text (words_told c.args.telling.now) c.args.number c.args.next.now.line event (line_at c.args.world.now event)
     (deed_of c.args.world.now event made.0 c.take_step.new.world) c.take_step.new.world = rw (c.line_at-statement.ensures, made.2) at c.in_ok-line.ensures.line in
     let some : length items ≡ 0 → ⊥ = λ none. absurd (grind (arith, nat_tests, c.is_empty.ensures, c.if-is_empty.false, none)) in
     let same : c.if-matches.self.boxes ≡ c.args.self.now.boxes = elim c.if-matches.branch [
