@@ -1,5 +1,5 @@
--- The number and the name of each fault.
-use Rattle.std.specs.Prelude.{ℕ, List, codes}
+-- The number and the name of each fault, and the one of calls that ask for memory alone.
+use Rattle.std.specs.Prelude.{◌≡◌, ℕ, List, IfErr, Result, codes}
 use Rattle.acc_base.specs.declared.fault.Fault.{Fault}
 use Rattle.acc_base.specs.declared.fault.Fault.TheVariants.{Closed, BadDevice, BadAsync, BadRange, TooMany, PartlyPresent, NotPresent, DeviceFull, OutsideRange, NoRegion, Memory, QueueFull, Unfinished, HostsDiffer}
 
@@ -34,3 +34,7 @@ fault_name Memory = codes "Memory"
 fault_name QueueFull = codes "QueueFull"
 fault_name Unfinished = codes "Unfinished"
 fault_name HostsDiffer = codes "HostsDiffer"
+
+-- A call is refused for want of memory alone.
+abbrev pub OnlyMemory : {X : Type 0} → Result X Fault → Type 0
+OnlyMemory result = IfErr result (λ fault. fault ≡ Memory)

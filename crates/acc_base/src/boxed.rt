@@ -1,6 +1,7 @@
 //! A value in a place of its own: contracts see the value.
 
-ghost use Rattle.std.specs.Prelude.{◌≡◌, IfOk, IfErr};
+ghost use Rattle.std.specs.Prelude.{◌≡◌, IfOk};
+ghost use Rattle.acc_base.specs.Faults.{OnlyMemory};
 
 use crate::fault::Fault;
 use std::alloc::Global;
@@ -38,8 +39,6 @@ impl<T> Boxed<T> {
 }
 
 impl<T: Drop> Boxed<T> {
-    ghost use Rattle.acc_base.specs.declared.fault.Fault.TheVariants as fault;
-
     /// A place of its own for the value.
     ///
     /// # Errors
@@ -47,7 +46,7 @@ impl<T: Drop> Boxed<T> {
     /// `Memory` where memory is refused.
     pub fn new(alloc: Global, value: T) -> Result<Self, Fault>
         ensures held { IfOk result (λ b. b ≡ value) }
-        ensures fault { IfErr result (λ f. f ≡ fault.Memory) }
+        ensures fault { OnlyMemory result }
     {
         match Box::new(alloc, value) {
             Ok(inner) => Ok(Boxed { inner }),

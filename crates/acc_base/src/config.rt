@@ -2,7 +2,7 @@
 
 ghost use Rattle.std.specs.Prelude.{◌≡◌, ◌<◌, ◌*◌, ◌&&◌, ◌==◌, ◌↔◌, nat_lt, IfOk, OnOk, IfErr, IsTrue, length, None, Some, slice_get};
 ghost use Rattle.std.specs.List.{list_any};
-ghost use Rattle.acc_base.specs.declared.fault.Fault.TheVariants.{Memory};
+ghost use Rattle.acc_base.specs.Faults.{OnlyMemory};
 ghost use Rattle.acc_base.specs.Queues.{queue_count};
 ghost use Rattle.acc_base.specs.Configurations.{configuration, rows, fault_of, passes_a_limit, is_outside, has_long_array, has_empty_array, has_range, IsRefusal, IsWithinLimits};
 
@@ -104,7 +104,7 @@ impl Config {
     /// `Memory` where the count of their owners is full.
     pub fn try_clone(&self) -> Result<Self, Fault>
         ensures equal { IfOk result (λ c. c ≡ self.now) }
-        ensures fault { IfErr result (λ f. f ≡ Memory) }
+        ensures fault { OnlyMemory result }
     {
         let arrays = self.arrays.try_clone()?;
         Ok(Config {

@@ -1,6 +1,7 @@
 //! A list that is mostly short, with up to two items in the value itself.
 
-ghost use Rattle.std.specs.Prelude.{◌≡◌, [], ◌∷◌, ◌++◌, ◌<◌, length, IfOk, IfErr, IfSome, IfNone, OnOk, OnErr};
+ghost use Rattle.std.specs.Prelude.{◌≡◌, [], ◌∷◌, ◌++◌, ◌<◌, length, IfOk, IfSome, IfNone, OnOk, OnErr};
+ghost use Rattle.acc_base.specs.Faults.{OnlyMemory};
 ghost use Rattle.acc_base.specs.Lists.{items_of};
 
 use crate::fault::Fault;
@@ -109,8 +110,6 @@ impl<T: Drop> Few<T> {
 }
 
 impl<T: Copy> Few<T> {
-    ghost use Rattle.acc_base.specs.declared.fault.Fault.TheVariants as fault;
-
     /// The items of a slice. It takes memory where they are more than two, for as many.
     ///
     /// # Errors
@@ -119,7 +118,7 @@ impl<T: Copy> Few<T> {
     pub fn from_slice(alloc: Global, items: &[T]) -> Result<Self, Fault>
         ensures items { IfOk result (λ f. f ≡ items.now) }
         ensures missing { OnErr result (2 < length items.now) }
-        ensures fault { IfErr result (λ f. f ≡ fault.Memory) }
+        ensures fault { OnlyMemory result }
     {
         let form = match items {
             [] => Form::Empty,
@@ -142,7 +141,7 @@ impl<T: Copy> Few<T> {
     pub fn try_clone(&self) -> Result<Self, Fault>
         ensures equal { IfOk result (λ f. f ≡ self.now) }
         ensures missing { OnErr result (2 < length self.now) }
-        ensures fault { IfErr result (λ f. f ≡ fault.Memory) }
+        ensures fault { OnlyMemory result }
     {
         Few::from_slice(self.alloc, self.as_slice())
     }

@@ -1,6 +1,7 @@
 //! A vector that contracts see as the list of its items.
 
-ghost use Rattle.std.specs.Prelude.{◌≡◌, IfOk, IfErr};
+ghost use Rattle.std.specs.Prelude.{◌≡◌, IfOk};
+ghost use Rattle.acc_base.specs.Faults.{OnlyMemory};
 
 use crate::fault::Fault;
 use std::alloc::Global;
@@ -45,8 +46,6 @@ impl<T> Listed<T> {
 }
 
 impl<T: Copy> Listed<T> {
-    ghost use Rattle.acc_base.specs.declared.fault.Fault.TheVariants as fault;
-
     /// An equal list.
     ///
     /// # Errors
@@ -54,7 +53,7 @@ impl<T: Copy> Listed<T> {
     /// `Memory` where memory is refused.
     pub fn try_clone(&self, alloc: Global) -> Result<Self, Fault>
         ensures equal { IfOk result (λ a. a ≡ self.now) }
-        ensures fault { IfErr result (λ f. f ≡ fault.Memory) }
+        ensures fault { OnlyMemory result }
     {
         let items = Vec::from_slice(alloc, self.as_slice())?;
         Ok(Listed { items })

@@ -1,6 +1,7 @@
 //! A value with several owners: contracts see the value.
 
-ghost use Rattle.std.specs.Prelude.{◌≡◌, IfOk, IfErr};
+ghost use Rattle.std.specs.Prelude.{◌≡◌, IfOk};
+ghost use Rattle.acc_base.specs.Faults.{OnlyMemory};
 
 use crate::fault::Fault;
 use std::alloc::Global;
@@ -22,8 +23,6 @@ impl<T> Model for Shared<T> {
 }
 
 impl<T> Shared<T> {
-    ghost use Rattle.acc_base.specs.declared.fault.Fault.TheVariants as fault;
-
     /// The value.
     pub fn get(&self) -> &T
         ensures { result.now ≡ self.now }
@@ -38,7 +37,7 @@ impl<T> Shared<T> {
     /// `Memory` where the count of its owners is full.
     pub fn try_clone(&self) -> Result<Self, Fault>
         ensures equal { IfOk result (λ s. s ≡ self.now) }
-        ensures fault { IfErr result (λ f. f ≡ fault.Memory) }
+        ensures fault { OnlyMemory result }
     {
         let inner = Arc::try_clone(&self.inner)?;
         Ok(Shared { inner })
@@ -46,8 +45,6 @@ impl<T> Shared<T> {
 }
 
 impl<T: Drop> Shared<T> {
-    ghost use Rattle.acc_base.specs.declared.fault.Fault.TheVariants as fault;
-
     /// Its first owner.
     ///
     /// # Errors
@@ -55,7 +52,7 @@ impl<T: Drop> Shared<T> {
     /// `Memory` where memory is refused.
     pub fn new(alloc: Global, value: T) -> Result<Self, Fault>
         ensures held { IfOk result (λ s. s ≡ value) }
-        ensures fault { IfErr result (λ f. f ≡ fault.Memory) }
+        ensures fault { OnlyMemory result }
     {
         match Arc::new(alloc, value) {
             Ok(inner) => Ok(Shared { inner }),

@@ -1,7 +1,8 @@
 //! A batch: contracts see its label.
 
-ghost use Rattle.std.specs.Prelude.{◌≡◌, ◌<◌, length, IfOk, IfErr};
+ghost use Rattle.std.specs.Prelude.{◌≡◌, ◌<◌, length, IfOk};
 ghost use Rattle.std.specs.List.{All};
+ghost use Rattle.acc_base.specs.Faults.{OnlyMemory};
 ghost use Rattle.acc_batch.specs.Ops.{op_labels, HasItsCells, AllReady};
 ghost use Rattle.acc_batch.specs.Pages.{HasRoomFor};
 
@@ -40,8 +41,6 @@ impl Model for Batch {
 }
 
 impl Batch {
-    ghost use Rattle.acc_base.specs.declared.fault.Fault.TheVariants as fault;
-
     /// The batch of a label, with the memory that performing it needs. The label has an operation, and its operations
     /// have their cells, by `Label::has_its_cells`.
     ///
@@ -52,7 +51,7 @@ impl Batch {
         requires operation { 0 < length label.ops }
         requires cells { All HasItsCells label.ops }
         ensures label { IfOk result (λ b. b ≡ label) }
-        ensures fault { IfErr result (λ f. f ≡ fault.Memory) }
+        ensures fault { OnlyMemory result }
     {
         let ops = Ops::new(alloc, label.ops.get().as_slice())?;
         let page = Page::new(alloc, ops.len())?;

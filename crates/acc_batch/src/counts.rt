@@ -1,6 +1,7 @@
 //! How many batches each queue has performed: that of one queue, or all of them.
 
-ghost use Rattle.std.specs.Prelude.{◌≡◌, ◌<◌, replicate, slice_set, IfOk, IfErr, IfSome};
+ghost use Rattle.std.specs.Prelude.{◌≡◌, ◌<◌, replicate, slice_set, IfOk, IfSome};
+ghost use Rattle.acc_base.specs.Faults.{OnlyMemory};
 ghost use Rattle.acc_base.specs.declared.ids.TheConstants.{QUEUES};
 ghost use Rattle.acc_batch.specs.Counted.{one_count};
 
@@ -34,8 +35,6 @@ impl Model for Counts {
 }
 
 impl Counts {
-    ghost use Rattle.acc_base.specs.declared.fault.Fault.TheVariants.{Memory};
-
     /// It takes memory where more than one queue has some.
     ///
     /// # Errors
@@ -43,7 +42,7 @@ impl Counts {
     /// `Memory` where memory is refused.
     pub fn new(alloc: Global, counts: QueueCounts) -> Result<Self, Fault>
         ensures counts { IfOk result (λ c. c ≡ counts) }
-        ensures fault { IfErr result (λ f. f ≡ Memory) }
+        ensures fault { OnlyMemory result }
     {
         if let Some((queue, count)) = only_count(&counts) {
             return Ok(Counts {

@@ -1,8 +1,8 @@
 //! The label of a batch, its plain description, and those of its operations.
 
-ghost use Rattle.std.specs.Prelude.{◌≡◌, ◌↔◌, IfOk, IfErr, IsTrue};
+ghost use Rattle.std.specs.Prelude.{◌≡◌, ◌↔◌, IfOk, IsTrue};
 ghost use Rattle.std.specs.List.{All};
-ghost use Rattle.acc_base.specs.declared.fault.Fault.TheVariants as fault;
+ghost use Rattle.acc_base.specs.Faults.{OnlyMemory};
 ghost use Rattle.acc_batch.specs.Ops.{HasItsCells};
 
 use acc_base::{BlockId, Fault, Few, HostId, Listed, QueueAt, QueueId, Range, Shared};
@@ -86,7 +86,7 @@ impl OpLabel {
     /// `Memory` where the count of their owners is full.
     pub fn try_clone(&self) -> Result<Self, Fault>
         ensures equal { IfOk result (λ l. l ≡ self.now) }
-        ensures fault { IfErr result (λ f. f ≡ fault.Memory) }
+        ensures fault { OnlyMemory result }
     {
         match self {
             OpLabel::Make { block, range } => Ok(OpLabel::Make {
@@ -137,7 +137,7 @@ impl Label {
     /// `Memory` where the count of their owners is full.
     pub fn try_clone(&self) -> Result<Self, Fault>
         ensures equal { IfOk result (λ l. l ≡ self.now) }
-        ensures fault { IfErr result (λ f. f ≡ fault.Memory) }
+        ensures fault { OnlyMemory result }
     {
         let ops = self.ops.try_clone()?;
         Ok(Label {

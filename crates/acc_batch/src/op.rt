@@ -1,7 +1,7 @@
 //! An operation in a queue, with the memory that performing it needs.
 
-ghost use Rattle.std.specs.Prelude.{◌≡◌, replicate, pos, IfOk, IfErr};
-ghost use Rattle.acc_base.specs.declared.fault.Fault.TheVariants as fault;
+ghost use Rattle.std.specs.Prelude.{◌≡◌, replicate, pos, IfOk};
+ghost use Rattle.acc_base.specs.Faults.{OnlyMemory};
 ghost use Rattle.acc_batch.specs.Ops.{op_label, HasItsCells, IsReady};
 
 use crate::label::OpLabel;
@@ -85,7 +85,7 @@ impl Op {
         requires cells { HasItsCells label.now }
         ensures label { IfOk result (λ op. op_label op ≡ label.now) }
         ensures ready { IfOk result IsReady }
-        ensures fault { IfErr result (λ f. f ≡ fault.Memory) }
+        ensures fault { OnlyMemory result }
     {
         match label {
             OpLabel::Make { block, range } => {
@@ -137,7 +137,7 @@ impl Op {
 // A block whose cells are all zero, in its node.
 fn zero_block(alloc: Global, block: BlockId, range: Range) -> Result<Node<Block>, Fault>
     ensures block { IfOk result (λ b. b ≡ record { block = block; range = range; cells = replicate range.len (pos 0) }) }
-    ensures fault { IfErr result (λ f. f ≡ fault.Memory) }
+    ensures fault { OnlyMemory result }
 {
     let cells = Cells::zeroed(alloc, range.len as usize)?;
     let block = Block {
@@ -154,7 +154,7 @@ fn zero_block(alloc: Global, block: BlockId, range: Range) -> Result<Node<Block>
 // The mark of a block, in its node.
 fn mark_of(alloc: Global, block: BlockId) -> Result<Node<Mark>, Fault>
     ensures mark { IfOk result (λ m. m ≡ record { block = block }) }
-    ensures fault { IfErr result (λ f. f ≡ fault.Memory) }
+    ensures fault { OnlyMemory result }
 {
     match Node::new(alloc, Mark { block }) {
         Ok(mark) => Ok(mark),

@@ -1,7 +1,8 @@
 //! The operations of a batch, taken out one by one.
 
-ghost use Rattle.std.specs.Prelude.{◌≡◌, [], ◌∷◌, length, reverse, slice_get, All, IfOk, IfErr, IfSome, IfNone};
+ghost use Rattle.std.specs.Prelude.{◌≡◌, [], ◌∷◌, length, reverse, slice_get, All, IfOk, IfSome, IfNone};
 ghost use Rattle.std.specs.Option.{option_map};
+ghost use Rattle.acc_base.specs.Faults.{OnlyMemory};
 ghost use Rattle.acc_batch.specs.Ops.{first_loop, op_labels, HasItsCells, AllReady};
 
 use crate::label::OpLabel;
@@ -32,8 +33,6 @@ impl Model for Ops {
 }
 
 impl Ops {
-    ghost use Rattle.acc_base.specs.declared.fault.Fault.TheVariants as fault;
-
     /// No operation. Takes no memory.
     pub fn none(alloc: Global) -> Self
         ensures { result ≡ [] }
@@ -52,7 +51,7 @@ impl Ops {
         requires { All HasItsCells labels.now }
         ensures ops { IfOk result (λ ops. op_labels ops ≡ labels.now) }
         ensures ready { IfOk result (λ ops. AllReady ops) }
-        ensures fault { IfErr result (λ f. f ≡ fault.Memory) }
+        ensures fault { OnlyMemory result }
     {
         let ops = ops_of(alloc, labels)?;
         Ok(Ops { ops })
@@ -98,7 +97,7 @@ fn ops_of(alloc: Global, labels: &[OpLabel]) -> Result<Few<Op>, Fault>
     requires { All HasItsCells labels.now }
     ensures ops { IfOk result (λ ops. op_labels (reverse ops) ≡ labels.now) }
     ensures ready { IfOk result (λ ops. AllReady (reverse ops)) }
-    ensures fault { IfErr result (λ f. f ≡ Fault.Memory) }
+    ensures fault { OnlyMemory result }
 {
     let mut ops = Few::new(alloc);
     for label in labels.iter().rev() {

@@ -1,7 +1,7 @@
 //! A page of the work log.
 
-ghost use Rattle.std.specs.Prelude.{◌≡◌, ◌-◌, ◌<◌, [], ◌∷◌, ◌++◌, IfOk, IfErr};
-ghost use Rattle.acc_base.specs.declared.fault.Fault.TheVariants as fault;
+ghost use Rattle.std.specs.Prelude.{◌≡◌, ◌-◌, ◌<◌, [], ◌∷◌, ◌++◌, IfOk};
+ghost use Rattle.acc_base.specs.Faults.{OnlyMemory};
 ghost use Rattle.acc_batch.specs.Pages.{HasRoomFor};
 
 use crate::entry::WorkEntry;
@@ -41,7 +41,7 @@ impl Page {
     pub fn new(alloc: Global, count: usize) -> Result<Node<Page>, Fault>
         ensures room { IfOk result (λ p. HasRoomFor p count) }
         ensures some { IfOk result (λ p. 0 < p.free) }
-        ensures fault { IfErr result (λ f. f ≡ fault.Memory) }
+        ensures fault { OnlyMemory result }
     {
         let page = Page {
             entries: Vec::with_capacity(alloc, count.max(PAGE))?,

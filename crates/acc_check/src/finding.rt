@@ -1,8 +1,8 @@
 //! What is told of a text that is none of its language.
 
-ghost use Rattle.std.specs.Prelude.{◌≡◌, ◌+◌, ◌≤◌, ◌==◌, not, map, length, decimal, true, false, None, Some, IfOk, IfErr, IfSome};
+ghost use Rattle.std.specs.Prelude.{◌≡◌, ◌+◌, ◌≤◌, ◌==◌, not, map, length, decimal, true, false, None, Some, IfOk, IfSome};
 ghost use Rattle.std.specs.List.{suffix_len};
-ghost use Rattle.acc_base.specs.declared.fault.Fault.TheVariants.{Memory};
+ghost use Rattle.acc_base.specs.Faults.{OnlyMemory};
 ghost use Rattle.acc_check.specs.Findings.{begun_line, name_stands, number_stands, start_in, token_in, told_words, TellsFault};
 ghost use Rattle.acc_check.specs.Languages.{text_fault};
 ghost use Rattle.acc_check.specs.Places.{IsPlace, stands};
@@ -128,7 +128,7 @@ fn token_in(text: &[u8], place: Place) -> &[u8]
 // Whether a number could stand there.
 fn number_stands(alloc: Global, language: Language, before: &[u8]) -> Result<bool, Fault>
     ensures answer { IfOk result (λ r. r ≡ number_stands language before.now) }
-    ensures fault { IfErr result (λ fault. fault ≡ Memory) }
+    ensures fault { OnlyMemory result }
 {
     if stands(alloc, language, before, b"1")? {
         return Ok(true);
@@ -139,7 +139,7 @@ fn number_stands(alloc: Global, language: Language, before: &[u8]) -> Result<boo
 // Whether a name could stand there, if it is one.
 fn name_stands(alloc: Global, language: Language, before: &[u8], name: &[u8]) -> Result<bool, Fault>
     ensures answer { IfOk result (λ r. r ≡ name_stands language before.now name.now) }
-    ensures fault { IfErr result (λ fault. fault ≡ Memory) }
+    ensures fault { OnlyMemory result }
 {
     match name {
         [] => Ok(false),
@@ -153,7 +153,7 @@ fn tokens_before<'a>(
     language: Language,
     before: &'a [u8],
 ) -> Result<Vec<&'a [u8]>, Fault>
-    ensures { IfErr result (λ fault. fault ≡ Memory) }
+    ensures { OnlyMemory result }
 {
     match language {
         Language::Script => tokens_of(alloc, before),
@@ -202,7 +202,7 @@ fn near_of<'a>(
     names: &[&'a [u8]],
     words: &[&'a [u8]],
 ) -> Result<&'a [u8], Fault>
-    ensures { IfErr result (λ fault. fault ≡ Memory) }
+    ensures { OnlyMemory result }
 {
     match lack {
         Lack::Declared => nearest(alloc, token, names),
@@ -221,7 +221,7 @@ fn most_of(
 ) -> Result<Option<u64>, Fault>
     ensures stands { IfOk result (λ most. IfSome most (λ n. stands language before.now (decimal n) ≡ true)) }
     ensures largest { IfOk result (λ most. IfSome most (λ n. stands language before.now (decimal (n + 1)) ≡ false)) }
-    ensures fault { IfErr result (λ fault. fault ≡ Memory) }
+    ensures fault { OnlyMemory result }
 {
     if lack == Lack::Within && is_digit(front(token)) {
         return largest_number(alloc, language, before);
@@ -257,7 +257,7 @@ fn asked_words<'a>(
     has_number: bool,
     in_comment: bool,
 ) -> Result<Vec<&'a [u8]>, Fault>
-    ensures { IfErr result (λ fault. fault ≡ Memory) }
+    ensures { OnlyMemory result }
 {
     if in_comment {
         return Ok(Vec::from_slice(alloc, &[b"*/".as_slice()])?);
@@ -292,7 +292,7 @@ fn finding_at<'a>(
     requires fault { text_fault language text.now ≡ Some fault }
     requires place { IsPlace language text.now place }
     ensures told { IfOk result (λ f. TellsFault language text.now (map (λ w. w.now) words.now) f) }
-    ensures fault { IfErr result (λ fault. fault ≡ Memory) }
+    ensures fault { OnlyMemory result }
 {
     let start = start_in(language, text, place);
     let (before, rest) = text.split_at(start);
@@ -343,7 +343,7 @@ pub fn finding_of<'a>(
 ) -> Result<Option<Finding<'a>>, Fault>
     ensures whole { IfOk result (λ found. found ≡ None → text_fault language text.now ≡ None) }
     ensures told { IfOk result (λ found. IfSome found (λ f. TellsFault language text.now (map (λ w. w.now) words.now) f)) }
-    ensures fault { IfErr result (λ fault. fault ≡ Memory) }
+    ensures fault { OnlyMemory result }
 {
     let Some(fault) = fault_of(alloc, language, text)? else {
         return Ok(None);

@@ -1,8 +1,8 @@
 //! The languages in which texts are written, and whether a text goes on in one of them.
 
-ghost use Rattle.std.specs.Prelude.{◌≡◌, ◌++◌, IfOk, IfErr};
+ghost use Rattle.std.specs.Prelude.{◌≡◌, ◌++◌, IfOk};
 ghost use Rattle.std.specs.List.{list_any};
-ghost use Rattle.acc_base.specs.declared.fault.Fault.TheVariants.{Memory};
+ghost use Rattle.acc_base.specs.Faults.{OnlyMemory};
 ghost use Rattle.acc_check.specs.Languages.{text_fault, may_go_on, is_begun, is_faultless, schedule_fault, schedule_goes_on, script_fault};
 
 use acc_base::Fault;
@@ -22,7 +22,7 @@ pub enum Language {
 #[tactic(auto, unfolding(crate::specs::Languages::script_fault))]
 fn script_fault(alloc: Global, text: &[u8]) -> Result<Option<ReadFault>, Fault>
     ensures found { IfOk result (λ found. found ≡ script_fault text.now) }
-    ensures fault { IfErr result (λ fault. fault ≡ Memory) }
+    ensures fault { OnlyMemory result }
 {
     match read(alloc, text) {
         Ok(_) => Ok(None),
@@ -40,7 +40,7 @@ fn schedule_fault(
     text: &[u8],
 ) -> Result<Option<ReadFault>, Fault>
     ensures found { IfOk result (λ found. found ≡ schedule_fault hosts devices text.now) }
-    ensures fault { IfErr result (λ fault. fault ≡ Memory) }
+    ensures fault { OnlyMemory result }
 {
     match Schedule::read(alloc, text, hosts, devices) {
         Ok(_) => Ok(None),
@@ -60,7 +60,7 @@ pub(crate) fn fault_of(
     text: &[u8],
 ) -> Result<Option<ReadFault>, Fault>
     ensures found { IfOk result (λ found. found ≡ text_fault language text.now) }
-    ensures fault { IfErr result (λ fault. fault ≡ Memory) }
+    ensures fault { OnlyMemory result }
 {
     match language {
         Language::Script => script_fault(alloc, text),
@@ -80,7 +80,7 @@ fn is_begun(found: &Option<ReadFault>) -> bool
 // Whether a text with a tail behind it is whole.
 fn is_whole_with(alloc: Global, language: Language, text: &[u8], tail: &[u8]) -> Result<bool, Fault>
     ensures answer { IfOk result (λ r. r ≡ is_faultless language (text.now ++ tail.now)) }
-    ensures fault { IfErr result (λ fault. fault ≡ Memory) }
+    ensures fault { OnlyMemory result }
 {
     let mut whole = Vec::from_slice(alloc, text)?;
     whole.extend_from_slice(tail)?;
@@ -96,7 +96,7 @@ fn is_whole_with_some(
     tails: &[&[u8]],
 ) -> Result<bool, Fault>
     ensures answer { IfOk result (λ r. r ≡ list_any (λ tail. is_faultless language (text.now ++ tail.now)) tails.now) }
-    ensures fault { IfErr result (λ fault. fault ≡ Memory) }
+    ensures fault { OnlyMemory result }
 {
     for tail in tails {
         if is_whole_with(alloc, language, text, tail)? {
@@ -110,7 +110,7 @@ fn is_whole_with_some(
 #[tactic(auto, unfolding(crate::specs::Languages::schedule_goes_on))]
 fn schedule_goes_on(alloc: Global, hosts: u8, devices: u8, text: &[u8]) -> Result<bool, Fault>
     ensures answer { IfOk result (λ r. r ≡ schedule_goes_on hosts devices text.now) }
-    ensures fault { IfErr result (λ fault. fault ≡ Memory) }
+    ensures fault { OnlyMemory result }
 {
     let language = Language::Schedule { hosts, devices };
     let tails: [&[u8]; 6] = [b"", b" 0", b" 1", b" sync", b" 0 sync", b" close"];
@@ -125,7 +125,7 @@ fn schedule_goes_on(alloc: Global, hosts: u8, devices: u8, text: &[u8]) -> Resul
 /// `Memory` where memory is refused.
 pub(crate) fn goes_on(alloc: Global, language: Language, text: &[u8]) -> Result<bool, Fault>
     ensures answer { IfOk result (λ r. r ≡ may_go_on language text.now) }
-    ensures fault { IfErr result (λ fault. fault ≡ Memory) }
+    ensures fault { OnlyMemory result }
 {
     match language {
         Language::Script => Ok(is_begun(&script_fault(alloc, text)?)),

@@ -1,7 +1,7 @@
 //! The largest number that could stand at a place.
 
-ghost use Rattle.std.specs.Prelude.{◌≡◌, ◌+◌, true, false, decimal, IfOk, IfErr, IfSome};
-ghost use Rattle.acc_base.specs.declared.fault.Fault.TheVariants.{Memory};
+ghost use Rattle.std.specs.Prelude.{◌≡◌, ◌+◌, true, false, decimal, IfOk, IfSome};
+ghost use Rattle.acc_base.specs.Faults.{OnlyMemory};
 ghost use Rattle.acc_check.specs.Places.{stands};
 
 use crate::language::Language;
@@ -18,7 +18,7 @@ fn number_stands(
     number: u64,
 ) -> Result<bool, Fault>
     ensures answer { IfOk result (λ r. r ≡ stands language before.now (decimal number)) }
-    ensures fault { IfErr result (λ fault. fault ≡ Memory) }
+    ensures fault { OnlyMemory result }
 {
     stands(
         alloc,
@@ -40,7 +40,7 @@ pub fn largest_number(
 ) -> Result<Option<u64>, Fault>
     ensures stands { IfOk result (λ found. IfSome found (λ n. stands language before.now (decimal n) ≡ true)) }
     ensures largest { IfOk result (λ found. IfSome found (λ n. stands language before.now (decimal (n + 1)) ≡ false)) }
-    ensures fault { IfErr result (λ fault. fault ≡ Memory) }
+    ensures fault { OnlyMemory result }
 {
     let mut low = 1u64;
     let mut high = u64::MAX;

@@ -1,7 +1,7 @@
 //! The names that a text has, and which of them is near another.
 
-ghost use Rattle.std.specs.Prelude.{◌≡◌, IfErr};
-ghost use Rattle.acc_base.specs.declared.fault.Fault.TheVariants.{Memory};
+ghost use Rattle.std.specs.Prelude.{◌≡◌};
+ghost use Rattle.acc_base.specs.Faults.{OnlyMemory};
 ghost use Rattle.acc_check.specs.Helps.{has_name, begins_with_letter};
 
 use acc_base::Fault;
@@ -28,7 +28,7 @@ pub(crate) fn is_word(token: &[u8]) -> bool
 ///
 /// `Memory` where memory is refused.
 pub(crate) fn array_names<'a>(alloc: Global, tokens: &[&'a [u8]]) -> Result<Vec<&'a [u8]>, Fault>
-    ensures { IfErr result (λ fault. fault ≡ Memory) }
+    ensures { OnlyMemory result }
 {
     let mut names = Vec::new(alloc);
     let mut is_behind_long = false;
@@ -83,7 +83,7 @@ pub(crate) fn nearest<'a>(
     token: &[u8],
     names: &[&'a [u8]],
 ) -> Result<&'a [u8], Fault>
-    ensures { IfErr result (λ fault. fault ≡ Memory) }
+    ensures { OnlyMemory result }
 {
     let mut found: &'a [u8] = b"";
     if !is_word(token) || token.len() > MAX_NAME {

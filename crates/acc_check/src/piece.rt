@@ -1,8 +1,8 @@
 //! The pieces of a text: its tokens, and what stands between them.
 
-ghost use Rattle.std.specs.Prelude.{◌≡◌, ◌<◌, ◌≤◌, ◌-◌, All, length, IfOk, IfErr};
+ghost use Rattle.std.specs.Prelude.{◌≡◌, ◌<◌, ◌≤◌, ◌-◌, All, length, IfOk};
 ghost use Rattle.std.specs.List.{prefix_len};
-ghost use Rattle.acc_base.specs.declared.fault.Fault.TheVariants.{Memory};
+ghost use Rattle.acc_base.specs.Faults.{OnlyMemory};
 ghost use Rattle.acc_token.specs.Tokens.{is_pair, is_word_byte};
 ghost use Rattle.acc_check.specs.Places.{end_of, ends_of, opens_comment, piece_len};
 
@@ -72,7 +72,7 @@ pub(crate) fn ends_of(alloc: Global, text: &[u8]) -> Result<Vec<usize>, Fault>
     ensures some { IfOk result (λ ends. 0 < length text.now → 0 < length ends.items) }
     ensures last { IfOk result (λ ends. 0 < length ends.items → end_of ends.items (length ends.items - 1) ≡ length text.now) }
     ensures within { IfOk result (λ ends. All (λ e. e ≤ length text.now) ends.items) }
-    ensures fault { IfErr result (λ fault. fault ≡ Memory) }
+    ensures fault { OnlyMemory result }
 {
     let mut ends = Vec::new(alloc);
     let mut rest = text;

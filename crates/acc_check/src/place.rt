@@ -1,7 +1,7 @@
 //! The first piece with which a text doesn't go on.
 
-ghost use Rattle.std.specs.Prelude.{◌≡◌, ◌<◌, ◌≤◌, ◌-◌, All, false, true, length, take, IfOk, IfErr, Some};
-ghost use Rattle.acc_base.specs.declared.fault.Fault.TheVariants.{Memory};
+ghost use Rattle.std.specs.Prelude.{◌≡◌, ◌<◌, ◌≤◌, ◌-◌, All, false, true, length, take, IfOk, Some};
+ghost use Rattle.acc_base.specs.Faults.{OnlyMemory};
 ghost use Rattle.acc_check.specs.Languages.{may_go_on};
 ghost use Rattle.acc_check.specs.Places.{ends_of, end_of, piece_start, IsPlace, IsStop, Stops};
 
@@ -52,7 +52,7 @@ fn number_of_stop(
     requires last { end_of ends.now (length ends.now - 1) ≡ length text.now }
     requires stops { may_go_on language text.now ≡ false }
     ensures stop { IfOk result (λ i. Stops language text.now i) }
-    ensures fault { IfErr result (λ fault. fault ≡ Memory) }
+    ensures fault { OnlyMemory result }
 {
     let mut low = 0usize;
     let mut high = ends.len() - 1;
@@ -91,7 +91,7 @@ fn stop_at(language: Language, text: &[u8], ends: &[usize], number: usize) -> Pi
 #[tactic(auto, using(crate::proofs::Ends::stops_somewhere))]
 pub fn place_of(alloc: Global, language: Language, text: &[u8]) -> Result<Place, Fault>
     ensures place { IfOk result (λ p. IsPlace language text.now p) }
-    ensures fault { IfErr result (λ fault. fault ≡ Memory) }
+    ensures fault { OnlyMemory result }
 {
     if goes_on(alloc, language, text)? {
         return Ok(Place::AtEnd);

@@ -1,7 +1,7 @@
 //! What could stand behind the beginning of a text.
 
-ghost use Rattle.std.specs.Prelude.{◌≡◌, ◌++◌, ◌∷◌, filter, map, take, IfOk, IfErr};
-ghost use Rattle.acc_base.specs.declared.fault.Fault.TheVariants.{Memory};
+ghost use Rattle.std.specs.Prelude.{◌≡◌, ◌++◌, ◌∷◌, filter, map, take, IfOk};
+ghost use Rattle.acc_base.specs.Faults.{OnlyMemory};
 ghost use Rattle.acc_check.specs.Places.{could_stand, stands};
 
 use crate::language::{Language, goes_on};
@@ -16,7 +16,7 @@ pub(crate) fn stands(
     word: &[u8],
 ) -> Result<bool, Fault>
     ensures answer { IfOk result (λ r. r ≡ stands language before.now word.now) }
-    ensures fault { IfErr result (λ fault. fault ≡ Memory) }
+    ensures fault { OnlyMemory result }
 {
     let mut text = Vec::from_slice(alloc, before)?;
     text.push(b' ')?;
@@ -36,7 +36,7 @@ pub fn could_stand<'a>(
     words: &[&'a [u8]],
 ) -> Result<Vec<&'a [u8]>, Fault>
     ensures words { IfOk result (λ found. map (λ w. w.now) found.items ≡ could_stand language before.now (map (λ w. w.now) words.now)) }
-    ensures fault { IfErr result (λ fault. fault ≡ Memory) }
+    ensures fault { OnlyMemory result }
 {
     let mut found = Vec::new(alloc);
     for word in words {

@@ -1,7 +1,7 @@
 //! The tokens around a place.
 
-ghost use Rattle.std.specs.Prelude.{◌≡◌, IfErr};
-ghost use Rattle.acc_base.specs.declared.fault.Fault.TheVariants.{Memory};
+ghost use Rattle.std.specs.Prelude.{◌≡◌};
+ghost use Rattle.acc_base.specs.Faults.{OnlyMemory};
 
 use crate::piece::piece_len;
 use acc_base::Fault;
@@ -10,7 +10,7 @@ use std::alloc::Global;
 
 // The tokens from here on, line feeds among them, as far as they can be read.
 fn tokens_at<'a>(alloc: Global, at: At<'a>) -> Result<Vec<&'a [u8]>, Fault>
-    ensures { IfErr result (λ fault. fault ≡ Memory) }
+    ensures { OnlyMemory result }
 {
     let mut tokens = Vec::new(alloc);
     let turns = at.bytes.len();
@@ -34,7 +34,7 @@ fn tokens_at<'a>(alloc: Global, at: At<'a>) -> Result<Vec<&'a [u8]>, Fault>
 ///
 /// `Memory` where memory is refused.
 pub(crate) fn tokens_of<'a>(alloc: Global, text: &'a [u8]) -> Result<Vec<&'a [u8]>, Fault>
-    ensures { IfErr result (λ fault. fault ≡ Memory) }
+    ensures { OnlyMemory result }
 {
     if text.len() >= u32::MAX as usize {
         return Ok(Vec::new(alloc));

@@ -1,8 +1,8 @@
 //! The lines that tell a finding.
 
-ghost use Rattle.std.specs.Prelude.{◌≡◌, ◌≤◌, ◌++◌, decimal, length, map, OnOk, IfOk, IfErr};
+ghost use Rattle.std.specs.Prelude.{◌≡◌, ◌≤◌, ◌++◌, decimal, length, map, OnOk, IfOk};
 ghost use Rattle.std.specs.List.{prefix_len, flat_map};
-ghost use Rattle.acc_base.specs.declared.fault.Fault.TheVariants.{Memory};
+ghost use Rattle.acc_base.specs.Faults.{OnlyMemory};
 ghost use Rattle.acc_schedule.specs.Schedules.{is_space};
 ghost use Rattle.acc_check.specs.Findings.{begun_line};
 ghost use Rattle.acc_check.specs.Told.{answer, answers, byte_text, complaint, finding_text, fault_line, fault_text, help_text, hex_digit, holds, is_directive_line, is_printed, kind_mark, kind_text, marked_line, most_text, names_text, near_text, numbered, other_names, others_text, place_text, quoted, remedy, room_of, shown_byte, stand_text, token_text, tokens_text, ways_text, words_text};
@@ -29,7 +29,7 @@ pub fn told_text(
 ) -> Result<Vec<u8>, Fault>
     requires { finding.now.start ≤ length text.now }
     ensures text { IfOk result (λ told. told.items ≡ finding_text name.now first_line text.now finding.now) }
-    ensures fault { IfErr result (λ fault. fault ≡ Memory) }
+    ensures fault { OnlyMemory result }
 {
     let (before, behind) = text.split_at(finding.start);
     let begun = begun_line(before);
@@ -68,7 +68,7 @@ fn put_fault(
 #[tactic(auto, unfolding(crate::specs::Told::ways_text))]
 fn put_ways(lines: &mut Vec<u8>, finding: &Finding, in_directive: bool) -> Result<(), Fault>
     ensures text { OnOk result (lines.new.items ≡ lines.old.items ++ ways_text finding.now in_directive) }
-    ensures fault { IfErr result (λ fault. fault ≡ Memory) }
+    ensures fault { OnlyMemory result }
 {
     put_stand(lines, finding, in_directive)?;
     put_help(lines, finding)?;
@@ -409,7 +409,7 @@ fn put_tokens(lines: &mut Vec<u8>, finding: &Finding, in_directive: bool) -> Res
 #[tactic(auto, unfolding(crate::specs::Told::stand_text))]
 fn put_stand(lines: &mut Vec<u8>, finding: &Finding, in_directive: bool) -> Result<(), Fault>
     ensures text { OnOk result (lines.new.items ≡ lines.old.items ++ stand_text finding.now in_directive) }
-    ensures fault { IfErr result (λ fault. fault ≡ Memory) }
+    ensures fault { OnlyMemory result }
 {
     let mut answers = Vec::new(*lines.allocator());
     put_answers(&mut answers, finding, in_directive)?;

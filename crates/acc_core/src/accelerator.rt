@@ -22,6 +22,7 @@ ghost use Rattle.acc_work.specs.Remembering.{blocks_in};
 ghost use Rattle.acc_core.specs.inner.Closing.{closing_begun, closes_one};
 ghost use Rattle.acc_core.specs.Machine.{idle, is_there, state_at_first, step, standing_of, labels_of, can_tell, told_of, with_item};
 ghost use Rattle.std.specs.Option.{option_map};
+ghost use Rattle.acc_base.specs.Faults.{OnlyMemory};
 ghost use Rattle.acc_present.specs.Presences.{presences, holder};
 ghost use Rattle.acc_present.specs.Tables.{entry_presence};
 
@@ -74,7 +75,7 @@ impl Accelerator {
     /// `Memory` where memory is refused.
     pub(crate) fn new(alloc: Global, config: Config) -> Result<Accelerator, Fault>
         ensures opened { IfOk result (λ a. a ≡ state_at_first config []) }
-        ensures fault { IfErr result (λ f. f ≡ no_memory) }
+        ensures fault { OnlyMemory result }
     {
         let work = Work::new(alloc, &config)?;
         work.keeps();

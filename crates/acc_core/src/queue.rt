@@ -1,6 +1,7 @@
 //! The batches that a queue holds.
 
-ghost use Rattle.std.specs.Prelude.{◌≡◌, ◌==◌, true, [], ◌∷◌, List, All, length, IfOk, IfErr, IfSome, IfNone, OnOk, OnErr};
+ghost use Rattle.std.specs.Prelude.{◌≡◌, ◌==◌, true, [], ◌∷◌, List, All, length, IfOk, IfSome, IfNone, OnOk, OnErr};
+ghost use Rattle.acc_base.specs.Faults.{OnlyMemory};
 ghost use Rattle.acc_base.specs.Queues.{queue_count};
 ghost use Rattle.acc_batch.specs.declared.label.Label.{Label};
 ghost use Rattle.acc_core.specs.inner.Queues.{empty_queue, held_with, queue_in};
@@ -32,8 +33,6 @@ impl Model for Queue {
 }
 
 impl Queue {
-    ghost use Rattle.acc_base.specs.declared.fault.Fault.TheVariants.{Memory};
-
     /// Without a batch.
     ///
     /// # Errors
@@ -41,7 +40,7 @@ impl Queue {
     /// `Memory` where memory is refused.
     pub(crate) fn new(alloc: Global) -> Result<Self, Fault>
         ensures empty { IfOk result (λ queue. queue ≡ empty_queue) }
-        ensures fault { IfErr result (λ fault. fault ≡ Memory) }
+        ensures fault { OnlyMemory result }
     {
         let batches = VecDeque::with_capacity(alloc, 1)?;
         Ok(Queue { batches })
@@ -63,7 +62,7 @@ impl Queue {
         requires { self.old.has_place ≡ true }
         ensures pushed { OnOk result (self.new ≡ record { held = held_with self.old batch; has_place = true }) }
         ensures kept { OnErr result (self.new ≡ self.old) }
-        ensures fault { IfErr result (λ fault. fault ≡ Memory) }
+        ensures fault { OnlyMemory result }
     {
         self.batches.reserve(2)?;
         self.batches.push_back_reserved(batch);
@@ -108,7 +107,7 @@ pub(crate) fn holds_none(queues: &[Queue], at: QueueAt) -> bool
 pub(crate) fn queues_of(alloc: Global, config: &Config) -> Result<Vec<Queue>, Fault>
     ensures count { IfOk result (λ queues. length queues.items ≡ queue_count config.now) }
     ensures empty { IfOk result (λ queues. All (λ queue. queue ≡ empty_queue) queues.items) }
-    ensures fault { IfErr result (λ fault. fault ≡ Fault.Memory) }
+    ensures fault { OnlyMemory result }
 {
     let mut queues = Vec::new(alloc);
     for _ in 0..config.queue_count() {

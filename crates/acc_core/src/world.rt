@@ -1,7 +1,8 @@
 //! The hosts, and the accelerator that they share.
 
-ghost use Rattle.std.specs.Prelude.{[], List, ◌≡◌, ◌+◌, ◌<◌, ◌≤◌, length, map, All, reverse, is_some, slice_get, IfOk, IfErr, IfSome, IsTrue, OnErr, OnSome, true, false, ◌^◌};
+ghost use Rattle.std.specs.Prelude.{[], List, ◌≡◌, ◌+◌, ◌<◌, ◌≤◌, length, map, All, reverse, is_some, slice_get, IfOk, IfSome, IsTrue, OnErr, OnSome, true, false, ◌^◌};
 ghost use Rattle.std.specs.Option.{option_map};
+ghost use Rattle.acc_base.specs.Faults.{OnlyMemory};
 ghost use Rattle.acc_present.specs.Presences.{presences, holder};
 ghost use Rattle.acc_present.specs.Tables.{entry_presence};
 ghost use Rattle.acc_base.specs.declared.config.TheConstants.{MAX_HOSTS};
@@ -59,7 +60,6 @@ impl Model for World {
 }
 
 impl World {
-    ghost use Rattle.acc_base.specs.declared.fault.Fault.TheVariants.{Memory};
     ghost use Rattle.acc_host.specs.declared.state.Reply.TheVariants as reply;
 
     /// Nothing is accepted, performed or shown yet, and each host is ready for its first statement. There is one program
@@ -71,7 +71,7 @@ impl World {
     pub fn new(alloc: Global, config: Config, programs: Vec<HostProgram>) -> Result<World, Fault>
         requires { OnePerHost config programs.items }
         ensures opened { IfOk result (λ w. w ≡ first_state config programs.items) }
-        ensures refused { IfErr result (λ fault. fault ≡ Memory) }
+        ensures refused { OnlyMemory result }
     {
         hosts_follow();
         config.keeps();
@@ -132,7 +132,7 @@ impl World {
     pub fn run(&mut self, events: &[Event]) -> Result<Vec<Reply>, Fault>
         ensures ran { IfOk result (λ replies. Ran self.old events.now replies.items self.new) }
         ensures kept { OnErr result (self.new ≡ self.old) }
-        ensures refused { IfErr result (λ fault. fault ≡ Memory) }
+        ensures refused { OnlyMemory result }
     {
         hosts_follow();
         let mut replies = Vec::with_capacity(self.alloc, events.len())?;

@@ -1,9 +1,9 @@
 //! The path from bytes to all reports of ends that runs come to, or to prefixes from which others explore on.
 
 ghost use Rattle.std.specs.Prelude.{◌≡◌, ◌≤◌, IfErr, IfOk, IfSome, OnErr, Err, Ok, length};
+ghost use Rattle.acc_base.specs.Faults.{OnlyMemory};
 ghost use Rattle.acc_base.specs.Configurations.{rows};
 ghost use Rattle.acc_base.specs.declared.config.TheConstants.{MAX_HOSTS};
-ghost use Rattle.acc_base.specs.declared.fault.Fault.TheVariants as fault;
 ghost use Rattle.acc_core.specs.Worlds.{OnePerHost};
 ghost use Rattle.acc_explore.specs.Origins.{setting_from};
 ghost use Rattle.acc_host.specs.Hosts.{AreNumbered};
@@ -228,7 +228,7 @@ fn tell<W: Write, V: Watcher>(
     requires { OnePerHost origin.now.config.now origin.now.script.now.programs.items }
     ensures told { IfOk result (TellsAllOf aim (setting_from origin.now) origin.now.schedule.now origin.now.most (sink (W.contents out.old) failed.old) (sink (W.contents out.new) failed.new)) }
     ensures begun { OnErr result (TellsSomeOf aim (setting_from origin.now) origin.now.schedule.now (sink (W.contents out.old) failed.old) (sink (W.contents out.new) failed.new)) }
-    ensures fault { IfErr result (λ f. f ≡ fault.Memory) }
+    ensures fault { OnlyMemory result }
 {
     match aim {
         Aim::Reports(form) => match tell_reports(alloc, out, failed, origin, form, watcher) {

@@ -1,6 +1,7 @@
 //! The path from a script's bytes to its report, by threads, with the faults in their order.
 
 ghost use Rattle.std.specs.Prelude.{◌≡◌, ◌≤◌, ◌⊎◌, IfOk, IfErr, IfSome, length, map};
+ghost use Rattle.acc_base.specs.Faults.{OnlyMemory};
 ghost use Rattle.acc_base.specs.Configurations.{rows};
 ghost use Rattle.acc_base.specs.declared.config.TheConstants.{MAX_HOSTS};
 ghost use Rattle.acc_base.specs.declared.fault.Fault.TheVariants.{HostsDiffer, Memory};
@@ -186,7 +187,7 @@ fn end(alloc: Global, runtime: Runtime, tokens: Vec<HostToken>) -> Result<Outcom
 // Where each host stands.
 fn states_of(alloc: Global, hosts: &[Host]) -> Result<Vec<HostState>, Fault>
     ensures states { IfOk result (λ states. states.items ≡ map state_of hosts.now) }
-    ensures fault { IfErr result (λ f. f ≡ Memory) }
+    ensures fault { OnlyMemory result }
 {
     let mut states = Vec::with_capacity(alloc, hosts.len())?;
     for host in hosts {

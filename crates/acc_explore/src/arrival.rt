@@ -1,7 +1,7 @@
 //! How states are found, one behind another.
 
-ghost use Rattle.std.specs.Prelude.{◌≤◌, ◌≡◌, IfOk, IfErr, length, reverse};
-ghost use Rattle.acc_base.specs.declared.fault.Fault.TheVariants as fault;
+ghost use Rattle.std.specs.Prelude.{◌≤◌, ◌≡◌, IfOk, length, reverse};
+ghost use Rattle.acc_base.specs.Faults.{OnlyMemory};
 ghost use Rattle.acc_explore.specs.Arrivals.{events_to};
 
 use acc_base::Fault;
@@ -23,7 +23,7 @@ pub struct Arrival {
 pub fn path(alloc: Global, arrivals: &[Arrival], number: u32) -> Result<Vec<Event>, Fault>
     requires { number ≤ length arrivals.now }
     ensures events { IfOk result (λ events. events.items ≡ events_to (reverse arrivals.now) number) }
-    ensures fault { IfErr result (λ f. f ≡ fault.Memory) }
+    ensures fault { OnlyMemory result }
 {
     let mut events = Vec::new(alloc);
     let mut left = number as usize;

@@ -1,7 +1,7 @@
 //! The events that can do something in a world.
 
-ghost use Rattle.std.specs.Prelude.{◌≡◌, ◌++◌, IfOk, IfErr, OnOk, IsTrue, ◌↔◌, reverse};
-ghost use Rattle.acc_base.specs.declared.fault.Fault.TheVariants as fault;
+ghost use Rattle.std.specs.Prelude.{◌≡◌, ◌++◌, IfOk, OnOk, IsTrue, ◌↔◌, reverse};
+ghost use Rattle.acc_base.specs.Faults.{OnlyMemory};
 ghost use Rattle.acc_base.specs.Queues.{queue_count};
 ghost use Rattle.acc_explore.specs.Runs.{events_of_hosts, events_of_queues};
 ghost use Rattle.acc_explore.specs.inner.Searching.{events_in_turn};
@@ -13,7 +13,7 @@ use std::alloc::Global;
 // Those of the hosts, in their order.
 fn push_hosts(events: &mut Vec<Event>, hosts: u8) -> Result<(), Fault>
     ensures pushed { OnOk result (events.new.items ≡ events.old.items ++ reverse (events_of_hosts hosts)) }
-    ensures fault { IfErr result (λ f. f ≡ fault.Memory) }
+    ensures fault { OnlyMemory result }
 {
     for host in 0..hosts {
         events.push(Event::Host(HostId::new(host)))?;
@@ -24,7 +24,7 @@ fn push_hosts(events: &mut Vec<Event>, hosts: u8) -> Result<(), Fault>
 // Those of the queues, in their order. Of one queue one of the two alone can do something in a state.
 fn push_queues(events: &mut Vec<Event>, config: &Config) -> Result<(), Fault>
     ensures pushed { OnOk result (events.new.items ≡ events.old.items ++ reverse (events_of_queues (queue_count config.now))) }
-    ensures fault { IfErr result (λ f. f ≡ fault.Memory) }
+    ensures fault { OnlyMemory result }
 {
     for seat in 0..config.queue_count() {
         events.push(Event::Perform(QueueAt::at_seat(seat)))?;
@@ -40,7 +40,7 @@ pub(crate) fn events_in_turn(
     closing: bool,
 ) -> Result<Vec<Event>, Fault>
     ensures events { IfOk result (λ events. events.items ≡ events_in_turn closing config.now.hosts (queue_count config.now)) }
-    ensures fault { IfErr result (λ f. f ≡ fault.Memory) }
+    ensures fault { OnlyMemory result }
 {
     let mut events = Vec::new(alloc);
     push_hosts(&mut events, config.hosts())?;

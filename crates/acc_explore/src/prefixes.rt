@@ -1,7 +1,7 @@
 //! Prefixes of schedules that others explore on from, one for each state at which a search was cut.
 
-ghost use Rattle.std.specs.Prelude.{◌≡◌, ◌≤◌, ◌+◌, ◌^◌, All, IfOk, IfErr, OnOk, OnErr, length, map, reverse};
-ghost use Rattle.acc_base.specs.declared.fault.Fault.TheVariants as fault;
+ghost use Rattle.std.specs.Prelude.{◌≡◌, ◌≤◌, ◌+◌, ◌^◌, All, IfOk, OnOk, OnErr, length, map, reverse};
+ghost use Rattle.acc_base.specs.Faults.{OnlyMemory};
 ghost use Rattle.acc_core.specs.Worlds.{OnePerHost};
 ghost use Rattle.acc_explore.specs.Arrivals.{events_to};
 ghost use Rattle.acc_explore.specs.Origins.{setting_from};
@@ -33,7 +33,7 @@ fn push_leaves(numbers: &mut Vec<u32>, first: usize, states: usize) -> Result<()
     requires there { first ≤ states }
     requires few { states ≤ 2 ^ 32 }
     ensures pushed { OnOk result (HaveLeaves first states numbers.old.items numbers.new.items) }
-    ensures fault { IfErr result (λ f. f ≡ fault.Memory) }
+    ensures fault { OnlyMemory result }
 {
     for number in first..states {
         numbers.push(number as u32)?;
@@ -69,7 +69,7 @@ fn tell_each<W: Write>(
     requires { All (λ n. n ≤ length arrivals.now) numbers.now }
     ensures told { OnOk result (Puts (sink (W.contents out.old) failed.old) (sink (W.contents out.new) failed.new) (prefixes_text schedule.now 1 (map (events_to (reverse arrivals.now)) numbers.now))) }
     ensures begun { OnErr result (TellsFirstPrefixes schedule.now (reverse arrivals.now) numbers.now (sink (W.contents out.old) failed.old) (sink (W.contents out.new) failed.new)) }
-    ensures fault { IfErr result (λ f. f ≡ fault.Memory) }
+    ensures fault { OnlyMemory result }
 {
     let mut count = 0usize;
     for number in numbers {
@@ -133,7 +133,7 @@ pub fn tell_prefixes<W: Write, V: Watcher>(
     requires { OnePerHost origin.now.config.now origin.now.script.now.programs.items }
     ensures told { IfOk result (TellsPrefixes (setting_from origin.now) origin.now.schedule.now depth origin.now.most (sink (W.contents out.old) failed.old) (sink (W.contents out.new) failed.new)) }
     ensures begun { OnErr result (TellsSomePrefixes (setting_from origin.now) origin.now.schedule.now (sink (W.contents out.old) failed.old) (sink (W.contents out.new) failed.new)) }
-    ensures fault { IfErr result (λ f. f ≡ fault.Memory) }
+    ensures fault { OnlyMemory result }
 {
     runs_are_legal();
     let Exploration {

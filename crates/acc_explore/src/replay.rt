@@ -1,6 +1,7 @@
 //! A world that is made again from its beginning.
 
-ghost use Rattle.std.specs.Prelude.{◌≡◌, ◌≤◌, ◌↔◌, IfOk, IfErr, IsTrue, OnOk, length, reverse};
+ghost use Rattle.std.specs.Prelude.{◌≡◌, ◌≤◌, ◌↔◌, IfOk, IsTrue, OnOk, length, reverse};
+ghost use Rattle.acc_base.specs.Faults.{OnlyMemory};
 ghost use Rattle.acc_base.specs.declared.fault.Fault.TheVariants as fault;
 ghost use Rattle.acc_core.specs.Worlds.{OnePerHost, first_state};
 ghost use Rattle.acc_explore.specs.Arrivals.{found_at};
@@ -31,7 +32,7 @@ pub(crate) fn is_idle(answer: Reply) -> bool
 // Makes a world step at each event.
 fn go_on(world: &mut World, events: &[Event]) -> Result<(), Fault>
     ensures world { OnOk result (world.new ≡ after world.old events.now) }
-    ensures fault { IfErr result (λ f. f ≡ fault.Memory) }
+    ensures fault { OnlyMemory result }
 {
     for event in events {
         if is_scarce(world.step(*event)) {
@@ -54,7 +55,7 @@ pub fn world_behind(
 ) -> Result<World, Fault>
     requires { OnePerHost config.now programs.now }
     ensures world { IfOk result (λ w. w ≡ after (first_state config.now programs.now) events.now) }
-    ensures fault { IfErr result (λ f. f ≡ fault.Memory) }
+    ensures fault { OnlyMemory result }
 {
     let mut world = World::new(alloc, config.try_clone()?, copies_of(alloc, programs)?)?;
     go_on(&mut world, events)?;
@@ -77,7 +78,7 @@ pub fn world_found(
     requires hosts { OnePerHost config.now programs.now }
     requires there { number ≤ length arrivals.now }
     ensures world { IfOk result (λ w. w ≡ (found_at (after (first_state config.now programs.now) before.now) (reverse arrivals.now) number).state) }
-    ensures fault { IfErr result (λ f. f ≡ fault.Memory) }
+    ensures fault { OnlyMemory result }
 {
     arrivals_are_reached();
     let events = path(alloc, arrivals, number)?;

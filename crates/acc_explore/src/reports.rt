@@ -1,8 +1,8 @@
 //! All reports of the ends that a state leads to, each with a schedule.
 
-ghost use Rattle.std.specs.Prelude.{◌≡◌, ◌≤◌, ◌<◌, ◌+◌, ◌^◌, All, IfOk, IfErr, OnOk, OnErr, length, map, reverse};
+ghost use Rattle.std.specs.Prelude.{◌≡◌, ◌≤◌, ◌<◌, ◌+◌, ◌^◌, All, IfOk, OnOk, OnErr, length, map, reverse};
 ghost use Rattle.std.specs.List.{list_any};
-ghost use Rattle.acc_base.specs.declared.fault.Fault.TheVariants as fault;
+ghost use Rattle.acc_base.specs.Faults.{OnlyMemory};
 ghost use Rattle.acc_core.specs.Worlds.{OnePerHost};
 ghost use Rattle.acc_explore.specs.Arrivals.{found_at};
 ghost use Rattle.acc_explore.specs.Endings.{TellsAll, TellsSome, counts_text, ending_text, in_line, counts_line, on_one_line, plural, plural_end, whole_text};
@@ -73,7 +73,7 @@ fn report_at(
     requires there { number ≤ length arrivals.now }
     ensures report { IfOk result (λ r. r.0.items ≡ report_of (texts origin.now.script.now.names.keys) origin.now.script.now.programs.items (found_at (start_of origin.now) (reverse arrivals.now) number).state) }
     ensures refused { IfOk result (λ r. r.1 ≡ list_any is_refused (map state_of (found_at (start_of origin.now) (reverse arrivals.now) number).state.hosts)) }
-    ensures fault { IfErr result (λ f. f ≡ fault.Memory) }
+    ensures fault { OnlyMemory result }
 {
     let programs = origin.script.programs.as_slice();
     let world = world_found(
@@ -189,7 +189,7 @@ fn tell_end<W: Write>(
     requires few { tally.old.count + 1 < 2 ^ 64 }
     ensures told { OnOk result (TellsOne (setting_from origin.now) form origin.now.schedule.now (reverse arrivals.now) end tally.old tally.new (sink (W.contents out.old) failed.old) (sink (W.contents out.new) failed.new)) }
     ensures begun { OnErr result (TellsAtMost (setting_from origin.now) form origin.now.schedule.now (reverse arrivals.now) end tally.old (sink (W.contents out.old) failed.old) (sink (W.contents out.new) failed.new)) }
-    ensures fault { IfErr result (λ f. f ≡ fault.Memory) }
+    ensures fault { OnlyMemory result }
 {
     let (report, refused) = match report_at(alloc, origin, arrivals, end) {
         Ok(report) => report,
@@ -234,7 +234,7 @@ fn tell_ends<W: Write>(
     requires there { All (λ n. n ≤ length arrivals.now) ends.now }
     ensures told { IfOk result (λ t. IsTally (setting_from origin.now) form origin.now.schedule.now (told_of (setting_from origin.now) (reverse arrivals.now) ends.now) t (sink (W.contents out.old) failed.old) (sink (W.contents out.new) failed.new)) }
     ensures begun { OnErr result (TellsFirst (setting_from origin.now) form origin.now.schedule.now (reverse arrivals.now) ends.now (sink (W.contents out.old) failed.old) (sink (W.contents out.new) failed.new)) }
-    ensures fault { IfErr result (λ f. f ≡ fault.Memory) }
+    ensures fault { OnlyMemory result }
 {
     let mut tally = Tally {
         seen: IndexSet::new(alloc),
@@ -308,7 +308,7 @@ pub(crate) fn search<V: Watcher>(
 ) -> Result<Exploration, Fault>
     requires { OnePerHost origin.now.config.now origin.now.script.now.programs.items }
     ensures found { IfOk result (λ x. IsSearch origin.now.closing origin.now.most deepest (start_of origin.now) (reverse x.arrivals.items) x.ends.items x.followed x.whole) }
-    ensures fault { IfErr result (λ f. f ≡ fault.Memory) }
+    ensures fault { OnlyMemory result }
 {
     let found = explore(
         alloc,
@@ -342,7 +342,7 @@ pub fn tell_reports<W: Write, V: Watcher>(
     requires { OnePerHost origin.now.config.now origin.now.script.now.programs.items }
     ensures told { IfOk result (TellsAll (setting_from origin.now) form origin.now.schedule.now origin.now.most (sink (W.contents out.old) failed.old) (sink (W.contents out.new) failed.new)) }
     ensures begun { OnErr result (TellsSome (setting_from origin.now) form origin.now.schedule.now (sink (W.contents out.old) failed.old) (sink (W.contents out.new) failed.new)) }
-    ensures fault { IfErr result (λ f. f ≡ fault.Memory) }
+    ensures fault { OnlyMemory result }
 {
     runs_are_legal();
     let Exploration {

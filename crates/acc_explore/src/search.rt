@@ -1,7 +1,7 @@
 //! The search for all states that events lead to.
 
-ghost use Rattle.std.specs.Prelude.{◌≡◌, ◌≤◌, ◌+◌, ◌↔◌, [], IfOk, IfErr, OnOk, IsTrue, false, length, reverse, if◌then◌else◌, Contains};
-ghost use Rattle.acc_base.specs.declared.fault.Fault.TheVariants as fault;
+ghost use Rattle.std.specs.Prelude.{◌≡◌, ◌≤◌, ◌+◌, ◌↔◌, [], IfOk, OnOk, IsTrue, false, length, reverse, if◌then◌else◌, Contains};
+ghost use Rattle.acc_base.specs.Faults.{OnlyMemory};
 ghost use Rattle.acc_base.specs.Queues.{queue_count};
 ghost use Rattle.acc_core.specs.Machine.{step};
 ghost use Rattle.acc_core.specs.Worlds.{OnePerHost, first_state};
@@ -110,7 +110,7 @@ fn world_again(task: &Task, arrivals: &[Arrival], number: u32) -> Result<World, 
     requires hosts { OnePerHost task.now.config.now task.now.programs.now }
     requires there { number ≤ length arrivals.now }
     ensures world { IfOk result (λ w. w ≡ (found_at (start_of task.now) (reverse arrivals.now) number).state) }
-    ensures fault { IfErr result (λ f. f ≡ fault.Memory) }
+    ensures fault { OnlyMemory result }
 {
     world_found(
         task.alloc,
@@ -134,7 +134,7 @@ fn world_at(
     requires worlds { AreAtHand (start_of task.now) (reverse arrivals.now) worlds.old.seats.items }
     ensures world { IfOk result (λ w. w ≡ (found_at (start_of task.now) (reverse arrivals.now) number).state) }
     ensures worlds { AreAtHand (start_of task.now) (reverse arrivals.now) worlds.new.seats.items }
-    ensures fault { IfErr result (λ f. f ≡ fault.Memory) }
+    ensures fault { OnlyMemory result }
 {
     match worlds.take(number) {
         Some(world) => Ok(world),
@@ -153,7 +153,7 @@ fn world_here(
     requires there { number ≤ length arrivals.now }
     requires here { IsHere (start_of task.now) (reverse arrivals.now) number at_hand }
     ensures world { IfOk result (λ w. w ≡ (found_at (start_of task.now) (reverse arrivals.now) number).state) }
-    ensures fault { IfErr result (λ f. f ≡ fault.Memory) }
+    ensures fault { OnlyMemory result }
 {
     match at_hand {
         Some(world) => Ok(world),
@@ -174,7 +174,7 @@ fn is_like(
     requires worlds { AreAtHand (start_of task.now) (reverse arrivals.now) worlds.now.seats.items }
     requires script { AreOfOneScript (start_of task.now) world.now }
     ensures like { IfOk result (λ like. IsTrue like → Alike (found_at (start_of task.now) (reverse arrivals.now) number).state world.now) }
-    ensures fault { IfErr result (λ f. f ≡ fault.Memory) }
+    ensures fault { OnlyMemory result }
 {
     match worlds.get(number) {
         Some(old) => Ok(are_alike(old, world)),
@@ -197,7 +197,7 @@ fn is_like_one(
     requires worlds { AreAtHand (start_of task.now) (reverse arrivals.now) worlds.now.seats.items }
     requires script { AreOfOneScript (start_of task.now) world.now }
     ensures like { IfOk result (λ like. IsTrue like → IsLikeOne (start_of task.now) (reverse arrivals.now) world.now) }
-    ensures fault { IfErr result (λ f. f ≡ fault.Memory) }
+    ensures fault { OnlyMemory result }
 {
     match number {
         Some(number) if number as usize <= arrivals.len() => {
@@ -209,7 +209,7 @@ fn is_like_one(
 
 // Keeps the number of a state by its digest.
 fn remember(numbers: &mut HashMap<u64, u32>, digest: u64, number: u32) -> Result<(), Fault>
-    ensures { IfErr result (λ f. f ≡ fault.Memory) }
+    ensures { OnlyMemory result }
 {
     numbers.insert(digest, number)?;
     Ok(())
@@ -225,7 +225,7 @@ fn note(task: &Task, found: &mut Found, world: World, arrival: Arrival) -> Resul
     ensures full { IfOk result (λ room. room ≡ false → (found.new.arrivals.items ≡ found.old.arrivals.items) × (task.now.most ≤ length found.old.arrivals.items)) }
     ensures worlds { OnOk result (AreAtHand (start_of task.now) (reverse found.new.arrivals.items) found.new.worlds.seats.items) }
     ensures ends { found.new.ends.items ≡ found.old.ends.items }
-    ensures fault { IfErr result (λ f. f ≡ fault.Memory) }
+    ensures fault { OnlyMemory result }
 {
     let digest = digest(&world);
     let number = found.numbers.get(&digest).copied();
@@ -266,7 +266,7 @@ fn follow(
     ensures here { OnOk result (IsHere (start_of task.now) (reverse found.new.arrivals.items) number at_hand.new) }
     ensures worlds { OnOk result (AreAtHand (start_of task.now) (reverse found.new.arrivals.items) found.new.worlds.seats.items) }
     ensures ends { found.new.ends.items ≡ found.old.ends.items }
-    ensures fault { IfErr result (λ f. f ≡ fault.Memory) }
+    ensures fault { OnlyMemory result }
 {
     let mut world = world_here(task, found.arrivals.as_slice(), number, at_hand.take())?;
     let answer = world.step(event);
@@ -323,7 +323,7 @@ fn follow_each(
     ensures worlds { OnOk result (AreAtHand (start_of task.now) (reverse found.new.arrivals.items) found.new.worlds.seats.items) }
     ensures near { OnOk result (AreNear (start_of task.now) (reverse found.old.arrivals.items) (reverse found.new.arrivals.items) number) }
     ensures full { IfOk result (λ room. room ≡ false → task.now.most ≤ length found.new.arrivals.items) }
-    ensures fault { IfErr result (λ f. f ≡ fault.Memory) }
+    ensures fault { OnlyMemory result }
 {
     let mut is_end = true;
     let mut at_hand = Some(world);
@@ -360,7 +360,7 @@ fn follow_one(
     ensures worlds { OnOk result (AreAtHand (start_of task.now) (reverse found.new.arrivals.items) found.new.worlds.seats.items) }
     ensures near { OnOk result (AreNear (start_of task.now) (reverse found.old.arrivals.items) (reverse found.new.arrivals.items) number) }
     ensures full { IfOk result (λ room. room ≡ false → task.now.most ≤ length found.new.arrivals.items) }
-    ensures fault { IfErr result (λ f. f ≡ fault.Memory) }
+    ensures fault { OnlyMemory result }
 {
     let mut at_hand = Some(world);
     let course = follow(task, found, number, &mut at_hand, event)?;
@@ -387,7 +387,7 @@ fn follow_enough(
     ensures worlds { OnOk result (AreAtHand (start_of task.now) (reverse found.new.arrivals.items) found.new.worlds.seats.items) }
     ensures near { OnOk result (AreNear (start_of task.now) (reverse found.old.arrivals.items) (reverse found.new.arrivals.items) number) }
     ensures full { IfOk result (λ room. room ≡ false → task.now.most ≤ length found.new.arrivals.items) }
-    ensures fault { IfErr result (λ f. f ≡ fault.Memory) }
+    ensures fault { OnlyMemory result }
 {
     let world = world_at(task, &mut found.worlds, found.arrivals.as_slice(), number)?;
     match goes_first(&world, events, task.unasked, task.closing) {
@@ -401,7 +401,7 @@ fn at_first(task: &Task) -> Result<Found, Fault>
     requires hosts { OnePerHost task.now.config.now task.now.programs.now }
     ensures arrivals { IfOk result (λ found. found.arrivals.items ≡ []) }
     ensures ends { IfOk result (λ found. found.ends.items ≡ []) }
-    ensures fault { IfErr result (λ f. f ≡ fault.Memory) }
+    ensures fault { OnlyMemory result }
     ensures worlds { IfOk result (λ found. AreAtHand (start_of task.now) [] found.worlds.seats.items) }
 {
     let arrivals = Vec::new(task.alloc);
@@ -459,7 +459,7 @@ pub fn explore<W: Watcher>(
 ) -> Result<Exploration, Fault>
     requires { OnePerHost config.now programs.now }
     ensures found { IfOk result (λ x. IsSearch closing most deepest (after (first_state config.now programs.now) before.now) (reverse x.arrivals.items) x.ends.items x.followed x.whole) }
-    ensures fault { IfErr result (λ f. f ≡ fault.Memory) }
+    ensures fault { OnlyMemory result }
 {
     let task = Task {
         alloc,

@@ -1,7 +1,7 @@
 //! Worlds that are kept at hand, so that they needn't be made again.
 
-ghost use Rattle.std.specs.Prelude.{◌≡◌, ◌≤◌, ◌<◌, [], List, IfSome, IfErr, length};
-ghost use Rattle.acc_base.specs.declared.fault.Fault.TheVariants as fault;
+ghost use Rattle.std.specs.Prelude.{◌≡◌, ◌≤◌, ◌<◌, [], List, IfSome, length};
+ghost use Rattle.acc_base.specs.Faults.{OnlyMemory};
 ghost use Rattle.acc_core.specs.Machine.{State};
 ghost use Rattle.acc_explore.specs.Arrivals.{found_at};
 ghost use Rattle.acc_explore.specs.declared.arrival.Arrival.{Arrival};
@@ -73,7 +73,7 @@ impl Worlds {
     /// Keeps the world of the state with this number, where its seat is free.
     pub(crate) fn put(&mut self, number: u32, world: World) -> Result<(), Fault>
         ensures kept { (start : State) (arrivals : List Arrival) → number ≤ length arrivals → world ≡ (found_at start arrivals number).state → AreAtHand start arrivals self.old.seats.items → AreAtHand start arrivals self.new.seats.items }
-        ensures fault { IfErr result (λ f. f ≡ fault.Memory) }
+        ensures fault { OnlyMemory result }
     {
         let seat = seat_of(number);
         if seat == self.seats.len() {

@@ -1,8 +1,8 @@
 //! A host.
 
-ghost use Rattle.std.specs.Prelude.{◌≡◌, ◌+◌, ◌<◌, ◌^◌, IfErr, IfOk, drop, map, slice_get, Some};
+ghost use Rattle.std.specs.Prelude.{◌≡◌, ◌+◌, ◌<◌, ◌^◌, IfOk, drop, map, slice_get, Some};
 ghost use Rattle.std.specs.Option.{option_map};
-ghost use Rattle.acc_base.specs.declared.fault.Fault.TheVariants.{Memory};
+ghost use Rattle.acc_base.specs.Faults.{OnlyMemory};
 ghost use Rattle.acc_host.specs.Following.{Stands};
 ghost use Rattle.acc_host.specs.Engines.{Keeps};
 ghost use Rattle.acc_host.specs.Hosts.{ready, bare, Steps, host_after, reply_to, state_of, line_of, refused_at, ended_after, ids_gone, phase_after};
@@ -235,7 +235,7 @@ fn move_on(ended: &mut usize, ids: &mut Ids, phase: &mut Phase, goes: Result<Aft
 /// `Memory` where memory is refused.
 pub fn ready_hosts(alloc: Global, programs: Vec<HostProgram>) -> Result<Vec<Host>, Fault>
     ensures hosts { IfOk result (λ hosts. hosts.items ≡ map ready programs.items) }
-    ensures fault { IfErr result (λ f. f ≡ Memory) }
+    ensures fault { OnlyMemory result }
 {
     let mut hosts = Vec::with_capacity(alloc, programs.len())?;
     for program in programs {

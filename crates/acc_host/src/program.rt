@@ -1,7 +1,7 @@
 //! Programs of hosts: statements, and what each does.
 
-ghost use Rattle.std.specs.Prelude.{◌≡◌, IfOk, IfErr};
-ghost use Rattle.acc_base.specs.declared.fault.Fault.TheVariants as fault;
+ghost use Rattle.std.specs.Prelude.{◌≡◌, IfOk};
+ghost use Rattle.acc_base.specs.Faults.{OnlyMemory};
 
 use acc_base::{Fault, HostId, Listed, Range};
 use acc_place::Directive;
@@ -52,7 +52,7 @@ impl Act {
     /// `Memory` where the count of the owners of what is written is full.
     pub fn try_clone(&self) -> Result<Self, Fault>
         ensures equal { IfOk result (λ a. a ≡ self.now) }
-        ensures fault { IfErr result (λ f. f ≡ fault.Memory) }
+        ensures fault { OnlyMemory result }
     {
         match self {
             Act::Place { directive } => {
@@ -81,7 +81,7 @@ impl HostProgram {
     /// `Memory` where memory is refused.
     pub fn try_clone(&self, alloc: Global) -> Result<Self, Fault>
         ensures equal { IfOk result (λ p. p ≡ self.now) }
-        ensures fault { IfErr result (λ f. f ≡ fault.Memory) }
+        ensures fault { OnlyMemory result }
     {
         let mut statements = Vec::with_capacity(alloc, self.statements.as_slice().len())?;
         for statement in self.statements.as_slice() {
@@ -105,7 +105,7 @@ impl HostProgram {
 /// `Memory` where memory is refused.
 pub fn copies_of(alloc: Global, programs: &[HostProgram]) -> Result<Vec<HostProgram>, Fault>
     ensures equal { IfOk result (λ copies. copies.items ≡ programs.now) }
-    ensures fault { IfErr result (λ f. f ≡ fault.Memory) }
+    ensures fault { OnlyMemory result }
 {
     let mut copies = Vec::with_capacity(alloc, programs.len())?;
     for program in programs {

@@ -1,7 +1,7 @@
 //! A loop with room for the cells that it reads and for those that it assigns: inputs and outputs.
 
-ghost use Rattle.std.specs.Prelude.{◌≡◌, ◌↔◌, ◌<◌, [], length, slice_index_or, slice_set, IsTrue, IfOk, IfErr};
-ghost use Rattle.acc_base.specs.declared.fault.Fault.TheVariants as fault;
+ghost use Rattle.std.specs.Prelude.{◌≡◌, ◌↔◌, ◌<◌, [], length, slice_index_or, slice_set, IsTrue, IfOk};
+ghost use Rattle.acc_base.specs.Faults.{OnlyMemory};
 ghost use Rattle.acc_kernel.specs.Jobs.{AreDistinct, HasUses, HoldReached, IsJob, no_use, zero_rows, computed, read_uses, shown, stored, written_uses};
 ghost use Rattle.acc_kernel.specs.Kernels.{value_after};
 
@@ -56,7 +56,7 @@ impl Job {
         ensures uses { IfOk result (λ j. j.uses ≡ uses.now) }
         ensures inputs { IfOk result (λ j. j.inputs ≡ zero_rows (read_uses kernel.now uses.now)) }
         ensures outputs { IfOk result (λ j. j.outputs ≡ zero_rows (written_uses kernel.now uses.now)) }
-        ensures fault { IfErr result (λ f. f ≡ fault.Memory) }
+        ensures fault { OnlyMemory result }
     {
         let listed = uses.get().as_slice();
         let inputs = Rows::zeroed(alloc, read_uses(alloc, kernel.get(), listed)?)?;
@@ -86,7 +86,7 @@ impl Job {
         requires reached { HoldReached kernel.now uses.now }
         ensures kernel { IfOk result (λ j. j.kernel ≡ kernel.now) }
         ensures uses { IfOk result (λ j. j.uses ≡ uses.now) }
-        ensures fault { IfErr result (λ f. f ≡ fault.Memory) }
+        ensures fault { OnlyMemory result }
     {
         let JobCells { inputs, outputs } = self.cells;
         let listed = uses.get().as_slice();
@@ -223,7 +223,7 @@ fn read_uses(
     uses: &[(BlockId, Range)],
 ) -> Result<Vec<(BlockId, Range)>, Fault>
     ensures read { IfOk result (λ read. read.items ≡ read_uses kernel.now uses.now) }
-    ensures fault { IfErr result (λ f. f ≡ fault.Memory) }
+    ensures fault { OnlyMemory result }
 {
     let mut read = Vec::new(alloc);
     for (block, range) in uses {
@@ -241,7 +241,7 @@ fn written_uses(
     uses: &[(BlockId, Range)],
 ) -> Result<Vec<(BlockId, Range)>, Fault>
     ensures written { IfOk result (λ written. written.items ≡ written_uses kernel.now uses.now) }
-    ensures fault { IfErr result (λ f. f ≡ fault.Memory) }
+    ensures fault { OnlyMemory result }
 {
     let mut written = Vec::new(alloc);
     for (block, range) in uses {

@@ -1,7 +1,7 @@
 //! The cells of a job: a row for each use, found by its array's number in a table.
 
-ghost use Rattle.std.specs.Prelude.{◌≡◌, ◌↔◌, ℕ, ◌+◌, ◌<◌, pos, [], length, slice_index_or, slice_set, true, IsTrue, IfOk, IfErr, ◌^◌};
-ghost use Rattle.acc_base.specs.declared.fault.Fault.TheVariants as fault;
+ghost use Rattle.std.specs.Prelude.{◌≡◌, ◌↔◌, ℕ, ◌+◌, ◌<◌, pos, [], length, slice_index_or, slice_set, true, IsTrue, IfOk, ◌^◌};
+ghost use Rattle.acc_base.specs.Faults.{OnlyMemory};
 ghost use Rattle.acc_kernel.specs.Cells.{with_cells};
 ghost use Rattle.acc_kernel.specs.Jobs.{AreDistinct, AreRows, HasUses, zero_rows, uses_have, cell_in, is_used, place_of, no_use, shown, stored, values_shown};
 ghost use Rattle.acc_kernel.specs.inner.RowTables.{RowsView, HasRange, IsTable};
@@ -40,7 +40,7 @@ impl Rows {
         requires distinct { AreDistinct uses.items }
         ensures uses { IfOk result (λ r. r.uses ≡ uses.items) }
         ensures rows { IfOk result (λ r. r.rows ≡ zero_rows uses.items) }
-        ensures fault { IfErr result (λ f. f ≡ fault.Memory) }
+        ensures fault { OnlyMemory result }
     {
         let places = places(alloc, uses.as_slice())?;
         let rows = zero_rows(alloc, uses.as_slice())?;
@@ -55,7 +55,7 @@ impl Rows {
     pub(crate) fn renewed(self, alloc: Global, uses: Vec<(BlockId, Range)>) -> Result<Self, Fault>
         requires distinct { AreDistinct uses.items }
         ensures uses { IfOk result (λ r. r.uses ≡ uses.items) }
-        ensures fault { IfErr result (λ f. f ≡ fault.Memory) }
+        ensures fault { OnlyMemory result }
     {
         let places = places(alloc, uses.as_slice())?;
         let rows = fitted(alloc, self.rows, uses.as_slice())?;
@@ -236,7 +236,7 @@ impl Window for Rows {
 // A row for each use, those of the old ones that are as long and stand at its place.
 fn fitted(alloc: Global, old: Vec<Cells>, uses: &[(BlockId, Range)]) -> Result<Vec<Cells>, Fault>
     ensures shape { IfOk result (λ rows. AreRows uses.now rows.items) }
-    ensures fault { IfErr result (λ f. f ≡ fault.Memory) }
+    ensures fault { OnlyMemory result }
 {
     let mut old = old.into_iter();
     let mut rows = Vec::with_capacity(alloc, uses.len())?;
@@ -249,7 +249,7 @@ fn fitted(alloc: Global, old: Vec<Cells>, uses: &[(BlockId, Range)]) -> Result<V
 // A row of so many cells, the old one if it is as long.
 fn fit(alloc: Global, old: Option<Cells>, len: usize) -> Result<Cells, Fault>
     ensures long { IfOk result (λ row. length row ≡ len) }
-    ensures fault { IfErr result (λ f. f ≡ fault.Memory) }
+    ensures fault { OnlyMemory result }
 {
     match old {
         Some(row) if row.len() == len => Ok(row),
@@ -259,7 +259,7 @@ fn fit(alloc: Global, old: Option<Cells>, len: usize) -> Result<Cells, Fault>
 
 fn zero_rows(alloc: Global, uses: &[(BlockId, Range)]) -> Result<Vec<Cells>, Fault>
     ensures rows { IfOk result (λ rows. rows.items ≡ zero_rows uses.now) }
-    ensures fault { IfErr result (λ f. f ≡ fault.Memory) }
+    ensures fault { OnlyMemory result }
 {
     let mut rows = Vec::with_capacity(alloc, uses.len())?;
     for (_, range) in uses {
@@ -271,7 +271,7 @@ fn zero_rows(alloc: Global, uses: &[(BlockId, Range)]) -> Result<Vec<Cells>, Fau
 // Of each array the place of its use, or how many uses there are.
 fn places(alloc: Global, uses: &[(BlockId, Range)]) -> Result<Vec<usize>, Fault>
     ensures table { IfOk result (λ places. IsTable uses.now places.items) }
-    ensures fault { IfErr result (λ f. f ≡ fault.Memory) }
+    ensures fault { OnlyMemory result }
 {
     let mut places = vec![in alloc; uses.len(); 256]?;
     put_places(uses, 0, places.as_mut_slice());

@@ -1,7 +1,8 @@
 //! The blocks of one device.
 
-ghost use Rattle.std.specs.Prelude.{◌≡◌, ◌+◌, ◌-◌, ◌<◌, ◌≤◌, ℕ, ℤ, pos, [], length, map, replicate, is_some, true, None, Some, IfSome, IfOk, IfErr};
+ghost use Rattle.std.specs.Prelude.{◌≡◌, ◌+◌, ◌-◌, ◌<◌, ◌≤◌, ℕ, ℤ, pos, [], length, map, replicate, is_some, true, None, Some, IfSome, IfOk};
 ghost use Rattle.std.specs.Option.{option_copied, option_map};
+ghost use Rattle.acc_base.specs.Faults.{OnlyMemory};
 ghost use Rattle.acc_kernel.specs.Jobs.{read_uses, shown};
 ghost use Rattle.acc_memory.specs.Memories.{Row, ShowsRows, ShowsArray, HasRange, HasRanges, SameBlocks, IsCopy, made_of, blocks_after, find_row, find_block, has_cell, is_whole, row_cell, row_has};
 ghost use Rattle.acc_memory.specs.Values.{Cell, after_op, cells_by, is_in};
@@ -34,7 +35,6 @@ impl Model for Blocks {
 }
 
 impl Blocks {
-    ghost use Rattle.acc_base.specs.declared.fault.Fault.TheVariants as fault;
     ghost use Rattle.acc_batch.specs.declared.label.OpLabel.TheVariants as op;
 
     /// No block.
@@ -44,7 +44,7 @@ impl Blocks {
     /// `Memory` where memory is refused.
     pub(crate) fn new(alloc: Global) -> Result<Self, Fault>
         ensures rows { IfOk result (λ b. b ≡ []) }
-        ensures fault { IfErr result (λ f. f ≡ fault.Memory) }
+        ensures fault { OnlyMemory result }
     {
         let buckets = Buckets::new(alloc)?;
         Ok(Blocks { buckets })

@@ -1,8 +1,8 @@
 //! Values by number, each in its node, spread over chains.
 
-ghost use Rattle.std.specs.Prelude.{◌≡◌, ◌≤◌, ◌<◌, ◌-◌, [], length, is_some, vec_capacity, Some, None, IfOk, IfErr};
+ghost use Rattle.std.specs.Prelude.{◌≡◌, ◌≤◌, ◌<◌, ◌-◌, [], length, is_some, vec_capacity, Some, None, IfOk};
 ghost use Rattle.std.specs.Option.{option_copied, option_map};
-ghost use Rattle.acc_base.specs.declared.fault.Fault.TheVariants as fault;
+ghost use Rattle.acc_base.specs.Faults.{OnlyMemory};
 ghost use Rattle.acc_memory.specs.declared.buckets.TheConstants.{BUCKETS};
 ghost use Rattle.acc_memory.specs.inner.Buckets.{HaveSame, IsSetBy, bucket_of, find_by};
 ghost use Rattle.acc_memory.specs.Memories.{Row, find_row};
@@ -46,7 +46,7 @@ impl<T: Keyed + Drop> Buckets<T> {
     /// `Memory` where memory is refused.
     pub(crate) fn new(alloc: Global) -> Result<Self, Fault>
         ensures none { IfOk result (λ b. b ≡ []) }
-        ensures fault { IfErr result (λ f. f ≡ fault.Memory) }
+        ensures fault { OnlyMemory result }
     {
         let chains = Vec::with_capacity(alloc, BUCKETS as usize)?;
         Ok(Buckets { alloc, chains })

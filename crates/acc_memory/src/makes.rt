@@ -1,7 +1,7 @@
 //! Which blocks were ever made on a device.
 
-ghost use Rattle.std.specs.Prelude.{◌≡◌, ◌==◌, ◌||◌, ℕ, false, IfOk, IfErr};
-ghost use Rattle.acc_base.specs.declared.fault.Fault.TheVariants as fault;
+ghost use Rattle.std.specs.Prelude.{◌≡◌, ◌==◌, ◌||◌, ℕ, false, IfOk};
+ghost use Rattle.acc_base.specs.Faults.{OnlyMemory};
 ghost use Rattle.acc_memory.specs.Memories.{is_made};
 ghost use Rattle.acc_memory.specs.inner.Marks.{IsRisen, makes_with};
 
@@ -40,7 +40,7 @@ impl Makes {
     /// `Memory` where memory is refused.
     pub(crate) fn new(alloc: Global) -> Result<Self, Fault>
         ensures none { IfOk result (λ m. (block : ℕ) → is_made m block ≡ false) }
-        ensures fault { IfErr result (λ f. f ≡ fault.Memory) }
+        ensures fault { OnlyMemory result }
     {
         let others = Buckets::new(alloc)?;
         Ok(Makes { all_to: 0, others })

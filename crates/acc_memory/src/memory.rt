@@ -1,8 +1,9 @@
 //! The memory: performs an operation on a device, reads and writes host arrays, shows a block.
 
-ghost use Rattle.std.specs.Prelude.{◌≡◌, ◌<◌, ℕ, ℤ, pos, [], length, map, replicate, slice_get, is_some, false, true, Some, IfOk, IfErr, IfSome};
+ghost use Rattle.std.specs.Prelude.{◌≡◌, ◌<◌, ℕ, ℤ, pos, [], length, map, replicate, slice_get, is_some, false, true, Some, IfOk, IfSome};
 ghost use Rattle.std.specs.List.{All, list_all};
 ghost use Rattle.std.specs.Option.{option_map};
+ghost use Rattle.acc_base.specs.Faults.{OnlyMemory};
 ghost use Rattle.acc_base.specs.Configurations.{lengths_of, has_range};
 ghost use Rattle.acc_batch.specs.Ops.{op_label, HasItsCells};
 ghost use Rattle.acc_kernel.specs.Jobs.{Use, computed, read_uses, shown};
@@ -41,7 +42,6 @@ impl Model for Memory {
 }
 
 impl Memory {
-    ghost use Rattle.acc_base.specs.declared.fault.Fault.TheVariants as fault;
     ghost use Rattle.acc_batch.specs.declared.label.OpLabel.TheVariants as op;
 
     /// The host arrays with their initial values, and no block.
@@ -54,7 +54,7 @@ impl Memory {
         ensures devices { IfOk result (λ m. length m.devices ≡ config.now.devices) }
         ensures rows { IfOk result (λ m. (d : ℕ) → rows_on m d ≡ []) }
         ensures made { IfOk result (λ m. (d b : ℕ) → was_made_on m d b ≡ false) }
-        ensures fault { IfErr result (λ f. f ≡ fault.Memory) }
+        ensures fault { OnlyMemory result }
     {
         let arrays = arrays_of(alloc, config)?;
         let devices = devices_of(alloc, config.devices())?;
@@ -311,7 +311,7 @@ fn cell_at(cells: &[i64], cell: u32) -> i64
 // The host arrays with their initial values.
 fn arrays_of(alloc: Global, config: &Config) -> Result<Vec<Vec<i64>>, Fault>
     ensures arrays { IfOk result (λ arrays. map (λ v. v.items) arrays.items ≡ config.now.arrays) }
-    ensures fault { IfErr result (λ f. f ≡ Fault.Memory) }
+    ensures fault { OnlyMemory result }
 {
     config.keeps();
     let mut arrays = Vec::new(alloc);
@@ -325,7 +325,7 @@ fn arrays_of(alloc: Global, config: &Config) -> Result<Vec<Vec<i64>>, Fault>
 fn devices_of(alloc: Global, count: u8) -> Result<Vec<Device>, Fault>
     ensures count { IfOk result (λ devices. length devices.items ≡ count) }
     ensures fresh { IfOk result (λ devices. All IsFresh devices.items) }
-    ensures fault { IfErr result (λ f. f ≡ Fault.Memory) }
+    ensures fault { OnlyMemory result }
 {
     let mut devices = Vec::new(alloc);
     for _ in 0..count {

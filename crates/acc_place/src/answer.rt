@@ -1,9 +1,9 @@
 //! What was answered to a directive, as the place keeps it: most answers take two words, and the others a place of their own.
 
-ghost use Rattle.std.specs.Prelude.{All, ◌≡◌, ◌<◌, false, IfOk, IfErr, IfSome};
+ghost use Rattle.std.specs.Prelude.{All, ◌≡◌, ◌<◌, false, IfOk, IfSome};
 ghost use Rattle.std.specs.Option.{option_map};
+ghost use Rattle.acc_base.specs.Faults.{OnlyMemory};
 ghost use Rattle.acc_base.specs.Queues.{is_nothing};
-ghost use Rattle.acc_base.specs.declared.fault.Fault.TheVariants.{Memory};
 ghost use Rattle.acc_place.specs.Batches.{counts_queues, is_answered};
 ghost use Rattle.acc_place.specs.Targets.{queue_by, queues_named};
 ghost use Rattle.acc_place.specs.inner.Forms.{placed_of, IsForm};
@@ -72,7 +72,7 @@ impl Answer {
     /// `Memory` where memory is refused.
     pub(crate) fn new(alloc: Global, placed: Placed) -> Result<Self, Fault>
         ensures answer { IfOk result (λ a. a ≡ placed) }
-        ensures fault { IfErr result (λ f. f ≡ Memory) }
+        ensures fault { OnlyMemory result }
     {
         let form = form_of(alloc, placed)?;
         Ok(Answer { form })
@@ -140,7 +140,7 @@ impl Answer {
 fn form_of(alloc: Global, placed: Placed) -> Result<Form, Fault>
     ensures form { IfOk result IsForm }
     ensures placed { IfOk result (λ form. placed_of form ≡ placed) }
-    ensures fault { IfErr result (λ f. f ≡ Memory) }
+    ensures fault { OnlyMemory result }
 {
     match short_form(&placed) {
         Some(form) => Ok(form),
@@ -207,7 +207,7 @@ pub(crate) fn answer_by(
     present: bool,
 ) -> Result<Answer, Fault>
     ensures answer { IfOk result (λ a. a ≡ placed_by known.now directive.now label.now present) }
-    ensures fault { IfErr result (λ f. f ≡ Memory) }
+    ensures fault { OnlyMemory result }
 {
     let batch = batch_at(label);
     let counts = counts_for(known.labels, known.at.device, directive);

@@ -1,9 +1,9 @@
 //! Which batches of other queues a batch awaits, by what the table has noted.
 
-ghost use Rattle.std.specs.Prelude.{ℕ, All, ◌≡◌, ◌+◌, ◌<◌, ◌≤◌, ◌++◌, ◌==◌, [], max, map, length, slice_index_or, IfErr, IsTrue, OnOk, if◌then◌else◌};
+ghost use Rattle.std.specs.Prelude.{ℕ, All, ◌≡◌, ◌+◌, ◌<◌, ◌≤◌, ◌++◌, ◌==◌, [], max, map, length, slice_index_or, IsTrue, OnOk, if◌then◌else◌};
 ghost use Rattle.std.specs.List.{flat_map};
 ghost use Rattle.std.specs.Option.{option_to_list};
-ghost use Rattle.acc_base.specs.declared.fault.Fault.TheVariants.{Memory};
+ghost use Rattle.acc_base.specs.Faults.{OnlyMemory};
 ghost use Rattle.acc_base.specs.declared.ids.TheConstants.{QUEUES};
 ghost use Rattle.acc_base.specs.declared.range.Range.{Range};
 ghost use Rattle.acc_base.specs.Queues.{every_queue};
@@ -131,7 +131,7 @@ pub(crate) fn add_all_awaits(
     ops: &mut Few<OpLabel>,
 ) -> Result<(), Fault>
     ensures ops { OnOk result (ops.new ≡ ops.old ++ awaits_from own 0 numbers.now) }
-    ensures fault { IfErr result (λ fault. fault ≡ Memory) }
+    ensures fault { OnlyMemory result }
 {
     if awaits_none(own, 0, numbers.as_slice()) {
         return Ok(());
@@ -156,7 +156,7 @@ fn awaits_none(own: QueueId, queue: u8, numbers: &[u64]) -> bool
 fn add_awaits(own: QueueId, queue: u8, numbers: &[u64], ops: &mut Few<OpLabel>) -> Result<(), Fault>
     requires { queue + length numbers.now ≤ QUEUES }
     ensures ops { OnOk result (ops.new ≡ ops.old ++ awaits_from own queue numbers.now) }
-    ensures fault { IfErr result (λ fault. fault ≡ Memory) }
+    ensures fault { OnlyMemory result }
 {
     match numbers {
         [] => Ok(()),
@@ -169,7 +169,7 @@ fn add_awaits(own: QueueId, queue: u8, numbers: &[u64], ops: &mut Few<OpLabel>) 
 
 fn add_await(own: QueueId, queue: QueueId, number: u64, ops: &mut Few<OpLabel>) -> Result<(), Fault>
     ensures ops { OnOk result (ops.new ≡ ops.old ++ await_of own queue number) }
-    ensures fault { IfErr result (λ fault. fault ≡ Memory) }
+    ensures fault { OnlyMemory result }
 {
     if queue != own && number != 0 {
         ops.push(OpLabel::Await { queue, number })?;

@@ -1,7 +1,7 @@
 //! The close of each queue, made with the place.
 
-ghost use Rattle.std.specs.Prelude.{◌≡◌, ◌<◌, length, IfOk, IfErr};
-ghost use Rattle.acc_base.specs.declared.fault.Fault.TheVariants.{Memory};
+ghost use Rattle.std.specs.Prelude.{◌≡◌, ◌<◌, length, IfOk};
+ghost use Rattle.acc_base.specs.Faults.{OnlyMemory};
 ghost use Rattle.acc_base.specs.declared.ids.QueueAt.{QueueAt};
 ghost use Rattle.acc_base.specs.Queues.{queue_count, seat};
 ghost use Rattle.acc_place.specs.Histories.{IsQueue};
@@ -21,7 +21,7 @@ pub struct Close {
 impl Close {
     fn new(alloc: Global, at: QueueAt) -> Result<Self, Fault>
         ensures new { IfOk result (λ c. c ≡ new_close at) }
-        ensures fault { IfErr result (λ f. f ≡ Memory) }
+        ensures fault { OnlyMemory result }
     {
         let mut ops = Few::new(alloc);
         ops.push(OpLabel::Close)?;
@@ -49,7 +49,7 @@ impl Close {
 pub(crate) fn closes_of(alloc: Global, config: &Config) -> Result<Vec<Close>, Fault>
     ensures count { IfOk result (λ closes. length closes.items ≡ queue_count config.now) }
     ensures new { IfOk result (λ closes. (at : QueueAt) → IsQueue config.now at → close_in closes.items at ≡ new_close at) }
-    ensures fault { IfErr result (λ f. f ≡ Memory) }
+    ensures fault { OnlyMemory result }
 {
     let mut closes = Vec::new(alloc);
     for index in 0..config.queue_count() {

@@ -1,7 +1,8 @@
 //! What a place keeps of a device: its table, and how many lifetimes were opened. Marks are left there.
 
-ghost use Rattle.std.specs.Prelude.{ℕ, All, not, ◌≡◌, ◌+◌, ◌*◌, ◌<◌, ◌≤◌, ◌∷◌, [], length, IfOk, IfErr, OnOk, OnErr, IfSome};
+ghost use Rattle.std.specs.Prelude.{ℕ, All, not, ◌≡◌, ◌+◌, ◌*◌, ◌<◌, ◌≤◌, ◌∷◌, [], length, IfOk, OnOk, OnErr, IfSome};
 ghost use Rattle.std.specs.List.{flat_map};
+ghost use Rattle.acc_base.specs.Faults.{OnlyMemory};
 ghost use Rattle.acc_base.specs.declared.ids.TheConstants.{QUEUES};
 ghost use Rattle.acc_base.specs.declared.range.Range.{Range};
 ghost use Rattle.acc_present.specs.Notes.{Note, used_by, HasNotes};
@@ -38,7 +39,7 @@ impl Device {
         ensures notes { self.new.table.notes ≡ self.old.table.notes }
         ensures room { self.old.table.room ≤ self.new.table.room }
         ensures ok { OnOk result (length self.new.table.presences + 2 * MAX_ITEMS ≤ self.new.table.room) }
-        ensures fault { IfErr result (λ fault. fault ≡ Fault.Memory) }
+        ensures fault { OnlyMemory result }
         ensures missing { OnErr result (self.old.table.room < length self.old.table.presences + 2 * MAX_ITEMS) }
     {
         self.table.spare(2 * MAX_ITEMS)
@@ -197,7 +198,7 @@ fn wants_look(kind: &Kind, clause: Clause) -> bool
 pub(crate) fn devices_of(alloc: Global, config: &Config) -> Result<Vec<Device>, Fault>
     ensures count { IfOk result (λ devices. length devices.items ≡ config.now.devices) }
     ensures empty { IfOk result (λ devices. All (IsEmpty config.now) devices.items) }
-    ensures fault { IfErr result (λ f. f ≡ Fault.Memory) }
+    ensures fault { OnlyMemory result }
 {
     let mut devices = Vec::new(alloc);
     for _ in 0..config.devices() {

@@ -1,6 +1,7 @@
 //! The words: clauses, items, kinds, directives, regions, and what is answered to them.
 
-ghost use Rattle.std.specs.Prelude.{◌≡◌, true, IfOk, IfErr};
+ghost use Rattle.std.specs.Prelude.{◌≡◌, true, IfOk};
+ghost use Rattle.acc_base.specs.Faults.{OnlyMemory};
 
 use acc_base::{DeviceId, Fault, Few, HostId, Listed, QueueAt, QueueCounts, Range, Shared};
 use acc_kernel::Kernel;
@@ -169,7 +170,6 @@ impl Kind {
 }
 
 impl Directive {
-    ghost use Rattle.acc_base.specs.declared.fault.Fault.TheVariants as fault;
     ghost use Rattle.acc_place.specs.Clauses.{is_well_formed};
     ghost use Rattle.acc_place.specs.Directives.{written_first};
 
@@ -181,7 +181,7 @@ impl Directive {
     pub fn new(alloc: Global, written: Written) -> Result<Self, Fault>
         requires form { is_well_formed written ≡ true }
         ensures given { IfOk result (λ d. d ≡ written_first written) }
-        ensures fault { IfErr result (λ f. f ≡ fault.Memory) }
+        ensures fault { OnlyMemory result }
     {
         let written = Shared::new(alloc, written)?;
         Ok(Directive {
@@ -248,7 +248,7 @@ impl Directive {
     /// `Memory` where the count of its owners is full.
     pub fn try_clone(&self) -> Result<Self, Fault>
         ensures equal { IfOk result (λ d. d ≡ self.now) }
-        ensures fault { IfErr result (λ f. f ≡ fault.Memory) }
+        ensures fault { OnlyMemory result }
     {
         let written = self.written.try_clone()?;
         Ok(Directive {

@@ -1,7 +1,7 @@
 //! The labels of the batches on each queue of each device.
 
-ghost use Rattle.std.specs.Prelude.{ℕ, All, ◌≡◌, ◌<◌, ◌≤◌, ◌++◌, [], ◌∷◌, length, slice_index_or, slice_set, IfOk, IfErr, OnOk, OnErr, IfSome};
-ghost use Rattle.acc_base.specs.declared.fault.Fault.TheVariants.{Memory};
+ghost use Rattle.std.specs.Prelude.{ℕ, All, ◌≡◌, ◌<◌, ◌≤◌, ◌++◌, [], ◌∷◌, length, slice_index_or, slice_set, IfOk, OnOk, OnErr, IfSome};
+ghost use Rattle.acc_base.specs.Faults.{OnlyMemory};
 ghost use Rattle.acc_base.specs.Queues.{queue_count, seat};
 ghost use Rattle.acc_place.specs.inner.Places.{queue_in, queues_after};
 
@@ -41,7 +41,7 @@ impl Labels {
     pub(crate) fn new(alloc: Global, config: &Config) -> Result<Self, Fault>
         ensures count { IfOk result (λ w. length w.queues ≡ queue_count config.now) }
         ensures none { IfOk result (λ w. All (λ labels. labels ≡ []) w.queues) }
-        ensures fault { IfErr result (λ fault. fault ≡ Memory) }
+        ensures fault { OnlyMemory result }
     {
         let mut queues = Vec::new(alloc);
         for _ in 0..config.queue_count() {
@@ -73,7 +73,7 @@ impl Labels {
         ensures queues { self.new.queues ≡ self.old.queues }
         ensures room { (i : ℕ) → slice_index_or self.old.room i 0 ≤ slice_index_or self.new.room i 0 }
         ensures ok { OnOk result (length (slice_index_or self.new.queues (seat at) []) < slice_index_or self.new.room (seat at) 0) }
-        ensures fault { IfErr result (λ fault. fault ≡ Memory) }
+        ensures fault { OnlyMemory result }
         ensures missing { OnErr result (¬ (length (slice_index_or self.old.queues (seat at) []) < slice_index_or self.old.room (seat at) 0)) }
     {
         self.queues[at.seat()].reserve(2)?;

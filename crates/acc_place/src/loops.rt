@@ -1,9 +1,9 @@
 //! The items of a loop, written and implicit; the cells that it reaches, and the blocks that it uses.
 
-ghost use Rattle.std.specs.Prelude.{◌≡◌, ◌+◌, ◌<◌, ◌≤◌, false, [], ◌∷◌, ◌++◌, take, Some, IfOk, IfErr, vec_len, vec_capacity};
+ghost use Rattle.std.specs.Prelude.{◌≡◌, ◌+◌, ◌<◌, ◌≤◌, false, [], ◌∷◌, ◌++◌, take, Some, IfOk, vec_len, vec_capacity};
 ghost use Rattle.std.specs.List.{All};
 ghost use Rattle.std.specs.Option.{option_map, option_to_list};
-ghost use Rattle.acc_base.specs.declared.fault.Fault.TheVariants.{Memory};
+ghost use Rattle.acc_base.specs.Faults.{OnlyMemory};
 ghost use Rattle.acc_kernel.specs.Kernels.{reach_of};
 ghost use Rattle.acc_present.specs.Drafts.{drafted, IsDraft};
 ghost use Rattle.acc_place.specs.Accepting.{is_past, reaches_past};
@@ -75,7 +75,7 @@ pub(crate) fn uses_in(
     requires draft { IsDraft table.now draft.now }
     requires cells { All (λ i. 0 < i.range.len) items.now }
     ensures uses { IfOk result (λ u. u.items ≡ uses_in kernel.now items.now (drafted table.now draft.now)) }
-    ensures fault { IfErr result (λ f. f ≡ Memory) }
+    ensures fault { OnlyMemory result }
 {
     let arrays = kernel.arrays();
     let mut uses = Vec::with_capacity(alloc, arrays.len())?;

@@ -1,8 +1,9 @@
 //! The operations of a directive's marks, in their order.
 
-ghost use Rattle.std.specs.Prelude.{◌≡◌, ◌++◌, if◌then◌else◌, IfErr, OnOk, Some, None};
+ghost use Rattle.std.specs.Prelude.{◌≡◌, ◌++◌, if◌then◌else◌, OnOk, Some, None};
 ghost use Rattle.std.specs.List.{flat_map};
 ghost use Rattle.std.specs.Option.{option_to_list};
+ghost use Rattle.acc_base.specs.Faults.{OnlyMemory};
 ghost use Rattle.acc_batch.specs.declared.label.OpLabel.TheVariants as op;
 ghost use Rattle.acc_place.specs.Batches.{copies_in, copies_out};
 ghost use Rattle.acc_place.specs.inner.Judging.{block_of, op_of, op_for, update_for, group_ops, marked_ops};
@@ -30,7 +31,7 @@ pub(crate) fn add_groups(
     ops: &mut Few<OpLabel>,
 ) -> Result<(), Fault>
     ensures ops { OnOk result (ops.new ≡ ops.old ++ marked_ops (option_to_list run) steps.now) }
-    ensures fault { IfErr result (λ fault. fault ≡ Fault.Memory) }
+    ensures fault { OnlyMemory result }
 {
     add_group(Group::Makes, steps, ops)?;
     add_group(Group::CopyIns, steps, ops)?;
@@ -43,7 +44,7 @@ pub(crate) fn add_groups(
 // Adds the operation that runs the loop, if there is one.
 fn add_run(run: Option<OpLabel>, ops: &mut Few<OpLabel>) -> Result<(), Fault>
     ensures ops { OnOk result (ops.new ≡ ops.old ++ option_to_list run) }
-    ensures fault { IfErr result (λ fault. fault ≡ Fault.Memory) }
+    ensures fault { OnlyMemory result }
 {
     match run {
         None => Ok(()),
@@ -57,7 +58,7 @@ fn add_run(run: Option<OpLabel>, ops: &mut Few<OpLabel>) -> Result<(), Fault>
 // Adds the operations of one group, step by step.
 fn add_group(group: Group, steps: &[Marked], ops: &mut Few<OpLabel>) -> Result<(), Fault>
     ensures ops { OnOk result (ops.new ≡ ops.old ++ flat_map (group_ops group) steps.now) }
-    ensures fault { IfErr result (λ fault. fault ≡ Fault.Memory) }
+    ensures fault { OnlyMemory result }
 {
     for step in steps {
         add_op(group, *step, ops)?;
@@ -68,7 +69,7 @@ fn add_group(group: Group, steps: &[Marked], ops: &mut Few<OpLabel>) -> Result<(
 // Adds the step's operation of this group, if it has one.
 fn add_op(group: Group, step: Marked, ops: &mut Few<OpLabel>) -> Result<(), Fault>
     ensures ops { OnOk result (ops.new ≡ ops.old ++ group_ops group step) }
-    ensures fault { IfErr result (λ fault. fault ≡ Fault.Memory) }
+    ensures fault { OnlyMemory result }
 {
     match op_of(group, step) {
         None => Ok(()),

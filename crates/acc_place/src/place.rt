@@ -2,8 +2,8 @@
 
 ghost use Rattle.std.specs.Prelude.{reverse, false, ◌≡◌, ◌+◌, ◌<◌, [], ◌∷◌, length, true, None, IfOk, IfErr, OnOk, OnErr, OnSome, slice_get, ◌^◌, if◌then◌else◌};
 ghost use Rattle.std.specs.Option.{option_map};
+ghost use Rattle.acc_base.specs.Faults.{OnlyMemory};
 ghost use Rattle.acc_base.specs.Configurations.{IsRefusal};
-ghost use Rattle.acc_base.specs.declared.fault.Fault.TheVariants.{Memory};
 ghost use Rattle.acc_base.specs.declared.ids.QueueAt.{QueueAt};
 ghost use Rattle.acc_batch.specs.Labels.{on_queue};
 ghost use Rattle.acc_present.specs.Presences.{presences, holder, is_present};
@@ -84,7 +84,7 @@ impl Place {
         ensures history { IfOk result (λ p. p.history ≡ []) }
         ensures counts { IfOk result (λ p. p.counts ≡ []) }
         ensures closes { IfOk result (λ p. (at : QueueAt) → IsQueue config at → is_at_hand p at ≡ true) }
-        ensures fault { IfErr result (λ fault. fault ≡ Memory) }
+        ensures fault { OnlyMemory result }
     {
         let devices = devices_of(alloc, &config)?;
         let labels = Labels::new(alloc, &config)?;
@@ -265,7 +265,7 @@ impl Place {
         ensures closes { self.new.closes ≡ self.old.closes }
         ensures roomy { (other : QueueAt) → IsRoomy self.old other → IsRoomy self.new other }
         ensures ok { OnOk result (IsRoomy self.new at) }
-        ensures fault { IfErr result (λ fault. fault ≡ Memory) }
+        ensures fault { OnlyMemory result }
         ensures missing { OnErr result (¬ IsRoomy self.old at) }
     {
         let device = usize::from(at.device.number());

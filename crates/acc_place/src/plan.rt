@@ -1,8 +1,9 @@
 //! What accepting a directive will add, and its batch, group by group.
 
-ghost use Rattle.std.specs.Prelude.{ℕ, All, ◌≡◌, ◌<◌, [], false, if◌then◌else◌, IfOk, IfErr, IfSome, IsTrue, None};
+ghost use Rattle.std.specs.Prelude.{ℕ, All, ◌≡◌, ◌<◌, [], false, if◌then◌else◌, IfOk, IfSome, IsTrue, None};
 ghost use Rattle.std.specs.List.{flat_map};
 ghost use Rattle.std.specs.Option.{option_to_list};
+ghost use Rattle.acc_base.specs.Faults.{OnlyMemory};
 ghost use Rattle.acc_batch.specs.Ops.{HasItsCells};
 ghost use Rattle.acc_base.specs.declared.range.Range.{Range};
 ghost use Rattle.acc_batch.specs.Awaits.{with_awaits};
@@ -89,7 +90,7 @@ pub(crate) fn plan_of(
     ensures label { (notes : Range → ℕ → Note) → HasNotes notes known.now.table.now.notes → IfOk result (λ q. q.label ≡ label_for known.now.at (next_in known.now) host items_done (behind_noted known.now notes directive.now (marked_ops (option_to_list run) steps.now) steps.now)) }
     ensures batch { IfOk result (λ q. q.batch ≡ (if with_batch then q.label else None)) }
     ensures answer { IfOk result (λ q. q.answer ≡ placed_by known.now directive.now q.label present) }
-    ensures fault { IfErr result (λ fault. fault ≡ Fault.Memory) }
+    ensures fault { OnlyMemory result }
 {
     let ops = batch_ops(alloc, known, directive, steps, run)?;
     let region = opened_region(alloc, host, directive, steps)?;
@@ -118,7 +119,7 @@ fn label_of(
     ops: Few<OpLabel>,
 ) -> Result<Option<Label>, Fault>
     ensures label { IfOk result (λ label. label ≡ label_for known.now.at (next_in known.now) host items_done ops) }
-    ensures fault { IfErr result (λ fault. fault ≡ Fault.Memory) }
+    ensures fault { OnlyMemory result }
 {
     if ops.as_slice().is_empty() {
         return Ok(None);
@@ -137,7 +138,7 @@ fn label_of(
 fn batch_of(alloc: Global, label: &Option<Label>, wanted: bool) -> Result<Option<Batch>, Fault>
     requires { IfSome label.now CanBeMade }
     ensures batch { IfOk result (λ batch. batch ≡ (if wanted then label.now else None)) }
-    ensures fault { IfErr result (λ fault. fault ≡ Fault.Memory) }
+    ensures fault { OnlyMemory result }
 {
     if !wanted {
         return Ok(None);
@@ -165,7 +166,7 @@ fn batch_ops(
     requires cells { All (λ t. 0 < t.item.range.len) steps.now }
     ensures ops { (notes : Range → ℕ → Note) → HasNotes notes known.now.table.now.notes → IfOk result (λ ops. ops ≡ behind_noted known.now notes directive.now (marked_ops (option_to_list run) steps.now) steps.now) }
     ensures cells { IfOk result (λ ops. All HasItsCells ops) }
-    ensures fault { IfErr result (λ fault. fault ≡ Fault.Memory) }
+    ensures fault { OnlyMemory result }
 {
     if is_without_batch(directive, steps, &run) {
         return Ok(Few::new(alloc));
@@ -220,7 +221,7 @@ fn ops_of(
     run: Option<OpLabel>,
 ) -> Result<Few<OpLabel>, Fault>
     ensures ops { IfOk result (λ ops. ops ≡ with_awaits alone (awaits_from own 0 numbers.now) (marked_ops (option_to_list run) steps.now)) }
-    ensures fault { IfErr result (λ fault. fault ≡ Fault.Memory) }
+    ensures fault { OnlyMemory result }
 {
     let mut ops = Few::new(alloc);
     add_all_awaits(own, numbers, &mut ops)?;

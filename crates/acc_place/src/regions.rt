@@ -1,7 +1,8 @@
 //! The data constructs that the hosts are inside.
 
-ghost use Rattle.std.specs.Prelude.{List, ◌≡◌, ◌<◌, length, remove, slice_get, vec_len, vec_capacity, IfSome, IfOk, IfErr};
+ghost use Rattle.std.specs.Prelude.{List, ◌≡◌, ◌<◌, length, remove, slice_get, vec_len, vec_capacity, IfSome, IfOk};
 ghost use Rattle.std.specs.Option.{option_and_then};
+ghost use Rattle.acc_base.specs.Faults.{OnlyMemory};
 ghost use Rattle.acc_place.specs.Plans.{opened_region};
 ghost use Rattle.acc_place.specs.Regions.{regions_of, open_region, without_open, regions_after};
 ghost use Rattle.acc_place.specs.declared.directive.DataItem.{DataItem};
@@ -66,7 +67,7 @@ pub(crate) fn opened_region(
     steps: &[Marked],
 ) -> Result<Option<Region>, Fault>
     ensures region { IfOk result (λ region. region ≡ opened_region host directive.now directive.now.kind (counted_steps steps.now)) }
-    ensures fault { IfErr result (λ fault. fault ≡ Fault.Memory) }
+    ensures fault { OnlyMemory result }
 {
     if !matches!(directive.kind(), Kind::Data) {
         return Ok(None);
@@ -82,7 +83,7 @@ pub(crate) fn opened_region(
 // The items that were counted.
 fn counted_steps(alloc: Global, steps: &[Marked]) -> Result<Few<DataItem>, Fault>
     ensures items { IfOk result (λ items. items ≡ counted_steps steps.now) }
-    ensures fault { IfErr result (λ fault. fault ≡ Fault.Memory) }
+    ensures fault { OnlyMemory result }
 {
     let mut items = Few::new(alloc);
     for step in steps {

@@ -1,8 +1,8 @@
 //! What a directive acts on: its items, those that leave at its end, and the loop that it runs.
 
-ghost use Rattle.std.specs.Prelude.{All, ◌≡◌, ◌+◌, ◌<◌, ◌≤◌, true, take, vec_capacity, IfOk, IfErr, IfNone, IfSome};
+ghost use Rattle.std.specs.Prelude.{All, ◌≡◌, ◌+◌, ◌<◌, ◌≤◌, true, take, vec_capacity, IfOk, IfNone, IfSome};
 ghost use Rattle.std.specs.Option.{option_to_list};
-ghost use Rattle.acc_base.specs.declared.fault.Fault.TheVariants.{Memory};
+ghost use Rattle.acc_base.specs.Faults.{OnlyMemory};
 ghost use Rattle.acc_batch.specs.Ops.{HasItsCells};
 ghost use Rattle.acc_present.specs.Drafts.{drafted, IsDraft};
 ghost use Rattle.acc_present.specs.Presences.{is_present};
@@ -88,7 +88,7 @@ pub(crate) fn run_in(
     requires held { AllHeldFor kind.now (drafted table.now draft.now) items.now }
     ensures run { IfOk result (λ run. option_to_list run ≡ run_in (loop_in kind.now) items.now (drafted table.now draft.now)) }
     ensures cells { IfOk result (λ run. IfSome run HasItsCells) }
-    ensures fault { IfErr result (λ f. f ≡ Memory) }
+    ensures fault { OnlyMemory result }
 {
     match kind {
         Kind::Loop { kernel } => {

@@ -1,8 +1,8 @@
 //! Where a directive is tried: its items, their marks on a draft of the table, and what becomes of them; its first fault,
 //! or its plan.
 
-ghost use Rattle.std.specs.Prelude.{ℕ, ◌≡◌, ◌+◌, ◌≤◌, take, None, IfNone, IfOk, IfErr, if◌then◌else◌};
-ghost use Rattle.acc_base.specs.declared.fault.Fault.TheVariants.{Memory};
+ghost use Rattle.std.specs.Prelude.{ℕ, ◌≡◌, ◌+◌, ◌≤◌, take, None, IfNone, IfOk, if◌then◌else◌};
+ghost use Rattle.acc_base.specs.Faults.{OnlyMemory};
 ghost use Rattle.acc_base.specs.declared.range.Range.{Range};
 ghost use Rattle.acc_present.specs.Notes.{Note, HasNotes};
 ghost use Rattle.acc_base.specs.Configurations.{lengths_of};
@@ -51,7 +51,7 @@ impl Trial {
     ///
     /// `Memory` where memory is refused.
     pub(crate) fn new(alloc: Global) -> Result<Self, Fault>
-        ensures fault { IfErr result (λ fault. fault ≡ Memory) }
+        ensures fault { OnlyMemory result }
     {
         let draft = Draft::with_room(alloc, 2 * MAX_ITEMS)?;
         let steps = Vec::with_capacity(alloc, 2 * MAX_ITEMS)?;
@@ -148,7 +148,7 @@ impl Trial {
         ensures label { (notes : Range → ℕ → Note) → HasNotes notes known.now.table.now.notes → IfOk result (λ q. q.label ≡ label_for known.now.at (next_in known.now) host items_done (behind_noted known.now notes directive.now (ops_by known.now host directive.now) (steps_by known.now host directive.now))) }
         ensures batch { IfOk result (λ q. q.batch ≡ (if with_batch then q.label else None)) }
         ensures answer { IfOk result (λ q. q.answer ≡ placed_by known.now directive.now q.label (is_answered directive.now.kind known.now.table.now.presences (items_by known.now host directive.now))) }
-        ensures fault { IfErr result (λ fault. fault ≡ Memory) }
+        ensures fault { OnlyMemory result }
     {
         let kind = directive.kind();
         let items = self.items.as_slice();

@@ -1,8 +1,8 @@
 //! A draft of a table: the present ranges that marks changed, and the table beside them. A mark takes what a look found.
 
-ghost use Rattle.std.specs.Prelude.{◌≡◌, ◌+◌, ◌<◌, ◌≤◌, [], length, map, filter, slice_get, slice_set, true, false, None, if◌then◌else◌, vec_len, vec_capacity, IfSome, IfOk, IfErr};
+ghost use Rattle.std.specs.Prelude.{◌≡◌, ◌+◌, ◌<◌, ◌≤◌, [], length, map, filter, slice_get, slice_set, true, false, None, if◌then◌else◌, vec_len, vec_capacity, IfSome, IfOk};
 ghost use Rattle.std.specs.Option.{option_and_then};
-ghost use Rattle.acc_base.specs.declared.fault.Fault.TheVariants.{Memory};
+ghost use Rattle.acc_base.specs.Faults.{OnlyMemory};
 ghost use Rattle.acc_present.specs.declared.entry.TheConstants.{COUNTER_LIMIT};
 ghost use Rattle.acc_present.specs.Legality.{MeetsCondition};
 ghost use Rattle.acc_present.specs.Lifetimes.{can_open};
@@ -48,7 +48,7 @@ impl Draft {
     pub fn with_room(alloc: Global, room: usize) -> Result<Self, Fault>
         ensures changed { IfOk result (λ d. d.changed ≡ []) }
         ensures room { IfOk result (λ d. room ≤ d.room) }
-        ensures fault { IfErr result (λ fault. fault ≡ Memory) }
+        ensures fault { OnlyMemory result }
     {
         let changed = Vec::with_capacity(alloc, room)?;
         Ok(Draft { changed, used: 0 })

@@ -1,10 +1,10 @@
 //! Entries in linked nodes, and nodes for entries to come.
 
-ghost use Rattle.std.specs.Prelude.{◌≡◌, ◌+◌, ◌^◌, ◌<◌, ◌≤◌, [], length, slice_get, slice_set, insert, remove, IfOk, IfErr, OnOk, OnErr, OnSome};
+ghost use Rattle.std.specs.Prelude.{◌≡◌, ◌+◌, ◌^◌, ◌<◌, ◌≤◌, [], length, slice_get, slice_set, insert, remove, IfOk, OnOk, OnErr, OnSome};
 ghost use Rattle.std.specs.Option.{option_map};
 ghost use Rattle.std.proofs.Common.{get_or};
 ghost use Rattle.std.specs.Borrow.{sem};
-ghost use Rattle.acc_base.specs.declared.fault.Fault.TheVariants as fault;
+ghost use Rattle.acc_base.specs.Faults.{OnlyMemory};
 
 use crate::entry::Entry;
 use acc_base::{BlockId, Fault, QUEUES, QueueId, Range};
@@ -52,7 +52,7 @@ impl Entries {
         ensures items { self.new.items ≡ self.old.items }
         ensures room { self.old.room ≤ self.new.room }
         ensures ok { OnOk result (length self.new.items + count ≤ self.new.room) }
-        ensures fault { IfErr result (λ f. f ≡ fault.Memory) }
+        ensures fault { OnlyMemory result }
         ensures kept { OnErr result (self.new ≡ self.old) }
         ensures missing { OnErr result (self.old.room < length self.old.items + count) }
     {
@@ -152,7 +152,7 @@ impl Entries {
 // So many nodes for entries to come.
 fn nodes(alloc: Global, count: usize) -> Result<Chain<Entry>, Fault>
     ensures count { IfOk result (λ nodes. length nodes ≡ count) }
-    ensures fault { IfErr result (λ f. f ≡ fault.Memory) }
+    ensures fault { OnlyMemory result }
 {
     let mut nodes = Chain::new(alloc);
     for _ in 0..count {

@@ -1,7 +1,8 @@
 //! The table: entries in their order, searched by halves.
 
-ghost use Rattle.std.specs.Prelude.{◌≡◌, ℕ, ◌+◌, ◌^◌, ◌<◌, ◌≤◌, [], length, map, slice_get, slice_set, remove, true, false, Some, None, if◌then◌else◌, IfSome, IfErr, OnOk, OnErr, OnSome};
+ghost use Rattle.std.specs.Prelude.{◌≡◌, ℕ, ◌+◌, ◌^◌, ◌<◌, ◌≤◌, [], length, map, slice_get, slice_set, remove, true, false, Some, None, if◌then◌else◌, IfSome, OnOk, OnErr, OnSome};
 ghost use Rattle.std.specs.Option.{option_map};
+ghost use Rattle.acc_base.specs.Faults.{OnlyMemory};
 ghost use Rattle.acc_base.specs.declared.ids.TheConstants.{QUEUES};
 ghost use Rattle.acc_base.specs.declared.range.Range.{Range};
 ghost use Rattle.acc_present.specs.Lifetimes.{can_open};
@@ -77,8 +78,6 @@ impl Model for Table {
 }
 
 impl Table {
-    ghost use Rattle.acc_base.specs.declared.fault.Fault.TheVariants.{Memory};
-
     /// A table without entries, for a device with this capacity in cells. Takes no memory.
     pub fn new(alloc: Global, capacity: u64) -> Self
         ensures presences { result.presences ≡ [] }
@@ -104,7 +103,7 @@ impl Table {
         ensures capacity { self.new.capacity ≡ self.old.capacity }
         ensures room { self.old.room ≤ self.new.room }
         ensures ok { OnOk result (length self.new.presences + count ≤ self.new.room) }
-        ensures fault { IfErr result (λ fault. fault ≡ Memory) }
+        ensures fault { OnlyMemory result }
         ensures kept { OnErr result (self.new ≡ self.old) }
         ensures missing { OnErr result (self.old.room < length self.old.presences + count) }
     {

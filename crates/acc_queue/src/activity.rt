@@ -1,9 +1,9 @@
 //! The two ends of an activity queue.
 
 ghost use Rattle.std.specs.Prelude.{◌≡◌, ◌<◌, ◌++◌, ◌∷◌, [], IfOk, IfErr, OnOk, IfSome, IfNone};
+ghost use Rattle.acc_base.specs.Faults.{OnlyMemory};
 ghost use Rattle.crossbeam_queue.specs.Fifo.{Held, Learns, Pops, Pushes};
 ghost use Rattle.crossbeam_queue.specs.Passes.{view, IsPassOf, IsSamePass, ruled_capacity};
-ghost use Rattle.acc_base.specs.declared.fault.Fault.TheVariants.{Memory};
 ghost use Rattle.acc_queue.specs.Tied.{IsFor, WasHeld};
 
 use crate::rule::{End, InOrder, Named, Parts, Popped, Pushed};
@@ -88,7 +88,7 @@ impl Activity {
         ensures room { IfOk result (λ r. (r.0.room ≡ room) × (r.1.room ≡ room)) }
         ensures empty { IfOk result (λ r. (r.0.labels ≡ []) × (r.1.labels ≡ [])) }
         ensures one { IfOk result (λ r. r.0.queue ≡ r.1.queue) }
-        ensures fault { IfErr result (λ f. f ≡ Memory) }
+        ensures fault { OnlyMemory result }
     {
         opened::<Brand>(alloc, at, room)
     }
@@ -103,7 +103,7 @@ fn opened<B: Named>(alloc: Global, at: QueueAt, room: u32) -> Result<(Sender, Ta
     ensures room { IfOk result (λ r. (r.0.room ≡ room) × (r.1.room ≡ room)) }
     ensures empty { IfOk result (λ r. (r.0.labels ≡ []) × (r.1.labels ≡ [])) }
     ensures one { IfOk result (λ r. r.0.queue ≡ r.1.queue) }
-    ensures fault { IfErr result (λ f. f ≡ Memory) }
+    ensures fault { OnlyMemory result }
 {
     // the name is for contracts alone
     let _ = at;

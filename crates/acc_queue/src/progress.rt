@@ -1,8 +1,8 @@
 //! How many batches each queue has performed, in words that are read without a lock.
 
-ghost use Rattle.std.specs.Prelude.{◌≡◌, ◌<◌, ◌≤◌, ◌*◌, ◌^◌, replicate, length, slice_index, slice_set, IfOk, IfErr, IsTrue};
+ghost use Rattle.std.specs.Prelude.{◌≡◌, ◌<◌, ◌≤◌, ◌*◌, ◌^◌, replicate, length, slice_index, slice_set, IfOk, IsTrue};
+ghost use Rattle.acc_base.specs.Faults.{OnlyMemory};
 ghost use Rattle.acc_base.specs.Queues.{seat};
-ghost use Rattle.acc_base.specs.declared.fault.Fault.TheVariants.{Memory};
 ghost use Rattle.acc_base.specs.declared.ids.TheConstants.{QUEUES};
 ghost use Rattle.acc_queue.specs.Seen.{HasWord, more, max_each, raised_at};
 
@@ -122,7 +122,7 @@ impl Progress {
         ensures seen { IfOk result (λ r. r.1.numbers ≡ replicate (devices * QUEUES) 0) }
         ensures table { IfOk result (λ r. r.1.table ≡ r.0.table) }
         ensures reads { IfOk result (λ r. r.1.reads ≡ 0) }
-        ensures fault { IfErr result (λ f. f ≡ Memory) }
+        ensures fault { OnlyMemory result }
     {
         let count = u64::from(devices) * u64::from(QUEUES);
         let words = Vec::from_elem(alloc, 0u64, count as usize)?;
@@ -181,7 +181,7 @@ impl Reader {
     pub fn split(&mut self) -> Result<Reader, Fault>
         ensures same { self.new ≡ self.old }
         ensures other { IfOk result (λ r. (r.table ≡ self.old.table) × (r.numbers ≡ self.old.numbers) × (r.reads ≡ 0)) }
-        ensures fault { IfErr result (λ f. f ≡ Memory) }
+        ensures fault { OnlyMemory result }
     {
         let Reader { board, seat } = self;
         let theirs = Arc::try_clone(board)?;

@@ -1,8 +1,9 @@
 //! A row of cells: where its block of memory begins, its length, and the block's owner. Contracts see the list of its values.
 
-ghost use Rattle.std.specs.Prelude.{◌≡◌, ◌↔◌, ◌+◌, ◌<◌, ◌≤◌, pos, [], ◌++◌, length, take, drop, replicate, slice_get, slice_set, slice_range, Some, IfOk, IfErr, IsTrue};
+ghost use Rattle.std.specs.Prelude.{◌≡◌, ◌↔◌, ◌+◌, ◌<◌, ◌≤◌, pos, [], ◌++◌, length, take, drop, replicate, slice_get, slice_set, slice_range, Some, IfOk, IsTrue};
 ghost use Rattle.std.specs.Borrow.{Lends, LendsBoth, Array, sem, i64 as cell};
 ghost use Rattle.std.specs.List.{refill};
+ghost use Rattle.acc_base.specs.Faults.{OnlyMemory};
 ghost use Rattle.acc_raw.specs.Windows.{IsWithin, AreApart, cells_in, with_window, with_both, with_windows};
 ghost use Rattle.acc_raw.specs.contracts.cells.Cells.{the_row};
 
@@ -53,8 +54,6 @@ impl Drop for Cells {
 }
 
 impl Cells {
-    ghost use Rattle.acc_base.specs.declared.fault.Fault.TheVariants as fault;
-
     /// So many cells, all zero.
     ///
     /// # Errors
@@ -62,7 +61,7 @@ impl Cells {
     /// `Memory` where memory is refused.
     pub fn zeroed(alloc: Global, len: usize) -> Result<Self, Fault>
         ensures zeros { IfOk result (λ cells. cells ≡ replicate len (pos 0)) }
-        ensures fault { IfErr result (λ f. f ≡ fault.Memory) }
+        ensures fault { OnlyMemory result }
     {
         if MOST < len {
             return Err(Fault::Memory);

@@ -1,7 +1,7 @@
 //! Linked nodes with an index of their places.
-ghost use Rattle.std.specs.Prelude.{◌≡◌, ◌+◌, ◌<◌, ◌≤◌, [], length, insert, remove, slice_get, Some, IfErr, OnOk, OnErr};
+ghost use Rattle.std.specs.Prelude.{◌≡◌, ◌+◌, ◌<◌, ◌≤◌, [], length, insert, remove, slice_get, Some, OnOk, OnErr};
 ghost use Rattle.std.specs.Borrow.{sem, Lends};
-ghost use Rattle.acc_base.specs.declared.fault.Fault.TheVariants as fault;
+ghost use Rattle.acc_base.specs.Faults.{OnlyMemory};
 
 use crate::chain::Chain;
 use crate::chained::{Chained, link_at, unlink_at};
@@ -63,7 +63,7 @@ impl<T> Indexed<T> {
         ensures items { self.new.items ≡ self.old.items }
         ensures room { self.old.room ≤ self.new.room }
         ensures ok { OnOk result (length self.new.items + count ≤ self.new.room) }
-        ensures fault { IfErr result (λ f. f ≡ fault.Memory) }
+        ensures fault { OnlyMemory result }
         ensures kept { OnErr result (self.new ≡ self.old) }
         ensures missing { OnErr result (self.old.room < length self.old.items + count) }
     {

@@ -1,6 +1,6 @@
 //! A ring of places, of which as many can come at one end as go at the other.
-ghost use Rattle.std.specs.Prelude.{◌≡◌, ◌++◌, ◌<◌, ◌≤◌, [], ◌∷◌, length, insert, slice_get, Some, IfOk, IfErr};
-ghost use Rattle.acc_base.specs.declared.fault.Fault.TheVariants as fault;
+ghost use Rattle.std.specs.Prelude.{◌≡◌, ◌++◌, ◌<◌, ◌≤◌, [], ◌∷◌, length, insert, slice_get, Some, IfOk};
+ghost use Rattle.acc_base.specs.Faults.{OnlyMemory};
 ghost use Rattle.acc_raw.specs.inner.Rings.{IsEmptyRing};
 
 use crate::link::Place;
@@ -31,7 +31,7 @@ impl Ring {
     /// None, with room.
     pub(crate) fn new(alloc: Global) -> Result<Self, Fault>
         ensures empty { IfOk result IsEmptyRing }
-        ensures fault { IfErr result (λ f. f ≡ fault.Memory) }
+        ensures fault { OnlyMemory result }
     {
         let places = VecDeque::with_capacity(alloc, RING)?;
         Ok(Ring { places })

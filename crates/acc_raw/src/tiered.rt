@@ -1,7 +1,7 @@
 //! Places by their numbers, as a tiered vector: in rings, so that one that comes or goes moves others in one ring alone, and in each
 //! ring behind it one place from end to end.
-ghost use Rattle.std.specs.Prelude.{◌≡◌, ◌+◌, ◌<◌, ◌≤◌, [], length, insert, remove, slice_get, Some, All, IfOk, IfErr, OnOk, OnErr};
-ghost use Rattle.acc_base.specs.declared.fault.Fault.TheVariants as fault;
+ghost use Rattle.std.specs.Prelude.{◌≡◌, ◌+◌, ◌<◌, ◌≤◌, [], length, insert, remove, slice_get, Some, All, IfOk, OnOk, OnErr};
+ghost use Rattle.acc_base.specs.Faults.{OnlyMemory};
 ghost use Rattle.acc_raw.specs.inner.Rings.{IsEmptyRing};
 
 use crate::link::Place;
@@ -48,7 +48,7 @@ impl Tiered {
         ensures items { self.new.items ≡ self.old.items }
         ensures room { self.old.room ≤ self.new.room }
         ensures ok { OnOk result (length self.new.items + count ≤ self.new.room) }
-        ensures fault { IfErr result (λ f. f ≡ fault.Memory) }
+        ensures fault { OnlyMemory result }
         ensures kept { OnErr result (self.new ≡ self.old) }
         ensures missing { OnErr result (self.old.room < length self.old.items + count) }
     {
@@ -139,7 +139,7 @@ impl Tiered {
 fn rings_of(alloc: Global, count: usize) -> Result<Vec<Ring>, Fault>
     ensures count { IfOk result (λ rings. length rings.items ≡ count) }
     ensures empty { IfOk result (λ rings. All IsEmptyRing rings.items) }
-    ensures fault { IfErr result (λ f. f ≡ fault.Memory) }
+    ensures fault { OnlyMemory result }
 {
     let mut rings = Vec::new(alloc);
     for _ in 0..count {

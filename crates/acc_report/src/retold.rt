@@ -1,7 +1,7 @@
 //! A place history told once more: a place that has accepted it.
 
-ghost use Rattle.std.specs.Prelude.{◌≡◌, ◌∷◌, length, reverse, IfOk, IfErr, OnOk};
-ghost use Rattle.acc_base.specs.declared.fault.Fault.TheVariants.{Memory};
+ghost use Rattle.std.specs.Prelude.{◌≡◌, ◌∷◌, length, reverse, IfOk, OnOk};
+ghost use Rattle.acc_base.specs.Faults.{OnlyMemory};
 ghost use Rattle.acc_place.specs.Histories.{AllAccepted, standing};
 ghost use Rattle.acc_place.specs.Plans.{standing_in};
 ghost use Rattle.acc_report.specs.inner.Retelling.{CanFollow, HasCount, counts_gone, counts_left};
@@ -26,7 +26,7 @@ pub(crate) fn retell(
     ensures config { IfOk result (λ p. p.config ≡ config) }
     ensures history { IfOk result (λ p. p.history ≡ reverse places.now) }
     ensures counts { IfOk result (λ p. p.counts ≡ reverse counts.now) }
-    ensures fault { IfErr result (λ f. f ≡ Memory) }
+    ensures fault { OnlyMemory result }
 {
     let mut place = Place::new(alloc, config)?;
     let mut left = counts;
@@ -44,7 +44,7 @@ fn tell<'a>(place: &mut Place, entry: &PlaceEntry, counts: &'a [u64]) -> Result<
     ensures history { OnOk result (place.new.history ≡ entry.now ∷ place.old.history) }
     ensures counts { OnOk result (place.new.counts ≡ counts_gone entry.now counts.now place.old.counts) }
     ensures left { IfOk result (λ left. left.now ≡ counts_left entry.now counts.now) }
-    ensures fault { IfErr result (λ f. f ≡ Memory) }
+    ensures fault { OnlyMemory result }
 {
     match entry {
         PlaceEntry::Accepted { host, directive } => {

@@ -1,7 +1,7 @@
 //! What a run leaves whose queues haven't performed all.
 
 ghost use Rattle.std.specs.Prelude.{IfErr, IfOk, OnOk, [], ◌++◌, ◌≡◌, map};
-ghost use Rattle.acc_base.specs.declared.fault.Fault.TheVariants.{Memory};
+ghost use Rattle.acc_base.specs.Faults.{OnlyMemory};
 ghost use Rattle.acc_base.specs.Queues.{queue_count};
 ghost use Rattle.acc_batch.specs.Labels.{ops_of};
 ghost use Rattle.acc_run.specs.Finishing.{Abandoned, AreOfOneRun, CannotAbandon, HasCounts, untaken_on, histories_in, histories_of, left_on};
@@ -81,7 +81,7 @@ fn list_all(
     work: &WorkSide,
 ) -> Result<Vec<Discarded>, Fault>
     ensures listed { IfOk result (λ list. list.items ≡ discards place.now work.now (queue_count config.now)) }
-    ensures fault { IfErr result (λ f. f ≡ Memory) }
+    ensures fault { OnlyMemory result }
 {
     let mut list = Vec::new(alloc);
     for index in 0..config.queue_count() {
@@ -98,7 +98,7 @@ fn list_queue(
     at: QueueAt,
 ) -> Result<(), Fault>
     ensures listed { OnOk result (list.new.items ≡ list.old.items ++ map (discarded at) (left_on place.now work.now at)) }
-    ensures fault { IfErr result (λ f. f ≡ Memory) }
+    ensures fault { OnlyMemory result }
 {
     let QueueAt { device, queue } = at;
     let left = left_in_lane(work, QueueAt { device, queue });
@@ -136,7 +136,7 @@ fn held_on<'a>(place: &'a PlaceSide, work: &WorkSide, at: QueueAt) -> &'a [Label
 // Lists the operations of these batches.
 fn list_batches(list: &mut Vec<Discarded>, at: QueueAt, labels: &[Label]) -> Result<(), Fault>
     ensures listed { OnOk result (list.new.items ≡ list.old.items ++ map (discarded at) (ops_of labels.now)) }
-    ensures fault { IfErr result (λ f. f ≡ Memory) }
+    ensures fault { OnlyMemory result }
 {
     let QueueAt { device, queue } = at;
     for label in labels {
@@ -148,7 +148,7 @@ fn list_batches(list: &mut Vec<Discarded>, at: QueueAt, labels: &[Label]) -> Res
 // Lists these operations.
 fn list_ops(list: &mut Vec<Discarded>, at: QueueAt, ops: &[OpLabel]) -> Result<(), Fault>
     ensures listed { OnOk result (list.new.items ≡ list.old.items ++ map (discarded at) ops.now) }
-    ensures fault { IfErr result (λ f. f ≡ Memory) }
+    ensures fault { OnlyMemory result }
 {
     let QueueAt { device, queue } = at;
     for op in ops {

@@ -1,7 +1,7 @@
 //! The ends of the queues of all devices.
 
-ghost use Rattle.std.specs.Prelude.{◌≡◌, IfOk, IfErr};
-ghost use Rattle.acc_base.specs.declared.fault.Fault.TheVariants.{Memory};
+ghost use Rattle.std.specs.Prelude.{◌≡◌, IfOk};
+ghost use Rattle.acc_base.specs.Faults.{OnlyMemory};
 ghost use Rattle.acc_run.specs.WorkSides.{AreEnds};
 
 use acc_base::{Config, Fault, QueueAt};
@@ -15,7 +15,7 @@ use std::alloc::Global;
 /// `Memory` where memory is refused.
 pub(crate) fn ends_of(alloc: Global, config: &Config) -> Result<(Vec<Sender>, Vec<Taker>), Fault>
     ensures ends { IfOk result (λ r. AreEnds config.now r.0.items × AreEnds config.now r.1.items) }
-    ensures fault { IfErr result (λ f. f ≡ Memory) }
+    ensures fault { OnlyMemory result }
 {
     config.keeps();
     let mut senders = Vec::new(alloc);

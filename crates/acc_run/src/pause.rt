@@ -1,8 +1,8 @@
 //! How a thread waits that found nothing to do.
 
-ghost use Rattle.std.specs.Prelude.{◌≡◌, ◌≤◌, IfErr};
+ghost use Rattle.std.specs.Prelude.{◌≡◌, ◌≤◌};
+ghost use Rattle.acc_base.specs.Faults.{OnlyMemory};
 ghost use Rattle.acc_run.specs.declared.pause.TheConstants.{LONGEST_SLEEP, SHORTEST_SLEEP};
-ghost use Rattle.acc_base.specs.declared.fault.Fault.TheVariants.{Memory};
 
 use acc_base::{Config, Fault};
 use crossbeam_utils::Backoff;
@@ -89,7 +89,7 @@ impl Pause {
 
 // A parker for each queue, at which nobody sleeps.
 pub(crate) fn parkers_of(alloc: Global, config: &Config) -> Result<Vec<Parker>, Fault>
-    ensures { IfErr result (λ f. f ≡ Memory) }
+    ensures { OnlyMemory result }
 {
     let mut parkers = Vec::new(alloc);
     for _ in 0..config.queue_count() {

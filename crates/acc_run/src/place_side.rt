@@ -1,7 +1,8 @@
 //! What the place lock holds: a place, and the end of each queue that sends.
 
 ghost use Rattle.std.specs.Prelude.{ℕ, ◌≡◌, ◌*◌, ◌<◌, IfOk, IfErr, IfSome, OnOk, OnErr, true, []};
-ghost use Rattle.acc_base.specs.declared.fault.Fault.TheVariants.{Memory, QueueFull};
+ghost use Rattle.acc_base.specs.Faults.{OnlyMemory};
+ghost use Rattle.acc_base.specs.declared.fault.Fault.TheVariants.{QueueFull};
 ghost use Rattle.acc_base.specs.declared.config.TheConstants.{MAX_HOSTS};
 ghost use Rattle.acc_base.specs.declared.ids.QueueAt.{QueueAt};
 ghost use Rattle.acc_base.specs.declared.ids.TheConstants.{QUEUES};
@@ -64,7 +65,7 @@ impl PlaceSide {
         ensures config { IfOk result (λ s. s.place.config ≡ config) }
         ensures history { IfOk result (λ s. s.place.history ≡ []) }
         ensures lines { IfOk result (λ s. s.lines ≡ senders.items) }
-        ensures fault { IfErr result (λ f. f ≡ Memory) }
+        ensures fault { OnlyMemory result }
     {
         let place = Place::new(alloc, config)?;
         Ok(PlaceSide { place, senders })

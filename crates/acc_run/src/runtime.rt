@@ -3,6 +3,7 @@
 ghost use Rattle.acc_base.specs.declared.config.TheConstants.{MAX_DEVICES};
 ghost use Rattle.acc_base.specs.declared.ids.TheConstants.{QUEUES};
 ghost use Rattle.std.specs.Prelude.{◌≤◌, ◌≡◌, ◌*◌, ◌⊎◌, ◌++◌, ◌∷◌, [], IfOk, IfErr, OnErr, false, true, is_some, length};
+ghost use Rattle.acc_base.specs.Faults.{OnlyMemory};
 ghost use Rattle.acc_base.specs.declared.fault.Fault.TheVariants.{BadRange, HostsDiffer, Memory, TooMany, Unfinished};
 ghost use Rattle.acc_host.specs.Engines.{MayRecord};
 ghost use Rattle.acc_run.specs.Calling.{IsAnswerTo};
@@ -88,7 +89,7 @@ impl Runtime {
         ensures tokens { IfOk result (λ r. AreTokens 0 r.1.items) }
         ensures count { IfOk result (λ r. length r.1.items ≡ config.now.hosts) }
         ensures reader { IfOk result (λ r. r.0.has_reader ≡ true) }
-        ensures fault { IfErr result (λ f. f ≡ Memory) }
+        ensures fault { OnlyMemory result }
     {
         let copy = config.try_clone()?;
         let parkers = parkers_of(alloc, config)?;
@@ -484,7 +485,7 @@ fn sides_of(
 ) -> Result<(PlaceSide, WorkSide, Reader, Vec<HostToken>), Fault>
     ensures tokens { IfOk result (λ r. AreTokens 0 r.3.items) }
     ensures count { IfOk result (λ r. length r.3.items ≡ config.now.hosts) }
-    ensures fault { IfErr result (λ f. f ≡ Memory) }
+    ensures fault { OnlyMemory result }
 {
     config.keeps();
     let (senders, takers) = ends_of(alloc, config)?;

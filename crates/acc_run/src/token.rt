@@ -1,8 +1,8 @@
 //! What a host has done, in its own order.
 
-ghost use Rattle.std.specs.Prelude.{◌≡◌, ◌+◌, ◌<◌, ◌++◌, ◌∷◌, [], IfOk, IfErr, OnOk, length};
+ghost use Rattle.std.specs.Prelude.{◌≡◌, ◌+◌, ◌<◌, ◌++◌, ◌∷◌, [], IfOk, OnOk, length};
+ghost use Rattle.acc_base.specs.Faults.{OnlyMemory};
 ghost use Rattle.acc_base.specs.declared.config.TheConstants.{MAX_HOSTS};
-ghost use Rattle.acc_base.specs.declared.fault.Fault.TheVariants.{Memory};
 ghost use Rattle.acc_run.specs.Tokens.{items_in, has_room, AreTokens};
 ghost use Rattle.acc_run.specs.declared.token.TokenEntry.TheVariants as listed;
 
@@ -103,7 +103,7 @@ impl HostToken {
         ensures host { self.new.host ≡ self.old.host }
         ensures entries { self.new.entries ≡ self.old.entries }
         ensures room { OnOk result (has_room self.new) }
-        ensures fault { IfErr result (λ f. f ≡ Memory) }
+        ensures fault { OnlyMemory result }
     {
         self.entries.reserve(1)?;
         Ok(())
@@ -115,7 +115,7 @@ impl HostToken {
         ensures entries { self.new.entries ≡ self.old.entries }
         ensures room { OnOk result (has_room self.new) }
         ensures equal { IfOk result (λ d. d ≡ directive.now) }
-        ensures fault { IfErr result (λ f. f ≡ Memory) }
+        ensures fault { OnlyMemory result }
     {
         self.spare()?;
         directive.try_clone()
@@ -155,7 +155,7 @@ pub(crate) fn tokens_of(
     ensures reader { reader.new ≡ reader.old }
     ensures tokens { IfOk result (λ tokens. AreTokens 0 tokens.items) }
     ensures count { IfOk result (λ tokens. length tokens.items ≡ config.now.hosts) }
-    ensures fault { IfErr result (λ f. f ≡ Memory) }
+    ensures fault { OnlyMemory result }
 {
     config.keeps();
     let mut tokens = Vec::new(alloc);

@@ -1,6 +1,7 @@
 //! What the work lock holds: a work side, and the end of each queue that takes.
 
 ghost use Rattle.std.specs.Prelude.{Bool, replicate, slice_index, ◌≡◌, ◌<◌, ◌^◌, IfOk, IfErr, IfSome, IfNone, OnOk, OnErr, Some, Ok, None, true, false, [], length, OnSome, IsTrue, ◌↔◌, ◌⊎◌, ◌==◌};
+ghost use Rattle.acc_base.specs.Faults.{OnlyMemory};
 ghost use Rattle.acc_base.specs.declared.fault.Fault.TheVariants.{Memory};
 ghost use Rattle.acc_base.specs.declared.config.TheConstants.{MAX_HOSTS};
 ghost use Rattle.acc_base.specs.declared.ids.QueueAt.{QueueAt};
@@ -93,7 +94,7 @@ impl WorkSide {
         ensures work { IfOk result (λ s. s.work.work ≡ []) }
         ensures lines { IfOk result (λ s. s.lines ≡ takers.items) }
         ensures progress { IfOk result (λ s. s.progress ≡ progress) }
-        ensures fault { IfErr result (λ f. f ≡ Memory) }
+        ensures fault { OnlyMemory result }
     {
         config.keeps();
         let copy = config.try_clone()?;

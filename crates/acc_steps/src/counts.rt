@@ -1,7 +1,7 @@
 //! The rows of a picture: the ranges that directives name, and what held each, from column to column.
 
-ghost use Rattle.std.specs.Prelude.{◌≡◌, IfErr};
-ghost use Rattle.acc_base.specs.declared.fault.Fault.TheVariants.{Memory};
+ghost use Rattle.std.specs.Prelude.{◌≡◌};
+ghost use Rattle.acc_base.specs.Faults.{OnlyMemory};
 
 use crate::found::held_on;
 use acc_base::{DeviceId, Fault, Range};
@@ -57,7 +57,7 @@ impl Counts {
     ///
     /// `Memory` where memory is refused.
     pub(crate) fn note(&mut self, world: &World, column: usize) -> Result<(), Fault>
-        ensures fault { IfErr result (λ f. f ≡ Memory) }
+        ensures fault { OnlyMemory result }
     {
         if let Some(PlaceEntry::Accepted { host: _, directive }) = world.place().history().last() {
             for item in directive.items().as_slice() {
@@ -73,7 +73,7 @@ impl Counts {
 
 // Adds a range, if it isn't there yet and there aren't too many.
 fn add_row(rows: &mut Vec<Row>, device: DeviceId, item: &DataItem) -> Result<(), Fault>
-    ensures fault { IfErr result (λ f. f ≡ Memory) }
+    ensures fault { OnlyMemory result }
 {
     let range = item.range;
     let is_there = rows
@@ -97,7 +97,7 @@ fn look(
     index: usize,
     row: &mut Row,
 ) -> Result<(), Fault>
-    ensures fault { IfErr result (λ f. f ≡ Memory) }
+    ensures fault { OnlyMemory result }
 {
     let now = held_on(world, row.device, row.range);
     if now == counters_of(row.since) {

@@ -1,8 +1,8 @@
 //! What an event of a replay did.
 
-ghost use Rattle.std.specs.Prelude.{◌≡◌, IfOk, IfErr, OnErr};
+ghost use Rattle.std.specs.Prelude.{◌≡◌, IfOk, OnErr};
 ghost use Rattle.std.specs.Option.{option_map};
-ghost use Rattle.acc_base.specs.declared.fault.Fault.TheVariants.{Memory};
+ghost use Rattle.acc_base.specs.Faults.{OnlyMemory};
 ghost use Rattle.acc_core.specs.Machine.{State, Step};
 ghost use Rattle.acc_host.specs.Hosts.{bare_act, line_of};
 ghost use Rattle.acc_host.specs.declared.state.Reply.{Reply};
@@ -48,7 +48,7 @@ pub enum Deed {
 pub fn take_step(world: &mut World, event: Event) -> Result<Deed, Fault>
     ensures step { IfOk result (λ deed. (r : Reply) × Step world.old event r world.new × (deed ≡ deed_of world.old event r world.new)) }
     ensures kept { OnErr result (world.new ≡ world.old) }
-    ensures fault { IfErr result (λ f. f ≡ Memory) }
+    ensures fault { OnlyMemory result }
 {
     let made = made(world, event)?;
     Ok(match world.step(event) {
@@ -98,7 +98,7 @@ fn line_of(host: &Host) -> u32
 // What an event does, if it is made.
 fn made(world: &World, event: Event) -> Result<Deed, Fault>
     ensures made { IfOk result (λ deed. deed ≡ made world.now event) }
-    ensures fault { IfErr result (λ f. f ≡ Memory) }
+    ensures fault { OnlyMemory result }
 {
     match event {
         Event::Host(host) => Ok(step_by(world, world.host(host))),

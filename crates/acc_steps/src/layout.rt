@@ -1,7 +1,7 @@
 //! How a picture is laid out. No contract says it: the titles of the boxes, which tell the steps, are put around it.
 
-ghost use Rattle.std.specs.Prelude.{◌≡◌, IfErr};
-ghost use Rattle.acc_base.specs.declared.fault.Fault.TheVariants.{Memory};
+ghost use Rattle.std.specs.Prelude.{◌≡◌};
+ghost use Rattle.acc_base.specs.Faults.{OnlyMemory};
 
 use crate::counts::{Row, Since};
 use crate::head::put_queue;
@@ -41,7 +41,7 @@ impl<'a> Frame<'a> {
     ///
     /// `Memory` where memory is refused.
     pub(crate) fn new(alloc: Global, names: &'a [&'a [u8]], scene: &'a Scene) -> Result<Self, Fault>
-        ensures fault { IfErr result (λ f. f ≡ Memory) }
+        ensures fault { OnlyMemory result }
     {
         let mut longest = 14usize;
         for row in scene.counts.rows.as_slice() {
@@ -60,7 +60,7 @@ impl<'a> Frame<'a> {
     ///
     /// `Memory` where memory is refused.
     pub(crate) fn head(&self, alloc: Global) -> Result<Vec<u8>, Fault>
-        ensures fault { IfErr result (λ f. f ≡ Memory) }
+        ensures fault { OnlyMemory result }
     {
         let mut layout = Vec::new(alloc);
         let mut failed = false;
@@ -104,7 +104,7 @@ impl<'a> Frame<'a> {
         column: usize,
         drawn: &Drawn,
     ) -> Result<Vec<u8>, Fault>
-        ensures fault { IfErr result (λ f. f ≡ Memory) }
+        ensures fault { OnlyMemory result }
     {
         let mut layout = Vec::new(alloc);
         let mut failed = false;
@@ -123,7 +123,7 @@ impl<'a> Frame<'a> {
     ///
     /// `Memory` where memory is refused.
     pub(crate) fn tail(&self, alloc: Global) -> Result<Vec<u8>, Fault>
-        ensures fault { IfErr result (λ f. f ≡ Memory) }
+        ensures fault { OnlyMemory result }
     {
         let mut layout = Vec::new(alloc);
         let mut failed = false;
@@ -195,7 +195,7 @@ impl<'a> Frame<'a> {
 
 // A part of a picture, unless memory was refused.
 fn finished(layout: Vec<u8>, failed: bool) -> Result<Vec<u8>, Fault>
-    ensures fault { IfErr result (λ f. f ≡ Memory) }
+    ensures fault { OnlyMemory result }
 {
     if failed {
         return Err(Fault::Memory);
@@ -205,7 +205,7 @@ fn finished(layout: Vec<u8>, failed: bool) -> Result<Vec<u8>, Fault>
 
 // The name of a row, as a report has it.
 fn row_name(alloc: Global, names: &[&[u8]], row: &Row) -> Result<Vec<u8>, Fault>
-    ensures fault { IfErr result (λ f. f ≡ Memory) }
+    ensures fault { OnlyMemory result }
 {
     let mut name = Vec::new(alloc);
     let mut failed = false;

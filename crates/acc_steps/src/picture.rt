@@ -1,7 +1,7 @@
 //! The picture of steps, as plain SVG.
 
-ghost use Rattle.std.specs.Prelude.{◌≡◌, ◌++◌, ◌||◌, List, ℕ, length, nat_lt, IfOk, IfErr, IfNone, IfSome, OnOk};
-ghost use Rattle.acc_base.specs.declared.fault.Fault.TheVariants.{Memory};
+ghost use Rattle.std.specs.Prelude.{◌≡◌, ◌++◌, ◌||◌, List, ℕ, length, nat_lt, IfOk, IfNone, IfSome, OnOk};
+ghost use Rattle.acc_base.specs.Faults.{OnlyMemory};
 ghost use Rattle.acc_steps.specs.Lines.{words_told};
 ghost use Rattle.acc_steps.specs.Pictures.{AreBoxes, box_text, escaped, escaped_byte, is_drawn, is_white, IsPicture, IsTooLarge, ShowsLines};
 ghost use Rattle.acc_steps.specs.Scenes.{lines_in};
@@ -36,7 +36,7 @@ pub fn draw_steps(
 ) -> Result<Option<Vec<u8>>, Fault>
     ensures picture { IfOk result (λ drawn. IfSome drawn (λ picture. IsPicture (words_told telling.now) events.now world.old world.new picture.items)) }
     ensures none { IfOk result (λ drawn. IfNone drawn (IsTooLarge (words_told telling.now) events.now world.old world.new)) }
-    ensures fault { IfErr result (λ f. f ≡ Memory) }
+    ensures fault { OnlyMemory result }
 {
     let mut scene = Scene::new(alloc);
     let mut number = 0u64;
@@ -64,7 +64,7 @@ fn is_too_large(scene: &Scene) -> bool
 // The picture of a scene.
 fn picture_of(alloc: Global, names: &[&[u8]], scene: &Scene) -> Result<Vec<u8>, Fault>
     ensures shows { IfOk result (λ picture. ShowsLines (lines_in scene.now.boxes.items) picture.items) }
-    ensures fault { IfErr result (λ f. f ≡ Memory) }
+    ensures fault { OnlyMemory result }
 {
     let frame = Frame::new(alloc, names, scene)?;
     let mut picture = frame.head(alloc)?;
@@ -82,7 +82,7 @@ fn push_boxes(
     boxes: &[Drawn],
 ) -> Result<(), Fault>
     ensures boxes { OnOk result ((text : List ℕ) × AreBoxes (lines_in boxes.now) text × (picture.new.items ≡ picture.old.items ++ text)) }
-    ensures fault { IfErr result (λ f. f ≡ Memory) }
+    ensures fault { OnlyMemory result }
 {
     for (column, drawn) in boxes.iter().enumerate() {
         let layout = frame.of_box(alloc, column, drawn)?;

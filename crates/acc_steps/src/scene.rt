@@ -1,7 +1,7 @@
 //! What a picture of steps shows: a box for each event that is told, what awaited what, and what held the ranges of directives.
 
-ghost use Rattle.std.specs.Prelude.{◌≡◌, ◌≤◌, [], length, IfOk, IfErr, OnOk};
-ghost use Rattle.acc_base.specs.declared.fault.Fault.TheVariants.{Memory};
+ghost use Rattle.std.specs.Prelude.{◌≡◌, ◌≤◌, [], length, IfOk, OnOk};
+ghost use Rattle.acc_base.specs.Faults.{OnlyMemory};
 ghost use Rattle.acc_steps.specs.Lines.{step_text, words_told};
 ghost use Rattle.acc_steps.specs.Pictures.{DrawsOne, joined};
 ghost use Rattle.acc_steps.specs.Scenes.{lines_in};
@@ -80,7 +80,7 @@ impl Scene {
     ) -> Result<(), Fault>
         ensures drawn { OnOk result (DrawsOne (words_told telling.now) number next.now world.old world.new (lines_in self.old.boxes.items) (lines_in self.new.boxes.items)) }
         ensures bytes { OnOk result (self.old.bytes ≤ length (joined (lines_in self.old.boxes.items)) → self.new.bytes ≤ length (joined (lines_in self.new.boxes.items))) }
-        ensures fault { IfErr result (λ f. f ≡ Memory) }
+        ensures fault { OnlyMemory result }
     {
         let statement = line_at(world, next.event);
         let deed = take_step(world, next.event)?;
@@ -116,7 +116,7 @@ fn step_line(
     world: &World,
 ) -> Result<Vec<u8>, Fault>
     ensures line { IfOk result (λ line. line.items ≡ step_text (words_told telling.now) number next.now.line next.now.event statement deed.now world.now) }
-    ensures fault { IfErr result (λ f. f ≡ Memory) }
+    ensures fault { OnlyMemory result }
 {
     let mut line = Vec::new(alloc);
     let mut failed = false;
@@ -139,7 +139,7 @@ fn step_line(
 
 // Adds a lane in its order, if it isn't there.
 fn add_lane(lanes: &mut Vec<Lane>, lane: Lane) -> Result<(), Fault>
-    ensures fault { IfErr result (λ f. f ≡ Memory) }
+    ensures fault { OnlyMemory result }
 {
     let place = lanes.iter().position(|other| lane.rank() <= other.rank());
     match place {

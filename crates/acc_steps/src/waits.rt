@@ -1,7 +1,7 @@
 //! The arrows of a picture: from what was awaited to the await.
 
-ghost use Rattle.std.specs.Prelude.{◌≡◌, IfErr};
-ghost use Rattle.acc_base.specs.declared.fault.Fault.TheVariants.{Memory};
+ghost use Rattle.std.specs.Prelude.{◌≡◌};
+ghost use Rattle.acc_base.specs.Faults.{OnlyMemory};
 
 use crate::deed::Deed;
 use crate::lane::Lane;
@@ -50,7 +50,7 @@ impl Waits {
     ///
     /// `Memory` where memory is refused.
     pub(crate) fn note(&mut self, event: Event, deed: &Deed, place: Place) -> Result<(), Fault>
-        ensures fault { IfErr result (λ f. f ≡ Memory) }
+        ensures fault { OnlyMemory result }
     {
         match (event, deed) {
             (Event::Perform(at), Deed::Performed { number, what }) => {
@@ -61,7 +61,7 @@ impl Waits {
     }
 
     fn add(&mut self, at: QueueAt, number: u64, op: &OpLabel, place: Place) -> Result<(), Fault>
-        ensures fault { IfErr result (λ f. f ≡ Memory) }
+        ensures fault { OnlyMemory result }
     {
         let device = at.device.number();
         if let OpLabel::Await { queue, number } = op {
@@ -78,7 +78,7 @@ impl Waits {
 
     // An arrow from what a queue has performed last of a batch.
     fn add_arrow(&mut self, device: u8, queue: u8, number: u64, to: Place) -> Result<(), Fault>
-        ensures fault { IfErr result (λ f. f ≡ Memory) }
+        ensures fault { OnlyMemory result }
     {
         let done = self.performed.iter().rev().find(|done| done.device == device
             && done.queue == queue

@@ -1,7 +1,7 @@
 //! The events of a schedule with the numbers of their lines, and the lines that tell what they did.
 
-ghost use Rattle.std.specs.Prelude.{◌≡◌, ◌+◌, ◌++◌, ◌∷◌, [], ℕ, take, IfOk, IfErr, OnOk, OnErr};
-ghost use Rattle.acc_base.specs.declared.fault.Fault.TheVariants.{Memory};
+ghost use Rattle.std.specs.Prelude.{◌≡◌, ◌+◌, ◌++◌, ◌∷◌, [], ℕ, take, IfOk, OnOk, OnErr};
+ghost use Rattle.acc_base.specs.Faults.{OnlyMemory};
 ghost use Rattle.acc_report.specs.Puts.{Puts, sink};
 ghost use Rattle.acc_schedule.specs.Schedules.{kept_events, lines};
 ghost use Rattle.acc_script.specs.Arrays.{texts};
@@ -32,7 +32,7 @@ pub struct Numbered {
 /// `Memory` where memory is refused.
 pub fn lines_of<'a>(alloc: Global, text: &'a [u8]) -> Result<Vec<&'a [u8]>, Fault>
     ensures lines { IfOk result (λ list. texts list.items ≡ lines text.now) }
-    ensures fault { IfErr result (λ f. f ≡ Memory) }
+    ensures fault { OnlyMemory result }
 {
     let mut list = Vec::new(alloc);
     let mut rest = text;
@@ -65,7 +65,7 @@ pub fn numbered_events(
     devices: u8,
 ) -> Result<Vec<Numbered>, Fault>
     ensures events { IfOk result (λ list. list.items ≡ numbered_from hosts devices 1 (texts lines.now)) }
-    ensures fault { IfErr result (λ f. f ≡ Memory) }
+    ensures fault { OnlyMemory result }
 {
     let mut list = Vec::new(alloc);
     let mut number = 0u32;
@@ -89,7 +89,7 @@ fn push_line(
     devices: u8,
 ) -> Result<(), Fault>
     ensures events { OnOk result (list.new.items ≡ list.old.items ++ on_line number (events_in_line hosts devices line.now)) }
-    ensures fault { IfErr result (λ f. f ≡ Memory) }
+    ensures fault { OnlyMemory result }
 {
     let schedule = match Schedule::read(alloc, line, hosts, devices) {
         Ok(schedule) => schedule,
@@ -111,7 +111,7 @@ fn push_turns(
     turn: &ScheduleLine,
 ) -> Result<(), Fault>
     ensures events { OnOk result (list.new.items ≡ list.old.items ++ on_line number (kept_events round.now turn.now)) }
-    ensures fault { IfErr result (λ f. f ≡ Memory) }
+    ensures fault { OnlyMemory result }
 {
     let events = turn.turn.events(round);
     for _ in 0..turn.times {
@@ -122,7 +122,7 @@ fn push_turns(
 
 fn push_events(list: &mut Vec<Numbered>, number: u32, events: &[Event]) -> Result<(), Fault>
     ensures events { OnOk result (list.new.items ≡ list.old.items ++ on_line number events.now) }
-    ensures fault { IfErr result (λ f. f ≡ Memory) }
+    ensures fault { OnlyMemory result }
 {
     for event in events {
         list.push(Numbered {
@@ -147,7 +147,7 @@ pub fn tell_steps<W: Write>(
 ) -> Result<(), Fault>
     ensures told { OnOk result (TellsSteps (words_told telling.now) events.now world.old world.new (sink (W.contents out.old) failed.old) (sink (W.contents out.new) failed.new)) }
     ensures front { OnErr result ((n : ℕ) × TellsSteps (words_told telling.now) (take n events.now) world.old world.new (sink (W.contents out.old) failed.old) (sink (W.contents out.new) failed.new)) }
-    ensures fault { IfErr result (λ f. f ≡ Memory) }
+    ensures fault { OnlyMemory result }
 {
     let mut number = 0u64;
     for next in events {
@@ -168,7 +168,7 @@ fn tell_step<W: Write>(
 ) -> Result<(), Fault>
     ensures told { OnOk result (TellsOne (words_told telling.now) number next.now world.old world.new (sink (W.contents out.old) failed.old) (sink (W.contents out.new) failed.new)) }
     ensures kept { OnErr result ((world.new ≡ world.old) × (sink (W.contents out.new) failed.new ≡ sink (W.contents out.old) failed.old)) }
-    ensures fault { IfErr result (λ f. f ≡ Memory) }
+    ensures fault { OnlyMemory result }
 {
     let statement = line_at(world, next.event);
     let deed = take_step(world, next.event)?;

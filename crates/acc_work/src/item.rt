@@ -1,7 +1,7 @@
 //! Items of hosts, each with the memory that recording it takes; what a host gets back.
 
-ghost use Rattle.std.specs.Prelude.{◌≡◌, IfOk, IfErr};
-ghost use Rattle.acc_base.specs.declared.fault.Fault.TheVariants as fault;
+ghost use Rattle.std.specs.Prelude.{◌≡◌, IfOk};
+ghost use Rattle.acc_base.specs.Faults.{OnlyMemory};
 ghost use Rattle.acc_work.specs.declared.item.ItemLabel.TheVariants as to_record;
 
 use acc_base::{Boxed, DeviceId, Fault, MAX_CELLS, QueueCounts, Range};
@@ -96,7 +96,7 @@ impl Item {
     /// `Memory` where memory is refused.
     pub fn print(alloc: Global, range: Range) -> Result<Self, Fault>
         ensures item { IfOk result (λ i. i ≡ to_record.Print range) }
-        ensures fault { IfErr result (λ f. f ≡ fault.Memory) }
+        ensures fault { OnlyMemory result }
     {
         let cells = (range.len as usize).min(MAX_CELLS);
         let room = Vec::with_capacity(alloc, cells * size_of::<i64>())?;
@@ -117,7 +117,7 @@ impl Item {
     /// `Memory` where memory is refused.
     pub fn seen(alloc: Global, device: DeviceId, counts: QueueCounts) -> Result<Self, Fault>
         ensures item { IfOk result (λ i. i ≡ to_record.Seen device counts) }
-        ensures fault { IfErr result (λ f. f ≡ fault.Memory) }
+        ensures fault { OnlyMemory result }
     {
         let counts = Counts::new(alloc, counts)?;
         Ok(Item {
@@ -132,7 +132,7 @@ impl Item {
     /// `Memory` where memory is refused.
     pub fn test(alloc: Global, device: DeviceId, counts: QueueCounts) -> Result<Self, Fault>
         ensures item { IfOk result (λ i. i ≡ to_record.Test device counts) }
-        ensures fault { IfErr result (λ f. f ≡ fault.Memory) }
+        ensures fault { OnlyMemory result }
     {
         let counts = Counts::new(alloc, counts)?;
         Ok(Item {

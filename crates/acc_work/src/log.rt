@@ -1,8 +1,8 @@
 //! The work log on its pages, with the pages to come, and how many items each host has.
 
-ghost use Rattle.std.specs.Prelude.{◌≡◌, ◌-◌, ◌<◌, ◌^◌, [], ◌∷◌, reverse, false, IfOk, IfErr, IfSome, IsTrue, None};
+ghost use Rattle.std.specs.Prelude.{◌≡◌, ◌-◌, ◌<◌, ◌^◌, [], ◌∷◌, reverse, false, IfOk, IfSome, IsTrue, None};
+ghost use Rattle.acc_base.specs.Faults.{OnlyMemory};
 ghost use Rattle.acc_base.specs.declared.config.TheConstants.{MAX_HOSTS};
-ghost use Rattle.acc_base.specs.declared.fault.Fault.TheVariants.{Memory as no_memory};
 ghost use Rattle.acc_batch.specs.declared.entry.WorkEntry.TheVariants as entry;
 ghost use Rattle.acc_work.specs.Logs.{items_of, all_items};
 ghost use Rattle.acc_batch.specs.Pages.{HasRoomFor};
@@ -55,7 +55,7 @@ impl Log {
     pub(crate) fn new(alloc: Global) -> Result<Self, Fault>
         ensures work { IfOk result (λ l. l.work ≡ []) }
         ensures unclaimed { IfOk result (λ l. l.unclaimed ≡ 0) }
-        ensures fault { IfErr result (λ f. f ≡ no_memory) }
+        ensures fault { OnlyMemory result }
     {
         Ok(Log {
             entries: WorkLog::new(alloc)?,

@@ -2,6 +2,7 @@
 
 ghost use Rattle.std.specs.Prelude.{ℕ, ◌≡◌, ◌+◌, ◌<◌, ◌≤◌, ◌==◌, nat_le, All, [], length, drop, ◌++◌, is_some, IfOk, IfErr, IfSome, OnSome, IfNone, OnOk, IsTrue, ◌↔◌, Some, reverse};
 ghost use Rattle.std.specs.Option.{option_map};
+ghost use Rattle.acc_base.specs.Faults.{OnlyMemory};
 ghost use Rattle.acc_base.specs.Queues.{queue_count, seat};
 ghost use Rattle.acc_base.specs.Configurations.{has_range};
 ghost use Rattle.acc_base.specs.declared.config.TheConstants.{MAX_HOSTS};
@@ -66,7 +67,6 @@ impl Model for Work {
 }
 
 impl Work {
-    ghost use Rattle.acc_base.specs.declared.fault.Fault.TheVariants.{Memory as no_memory};
     ghost use Rattle.acc_batch.specs.declared.entry.Told.TheVariants as told;
     ghost use Rattle.acc_batch.specs.declared.entry.WorkEntry.TheVariants as entry;
 
@@ -82,7 +82,7 @@ impl Work {
         ensures rows { IfOk result (λ w. (d : ℕ) → rows_on w.memory d ≡ []) }
         ensures work { IfOk result (λ w. w.work ≡ []) }
         ensures lanes { IfOk result (λ w. All IsFresh w.lanes) }
-        ensures fault { IfErr result (λ f. f ≡ no_memory) }
+        ensures fault { OnlyMemory result }
     {
         config.keeps();
         let memory = Memory::new(alloc, config)?;
@@ -387,7 +387,7 @@ impl Work {
 fn lanes_of(alloc: Global, config: &Config) -> Result<Vec<Lane>, Fault>
     ensures count { IfOk result (λ lanes. length lanes.items ≡ queue_count config.now) }
     ensures fresh { IfOk result (λ lanes. All IsFresh lanes.items) }
-    ensures fault { IfErr result (λ f. f ≡ Fault.Memory) }
+    ensures fault { OnlyMemory result }
 {
     let mut lanes = Vec::new(alloc);
     for _ in 0..config.queue_count() {

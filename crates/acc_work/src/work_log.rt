@@ -1,9 +1,9 @@
 //! The entries of the work log, on pages.
 
-ghost use Rattle.std.specs.Prelude.{◌≡◌, ◌+◌, ◌<◌, [], ◌∷◌, ◌++◌, length, IfOk, IfErr, IfSome, MatchOption};
+ghost use Rattle.std.specs.Prelude.{◌≡◌, ◌+◌, ◌<◌, [], ◌∷◌, ◌++◌, length, IfOk, IfSome, MatchOption};
 ghost use Rattle.std.specs.Iterator.{YieldsFirstRef, item_count};
 ghost use Rattle.std.specs.List.{All};
-ghost use Rattle.acc_base.specs.declared.fault.Fault.TheVariants.{Memory as no_memory};
+ghost use Rattle.acc_base.specs.Faults.{OnlyMemory};
 ghost use Rattle.acc_work.specs.inner.Records.{IsBlank, all_free};
 
 use acc_base::Fault;
@@ -45,7 +45,7 @@ impl WorkLog {
     /// `Memory` where memory is refused.
     pub(crate) fn new(alloc: Global) -> Result<Self, Fault>
         ensures items { IfOk result (λ l. l.items ≡ []) }
-        ensures fault { IfErr result (λ f. f ≡ no_memory) }
+        ensures fault { OnlyMemory result }
     {
         let page = Page::new(alloc, 0)?;
         Ok(WorkLog {
