@@ -39,13 +39,13 @@ use Rattle.acc_place.proofs.OpenRegion.{none_without}
 use Rattle.acc_place.proofs.RegionsOn.{open_on, without_on}
 use Rattle.acc_place.proofs.Visits.{counted_first}
 
-abbrev pub IsHeld : List Presence → Range → Type 0
+abbrev IsHeld : List Presence → Range → Type 0
 IsHeld ps r = (0 < r.len) × (is_present ps r ≡ true)
 
 abbrev IsCounted : List Range → Presence → Type 0
 IsCounted rs p = p.s ≡ count_inside p.range rs
 
-abbrev pub ranges_of : List DataItem → List Range
+abbrev ranges_of : List DataItem → List Range
 ranges_of items = map (λ (i : DataItem). i.range) items
 
 -- ## Counts
@@ -76,7 +76,7 @@ count-turned : (whole : Range) (xs ys zs : List Range) → count_inside whole (x
 count-turned whole xs ys zs =
     omega (arith, count-append whole xs (ys ++ zs), count-append whole ys zs, count-append whole ys (xs ++ zs), count-append whole xs zs)
 
-pub entered_turned : (xs ys zs : List Range) (ps : List Presence) → IsEnteredBy (xs ++ (ys ++ zs)) ps → IsEnteredBy (ys ++ (xs ++ zs)) ps
+entered_turned : (xs ys zs : List Range) (ps : List Presence) → IsEnteredBy (xs ++ (ys ++ zs)) ps → IsEnteredBy (ys ++ (xs ++ zs)) ps
 entered_turned xs ys zs ps h =
     let rest = All-behind (IsHeld ps) xs (ys ++ zs) h.present in
     let held = All-append (IsHeld ps) xs zs (All-before (IsHeld ps) xs (ys ++ zs) h.present) (All-behind (IsHeld ps) ys zs rest) in
@@ -211,7 +211,7 @@ counted_beside r rs (p ∷ ps) absent counted =
 -- ## One item
 
 -- a region that enters a range
-pub entered_up : (r : Range) (b : ℕ) (rs : List Range) (ps : List Presence) → is_table ps ≡ true → 0 < r.len → is_partly_present ps r ≡ false → IsEnteredBy rs ps
+entered_up : (r : Range) (b : ℕ) (rs : List Range) (ps : List Presence) → is_table ps ≡ true → 0 < r.len → is_partly_present ps r ≡ false → IsEnteredBy rs ps
     → IsEnteredBy (r ∷ rs) (presences_after (record { change = StructuredUp; range = r }) b ps)
 entered_up r b rs ps t cells whole h =
     let m : Mark = record { change = StructuredUp; range = r } in
@@ -229,12 +229,12 @@ entered_up r b rs ps t cells whole h =
     ]
 
 -- one that leaves it
-pub entered_end : (r : Range) (b : ℕ) (rs : List Range) (ps : List Presence) → IsEnteredBy (r ∷ rs) ps → IsEnteredBy rs (presences_after (record { change = StructuredDown; range = r }) b ps)
+entered_end : (r : Range) (b : ℕ) (rs : List Range) (ps : List Presence) → IsEnteredBy (r ∷ rs) ps → IsEnteredBy rs (presences_after (record { change = StructuredDown; range = r }) b ps)
 entered_end r b rs ps h =
     entered_kept (record { change = StructuredDown; range = r }) (r ∷ rs) rs ps (recounts_down r rs) h (All-tail (IsHeld ps) r rs h.present)
 
 -- `enter data`
-pub entered_enter : (r : Range) (b : ℕ) (rs : List Range) (ps : List Presence) → is_table ps ≡ true → 0 < r.len → is_partly_present ps r ≡ false → IsEnteredBy rs ps
+entered_enter : (r : Range) (b : ℕ) (rs : List Range) (ps : List Presence) → is_table ps ≡ true → 0 < r.len → is_partly_present ps r ≡ false → IsEnteredBy rs ps
     → IsEnteredBy rs (presences_after (record { change = DynamicUp; range = r }) b ps)
 entered_enter r b rs ps t cells whole h =
     let m : Mark = record { change = DynamicUp; range = r } in
@@ -249,7 +249,7 @@ entered_enter r b rs ps t cells whole h =
     ]
 
 -- `exit data`, with `finalize` and without
-pub entered_exit : (finalize : Bool) (r : Range) (b : ℕ) (rs : List Range) (ps : List Presence) → IsEnteredBy rs ps → IsEnteredBy rs (presences_after (mark_by (exit_by finalize) r) b ps)
+entered_exit : (finalize : Bool) (r : Range) (b : ℕ) (rs : List Range) (ps : List Presence) → IsEnteredBy rs ps → IsEnteredBy rs (presences_after (mark_by (exit_by finalize) r) b ps)
 entered_exit true r b rs ps h = (let m = mark_by DynamicZero r in entered_kept m rs rs ps (recounts_none m rs (λ n. refl)) h h.present)
 entered_exit false r b rs ps h = (let m = mark_by DynamicDown r in entered_kept m rs rs ps (recounts_none m rs (λ n. refl)) h h.present)
 
@@ -288,7 +288,7 @@ entered_one capacity (Some DynamicUp) i b rs ps enters t fine h = absurd cc
 entered_one capacity (Some DynamicDown) i b rs ps enters t fine h = absurd cc
 entered_one capacity (Some DynamicZero) i b rs ps enters t fine h = absurd cc
 
-pub counted_ranges : (change : Option Change) (i : DataItem) (items : List DataItem) (rs : List Range) → ranges_of (counted_with change i items) ++ rs ≡ ranges_of (counted_with change i []) ++ (ranges_of items ++ rs)
+counted_ranges : (change : Option Change) (i : DataItem) (items : List DataItem) (rs : List Range) → ranges_of (counted_with change i items) ++ rs ≡ ranges_of (counted_with change i []) ++ (ranges_of items ++ rs)
 counted_ranges None i items rs = refl
 counted_ranges (Some change) i items rs = refl
 
@@ -339,7 +339,7 @@ exit_keeps capacity finalize rs ps i b t fine h =
 
 -- ## At a region's end
 
-pub has_entered : (r : Range) (rs : List Range) (ps : List Presence) → IsEnteredBy (r ∷ rs) ps → IsEntered (holder ps r)
+has_entered : (r : Range) (rs : List Range) (ps : List Presence) → IsEnteredBy (r ∷ rs) ps → IsEntered (holder ps r)
 has_entered r rs ps h = by_holder (holder ps r) refl
   where
     at_holder : (qs : List Presence) (x : Presence) → All (IsCounted (r ∷ rs)) qs → holder qs r ≡ Some x → 0 < x.s
@@ -416,7 +416,7 @@ open_counts whole host (r ∷ rs) x some = elim (cases_Bool (r.host == host)) [
       ))
 ]
 
-pub entered_open : (host : ℕ) (rs : List Region) (x : Region) (ps : List Presence) → open_region host rs ≡ Some x → IsEnteredBy (entered_ranges rs) ps
+entered_open : (host : ℕ) (rs : List Region) (x : Region) (ps : List Presence) → open_region host rs ≡ Some x → IsEnteredBy (entered_ranges rs) ps
     → IsEnteredBy (ranges_of x.items ++ entered_ranges (without_open host rs)) ps
 entered_open host rs x ps some h =
     record {

@@ -6,8 +6,8 @@ mod AwaitedNumbers
 mod BatchNotes
 pub mod CloseOut
 mod DeviceNotes
-mod DirectivesCounted
-pub mod EnteredRanges
+pub mod DirectivesCounted
+mod EnteredRanges
 mod EntriesAndEnds
 mod EntryWalks
 mod ExitWalks
@@ -30,13 +30,13 @@ mod NoteFound
 mod NoteOf
 mod NotedBy
 mod NotesOn
-pub mod OpenRegion
+mod OpenRegion
 mod PlaceAccept
 mod PlaceParts
 mod PlanOf
 mod QueuesAfter
 mod ReachJudged
-pub mod RegionsOn
+mod RegionsOn
 mod SliceSet
 mod StandingIn
 mod TrialPlan
