@@ -186,7 +186,7 @@ fn run<W: Write>(
         programs,
     } = script;
     programs_stay();
-    let mut world = match open(alloc, arrays, programs, options) {
+    let mut world = match new_world(alloc, arrays, programs, options) {
         Ok(world) => world,
         Err(fault) => return Err(fault),
     };
@@ -253,7 +253,7 @@ fn run_line(round: &[Event], line: &ScheduleLine, world: &mut World)
 }
 
 // The world of these arrays and programs, before the first event.
-pub(crate) fn open(
+pub(crate) fn new_world(
     alloc: Global,
     arrays: Vec<Vec<i64>>,
     programs: Vec<HostProgram>,

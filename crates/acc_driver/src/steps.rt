@@ -21,7 +21,7 @@ use crate::input::{read_text, split};
 use crate::options::{Ended, Options};
 use crate::program::{hosts_of, read_script};
 use crate::remains::Remains;
-use crate::replays::{INPUT_LIMIT, INPUT_TURNS, TEXT_LIMIT, TEXT_TURNS, open, report_world};
+use crate::replays::{INPUT_LIMIT, INPUT_TURNS, TEXT_LIMIT, TEXT_TURNS, new_world, report_world};
 use acc_core::{World, programs_stay};
 use acc_host::any_refused;
 use acc_report::put;
@@ -150,7 +150,7 @@ fn steps_of<'t, W: Write>(
         programs,
     } = script;
     programs_stay();
-    let world = match open(alloc, arrays, programs, options) {
+    let world = match new_world(alloc, arrays, programs, options) {
         Ok(world) => world,
         Err(fault) => return Err(fault.of_input()),
     };

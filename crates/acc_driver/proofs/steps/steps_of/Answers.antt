@@ -16,7 +16,7 @@ returns-clause-answers g c =
     let texts : Parts = record { script = c.args.text.now; schedule = c.args.schedule.now } in
     let said = c.in_ok-events.ensures.said in
     let says : events_in c.args.options program c.args.schedule.now ≡ Ok said.0 = rw c.hosts_of.ensures at said.1 in
-    let world = rw (c.in-Ok.ensures.lines, c.as_slice-events.ensures.value, c.in_ok-events.ensures.events, c.hosts_of.ensures, c.in-Ok-open.ensures.opened) at c.show_world.ensures in
+    let world = rw (c.in-Ok.ensures.lines, c.as_slice-events.ensures.value, c.in_ok-events.ensures.events, c.hosts_of.ensures, c.in-Ok-new_world.ensures.opened) at c.show_world.ensures in
     events_told c.args.options c.args.form texts program said.0 _ _ c.show_world.result says
     (program_told c.programs_stay.ensures c.args.options c.args.form texts program _ _ c.show_world.result world)
 
