@@ -5,10 +5,6 @@ use Rattle.acc_base.specs.declared.fault.Fault.{Fault}
 use Rattle.acc_base.specs.declared.ids.QueueAt.{QueueAt}
 use Rattle.acc_batch.specs.declared.label.Label.{Label}
 use Rattle.acc_batch.specs.declared.label.OpLabel.{OpLabel}
-use Rattle.acc_place.specs.Directives.{Directive}
-use Rattle.acc_place.specs.declared.directive.Placed.{Placed}
-use Rattle.acc_work.specs.declared.item.ItemLabel.{ItemLabel}
-use Rattle.acc_work.specs.declared.item.Shown.{Shown}
 use Rattle.acc_host.specs.declared.event.Event.{Event}
 use Rattle.acc_host.specs.declared.event.Event.TheVariants as event
 use Rattle.acc_host.specs.declared.program.Statement.{Statement}
@@ -19,6 +15,7 @@ use Rattle.acc_host.specs.Hosts.{HostView, wants, host_after, after_place, after
 use Rattle.acc_host.specs.Steps.{Want, stays, sets, refuses, places, awaits, records}
 use Rattle.acc_core.specs.Machine.{State, Outcome, Step, Runs, labels_of, is_there, batches_held, ops_left, can_perform, place_answer, placed_state, wait_answer, waited_state, item_answer, item_state, host_outcome, host_step, named_step, take_step, perform_step, queue_step, step}
 use Rattle.acc_core.specs.Worlds.{statements_in}
+use Rattle.acc_core.proofs.StandingHosts.{placed_hosts, recorded_hosts, waited_hosts}
 
 abbrev statements_of : HostView → List Statement
 statements_of host = host.statements
@@ -31,20 +28,6 @@ goes_on (x ∷ hosts) zero host goes at =
     let same : x ≡ host = cc in
     ap (λ (y : HostView). y.statements ∷ map statements_of hosts) (sym same)
 goes_on (x ∷ hosts) (suc h) host goes at = ap (λ (ss : List (List Statement)). x.statements ∷ ss) (goes_on hosts h host goes at)
-
--- what a call makes has the same hosts
-placed_hosts : (w : State) (h : ℕ) (d : Directive) (answer : Result Placed Fault) → (placed_state w h d answer).hosts ≡ w.hosts
-placed_hosts w h d (Ok placed) = refl
-placed_hosts w h d (Err fault) = refl
-
-waited_hosts : (w : State) (h device : ℕ) (counts : List ℕ) (answer : Result Bool Fault) → (waited_state w h device counts answer).hosts ≡ w.hosts
-waited_hosts w h device counts (Ok true) = refl
-waited_hosts w h device counts (Ok false) = refl
-waited_hosts w h device counts (Err fault) = refl
-
-item_hosts : (w : State) (h : ℕ) (item : ItemLabel) (answer : Result Shown Fault) → (item_state w h item answer).hosts ≡ w.hosts
-item_hosts w h item (Ok answer) = refl
-item_hosts w h item (Err fault) = refl
 
 outcome_kept : (w mid : State) (h : ℕ) (host : HostView) (goes : Result After Fault) → mid.hosts ≡ w.hosts → slice_get w.hosts h ≡ Some host → statements_in (host_outcome mid h host goes).state ≡ statements_in w
 outcome_kept w mid h host goes same at =
@@ -59,7 +42,7 @@ host_kept b w h host (places d) at =
 host_kept b w h host (awaits device counts) at =
     outcome_kept w (waited_state w h device counts (wait_answer b w device counts)) h host (after_wait (wait_answer b w device counts)) (waited_hosts w h device counts (wait_answer b w device counts)) at
 host_kept b w h host (records item) at =
-    outcome_kept w (item_state w h item (item_answer b w item)) h host (after_answer (item_answer b w item)) (item_hosts w h item (item_answer b w item)) at
+    outcome_kept w (item_state w h item (item_answer b w item)) h host (after_answer (item_answer b w item)) (recorded_hosts w h item (item_answer b w item)) at
 
 named_kept : (b : Bool) (w : State) (h : ℕ) (named : Option HostView) → slice_get w.hosts h ≡ named → statements_in (named_step b w h named).state ≡ statements_in w
 named_kept b w h None at = refl

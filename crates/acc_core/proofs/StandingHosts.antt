@@ -105,16 +105,16 @@ adds_recorded item (Ok answer) old new l = (refl, l.0, l.1, l.3)
 adds_recorded item (Err fault) old new l = l
 
 -- no call changes the hosts
-placed_hosts : (w : State) (h : ℕ) (d : Directive) (answer : Result Placed Fault) → (placed_state w h d answer).hosts ≡ w.hosts
+pub placed_hosts : (w : State) (h : ℕ) (d : Directive) (answer : Result Placed Fault) → (placed_state w h d answer).hosts ≡ w.hosts
 placed_hosts w h d (Ok placed) = refl
 placed_hosts w h d (Err fault) = refl
 
-waited_hosts : (w : State) (h device : ℕ) (counts : List ℕ) (answer : Result Bool Fault) → (waited_state w h device counts answer).hosts ≡ w.hosts
+pub waited_hosts : (w : State) (h device : ℕ) (counts : List ℕ) (answer : Result Bool Fault) → (waited_state w h device counts answer).hosts ≡ w.hosts
 waited_hosts w h device counts (Ok true) = refl
 waited_hosts w h device counts (Ok false) = refl
 waited_hosts w h device counts (Err fault) = refl
 
-recorded_hosts : (w : State) (h : ℕ) (item : ItemLabel) (answer : Result Shown Fault) → (item_state w h item answer).hosts ≡ w.hosts
+pub recorded_hosts : (w : State) (h : ℕ) (item : ItemLabel) (answer : Result Shown Fault) → (item_state w h item answer).hosts ≡ w.hosts
 recorded_hosts w h item (Ok answer) = refl
 recorded_hosts w h item (Err fault) = refl
 

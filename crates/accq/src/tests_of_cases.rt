@@ -3,8 +3,8 @@
 ghost use Rattle.std.specs.Prelude.{None};
 
 use crate::store::Folders;
-use crate::tests::{Narrow, Shelf, Stuck, Told, check_case};
-use crate::tests_of_streams::{CANNOT_WRITE, check_streams};
+use crate::tests::{Shelf, Told, check_case};
+use crate::tests_of_streams::check_writers;
 use acc_cases::{Folder, FolderFault};
 use std::alloc::{AllocError, Global};
 use std::test::Fail;
@@ -130,18 +130,6 @@ fn folders_have_their_status(rt: HostRuntime) -> Result<(), Fail> {
 #[test]
 fn outcomes_that_do_not_go_out_have_status_three(rt: HostRuntime) -> Result<(), Fail> {
     let words: &[&str] = &["accq", "test", "cases"];
-    let mut input: &[u8] = b"";
-    for room in [0, 9] {
-        let mut output = Narrow { room, taken: 0 };
-        check_streams(
-            &rt,
-            rt.alloc(),
-            words,
-            &mut input,
-            &mut output,
-            CANNOT_WRITE,
-        );
-    }
-    check_streams(&rt, rt.alloc(), words, &mut input, &mut Stuck, CANNOT_WRITE);
+    check_writers(&rt, rt.alloc(), words, 9);
     Ok(())
 }

@@ -1,7 +1,7 @@
 //! Tests of files that are checked.
 
-use crate::tests::{Narrow, Stuck, Told, answered, check_begin, check_told};
-use crate::tests_of_streams::{CANNOT_WRITE, check_streams};
+use crate::tests::{Told, answered, check_begin, check_told};
+use crate::tests_of_streams::check_writers;
 use std::alloc::Global;
 use std::process::Abort;
 use std::sync::Wait;
@@ -122,18 +122,6 @@ fn what_is_wrong_is_told_to_the_output(rt: HostRuntime) -> Result<(), Fail> {
 #[test]
 fn findings_that_do_not_go_out_have_status_three(rt: HostRuntime) -> Result<(), Fail> {
     let words: &[&str] = &["accq", "check", "faulty"];
-    let mut input: &[u8] = b"";
-    for room in [0, 9] {
-        let mut output = Narrow { room, taken: 0 };
-        check_streams(
-            &rt,
-            rt.alloc(),
-            words,
-            &mut input,
-            &mut output,
-            CANNOT_WRITE,
-        );
-    }
-    check_streams(&rt, rt.alloc(), words, &mut input, &mut Stuck, CANNOT_WRITE);
+    check_writers(&rt, rt.alloc(), words, 9);
     Ok(())
 }

@@ -1,7 +1,7 @@
 //! Tests of explorations.
 
-use crate::tests::{Narrow, Stuck, Told, check_case};
-use crate::tests_of_streams::{CANNOT_WRITE, check_streams};
+use crate::tests::{Told, check_case};
+use crate::tests_of_streams::{check_narrow, check_writers};
 use std::test::Fail;
 
 /// Reports, their schedules and counts, and files that have none.
@@ -301,28 +301,8 @@ fn explorations_of_files_have_their_status(rt: HostRuntime) -> Result<(), Fail> 
 #[test]
 fn explorations_that_do_not_go_out_have_status_three(rt: HostRuntime) -> Result<(), Fail> {
     let words: &[&str] = &["accq", "explore", "script"];
-    let mut input: &[u8] = b"";
-    for room in [0, 90] {
-        let mut output = Narrow { room, taken: 0 };
-        check_streams(
-            &rt,
-            rt.alloc(),
-            words,
-            &mut input,
-            &mut output,
-            CANNOT_WRITE,
-        );
-    }
-    check_streams(&rt, rt.alloc(), words, &mut input, &mut Stuck, CANNOT_WRITE);
+    check_writers(&rt, rt.alloc(), words, 90);
     let words: &[&str] = &["accq", "explore", "writers", "--depth=2"];
-    let mut output = Narrow { room: 30, taken: 0 };
-    check_streams(
-        &rt,
-        rt.alloc(),
-        words,
-        &mut input,
-        &mut output,
-        CANNOT_WRITE,
-    );
+    check_narrow(&rt, rt.alloc(), words, 30);
     Ok(())
 }

@@ -1,8 +1,8 @@
 //! Tests of steps.
 
 use crate::status::status_shown;
-use crate::tests::{Narrow, Stuck, Told, answered, check_begin, check_case, check_told};
-use crate::tests_of_streams::{CANNOT_WRITE, check_streams};
+use crate::tests::{Told, answered, check_begin, check_case, check_told};
+use crate::tests_of_streams::check_writers;
 use std::alloc::Global;
 use std::process::Abort;
 use std::sync::Wait;
@@ -141,20 +141,8 @@ fn a_picture_that_would_be_too_long_is_told(rt: HostRuntime) -> Result<(), Fail>
 fn steps_that_do_not_go_out_have_status_three(rt: HostRuntime) -> Result<(), Fail> {
     let lines: &[&str] = &["accq", "steps", "script", "schedule"];
     let picture: &[&str] = &["accq", "steps", "script", "schedule", "--picture"];
-    let mut input: &[u8] = b"";
     for words in [lines, picture] {
-        for room in [0, 90] {
-            let mut output = Narrow { room, taken: 0 };
-            check_streams(
-                &rt,
-                rt.alloc(),
-                words,
-                &mut input,
-                &mut output,
-                CANNOT_WRITE,
-            );
-        }
-        check_streams(&rt, rt.alloc(), words, &mut input, &mut Stuck, CANNOT_WRITE);
+        check_writers(&rt, rt.alloc(), words, 90);
     }
     Ok(())
 }

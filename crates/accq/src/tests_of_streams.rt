@@ -40,8 +40,8 @@ pub(crate) fn check_streams<T: Abort + Threads + Wait + Sync, R: Read, W: Write>
     check_told(rt, status, errors.as_slice(), 3, text);
 }
 
-// A writer that takes so many bytes of a report has taken them.
-fn check_narrow<T: Abort + Threads + Wait + Sync>(
+// A writer that takes so many bytes of what is told has taken them.
+pub(crate) fn check_narrow<T: Abort + Threads + Wait + Sync>(
     rt: &T,
     alloc: Global,
     words: &[&str],
@@ -51,6 +51,19 @@ fn check_narrow<T: Abort + Threads + Wait + Sync>(
     let mut output = Narrow { room, taken: 0 };
     check_streams(rt, alloc, words, &mut input, &mut output, CANNOT_WRITE);
     assert_eq!(rt; output.taken, room);
+}
+
+// A writer that takes nothing, one that takes so many bytes, fewer than what is told, and one that can't send on.
+pub(crate) fn check_writers<T: Abort + Threads + Wait + Sync>(
+    rt: &T,
+    alloc: Global,
+    words: &[&str],
+    within: usize,
+) {
+    check_narrow(rt, alloc, words, 0);
+    check_narrow(rt, alloc, words, within);
+    let mut input: &[u8] = b"";
+    check_streams(rt, alloc, words, &mut input, &mut Stuck, CANNOT_WRITE);
 }
 
 /// A writer that fails at the first byte of the report, in its middle and at its last byte, one that can't send on, and a
