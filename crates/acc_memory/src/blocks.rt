@@ -37,16 +37,17 @@ impl Model for Blocks {
 impl Blocks {
     ghost use Rattle.acc_batch.specs.declared.label.OpLabel.TheVariants as op;
 
-    /// No block.
+    /// No block, and room to spread blocks over so many chains.
     ///
     /// # Errors
     ///
     /// `Memory` where memory is refused.
-    pub(crate) fn new(alloc: Global) -> Result<Self, Fault>
+    pub(crate) fn new(alloc: Global, chains: u64) -> Result<Self, Fault>
+        requires { 0 < chains }
         ensures rows { IfOk result (λ b. b ≡ []) }
         ensures fault { OnlyMemory result }
     {
-        let buckets = Buckets::new(alloc)?;
+        let buckets = Buckets::new(alloc, chains)?;
         Ok(Blocks { buckets })
     }
 

@@ -3,7 +3,6 @@
 ghost use Rattle.std.specs.Prelude.{◌≡◌, ◌≤◌, ◌<◌, ◌-◌, [], length, is_some, vec_capacity, Some, None, IfOk};
 ghost use Rattle.std.specs.Option.{option_copied, option_map};
 ghost use Rattle.acc_base.specs.Faults.{OnlyMemory};
-ghost use Rattle.acc_memory.specs.declared.buckets.TheConstants.{BUCKETS};
 ghost use Rattle.acc_memory.specs.inner.Buckets.{HaveSame, IsSetBy, bucket_of, find_by};
 ghost use Rattle.acc_memory.specs.Memories.{Row, find_row};
 ghost use Rattle.acc_memory.specs.inner.Rows.{HasRoom, IsSetAt, stored};
@@ -14,49 +13,52 @@ use acc_raw::{Chain, Keyed, Node};
 use std::alloc::Global;
 use std::marker::Model;
 
-// How many chains the values are spread over.
-const BUCKETS: u64 = 1_024;
-
 /// Values by number, no two of the same one. Each stays in the node that it came with, linked into the chain of its number modulo
-/// the count of chains. Contracts see the list of the values, of which the order says nothing.
+/// the count of chains, which is set when they are made. Contracts see the list of the values, of which the order says nothing.
 #[derive(Drop)]
 pub(crate) struct Buckets<T: Keyed + Drop> {
     alloc: Global,
+    // how many chains there may be
+    count: u64,
     // From the first up to the last one that had a value; there is room for all. So it costs little that there are none.
     chains: Vec<Chain<T>>,
 }
 
 impl<T: Keyed + Drop> Model for Buckets<T> {
     ghost use Rattle.std.specs.Prelude.{List, vec_capacity, ◌≤◌};
-    ghost use Rattle.acc_memory.specs.declared.buckets.TheConstants.{BUCKETS};
     ghost use Rattle.acc_memory.specs.inner.Buckets.{in_all, AreSpread};
 
     ghost Value = { List T };
 
     ghost view = { λ b. in_all b.chains.items };
 
-    ghost invariant = { λ b. AreSpread T.key_of b.chains.items × (BUCKETS ≤ vec_capacity b.chains) };
+    ghost invariant = { λ b. AreSpread T.key_of b.count b.chains.items × (b.count ≤ vec_capacity b.chains) };
 }
 
 impl<T: Keyed + Drop> Buckets<T> {
-    /// None.
+    /// None, to be spread over so many chains.
     ///
     /// # Errors
     ///
     /// `Memory` where memory is refused.
-    pub(crate) fn new(alloc: Global) -> Result<Self, Fault>
+    pub(crate) fn new(alloc: Global, count: u64) -> Result<Self, Fault>
+        requires { 0 < count }
         ensures none { IfOk result (λ b. b ≡ []) }
         ensures fault { OnlyMemory result }
     {
-        let chains = Vec::with_capacity(alloc, BUCKETS as usize)?;
-        Ok(Buckets { alloc, chains })
+        let chains = Vec::with_capacity(alloc, count as usize)?;
+        Ok(Buckets {
+            alloc,
+            count,
+            chains,
+        })
     }
 
     /// The value of this number, if it is there.
     pub(crate) fn get(&self, number: u64) -> Option<&T>
         ensures { option_copied result ≡ find_by T.key_of self.now number }
     {
-        let bucket = bucket_of(number);
+        let bucket = bucket_of(self.count, number);
         if bucket >= self.chains.len() {
             return None;
         }
@@ -68,8 +70,8 @@ impl<T: Keyed + Drop> Buckets<T> {
         requires { find_by T.key_of self.old (T.key_of node) ≡ None }
         ensures { IsSetBy T.key_of (T.key_of node) (Some node) self.old self.new }
     {
-        let bucket = bucket_of(node.value().key());
-        reach(self.alloc, &mut self.chains, bucket);
+        let bucket = bucket_of(self.count, node.value().key());
+        reach(self.alloc, &mut self.chains, self.count, bucket);
         let chain = &mut self.chains[bucket];
         chain.push_back(node);
     }
@@ -79,7 +81,7 @@ impl<T: Keyed + Drop> Buckets<T> {
         ensures there { result ≡ is_some (find_by T.key_of self.old number) }
         ensures gone { IsSetBy T.key_of number None self.old self.new }
     {
-        let bucket = bucket_of(number);
+        let bucket = bucket_of(self.count, number);
         if bucket >= self.chains.len() {
             return false;
         }
@@ -95,7 +97,7 @@ impl Buckets<Block> {
         requires { (row : Row) → find_row self.old number ≡ Some row → HasRoom row first (length values.now) }
         ensures { IsSetAt number (option_map (λ row. stored row (first - row.range.lo) values.now) (find_row self.old number)) self.old self.new }
     {
-        let bucket = bucket_of(number);
+        let bucket = bucket_of(self.count, number);
         if bucket >= self.chains.len() {
             return;
         }
@@ -108,14 +110,14 @@ impl Buckets<Block> {
     }
 }
 
-// Empty chains are added up to this one, where it isn't there. There is room for them.
-fn reach<T: Keyed + Drop>(alloc: Global, chains: &mut Vec<Chain<T>>, bucket: usize)
-    requires low { bucket < BUCKETS }
-    requires few { length chains.old.items ≤ BUCKETS }
-    requires room { BUCKETS ≤ vec_capacity chains.old }
+// Empty chains are added up to this one, where it isn't there, of so many that may be. There is room for them.
+fn reach<T: Keyed + Drop>(alloc: Global, chains: &mut Vec<Chain<T>>, count: u64, bucket: usize)
+    requires low { bucket < count }
+    requires few { length chains.old.items ≤ count }
+    requires room { count ≤ vec_capacity chains.old }
     ensures there { bucket < length chains.new.items }
-    ensures few { length chains.new.items ≤ BUCKETS }
-    ensures room { BUCKETS ≤ vec_capacity chains.new }
+    ensures few { length chains.new.items ≤ count }
+    ensures room { count ≤ vec_capacity chains.new }
     ensures same { HaveSame chains.old.items chains.new.items }
 {
     while chains.len() <= bucket {
@@ -123,9 +125,11 @@ fn reach<T: Keyed + Drop>(alloc: Global, chains: &mut Vec<Chain<T>>, bucket: usi
     }
 }
 
-// The chain of a number.
-fn bucket_of(number: u64) -> usize
-    ensures { result ≡ bucket_of number }
+// The chain of a number, of so many.
+fn bucket_of(count: u64, number: u64) -> usize
+    requires { 0 < count }
+    ensures bucket { result ≡ bucket_of count number }
+    ensures low { result < count }
 {
-    (number % BUCKETS) as usize
+    (number % count) as usize
 }

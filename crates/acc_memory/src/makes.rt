@@ -1,6 +1,6 @@
 //! Which blocks were ever made on a device.
 
-ghost use Rattle.std.specs.Prelude.{◌≡◌, ◌==◌, ◌||◌, ℕ, false, IfOk};
+ghost use Rattle.std.specs.Prelude.{◌≡◌, ◌<◌, ◌==◌, ◌||◌, ℕ, false, IfOk};
 ghost use Rattle.acc_base.specs.Faults.{OnlyMemory};
 ghost use Rattle.acc_memory.specs.Memories.{is_made};
 ghost use Rattle.acc_memory.specs.inner.Marks.{IsRisen, makes_with};
@@ -33,16 +33,17 @@ impl Model for Makes {
 }
 
 impl Makes {
-    /// None.
+    /// None, and room to spread marks over so many chains.
     ///
     /// # Errors
     ///
     /// `Memory` where memory is refused.
-    pub(crate) fn new(alloc: Global) -> Result<Self, Fault>
+    pub(crate) fn new(alloc: Global, chains: u64) -> Result<Self, Fault>
+        requires { 0 < chains }
         ensures none { IfOk result (λ m. (block : ℕ) → is_made m block ≡ false) }
         ensures fault { OnlyMemory result }
     {
-        let others = Buckets::new(alloc)?;
+        let others = Buckets::new(alloc, chains)?;
         Ok(Makes { all_to: 0, others })
     }
 

@@ -21,6 +21,9 @@ use acc_raw::{Cells, Node};
 use std::alloc::Global;
 use std::marker::Model;
 
+// The most chains over which the blocks of a device are spread.
+const MAX_CHAINS: u64 = 8_192;
+
 /// The host arrays, and the devices. Contracts see the cells, the blocks that are there, and which were ever made.
 #[derive(Drop)]
 pub struct Memory {
@@ -57,7 +60,7 @@ impl Memory {
         ensures fault { OnlyMemory result }
     {
         let arrays = arrays_of(alloc, config)?;
-        let devices = devices_of(alloc, config.devices())?;
+        let devices = devices_of(alloc, config.devices(), chains_for(&arrays))?;
         Ok(Memory { arrays, devices })
     }
 
@@ -321,8 +324,21 @@ fn arrays_of(alloc: Global, config: &Config) -> Result<Vec<Vec<i64>>, Fault>
     Ok(arrays)
 }
 
-// So many devices without a block.
-fn devices_of(alloc: Global, count: u8) -> Result<Vec<Device>, Fault>
+// Over how many chains the blocks of a device are spread: blocks that are there together have cells of their own, so there are no more of
+// them than cells.
+fn chains_for(arrays: &[Vec<i64>]) -> u64
+    ensures { 0 < result }
+{
+    let mut cells = 0u64;
+    for array in arrays {
+        cells = cells.saturating_add(array.len() as u64);
+    }
+    cells.clamp(1, MAX_CHAINS)
+}
+
+// So many devices without a block, each with room for so many chains.
+fn devices_of(alloc: Global, count: u8, chains: u64) -> Result<Vec<Device>, Fault>
+    requires { 0 < chains }
     ensures count { IfOk result (λ devices. length devices.items ≡ count) }
     ensures fresh { IfOk result (λ devices. All IsFresh devices.items) }
     ensures fault { OnlyMemory result }
@@ -330,8 +346,8 @@ fn devices_of(alloc: Global, count: u8) -> Result<Vec<Device>, Fault>
     let mut devices = Vec::new(alloc);
     for _ in 0..count {
         devices.push(Device {
-            blocks: Blocks::new(alloc)?,
-            makes: Makes::new(alloc)?,
+            blocks: Blocks::new(alloc, chains)?,
+            makes: Makes::new(alloc, chains)?,
         })?;
     }
     Ok(devices)

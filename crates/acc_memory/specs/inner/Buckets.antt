@@ -1,7 +1,6 @@
 -- Values by number, spread over chains. Only private contracts and proofs cite it.
-use Rattle.std.specs.Prelude.{◌≡◌, ◌≤◌, ℕ, ◌%◌, ◌==◌, if◌then◌else◌, List, [], length, find, slice_index_or, Option, None}
+use Rattle.std.specs.Prelude.{◌≡◌, ◌≤◌, ◌<◌, ℕ, ◌%◌, ◌==◌, if◌then◌else◌, List, [], length, find, slice_index_or, Option, None}
 use Rattle.std.specs.List.{AllPairs, flat_map}
-use Rattle.acc_memory.specs.declared.buckets.TheConstants.{BUCKETS}
 
 -- the first value of a number
 abbrev pub find_by : {X : Type 0} → (X → ℕ) → List X → ℕ → Option X
@@ -15,9 +14,9 @@ AreOnce key xs = AllPairs (λ x y. key x ≡ key y → ⊥) xs
 abbrev pub IsSetBy : {X : Type 0} → (X → ℕ) → ℕ → Option X → List X → List X → Type 0
 IsSetBy key n x old new = (k : ℕ) → find_by key new k ≡ (if k == n then x else find_by key old k)
 
--- the chain of a number
-abbrev pub bucket_of : ℕ → ℕ
-bucket_of n = n % BUCKETS
+-- the chain of a number, of so many
+abbrev pub bucket_of : ℕ → ℕ → ℕ
+bucket_of count n = n % count
 
 -- the values of that chain; none where it isn't there
 abbrev pub bucket_in : {X : Type 0} → List (List X) → ℕ → List X
@@ -32,7 +31,8 @@ abbrev pub HaveSame : {X : Type 0} → List (List X) → List (List X) → Type 
 HaveSame old new = (k : ℕ) → bucket_in new k ≡ bucket_in old k
 
 -- There are no more chains than may be, and each value that is there is in that of its number, which no other there is of.
-pub record AreSpread {X : Type 0} (key : X → ℕ) (buckets : List (List X)) : Type 0 where
-  pub count : length buckets ≤ BUCKETS
+pub record AreSpread {X : Type 0} (key : X → ℕ) (count : ℕ) (buckets : List (List X)) : Type 0 where
+  pub some : 0 < count
+  pub few : length buckets ≤ count
   pub once : (k : ℕ) → AreOnce key (bucket_in buckets k)
-  pub own : (k n : ℕ) → (bucket_of n ≡ k → ⊥) → find_by key (bucket_in buckets k) n ≡ None
+  pub own : (k n : ℕ) → (bucket_of count n ≡ k → ⊥) → find_by key (bucket_in buckets k) n ≡ None

@@ -1,13 +1,12 @@
 use Rattle.std.proofs.Common.{◌≤◌, ◌-◌, ◌+◌, length}
 use Rattle.std.specs.Prelude.{vec_capacity}
-use Rattle.acc_memory.specs.declared.buckets.TheConstants.{BUCKETS}
 use Rattle.acc_memory.specs.inner.Buckets.{HaveSame}
 use Rattle.acc_memory.proofs.buckets.reach.Given as goal
 
 abbrev pub invariant-loop-alloc : goal.invariant-loop-alloc
 invariant-loop-alloc g l = record {
-  few : length l.chains.items ≤ BUCKETS;
-  room : BUCKETS ≤ vec_capacity l.chains;
+  few : length l.chains.items ≤ l.count;
+  room : l.count ≤ vec_capacity l.chains;
   same : HaveSame l.initial.chains.items l.chains.items;
 }
 
