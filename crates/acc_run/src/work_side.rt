@@ -1,6 +1,7 @@
 //! What the work lock holds: a work side, and the end of each queue that takes.
 
 ghost use Rattle.std.specs.Prelude.{Bool, replicate, slice_index, ◌≡◌, ◌<◌, ◌^◌, IfOk, IfErr, IfSome, IfNone, OnOk, OnErr, Some, Ok, None, true, false, [], length, OnSome, IsTrue, ◌↔◌, ◌⊎◌, ◌==◌};
+ghost use Rattle.std.specs.Option.{option_map};
 ghost use Rattle.acc_base.specs.Faults.{OnlyMemory};
 ghost use Rattle.acc_base.specs.declared.fault.Fault.TheVariants.{Memory};
 ghost use Rattle.acc_base.specs.declared.config.TheConstants.{MAX_HOSTS};
@@ -13,7 +14,7 @@ ghost use Rattle.acc_run.specs.WorkSides.{AreEnds, HasComeBack, HasGoneOut, HasT
 ghost use Rattle.acc_work.specs.declared.item.ItemLabel.TheVariants as to_record;
 ghost use Rattle.acc_work.specs.declared.item.Shown.TheVariants as shown;
 ghost use Rattle.acc_work.specs.Items.{has_cells};
-ghost use Rattle.acc_work.specs.Jobs.{Commits, IsOut, StartsLoop};
+ghost use Rattle.acc_work.specs.Jobs.{Commits, IsOut, StartsLoop, TakesRoom};
 ghost use Rattle.acc_work.specs.Logs.{all_done, all_items, batches_done};
 ghost use Rattle.acc_work.specs.Kept.{IsKept};
 ghost use Rattle.acc_work.specs.Remembering.{Remembers};
@@ -224,6 +225,7 @@ impl WorkSide {
     pub fn start_job(&mut self, at: QueueAt, room: &mut Option<Box<Job>>) -> Option<JobOut>
         requires queue { HasQueue self.old.work at }
         ensures started { IfSome result (λ job. HasGoneOut self.old self.new at job) }
+        ensures room { IfSome result (λ job. TakesRoom (option_map (λ b. b.value) room.old) (lane_at self.old.work at).left job.job) }
         ensures none { IfNone result ((self.new ≡ self.old) × (StartsLoop self.old.work at → ⊥)) }
     {
         self.work.keeps();

@@ -1,6 +1,6 @@
 -- A loop that is taken out of its lane, to be computed while others have the work side, and comes back (OpenACC API 3.0, 2.16,
 -- Asynchronous Behavior).
-use Rattle.std.specs.Prelude.{◌≡◌, ℕ, true, false, List, ◌∷◌, length, Option, Some, None, IfSome, ℤ}
+use Rattle.std.specs.Prelude.{◌≡◌, ℕ, true, false, List, ◌∷◌, length, Option, Some, None, IfSome, is_some, ℤ}
 use Rattle.acc_base.specs.declared.ids.QueueAt.{QueueAt}
 use Rattle.acc_batch.specs.declared.label.Label.{Label}
 use Rattle.acc_batch.specs.declared.label.OpLabel.{OpLabel}
@@ -43,6 +43,11 @@ IsLoaded m device c = (was : Cell → ℤ) → Shows m was → c.inputs ≡ show
 abbrev pub IsJobNext : Option Computation → List OpLabel → Type 0
 IsJobNext None left = (k : Loop) × (uses : List Use) × IsLoopNext k uses left
 IsJobNext (Some c) left = IsLoopNext c.kernel c.uses left
+
+-- A room for the loop that comes next is taken, with the loop's computation in it.
+abbrev pub TakesRoom : Option Computation → List OpLabel → Option Computation → Type 0
+TakesRoom None left job = Unit {0}
+TakesRoom (Some room) left job = IsLoopNext room.kernel room.uses left → is_some job ≡ true
 
 -- A loop was taken out: its lane knows, and nothing else changed.
 pub record HasStarted (old new : WorkView) (at : QueueAt) (job : JobView) : Type 0 where

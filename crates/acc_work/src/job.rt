@@ -5,7 +5,7 @@ ghost use Rattle.std.specs.Option.{option_map};
 ghost use Rattle.acc_batch.specs.Ops.{op_label};
 ghost use Rattle.acc_kernel.specs.Jobs.{computed};
 ghost use Rattle.acc_memory.specs.Memories.{IsAllowed, PerformsOn};
-ghost use Rattle.acc_work.specs.Jobs.{IsJobNext, IsLoaded, with_outputs};
+ghost use Rattle.acc_work.specs.Jobs.{IsJobNext, IsLoaded, TakesRoom, with_outputs};
 ghost use Rattle.acc_work.specs.Lanes.{last_of, lane_with_out};
 ghost use Rattle.acc_work.specs.inner.Jobs.{MayStart, HasJob, IsStarted};
 
@@ -107,6 +107,7 @@ pub(crate) fn start_on(
     requires device { device < length memory.now.devices }
     requires may { MayStart memory.now device lane.old.left }
     ensures started { IfSome result (λ job. IsStarted memory.now lane.old lane.new (record { device = device; queue = queue }) job) }
+    ensures room { IfSome result (λ job. TakesRoom (option_map (λ b. b.value) room.old) lane.old.left job.job) }
     ensures none { IfNone result ((lane.new ≡ lane.old) × (last_of lane.old.taken ≡ None)) }
 {
     let number = lane.last()?.number;
@@ -133,6 +134,7 @@ fn take_loaded(
     ensures lane { lane.new ≡ lane_with_out lane.old true }
     ensures next { IsJobNext (option_map (λ b. b.value) result) lane.old.left }
     ensures loaded { IfSome result (λ b. IsLoaded memory.now device b.value) }
+    ensures room { TakesRoom (option_map (λ b. b.value) room.old) lane.old.left (option_map (λ b. b.value) result) }
 {
     lane.take_out();
     let mut job = room.take()?;

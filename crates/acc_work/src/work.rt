@@ -8,7 +8,7 @@ ghost use Rattle.acc_base.specs.Configurations.{has_range};
 ghost use Rattle.acc_base.specs.declared.config.TheConstants.{MAX_HOSTS};
 ghost use Rattle.acc_base.specs.declared.ids.TheConstants.{QUEUES};
 ghost use Rattle.acc_work.specs.declared.log.TheConstants.{MAX_HOST_ITEMS};
-ghost use Rattle.acc_work.specs.Jobs.{StartsLoop, HasStarted, IsOut, Commits};
+ghost use Rattle.acc_work.specs.Jobs.{StartsLoop, TakesRoom, HasStarted, IsOut, Commits};
 ghost use Rattle.acc_work.specs.Kept.{IsKept};
 ghost use Rattle.acc_work.specs.Lanes.{IsFresh, awaited_next, lane_with_batch, last_of, nth_taken, lanes_with, no_lane};
 ghost use Rattle.acc_work.specs.Logs.{items_of, all_items, batches_done, all_done, value};
@@ -329,6 +329,7 @@ impl Work {
     /// It takes no memory.
     pub fn start_job(&mut self, at: QueueAt, room: &mut Option<Box<Job>>) -> Option<JobOut>
         ensures started { IfSome result (λ job. HasStarted self.old self.new at job) }
+        ensures room { IfSome result (λ job. TakesRoom (option_map (λ b. b.value) room.old) (lane_at self.old at).left job.job) }
         ensures none { IfNone result ((self.new ≡ self.old) × ¬ StartsLoop self.old at) }
     {
         let QueueAt { device, queue } = at;
