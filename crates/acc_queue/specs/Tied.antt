@@ -50,6 +50,6 @@ pub record Parted (items : List Label) (ends : List End) : Type 0 where
 abbrev pub Tied : List Label → List End → Type 0
 Tied items ends = Unparted items ends ⊎ Parted items ends
 
--- At some step the queue held n batches, the last of those that were sent.
-abbrev pub WasHeld : ℕ → List Label → Type 0
-WasHeld n sent = (items : List Label) × (length items ≡ n) × ((taken : List Label) × (sent ≡ taken ++ items))
+-- A queue with room for n batches may be full: so many were sent. That it is, at the step that finds it so, no clause of an end can say.
+abbrev pub MayBeFull : ℕ → List Label → Type 0
+MayBeFull n sent = (items : List Label) × (length items ≡ n) × ((taken : List Label) × (sent ≡ taken ++ items))

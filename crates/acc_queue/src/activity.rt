@@ -4,7 +4,7 @@ ghost use Rattle.std.specs.Prelude.{◌≡◌, ◌<◌, ◌++◌, ◌∷◌, [],
 ghost use Rattle.acc_base.specs.Faults.{OnlyMemory};
 ghost use Rattle.crossbeam_queue.specs.Fifo.{Held, Learns, Pops, Pushes};
 ghost use Rattle.crossbeam_queue.specs.Passes.{view, IsPassOf, IsSamePass, ruled_capacity};
-ghost use Rattle.acc_queue.specs.Tied.{IsFor, WasHeld};
+ghost use Rattle.acc_queue.specs.Tied.{IsFor, MayBeFull};
 
 use crate::rule::{End, InOrder, Named, Parts, Popped, Pushed};
 use acc_base::{Fault, QueueAt};
@@ -129,7 +129,7 @@ impl Sender {
         requires { IsFor self.old.at batch }
         ensures same { (self.new.queue ≡ self.old.queue) × (self.new.at ≡ self.old.at) × (self.new.room ≡ self.old.room) }
         ensures pushed { OnOk result (self.new.labels ≡ self.old.labels ++ batch ∷ []) }
-        ensures refused { IfErr result (λ r. (r.0 ≡ batch) × (self.new ≡ self.old) × WasHeld self.old.room self.old.labels) }
+        ensures refused { IfErr result (λ r. (r.0 ≡ batch) × (self.new ≡ self.old) × MayBeFull self.old.room self.old.labels) }
     {
         let Sender { queue, pass } = self;
         match send_last::<InOrder, Pushed, R>(rt, queue, pass, batch) {

@@ -26,7 +26,7 @@ use Rattle.acc_place.specs.Histories.{is_closed, standing, AllAccepted, IsQueue}
 use Rattle.acc_place.specs.Plans.{PlaceView, PlanView, Fits, label_for, place_after, standing_in}
 use Rattle.acc_place.specs.Standings.{Standing, walk_of}
 use Rattle.acc_place.proofs.LabelsThere.{labels_there}
-use Rattle.acc_queue.specs.Tied.{Line, WasHeld}
+use Rattle.acc_queue.specs.Tied.{Line, MayBeFull}
 use Rattle.acc_run.specs.PlaceSides.{IsClosed, IsPlaceSide, IsSent, IsUnchanged, PlaceSideView, CanSend, ClosedFrom, ClosesOne, lines_closed, lines_sent, lines_with, place_closed}
 use Rattle.acc_run.specs.WorkSides.{AreEnds, no_line, line_in}
 
@@ -351,9 +351,9 @@ left_more old new n remaining remaining' answer c e more =
 pub closed_more : (from old new : PlaceSideView) (n : ℕ) (answer : Bool) → ClosedFrom from old n → ClosesOne old new (at_seat n) answer → ClosedFrom from new (n + 1)
 closed_more from old new n answer f c = by_change c.change
   where
-    full : (at : QueueAt) → at.queue < QUEUES → seat at < n + 1 → is_closed (standing_in new.place) at ≡ false → WasHeld (line_in new.lines at).room (line_in new.lines at).labels
+    full : (at : QueueAt) → at.queue < QUEUES → seat at < n + 1 → is_closed (standing_in new.place) at ≡ false → MayBeFull (line_in new.lines at).room (line_in new.lines at).labels
     full at low there early = elim (cases_Bool (same_queue (at_seat n) at)) [
-      | inl same ↦ subst (λ q. WasHeld (line_in new.lines q).room (line_in new.lines q).labels) (same_queue_is (at_seat n) at same)
+      | inl same ↦ subst (λ q. MayBeFull (line_in new.lines q).room (line_in new.lines q).labels) (same_queue_is (at_seat n) at same)
           (c.full (c.closed ∙ subst (λ q. is_closed (standing_in new.place) q ≡ false) (sym (same_queue_is (at_seat n) at same)) early))
       | inr differ ↦
           let past : seat at ≡ n → ⊥ = λ e. (let no : true ≡ false = sym (one_seat (at_seat n) at (omega arith) low (place_seat n ∙ sym e)) ∙ differ in cc) in

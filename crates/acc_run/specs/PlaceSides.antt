@@ -19,7 +19,7 @@ use Rattle.acc_place.specs.Directives.{Directive}
 use Rattle.acc_place.specs.Histories.{is_closed, IsQueue}
 use Rattle.acc_place.specs.Plans.{PlaceView, label_in, standing_in}
 use Rattle.acc_place.specs.Standings.{walk_of}
-use Rattle.acc_queue.specs.Tied.{Line, IsFor, WasHeld}
+use Rattle.acc_queue.specs.Tied.{Line, IsFor, MayBeFull}
 use Rattle.acc_run.specs.WorkSides.{line_in}
 
 -- The place, and of each queue what its end has sent, by device, then in queue order.
@@ -57,7 +57,7 @@ lines_sent ends (Some b) = lines_with ends b
 -- there is a batch, and its queue held its room at some step
 abbrev pub IsHeld : List Line → Option Label → Type 0
 IsHeld ends None = ⊥
-IsHeld ends (Some b) = WasHeld (line_in ends b.at).room (line_in ends b.at).labels
+IsHeld ends (Some b) = MayBeFull (line_in ends b.at).room (line_in ends b.at).labels
 
 -- the label of the batch that a host's directive places, if it places one
 abbrev pub label_now : PlaceView → ℕ → ℕ → Directive → Option Label
@@ -118,7 +118,7 @@ pub record ClosesOne (old new : PlaceSideView) (at : QueueAt) (answer : Bool) : 
   pub counts : new.place.counts ≡ old.place.counts
   pub change : IsUnchanged old new ⊎ IsClosed old new at
   pub closed : answer ≡ is_closed (standing_in new.place) at
-  pub full : answer ≡ false → WasHeld (line_in new.lines at).room (line_in new.lines at).labels
+  pub full : answer ≡ false → MayBeFull (line_in new.lines at).room (line_in new.lines at).labels
 
 -- Some queues were closed, the latest first, and each of the first n queues that isn't held its room.
 pub record ClosedFrom (old new : PlaceSideView) (n : ℕ) : Type 0 where
@@ -127,7 +127,7 @@ pub record ClosedFrom (old new : PlaceSideView) (n : ℕ) : Type 0 where
   pub lines : new.lines ≡ lines_closed old closed
   pub config : new.place.config ≡ old.place.config
   pub counts : new.place.counts ≡ old.place.counts
-  pub full : (at : QueueAt) → at.queue < QUEUES → seat at < n → is_closed (standing_in new.place) at ≡ false → WasHeld (line_in new.lines at).room (line_in new.lines at).labels
+  pub full : (at : QueueAt) → at.queue < QUEUES → seat at < n → is_closed (standing_in new.place) at ≡ false → MayBeFull (line_in new.lines at).room (line_in new.lines at).labels
 
 -- Closing has begun, queues were closed, and each that isn't held its room.
 abbrev pub HasClosed : PlaceSideView → PlaceSideView → Type 0

@@ -10,7 +10,7 @@ ghost use Rattle.acc_place.specs.Histories.{AllAccepted, IsQueue, is_closed};
 ghost use Rattle.acc_base.specs.Queues.{queue_count};
 ghost use Rattle.acc_place.specs.Closing.{left_open, place_after_begin};
 ghost use Rattle.acc_place.specs.Plans.{standing_in, without_batch};
-ghost use Rattle.acc_queue.specs.Tied.{WasHeld};
+ghost use Rattle.acc_queue.specs.Tied.{MayBeFull};
 ghost use Rattle.acc_run.specs.PlaceSides.{CanSend, ClosesOne, HasClosed, HasPlaced, HasRefused, IsHeld, IsSent, lines_sent, lines_with};
 ghost use Rattle.acc_run.specs.WorkSides.{AreEnds, line_in};
 
@@ -207,7 +207,7 @@ fn push<R: Wait>(rt: &R, senders: &mut Vec<Sender>, batch: Batch) -> Result<(), 
     requires { CanSend senders.old.items batch }
     ensures sent { OnOk result (senders.new.items ≡ lines_with senders.old.items batch) }
     ensures kept { OnErr result (senders.new.items ≡ senders.old.items) }
-    ensures refused { IfErr result (λ fault. (fault ≡ QueueFull) × WasHeld (line_in senders.old.items batch.at).room (line_in senders.old.items batch.at).labels) }
+    ensures refused { IfErr result (λ fault. (fault ≡ QueueFull) × MayBeFull (line_in senders.old.items batch.at).room (line_in senders.old.items batch.at).labels) }
 {
     match push_back(rt, senders, batch) {
         Err(_) => Err(Fault::QueueFull),
@@ -220,7 +220,7 @@ fn push_back<R: Wait>(rt: &R, senders: &mut Vec<Sender>, batch: Batch) -> Result
     requires { CanSend senders.old.items batch }
     ensures sent { OnOk result (senders.new.items ≡ lines_with senders.old.items batch) }
     ensures kept { OnErr result (senders.new.items ≡ senders.old.items) }
-    ensures refused { IfErr result (λ b. (b ≡ batch) × WasHeld (line_in senders.old.items batch.at).room (line_in senders.old.items batch.at).labels) }
+    ensures refused { IfErr result (λ b. (b ≡ batch) × MayBeFull (line_in senders.old.items batch.at).room (line_in senders.old.items batch.at).labels) }
 {
     let seat = batch.label().at.seat();
     match senders[seat].push(rt, batch) {
