@@ -45,11 +45,13 @@ _ acc kernels|serial _ _ write `data` with its clauses, and in it a `parallel lo
 _ acc loop _ _ write `parallel loop`\n\
 _ acc end _ _ a data construct ends at its `}`\n\
 _ parallel _ _ loop write `parallel loop`; where it has several loops, `data` around one for each\n\
-_ acc declare|host_data|routine|cache|atomic|init|shutdown|set _ _ there is no stand-in: leave it out\n\
+_ acc set _ _ call the routine: `acc_set_device_num(1);` or `acc_set_default_async(1);`\n\
+_ acc declare|host_data|routine|cache|atomic|init|shutdown _ _ there is no stand-in: leave it out\n\
 _ _ deviceptr|attach|detach|use_device|link|device_resident _ _ there is no stand-in: leave it out\n\
 _ _ reduction|private|firstprivate|lastprivate _ _ there is no stand-in: leave the loop out where only counters are asked for\n\
 _ _ collapse|tile _ _ write one loop, over cells that stand side by side\n\
-_ _ gang|worker|vector|seq|independent|auto|num_gangs|num_workers|vector_length|device_type|default _ _ leave it out: no answer rests on it\n\
+_ _ gang|worker|vector|seq|independent|auto|num_gangs|num_workers|vector_length|device_type _ _ leave it out: no answer rests on it\n\
+_ _ default _ _ write the clause that is meant, with its arrays: `present(a)` for `default(present)`, none for `default(none)`\n\
 data _ async|wait _ _ write `enter data` and `exit data` with that clause\n\
 enter _ copy|copyout|delete|present _ copyin write `copyin` or `create`; data goes out at `exit data`\n\
 exit _ copy|copyin|create|present _ copyout write `copyout` or `delete`\n\
@@ -58,6 +60,8 @@ parallel _ no_create _ _ write `data no_create(..)` around the loop\n\
 _ _ if_present _ _ it stands on `update` alone, once\n\
 _ _ finalize _ _ it stands on `exit data` alone, once\n\
 enter|exit|update|data|parallel|wait )|data|update|loop|wait|, , _ _ leave the comma out: one may stand between two clauses, and none on a `wait`\n\
+_ _ devnum|queues _ _ write the numbers of the queues alone: `wait(1)`\n\
+wait _ @word _ acc_async_noval write the number of the queue: `wait(1)`\n\
 _ _ @word _ acc_async_noval write the number of the queue: `async(1)`\n\
 enter|exit|update|data _ @line _ copyin|copyout|self a data clause stands in the same line\n\
 data _ { _ _ write the `{` on the line behind the directive\n\
@@ -74,17 +78,22 @@ _ ] +|-|* = _ write `a[i] = a[i] + 1` for `a[i] += 1`\n\
 _ ] ++|- _ = write `a[i] = a[i] + 1` for `a[i]++`\n\
 _ [ _ _ @loop write the loop's name: a loop's cells are at its own index\n\
 _ _ @word _ @loop write its number: a loop knows its own name alone\n\
+_ @word = _ [ write the cell: `a[0] = 3`\n\
 _ _ ; _ + write the result into another array: what a loop assigns it reads at its own index alone\n\
 _ _ if|else|switch _ _ write out the branch that you ask about\n\
-_ _ while|do|goto|return|break|continue _ _ write its turns out\n\
+_ _ return _ _ leave it out: a host ends behind its last statement\n\
+_ _ while|do|goto|break|continue _ _ write its turns out\n\
 _ _ printf|puts|fprintf _ _ write `print` with a range: `print(a[0:1]);`\n\
 _ _ malloc|calloc|free|acc_malloc|acc_free _ _ arrays are declared: `long a[4];`\n\
 _ _ ] _ : a range is `a[LOWER:LENGTH]`: write `a[0:1]` for cell 0 alone\n\
 print _ , _ _ write each range by itself: `print(a); print(b);`\n\
 acc_set_device_num _ , _ _ write the device's number alone\n\
 _ _ , _ ) write the range for pointer and size: `acc_copyin(a[0:4]);`\n\
+_ print @word _ ( write the range in parentheses: `print(a);`\n\
 print ( @word ( _ a call doesn't stand in `print`\n\
+print ( @number _ _ write the array, or its range: `print(a);`\n\
 _ _ acc_is_present|acc_async_test|acc_async_test_all|acc_get_device_num|acc_get_num_devices _ _ a question stands in `print`: `print(acc_is_present(a));`\n\
+_ _ acc_copyin_async|acc_create_async|acc_copyout_async|acc_delete_async|acc_update_device_async|acc_update_self_async _ _ write the directive: `#pragma acc update self(a) async(1)` for `acc_update_self_async(a, .., 1)`\n\
 _ _ acc_init|acc_shutdown|acc_set_device_type|acc_get_device_type|acc_map_data|acc_unmap_data|acc_deviceptr|acc_hostptr _ _ there is no stand-in: leave it out\n\
 _ [ - _ _ cells count from 0\n\
 _ = @word _ @number write the number that it gives\n\
