@@ -16,4 +16,4 @@ pub use bytes::{ReportFault, put, put_number};
 pub use laws::{ids_are_not_told, lines_are_found};
 pub use line::put_queue_name;
 pub use remains::Run;
-pub use run::{report, report_run};
+pub use run::{plain_ops, report, report_run};

@@ -284,8 +284,8 @@ fn plain_count(place: &Place, at: QueueAt, number: u64) -> usize
     }
 }
 
-// How many operations these are, but for closes.
-fn plain_ops(ops: &[OpLabel]) -> usize
+/// How many operations these are, but for closes.
+pub fn plain_ops(ops: &[OpLabel]) -> usize
     ensures { result ≡ length (plain_ops ops.now) }
 {
     ops.iter()

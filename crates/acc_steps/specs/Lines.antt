@@ -36,6 +36,7 @@ use Rattle.acc_core.specs.Machine.{State, labels_of, standing_of}
 use Rattle.acc_core.specs.Progress.{next_by}
 use Rattle.acc_schedule.specs.Schedules.{is_space}
 use Rattle.acc_report.specs.Lines.{each_below, queue_name}
+use Rattle.acc_report.specs.Totals.{has_plain_ops}
 use Rattle.acc_script.specs.Arrays.{texts}
 use Rattle.acc_token.specs.Tokens.{front}
 use Rattle.acc_steps.specs.declared.line.Telling.{Telling}
@@ -158,10 +159,10 @@ op_text names device (op.Await queue number) =
     codes "has awaited batch " ++ (decimal number ++ (codes " of " ++ queue_at_text (record { device = device; queue = queue })))
 op_text names device op.Close = codes "closes"
 
--- the host of a batch
+-- the host of a batch, or that it is the close of its queue
 abbrev pub batch_host_text : Option Label → List ℕ
 batch_host_text None = []
-batch_host_text (Some l) = codes " of host " ++ decimal l.host
+batch_host_text (Some l) = if has_plain_ops l then codes " of host " ++ decimal l.host else codes ", its close"
 
 abbrev pub device_in : Event → ℕ
 device_in (event.Host h) = 0

@@ -15,7 +15,7 @@ use acc_base::DeviceId;
 use acc_batch::Label;
 use acc_core::World;
 use acc_host::Event;
-use acc_report::{put, put_number};
+use acc_report::{plain_ops, put, put_number};
 use std::io::Write;
 
 /// What steps are told with: the names of the arrays, the lines of the script, and whether events that did nothing are told too.
@@ -147,12 +147,16 @@ fn device_in(event: Event) -> DeviceId
     }
 }
 
-// The host of a batch.
+// The host of a batch, or that it is the queue's close.
 fn put_host<W: Write>(out: &mut W, failed: &mut bool, label: Option<&Label>)
     ensures { Puts (sink (W.contents out.old) failed.old) (sink (W.contents out.new) failed.new) (batch_host_text (option_map (λ l. l.now) label.entry)) }
 {
     if let Some(label) = label {
-        put(out, failed, b" of host ");
-        put_number(out, failed, label.host.number());
+        if plain_ops(label.ops.get().as_slice()) > 0 {
+            put(out, failed, b" of host ");
+            put_number(out, failed, label.host.number());
+        } else {
+            put(out, failed, b", its close");
+        }
     }
 }
