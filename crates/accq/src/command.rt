@@ -290,6 +290,16 @@ fn asked_in_subcommand<'a>(matches: &ArgMatches<'a>) -> Option<Task<'a>>
     }
 }
 
+// Why they ask for nothing, where a parser lets them pass.
+fn why_none(matches: &ArgMatches) -> &'static str {
+    match matches.subcommand() {
+        Some(("explore", _)) => {
+            "a number is written in digits alone, and --depth stands without --short"
+        }
+        _ => "a number is written in digits alone",
+    }
+}
+
 // What words ask for, by a parser that knows what there can be.
 fn asked_of<'a, N: AsStr>(parser: &mut Command<'a>, words: &'a [N]) -> Result<Task<'a>, Error>
     requires { app_of parser.old ≡ accq_app }
@@ -300,10 +310,7 @@ fn asked_of<'a, N: AsStr>(parser: &mut Command<'a>, words: &'a [N]) -> Result<Ta
     match parser.try_get_matches_from_mut(words) {
         Ok(matches) => match asked_in_subcommand(&matches) {
             Some(task) => Ok(task),
-            None => Err(parser.error(
-                ErrorKind::InvalidValue,
-                "a number is written in digits alone, and --depth stands without --short",
-            )?),
+            None => Err(parser.error(ErrorKind::InvalidValue, why_none(&matches))?),
         },
         Err(error) => Err(error),
     }

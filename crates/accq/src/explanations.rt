@@ -2,9 +2,9 @@
 
 /// `F1 Closed`.
 pub const CLOSED: &str =
-    "F1 Closed: the directive comes behind a `close` of the schedule; the `}` of a data construct, a routine and the questions
-`acc_is_present`, `acc_async_test` and `acc_async_test_all` are directives too. Give the host more steps before the `close`, or
-leave that line out. With `host 0`, `close` and `round 5` the second line is refused:
+    "F1 Closed: the directive comes behind a `close` of the schedule; the `}` of a data construct, a routine that stands for a directive,
+and the questions `acc_is_present`, `acc_async_test` and `acc_async_test_all` are directives too. Give the host more steps before the
+`close`, or leave that line out. With `host 0`, `close` and `round 5` the second line is refused:
 
     #pragma acc enter data create(a) async(1)
     #pragma acc update self(a) async(1)
