@@ -37,17 +37,16 @@ impl Model for Blocks {
 impl Blocks {
     ghost use Rattle.acc_batch.specs.declared.label.OpLabel.TheVariants as op;
 
-    /// No block, and room to spread blocks over so many chains.
+    /// No block, and room to spread blocks over chains up to this one.
     ///
     /// # Errors
     ///
     /// `Memory` where memory is refused.
-    pub(crate) fn new(alloc: Global, chains: u64) -> Result<Self, Fault>
-        requires { 0 < chains }
+    pub(crate) fn new(alloc: Global, last: u16) -> Result<Self, Fault>
         ensures rows { IfOk result (λ b. b ≡ []) }
         ensures fault { OnlyMemory result }
     {
-        let buckets = Buckets::new(alloc, chains)?;
+        let buckets = Buckets::new(alloc, last)?;
         Ok(Blocks { buckets })
     }
 

@@ -1,6 +1,6 @@
 //! Values by number, each in its node, spread over chains.
 
-ghost use Rattle.std.specs.Prelude.{◌≡◌, ◌≤◌, ◌<◌, ◌-◌, [], length, is_some, vec_capacity, Some, None, IfOk};
+ghost use Rattle.std.specs.Prelude.{◌≡◌, ◌≤◌, ◌<◌, ◌+◌, ◌-◌, [], length, is_some, vec_capacity, Some, None, IfOk};
 ghost use Rattle.std.specs.Option.{option_copied, option_map};
 ghost use Rattle.acc_base.specs.Faults.{OnlyMemory};
 ghost use Rattle.acc_memory.specs.inner.Buckets.{HaveSame, IsSetBy, bucket_of, find_by};
@@ -13,43 +13,42 @@ use acc_raw::{Chain, Keyed, Node};
 use std::alloc::Global;
 use std::marker::Model;
 
-/// Values by number, no two of the same one. Each stays in the node that it came with, linked into the chain of its number modulo
-/// the count of chains, which is set when they are made. Contracts see the list of the values, of which the order says nothing.
+/// Values by number, no two of the same one. Each stays in the node that it came with, linked into the chain of those bits of its number
+/// that the number of the last chain has. Contracts see the list of the values, of which the order says nothing.
 #[derive(Drop)]
 pub(crate) struct Buckets<T: Keyed + Drop> {
     alloc: Global,
-    // how many chains there may be
-    count: u64,
+    // The number of the last chain that there may be. Where it has ones alone, numbers that come one after another are spread evenly.
+    last: u16,
     // From the first up to the last one that had a value; there is room for all. So it costs little that there are none.
     chains: Vec<Chain<T>>,
 }
 
 impl<T: Keyed + Drop> Model for Buckets<T> {
-    ghost use Rattle.std.specs.Prelude.{List, vec_capacity, ◌≤◌};
+    ghost use Rattle.std.specs.Prelude.{List, vec_capacity, ◌+◌, ◌≤◌};
     ghost use Rattle.acc_memory.specs.inner.Buckets.{in_all, AreSpread};
 
     ghost Value = { List T };
 
     ghost view = { λ b. in_all b.chains.items };
 
-    ghost invariant = { λ b. AreSpread T.key_of b.count b.chains.items × (b.count ≤ vec_capacity b.chains) };
+    ghost invariant = { λ b. AreSpread T.key_of b.last b.chains.items × (b.last + 1 ≤ vec_capacity b.chains) };
 }
 
 impl<T: Keyed + Drop> Buckets<T> {
-    /// None, to be spread over so many chains.
+    /// None, to be spread over chains up to this one.
     ///
     /// # Errors
     ///
     /// `Memory` where memory is refused.
-    pub(crate) fn new(alloc: Global, count: u64) -> Result<Self, Fault>
-        requires { 0 < count }
+    pub(crate) fn new(alloc: Global, last: u16) -> Result<Self, Fault>
         ensures none { IfOk result (λ b. b ≡ []) }
         ensures fault { OnlyMemory result }
     {
-        let chains = Vec::with_capacity(alloc, count as usize)?;
+        let chains = Vec::with_capacity(alloc, usize::from(last) + 1)?;
         Ok(Buckets {
             alloc,
-            count,
+            last,
             chains,
         })
     }
@@ -58,7 +57,7 @@ impl<T: Keyed + Drop> Buckets<T> {
     pub(crate) fn get(&self, number: u64) -> Option<&T>
         ensures { option_copied result ≡ find_by T.key_of self.now number }
     {
-        let bucket = bucket_of(self.count, number);
+        let bucket = bucket_of(self.last, number);
         if bucket >= self.chains.len() {
             return None;
         }
@@ -70,8 +69,8 @@ impl<T: Keyed + Drop> Buckets<T> {
         requires { find_by T.key_of self.old (T.key_of node) ≡ None }
         ensures { IsSetBy T.key_of (T.key_of node) (Some node) self.old self.new }
     {
-        let bucket = bucket_of(self.count, node.value().key());
-        reach(self.alloc, &mut self.chains, self.count, bucket);
+        let bucket = bucket_of(self.last, node.value().key());
+        reach(self.alloc, &mut self.chains, self.last, bucket);
         let chain = &mut self.chains[bucket];
         chain.push_back(node);
     }
@@ -81,7 +80,7 @@ impl<T: Keyed + Drop> Buckets<T> {
         ensures there { result ≡ is_some (find_by T.key_of self.old number) }
         ensures gone { IsSetBy T.key_of number None self.old self.new }
     {
-        let bucket = bucket_of(self.count, number);
+        let bucket = bucket_of(self.last, number);
         if bucket >= self.chains.len() {
             return false;
         }
@@ -97,7 +96,7 @@ impl Buckets<Block> {
         requires { (row : Row) → find_row self.old number ≡ Some row → HasRoom row first (length values.now) }
         ensures { IsSetAt number (option_map (λ row. stored row (first - row.range.lo) values.now) (find_row self.old number)) self.old self.new }
     {
-        let bucket = bucket_of(self.count, number);
+        let bucket = bucket_of(self.last, number);
         if bucket >= self.chains.len() {
             return;
         }
@@ -110,14 +109,14 @@ impl Buckets<Block> {
     }
 }
 
-// Empty chains are added up to this one, where it isn't there, of so many that may be. There is room for them.
-fn reach<T: Keyed + Drop>(alloc: Global, chains: &mut Vec<Chain<T>>, count: u64, bucket: usize)
-    requires low { bucket < count }
-    requires few { length chains.old.items ≤ count }
-    requires room { count ≤ vec_capacity chains.old }
+// Empty chains are added up to this one, where it isn't there; a last one is named that there may be. There is room for them.
+fn reach<T: Keyed + Drop>(alloc: Global, chains: &mut Vec<Chain<T>>, last: u16, bucket: usize)
+    requires low { bucket ≤ last }
+    requires few { length chains.old.items ≤ last + 1 }
+    requires room { last + 1 ≤ vec_capacity chains.old }
     ensures there { bucket < length chains.new.items }
-    ensures few { length chains.new.items ≤ count }
-    ensures room { count ≤ vec_capacity chains.new }
+    ensures few { length chains.new.items ≤ last + 1 }
+    ensures room { last + 1 ≤ vec_capacity chains.new }
     ensures same { HaveSame chains.old.items chains.new.items }
 {
     while chains.len() <= bucket {
@@ -125,11 +124,10 @@ fn reach<T: Keyed + Drop>(alloc: Global, chains: &mut Vec<Chain<T>>, count: u64,
     }
 }
 
-// The chain of a number, of so many.
-fn bucket_of(count: u64, number: u64) -> usize
-    requires { 0 < count }
-    ensures bucket { result ≡ bucket_of count number }
-    ensures low { result < count }
+// The chain of a number, where this one is the last that there may be.
+fn bucket_of(last: u16, number: u64) -> usize
+    ensures bucket { result ≡ bucket_of last number }
+    ensures low { result ≤ last }
 {
-    (number % count) as usize
+    (number & u64::from(last)) as usize
 }

@@ -33,17 +33,16 @@ impl Model for Makes {
 }
 
 impl Makes {
-    /// None, and room to spread marks over so many chains.
+    /// None, and room to spread marks over chains up to this one.
     ///
     /// # Errors
     ///
     /// `Memory` where memory is refused.
-    pub(crate) fn new(alloc: Global, chains: u64) -> Result<Self, Fault>
-        requires { 0 < chains }
+    pub(crate) fn new(alloc: Global, last: u16) -> Result<Self, Fault>
         ensures none { IfOk result (λ m. (block : ℕ) → is_made m block ≡ false) }
         ensures fault { OnlyMemory result }
     {
-        let others = Buckets::new(alloc, chains)?;
+        let others = Buckets::new(alloc, last)?;
         Ok(Makes { all_to: 0, others })
     }
 

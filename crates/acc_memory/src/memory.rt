@@ -22,7 +22,7 @@ use std::alloc::Global;
 use std::marker::Model;
 
 // The most chains over which the blocks of a device are spread.
-const MAX_CHAINS: u64 = 8_192;
+const MAX_CHAINS: u16 = 8_192;
 
 /// The host arrays, and the devices. Contracts see the cells, the blocks that are there, and which were ever made.
 #[derive(Drop)]
@@ -60,7 +60,7 @@ impl Memory {
         ensures fault { OnlyMemory result }
     {
         let arrays = arrays_of(alloc, config)?;
-        let devices = devices_of(alloc, config.devices(), chains_for(&arrays))?;
+        let devices = devices_of(alloc, config.devices(), last_chain(&arrays))?;
         Ok(Memory { arrays, devices })
     }
 
@@ -324,21 +324,19 @@ fn arrays_of(alloc: Global, config: &Config) -> Result<Vec<Vec<i64>>, Fault>
     Ok(arrays)
 }
 
-// Over how many chains the blocks of a device are spread: blocks that are there together have cells of their own, so there are no more of
-// them than cells.
-fn chains_for(arrays: &[Vec<i64>]) -> u64
-    ensures { 0 < result }
-{
+// The last of the chains over which the blocks of a device are spread. Blocks that are there together have cells of their own, so there are
+// no more of them than cells; there are as many chains as the next power of two.
+fn last_chain(arrays: &[Vec<i64>]) -> u16 {
     let mut cells = 0u64;
     for array in arrays {
         cells = cells.saturating_add(array.len() as u64);
     }
-    cells.clamp(1, MAX_CHAINS)
+    let chains = cells.min(u64::from(MAX_CHAINS)) as u16;
+    chains.next_power_of_two() - 1
 }
 
-// So many devices without a block, each with room for so many chains.
-fn devices_of(alloc: Global, count: u8, chains: u64) -> Result<Vec<Device>, Fault>
-    requires { 0 < chains }
+// So many devices without a block, each with room for chains up to the last one.
+fn devices_of(alloc: Global, count: u8, last: u16) -> Result<Vec<Device>, Fault>
     ensures count { IfOk result (λ devices. length devices.items ≡ count) }
     ensures fresh { IfOk result (λ devices. All IsFresh devices.items) }
     ensures fault { OnlyMemory result }
@@ -346,8 +344,8 @@ fn devices_of(alloc: Global, count: u8, chains: u64) -> Result<Vec<Device>, Faul
     let mut devices = Vec::new(alloc);
     for _ in 0..count {
         devices.push(Device {
-            blocks: Blocks::new(alloc, chains)?,
-            makes: Makes::new(alloc, chains)?,
+            blocks: Blocks::new(alloc, last)?,
+            makes: Makes::new(alloc, last)?,
         })?;
     }
     Ok(devices)

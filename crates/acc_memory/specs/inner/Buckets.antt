@@ -1,5 +1,5 @@
 -- Values by number, spread over chains. Only private contracts and proofs cite it.
-use Rattle.std.specs.Prelude.{◌≡◌, ◌≤◌, ◌<◌, ℕ, ◌%◌, ◌==◌, if◌then◌else◌, List, [], length, find, slice_index_or, Option, None}
+use Rattle.std.specs.Prelude.{◌≡◌, ◌≤◌, ℕ, ◌+◌, bit_and, ◌==◌, if◌then◌else◌, List, [], length, find, slice_index_or, Option, None}
 use Rattle.std.specs.List.{AllPairs, flat_map}
 
 -- the first value of a number
@@ -14,9 +14,9 @@ AreOnce key xs = AllPairs (λ x y. key x ≡ key y → ⊥) xs
 abbrev pub IsSetBy : {X : Type 0} → (X → ℕ) → ℕ → Option X → List X → List X → Type 0
 IsSetBy key n x old new = (k : ℕ) → find_by key new k ≡ (if k == n then x else find_by key old k)
 
--- the chain of a number, of so many
+-- the chain of a number, where this one is the last that there may be
 abbrev pub bucket_of : ℕ → ℕ → ℕ
-bucket_of count n = n % count
+bucket_of last n = bit_and n last
 
 -- the values of that chain; none where it isn't there
 abbrev pub bucket_in : {X : Type 0} → List (List X) → ℕ → List X
@@ -31,8 +31,7 @@ abbrev pub HaveSame : {X : Type 0} → List (List X) → List (List X) → Type 
 HaveSame old new = (k : ℕ) → bucket_in new k ≡ bucket_in old k
 
 -- There are no more chains than may be, and each value that is there is in that of its number, which no other there is of.
-pub record AreSpread {X : Type 0} (key : X → ℕ) (count : ℕ) (buckets : List (List X)) : Type 0 where
-  pub some : 0 < count
-  pub few : length buckets ≤ count
+pub record AreSpread {X : Type 0} (key : X → ℕ) (last : ℕ) (buckets : List (List X)) : Type 0 where
+  pub few : length buckets ≤ last + 1
   pub once : (k : ℕ) → AreOnce key (bucket_in buckets k)
-  pub own : (k n : ℕ) → (bucket_of count n ≡ k → ⊥) → find_by key (bucket_in buckets k) n ≡ None
+  pub own : (k n : ℕ) → (bucket_of last n ≡ k → ⊥) → find_by key (bucket_in buckets k) n ≡ None

@@ -5,8 +5,8 @@ use Rattle.acc_memory.proofs.buckets.reach.Given as goal
 
 abbrev pub invariant-loop-alloc : goal.invariant-loop-alloc
 invariant-loop-alloc g l = record {
-  few : length l.chains.items ≤ l.count;
-  room : l.count ≤ vec_capacity l.chains;
+  few : length l.chains.items ≤ l.last + 1;
+  room : l.last + 1 ≤ vec_capacity l.chains;
   same : HaveSame l.initial.chains.items l.chains.items;
 }
 
