@@ -10,6 +10,7 @@ ghost use Rattle.acc_core.specs.Enabled.{is_enabled, is_left, SomeEnabled};
 ghost use Rattle.acc_core.specs.Progress.{IsTakenInOrder, left_there, next_by, taken_by};
 ghost use Rattle.acc_core.specs.Worlds.{OutsideIsZero};
 ghost use Rattle.acc_core.specs.Legality.{CountsRise};
+ghost use Rattle.acc_place.specs.BlockNotes.{note_of};
 ghost use Rattle.acc_place.specs.Histories.{is_closed, IsQueue};
 ghost use Rattle.acc_base.specs.Configurations.{has_range};
 ghost use Rattle.acc_memory.specs.Memories.{find_block, has_cell};
@@ -23,6 +24,7 @@ ghost use Rattle.acc_core.specs.inner.Closing.{closing_begun, closes_one};
 ghost use Rattle.acc_core.specs.Machine.{idle, is_there, state_at_first, step, standing_of, labels_of, can_tell, told_of, with_item};
 ghost use Rattle.std.specs.Option.{option_map};
 ghost use Rattle.acc_base.specs.Faults.{OnlyMemory};
+ghost use Rattle.acc_present.specs.Notes.{entry_note};
 ghost use Rattle.acc_present.specs.Presences.{presences, holder};
 ghost use Rattle.acc_present.specs.Tables.{entry_presence};
 
@@ -200,6 +202,7 @@ impl Accelerator {
     pub(crate) fn nth(&self, device: DeviceId, index: usize) -> Option<&Entry>
         requires { device < self.now.config.devices }
         ensures entry { option_map (λ e. entry_presence e.now) result ≡ slice_get (presences ((standing_of self.now).marks device)) index }
+        ensures noted { IfSome result (λ e. entry_note e.now ≡ note_of device (standing_of self.now).labels e.now.block) }
         ensures next { OnSome result (index + 1 < 2 ^ 64) }
     {
         self.place.nth(device, index)

@@ -3,6 +3,7 @@
 ghost use Rattle.std.specs.Prelude.{[], List, ◌≡◌, ◌+◌, ◌<◌, ◌≤◌, length, map, All, reverse, is_some, slice_get, IfOk, IfSome, IsTrue, OnErr, OnSome, true, false, ◌^◌};
 ghost use Rattle.std.specs.Option.{option_map};
 ghost use Rattle.acc_base.specs.Faults.{OnlyMemory};
+ghost use Rattle.acc_present.specs.Notes.{entry_note};
 ghost use Rattle.acc_present.specs.Presences.{presences, holder};
 ghost use Rattle.acc_present.specs.Tables.{entry_presence};
 ghost use Rattle.acc_base.specs.declared.config.TheConstants.{MAX_HOSTS};
@@ -13,6 +14,7 @@ ghost use Rattle.acc_core.specs.Progress.{IsTakenInOrder, left_there, next_by, t
 ghost use Rattle.acc_base.specs.declared.ids.QueueAt.{QueueAt};
 ghost use Rattle.acc_base.specs.Queues.{queue_count};
 ghost use Rattle.acc_core.specs.Following.{AllStand};
+ghost use Rattle.acc_place.specs.BlockNotes.{note_of};
 ghost use Rattle.acc_host.specs.declared.state.Reply.{Reply};
 ghost use Rattle.acc_host.specs.Hosts.{bare_statements, ready, state_of};
 ghost use Rattle.acc_base.specs.Configurations.{has_range};
@@ -206,6 +208,7 @@ impl World {
     pub fn nth(&self, device: DeviceId, index: usize) -> Option<&Entry>
         requires { device < self.now.config.devices }
         ensures entry { option_map (λ e. entry_presence e.now) result ≡ slice_get (presences ((standing_of self.now).marks device)) index }
+        ensures noted { IfSome result (λ e. entry_note e.now ≡ note_of device (standing_of self.now).labels e.now.block) }
         ensures next { OnSome result (index + 1 < 2 ^ 64) }
     {
         self.accelerator.nth(device, index)

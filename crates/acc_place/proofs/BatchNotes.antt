@@ -28,7 +28,8 @@ use Rattle.acc_present.specs.Presences.{Presence, presence_of, presences}
 use Rattle.acc_present.proofs.LifetimesApart.{apart_same}
 use Rattle.acc_present.proofs.LifetimeNumbers.{numbered}
 use Rattle.acc_place.specs.Batches.{operations_of, batch_of, walk_at, next_number, labels_with}
-use Rattle.acc_place.specs.inner.Noting.{note_of, notes_on, noted_by, maker_in, IsNext}
+use Rattle.acc_place.specs.inner.Noting.{notes_on, noted_by, IsNext}
+use Rattle.acc_place.specs.BlockNotes.{note_of, maker_in}
 use Rattle.acc_place.specs.Standings.{Standing, Walk, marks_between}
 use Rattle.acc_place.proofs.HeldAndMade.{look_finds, label_makes, makes_it, makes_made, made_once}
 use Rattle.acc_place.proofs.ExitWalks.{held_from, none_opened}

@@ -26,7 +26,8 @@ use Rattle.acc_place.specs.Directives.{Directive}
 use Rattle.acc_place.specs.Accepting.{refusal}
 use Rattle.acc_place.specs.Batches.{opened_blocks, ended_blocks, holding_blocks, makes, copy_ins, updates, updates_by, runs, runs_by, copy_outs, releases, copies_in, copies_out, grouped, operations_of}
 use Rattle.acc_place.specs.Histories.{AllAccepted, standing}
-use Rattle.acc_place.specs.inner.Noting.{note_of, notes_on, noted_ranges, made_ranges, used_ranges, note_found}
+use Rattle.acc_place.specs.inner.Noting.{notes_on, noted_ranges, made_ranges, used_ranges, note_found}
+use Rattle.acc_place.specs.BlockNotes.{note_of}
 use Rattle.acc_place.specs.Standings.{Standing, AskedItem, Walk, Visit, visits, all_visits, marks_between, walk_of, marked_by}
 use Rattle.acc_place.proofs.HeldAndMade.{held_first, look_finds}
 use Rattle.acc_place.proofs.AllVisits.{asks_of, all_visits_are}

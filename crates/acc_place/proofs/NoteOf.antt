@@ -16,7 +16,8 @@ use Rattle.acc_batch.specs.declared.label.Label.{Label}
 use Rattle.acc_batch.specs.Labels.{on_queue, has_number, makes_block, touches_block, greatest, last_number}
 use Rattle.acc_batch.proofs.Labels.{on_queue-append}
 use Rattle.acc_present.specs.Notes.{no_note}
-use Rattle.acc_place.specs.inner.Noting.{maker_in, queue_made, number_made, last_use, note_of, IsNext, NotesFollow, HasOneMaker, made_at, used_at, NotesTell}
+use Rattle.acc_place.specs.inner.Noting.{IsNext, NotesFollow, HasOneMaker, made_at, used_at, NotesTell}
+use Rattle.acc_place.specs.BlockNotes.{maker_in, queue_made, number_made, last_use, note_of}
 
 greatest_push : (ns : List ℕ) (n : ℕ) → greatest (ns ++ n ∷ []) ≡ max (greatest ns) n
 greatest_push [] n = omega arith

@@ -24,7 +24,8 @@ use Rattle.acc_place.specs.Directives.{Directive}
 use Rattle.acc_place.specs.Batches.{operations_of, batch_of, walk_at, next_number, labels_with, count_of}
 use Rattle.acc_place.specs.inner.Devices.{AreFresh}
 use Rattle.acc_place.specs.Histories.{after_walk}
-use Rattle.acc_place.specs.inner.Noting.{awaits_from, note_of, notes_on, noted_ranges, used_ranges, note_found, made_at, used_at, last_made, last_used, noted_by}
+use Rattle.acc_place.specs.inner.Noting.{awaits_from, notes_on, noted_ranges, used_ranges, note_found, made_at, used_at, last_made, last_used, noted_by}
+use Rattle.acc_place.specs.BlockNotes.{note_of}
 use Rattle.acc_place.specs.Standings.{Standing, AskedItem, Walk, all_visits, marks_between, marks_behind}
 use Rattle.acc_place.proofs.HeldAndMade.{one_maker}
 use Rattle.acc_place.proofs.ExitWalks.{AllLeave, none_opened}

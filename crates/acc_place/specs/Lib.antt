@@ -1,6 +1,7 @@
 pub mod Accepting
 pub mod Answers
 pub mod Batches
+pub mod BlockNotes
 pub mod Clauses
 pub mod Closing
 pub mod Counters

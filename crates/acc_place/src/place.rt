@@ -1,16 +1,18 @@
 //! The place: the devices, the regions, the place history and the labels. It plans a directive, accepts it, and closes.
 
-ghost use Rattle.std.specs.Prelude.{reverse, false, ◌≡◌, ◌+◌, ◌<◌, [], ◌∷◌, length, true, None, IfOk, IfErr, OnOk, OnErr, OnSome, slice_get, ◌^◌, if◌then◌else◌};
+ghost use Rattle.std.specs.Prelude.{reverse, false, ◌≡◌, ◌+◌, ◌<◌, [], ◌∷◌, length, true, None, IfOk, IfErr, IfSome, OnOk, OnErr, OnSome, slice_get, ◌^◌, if◌then◌else◌};
 ghost use Rattle.std.specs.Option.{option_map};
 ghost use Rattle.acc_base.specs.Faults.{OnlyMemory};
 ghost use Rattle.acc_base.specs.Configurations.{IsRefusal};
 ghost use Rattle.acc_base.specs.declared.ids.QueueAt.{QueueAt};
 ghost use Rattle.acc_batch.specs.Labels.{on_queue};
+ghost use Rattle.acc_present.specs.Notes.{entry_note};
 ghost use Rattle.acc_present.specs.Presences.{presences, holder, is_present};
 ghost use Rattle.acc_present.specs.Tables.{entry_presence};
 ghost use Rattle.acc_place.specs.Accepting.{refusal};
 ghost use Rattle.acc_place.specs.Answers.{answers_of, GoTogether};
 ghost use Rattle.acc_place.specs.Batches.{answer_of, next_number};
+ghost use Rattle.acc_place.specs.BlockNotes.{note_of};
 ghost use Rattle.acc_place.specs.Closing.{place_after_begin, close_of, place_after_close, handed_back, handed_out, is_at_hand, ClosesQueue, IsCloseOut};
 ghost use Rattle.acc_place.specs.declared.directive.PlaceEntry.TheVariants.{Accepted};
 ghost use Rattle.acc_place.specs.Histories.{is_closed, AllAccepted, IsQueue};
@@ -410,6 +412,7 @@ impl Place {
     pub fn nth(&self, device: DeviceId, index: usize) -> Option<&Entry>
         requires device { device < self.now.config.devices }
         ensures entry { option_map (λ e. entry_presence e.now) result ≡ slice_get (presences ((standing_in self.now).marks device)) index }
+        ensures noted { IfSome result (λ e. entry_note e.now ≡ note_of device (standing_in self.now).labels e.now.block) }
         ensures next { OnSome result (index + 1 < 2 ^ 64) }
     {
         self.devices[usize::from(device.number())].table.nth(index)

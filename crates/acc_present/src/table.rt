@@ -148,7 +148,7 @@ impl Table {
         requires capacity { holder self.old.presences range ≡ None → used_cells self.old.presences + range.len ≤ self.old.capacity }
         requires room { holder self.old.presences range ≡ None → length self.old.presences < self.old.room }
         ensures presences { self.new.presences ≡ presences_after (entry_mark counter range) block self.old.presences }
-        ensures notes { (notes : Range → ℕ → Note) → HasNotes notes self.old.notes → notes range block ≡ no_note → HasNotes notes self.new.notes }
+        ensures notes { (notes : Range → ℕ → Note) → HasNotes notes self.old.notes → (holder self.old.presences range ≡ None → notes range block ≡ no_note) → HasNotes notes self.new.notes }
         ensures capacity { self.new.capacity ≡ self.old.capacity }
         ensures room { self.new.room ≡ self.old.room }
         ensures result { result ≡ (if is_present self.old.presences range then Entered.Counted else Entered.Opened) }

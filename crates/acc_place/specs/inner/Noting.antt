@@ -1,7 +1,6 @@
 -- The note of a block, found in the labels: what a table keeps of it. Only private contracts and proofs cite it: what a public
 -- call promises is said by the definitions, which proofs tie to these.
-use Rattle.std.specs.Prelude.{◌≡◌, ℕ, ◌+◌, ◌<◌, ◌≤◌, Bool, true, false, ◌&&◌, ◌==◌, max, List, [], ◌∷◌, ◌++◌, length, map, All, Contains, Option, Some, None, slice_index_or, if◌then◌else◌}
-use Rattle.std.specs.List.{find}
+use Rattle.std.specs.Prelude.{◌≡◌, ℕ, ◌+◌, ◌<◌, ◌≤◌, Bool, true, false, ◌==◌, max, List, [], ◌∷◌, ◌++◌, length, map, All, Contains, Option, Some, None, slice_index_or, if◌then◌else◌}
 use Rattle.std.specs.Option.{option_to_list}
 use Rattle.acc_base.specs.declared.ids.TheConstants.{QUEUES}
 use Rattle.acc_base.specs.declared.range.Range.{Range}
@@ -10,37 +9,14 @@ use Rattle.acc_batch.specs.declared.label.Label.{Label}
 use Rattle.acc_batch.specs.declared.label.OpLabel.{OpLabel}
 use Rattle.acc_batch.specs.declared.label.OpLabel.TheVariants.{Make, CopyIn, CopyOut, Run}
 use Rattle.acc_batch.specs.Awaits.{awaited_number, await_of}
-use Rattle.acc_batch.specs.Labels.{on_queue, makes_block, touches_block, greatest, last_number}
+use Rattle.acc_batch.specs.Labels.{on_queue, makes_block, touches_block, greatest}
 use Rattle.acc_kernel.specs.Jobs.{Use}
 use Rattle.acc_present.specs.Notes.{Note, no_note, used_by, made_by, changed_at}
 use Rattle.acc_present.specs.Presences.{Presence, holder}
 use Rattle.acc_place.specs.declared.marked.Marked.{Marked}
+use Rattle.acc_place.specs.BlockNotes.{maker_in, note_of}
 
 -- ## In the labels
-
--- the batch of a device that made a block
-abbrev pub maker_in : ℕ → ℕ → List Label → Option Label
-maker_in device b labels = find (λ (l : Label). (l.at.device == device) && makes_block b l) labels
-
-abbrev pub queue_made : Option Label → ℕ
-queue_made None = 0
-queue_made (Some l) = l.at.queue
-
-abbrev pub number_made : Option Label → ℕ
-number_made None = 0
-number_made (Some l) = l.number
-
--- the last batch of a queue that made or used it
-abbrev pub last_use : ℕ → List Label → ℕ → ℕ → ℕ
-last_use device labels b q = last_number (touches_block b) (on_queue (record { device = device; queue = q }) labels)
-
-unfoldable pub note_of : ℕ → List Label → ℕ → Note
-note_of device labels b =
-    record {
-      queue = queue_made (maker_in device b labels);
-      number = number_made (maker_in device b labels);
-      uses = map (last_use device labels b) every_queue;
-    }
 
 -- whichever range of a device has the block
 abbrev pub notes_on : ℕ → List Label → Range → ℕ → Note

@@ -84,4 +84,4 @@ returns-in-None-clause-notes c =
     let range : e.range ≡ c.args.range = ap (λ (p : Presence). p.range) c.new_entry.ensures.presence in
     let block : e.block ≡ c.args.block = ap (λ (p : Presence). p.block) c.new_entry.ensures.presence in
     rw (← c.self.view_is, c.insert.ensures.items) (λ notes h fresh. noted_insert notes es _ e h
-    (c.new_entry.ensures.note ∙ (sym fresh ∙ (ap (λ r. notes r c.args.block) (sym range) ∙ ap (λ b. notes e.range b) (sym block)))))
+    (c.new_entry.ensures.note ∙ (sym (fresh none) ∙ (ap (λ r. notes r c.args.block) (sym range) ∙ ap (λ b. notes e.range b) (sym block)))))
