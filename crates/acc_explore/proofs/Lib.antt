@@ -23,6 +23,7 @@ mod ApartPlaced
 mod ApartTold
 mod ArrivalPaths
 mod BatchesNamed
+mod ClosedQueues
 mod Commuting
 mod ComparedPlaces
 mod Explored

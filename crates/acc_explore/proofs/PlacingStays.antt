@@ -34,7 +34,7 @@ use Rattle.acc_explore.proofs.UnplacedDirectives.{had_before, left_behind, unpla
 
 -- ## What holds of each of some numbers
 
-each_of : (p : ℕ → Bool) (first count i : ℕ) → list_all p (numbers_from first count) ≡ true → i < count → p (first + i) ≡ true
+pub each_of : (p : ℕ → Bool) (first count i : ℕ) → list_all p (numbers_from first count) ≡ true → i < count → p (first + i) ≡ true
 each_of p first zero i all low = absurd (omega (arith, low))
 each_of p first (suc count) zero all low =
     let here : first ≡ first + 0 = omega arith in

@@ -1,6 +1,7 @@
 pub mod Alike
 pub mod ApartOperations
 pub mod Arrivals
+pub mod Closed
 pub mod Cuts
 pub mod Endings
 pub mod Ends

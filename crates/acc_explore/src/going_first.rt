@@ -2,6 +2,7 @@
 
 ghost use Rattle.std.specs.Prelude.{◌≡◌, Bool, Contains, IfSome, IsTrue, false, not};
 ghost use Rattle.std.specs.List.{list_all};
+ghost use Rattle.acc_explore.specs.Closed.{is_all_closed};
 ghost use Rattle.acc_explore.specs.OwnStatements.{is_at_own, is_own};
 ghost use Rattle.acc_explore.specs.Reductions.{MayGoFirst};
 ghost use Rattle.acc_explore.specs.Takes.{unplaced};
@@ -17,7 +18,7 @@ use crate::placing::{may_place, may_take};
 use crate::reached::is_at_reached;
 use crate::unplaced::unplaced;
 use crate::unseen::stands_unseen;
-use acc_base::HostId;
+use acc_base::{HostId, QueueAt};
 use acc_core::World;
 use acc_host::{Act, Event, HostProgram, Phase, Statement};
 use acc_place::{ASYNC_SYNC, Kind};
@@ -145,6 +146,21 @@ fn goes_unclosed(world: &World, events: &[Event], unasked: bool) -> Option<Event
     None
 }
 
+// Whether closing has begun, and each queue is closed: it has begun where one is.
+fn is_all_closed(world: &World) -> bool
+    ensures { IsTrue result → IsTrue (is_all_closed world.now) }
+{
+    world.keeps();
+    let place = world.place();
+    let queues = place.config().queue_count();
+    for seat in 0..queues {
+        if !place.is_closed(QueueAt::at_seat(seat)) {
+            return false;
+        }
+    }
+    queues > 0
+}
+
 /// One of these events that may go first, where the owner may close or not; it takes no memory.
 pub(crate) fn goes_first(
     world: &World,
@@ -158,7 +174,7 @@ pub(crate) fn goes_first(
 {
     match goes_freely(world, events, unasked) {
         Some(event) => Some(event),
-        None if closing => None,
+        None if closing && !is_all_closed(world) => None,
         None => goes_unclosed(world, events, unasked),
     }
 }

@@ -3,6 +3,7 @@
 ghost use Rattle.acc_explore.specs.Alike.{AlikeIsEquivalence, SameReports, StepKeepsAlike};
 ghost use Rattle.acc_explore.specs.ApartOperations.{ApartOperationsCommute};
 ghost use Rattle.acc_explore.specs.Arrivals.{ArrivalsAreReached, EventsLeadThere};
+ghost use Rattle.acc_explore.specs.Closed.{ClosedIsUnclosing};
 ghost use Rattle.acc_explore.specs.Cuts.{CutMissesNone};
 ghost use Rattle.acc_explore.specs.Endings.{EndingsAreSaid};
 ghost use Rattle.acc_explore.specs.Ends.{EndsAreOver};
@@ -122,6 +123,11 @@ pub fn apart_operations_commute()
     ensures prints { PrintsAreSeen }
     ensures placed { PlacedIsSeen }
     ensures named { NamingIsSeen }
+{}
+
+/// Where each queue is closed, an event may go first, whether the owner may close or not, if it may where he may not.
+pub fn closed_queues_need_no_close()
+    ensures { ClosedIsUnclosing }
 {}
 
 /// Events that are written as a schedule are read again, behind the text of another one, where the hosts and queues that they
