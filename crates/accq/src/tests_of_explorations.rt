@@ -30,6 +30,14 @@ const EXPLORATIONS: &[Told] = &[
         output: b"# schedule 1\nhost 0\nhost 1 2\n# report 1\nhost 0\ndone\nhost 1\n2\ndone\nend\n# schedule 2\nhost 1\nhost 0\nhost 1\n# report 2\nhost 0\ndone\nhost 1\n1\ndone\nend\n2 reports, 9 states, all schedules\n",
         errors: b"",
     },
+    // in each of the nine states the owner may close: then each of sixteen queues takes its close and performs it, one after another
+    Told {
+        words: &["accq", "explore", "writers", "--close"],
+        input: b"",
+        status: 1,
+        output: b"# schedule 1\nhost 0\nhost 1 2\n# report 1\nhost 0\ndone\nhost 1\n2\ndone\nend\n# schedule 2\nhost 1\nhost 0\nhost 1\n# report 2\nhost 0\ndone\nhost 1\n1\ndone\nend\n2 reports, 306 states, all schedules\n",
+        errors: b"",
+    },
     Told {
         words: &["accq", "explore", "script", "--room=1", "--short"],
         input: b"",
