@@ -1,6 +1,6 @@
 //! How many batches each queue has performed, in words that are read without a lock.
 
-ghost use Rattle.std.specs.Prelude.{◌≡◌, ◌<◌, ◌≤◌, ◌*◌, ◌^◌, replicate, length, slice_index, slice_set, IfOk, IsTrue};
+ghost use Rattle.std.specs.Prelude.{◌≡◌, ◌↔◌, ◌<◌, ◌≤◌, ◌*◌, ◌^◌, replicate, length, slice_index, slice_set, IfOk, IsTrue};
 ghost use Rattle.acc_base.specs.Faults.{OnlyMemory};
 ghost use Rattle.acc_base.specs.Queues.{seat};
 ghost use Rattle.acc_base.specs.declared.ids.TheConstants.{QUEUES};
@@ -155,7 +155,7 @@ impl Publisher {
 impl Reader {
     /// Whether there is such a queue.
     pub fn has_queue(&self, at: QueueAt) -> bool
-        ensures { IsTrue result → HasWord self.now.numbers at }
+        ensures { IsTrue result ↔ HasWord self.now.numbers at }
     {
         at.queue.number() < QUEUES && at.seat() < self.board.word_count()
     }

@@ -312,10 +312,8 @@ impl Runtime {
         let Some(parker) = self.parkers.get(QueueAt { device, queue }.seat()) else {
             return;
         };
-        // the last batch that passed the gate
-        let mut passed = 0u64;
-        // where its last loop was computed
-        let mut room = None;
+        let mut passed = 0u64; // the last batch that passed the gate
+        let mut room = None; // where its last loop was computed
         let mut watch = Watch::new(self.one_more_reader(rt));
         let mut pause = Pause::new();
         for _ in rt.forever() {
