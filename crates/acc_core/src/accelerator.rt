@@ -11,43 +11,40 @@ ghost use Rattle.acc_core.specs.Progress.{IsTakenInOrder, left_there, next_by, t
 ghost use Rattle.acc_core.specs.Worlds.{OutsideIsZero};
 ghost use Rattle.acc_core.specs.Legality.{CountsRise};
 ghost use Rattle.acc_place.specs.BlockNotes.{note_of};
-ghost use Rattle.acc_place.specs.Histories.{is_closed, IsQueue};
 ghost use Rattle.acc_base.specs.Configurations.{has_range};
 ghost use Rattle.acc_memory.specs.Memories.{find_block, has_cell};
 ghost use Rattle.acc_memory.specs.Values.{Block_cell, Host_cell};
 ghost use Rattle.acc_work.specs.declared.log.TheConstants.{MAX_HOST_ITEMS};
-ghost use Rattle.acc_work.specs.Enabled.{has_left};
 ghost use Rattle.acc_work.specs.Items.{shown_by};
 ghost use Rattle.acc_work.specs.Logs.{all_done, all_items, value};
 ghost use Rattle.acc_work.specs.Remembering.{blocks_in};
-ghost use Rattle.acc_core.specs.inner.Closing.{closing_begun, closes_one};
-ghost use Rattle.acc_core.specs.Machine.{idle, is_there, state_at_first, step, standing_of, labels_of, can_tell, told_of, with_item};
+ghost use Rattle.acc_core.specs.Machine.{idle, is_there, state_at_first, standing_of, labels_of, can_tell, told_of, with_item};
 ghost use Rattle.std.specs.Option.{option_map};
 ghost use Rattle.acc_base.specs.Faults.{OnlyMemory};
 ghost use Rattle.acc_present.specs.Notes.{entry_note};
 ghost use Rattle.acc_present.specs.Presences.{presences, holder};
 ghost use Rattle.acc_present.specs.Tables.{entry_presence};
 
-use crate::queue::{Queue, holds_none, queues_of};
+use crate::queue::{Queue, queues_of};
 use acc_base::{BlockId, Config, DeviceId, Fault, HostId, QueueAt, QueueCounts, Range};
 use acc_batch::{OpLabel, Page};
-use acc_host::{Engine, Reply};
+use acc_host::Engine;
 use acc_place::{Directive, Place, Placed};
 use acc_present::Entry;
-use acc_work::{Done, Item, Shown, Work, WorkLog};
+use acc_work::{Item, Shown, Work, WorkLog};
 use std::alloc::Global;
 use std::marker::Model;
 
 /// The place side, the queues, and the work side.
 #[derive(Drop)]
 pub struct Accelerator {
-    alloc: Global,
-    place: Place,
-    work: Work,
+    pub(crate) alloc: Global,
+    pub(crate) place: Place,
+    pub(crate) work: Work,
     // by device, then in queue order
-    queues: Vec<Queue>,
+    pub(crate) queues: Vec<Queue>,
     // how many batches are placed and not performed to their end
-    unfinished: u64,
+    pub(crate) unfinished: u64,
 }
 
 impl Model for Accelerator {
@@ -243,124 +240,6 @@ impl Accelerator {
     {
         self.work.keeps();
         self.work.all_reached(device, counts)
-    }
-
-    /// Whether a queue has no batch to take. Then it takes none.
-    #[inline(always)]
-    pub(crate) fn takes_nothing(&self, at: QueueAt) -> bool
-        ensures { IsTrue result → step false self.now (event.Take at) ≡ idle self.now }
-    {
-        self.work.keeps();
-        if self.unfinished == 0 {
-            return true;
-        }
-        holds_none(self.queues.as_slice(), at)
-    }
-
-    /// Whether a queue has no operation to perform. Then it performs none.
-    #[inline(always)]
-    pub(crate) fn performs_nothing(&self, at: QueueAt) -> bool
-        ensures { IsTrue result → step false self.now (event.Perform at) ≡ idle self.now }
-    {
-        self.work.keeps();
-        if self.unfinished == 0 {
-            return true;
-        }
-        self.work.lane_empty(at)
-    }
-
-    /// A queue takes a batch.
-    pub(crate) fn take(&mut self, at: QueueAt) -> Reply
-        ensures { step false self.old (event.Take at) ≡ record { reply = result; state = self.new } }
-    {
-        self.work.keeps();
-        if self.unfinished == 0 {
-            return Reply::Idle;
-        }
-        let QueueAt { device, queue } = at;
-        if holds_none(self.queues.as_slice(), QueueAt { device, queue }) {
-            return Reply::Idle;
-        }
-        if !self.work.lane_empty(QueueAt { device, queue }) {
-            return Reply::Idle;
-        }
-        let seat = QueueAt { device, queue }.seat();
-        match self.queues[seat].pop() {
-            None => Reply::Idle,
-            Some(batch) => {
-                self.work.offer(QueueAt { device, queue }, batch);
-                Reply::Did
-            }
-        }
-    }
-
-    /// A queue performs an operation.
-    pub(crate) fn perform(&mut self, at: QueueAt) -> Reply
-        ensures { step false self.old (event.Perform at) ≡ record { reply = result; state = self.new } }
-    {
-        self.work.keeps();
-        if self.unfinished == 0 {
-            return Reply::Idle;
-        }
-        let QueueAt { device, queue } = at;
-        match self.work.perform(QueueAt { device, queue }) {
-            Done::Idle => Reply::Idle,
-            Done::Op => {
-                if self.work.lane_empty(QueueAt { device, queue }) {
-                    self.unfinished -= 1;
-                }
-                Reply::Did
-            }
-        }
-    }
-
-    /// The owner closes.
-    pub(crate) fn close(&mut self) -> Reply
-        ensures { step false self.old event.Close ≡ record { reply = result; state = self.new } }
-    {
-        self.begin_closing();
-        let mut remaining = 0u32;
-        for index in 0..self.config().queue_count() {
-            if !self.close_queue(QueueAt::at_seat(index)) {
-                remaining += 1;
-            }
-        }
-        Reply::Remaining(remaining)
-    }
-
-    // Closing begins, if it hasn't.
-    fn begin_closing(&mut self)
-        ensures state { self.new ≡ closing_begun self.old }
-        ensures closing { (standing_of self.new).closing ≡ true }
-    {
-        self.place.close_begin();
-    }
-
-    // Closes a queue, if it isn't closed and there is room, and answers whether it is closed then.
-    fn close_queue(&mut self, at: QueueAt) -> bool
-        requires there { IsQueue self.old.config at }
-        requires begun { (standing_of self.old).closing ≡ true }
-        ensures state { self.new ≡ closes_one self.old at }
-        ensures closed { result ≡ is_closed (standing_of self.new) at }
-    {
-        self.work.keeps();
-        let QueueAt { device, queue } = at;
-        match self.place.close_batch(QueueAt { device, queue }) {
-            None => true,
-            Some(batch) => {
-                let config = self.place.config();
-                config.keeps();
-                let seat = QueueAt { device, queue }.seat();
-                if config.room() as usize <= self.queues[seat].len() {
-                    self.place.close_back(QueueAt { device, queue }, batch);
-                    return false;
-                }
-                self.place.close_done(QueueAt { device, queue });
-                self.queues[seat].push_last(batch);
-                self.unfinished += 1;
-                true
-            }
-        }
     }
 
     /// Where directives are accepted.

@@ -2,6 +2,7 @@
 #![tactic(auto)]
 
 mod accelerator;
+mod events;
 mod laws;
 mod queue;
 mod world;

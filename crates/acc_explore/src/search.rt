@@ -5,21 +5,21 @@ ghost use Rattle.acc_base.specs.Faults.{OnlyMemory};
 ghost use Rattle.acc_base.specs.Queues.{queue_count};
 ghost use Rattle.acc_core.specs.Machine.{step};
 ghost use Rattle.acc_core.specs.Worlds.{OnePerHost, first_state};
-ghost use Rattle.acc_explore.specs.Alike.{Alike};
 ghost use Rattle.acc_explore.specs.Arrivals.{found_at};
 ghost use Rattle.acc_explore.specs.Reductions.{MayGoFirst};
 ghost use Rattle.acc_explore.specs.Runs.{after, open_events};
 ghost use Rattle.acc_explore.specs.Scripts.{AreOfOneScript};
 ghost use Rattle.acc_explore.specs.Searches.{IsSearch};
 ghost use Rattle.acc_explore.specs.UnseenOperations.{nobody_asks};
-ghost use Rattle.acc_explore.specs.inner.Searching.{AreAtHand, AreNear, IsFollowed, IsHere, IsLikeOne, IsNoted, LeavesEnd, Takes, events_in_turn, start_of};
+ghost use Rattle.acc_explore.specs.inner.Searching.{AreAtHand, AreNear, IsFollowed, IsHere, IsNoted, LeavesEnd, Takes, events_in_turn, start_of};
 
-use crate::alike::are_alike;
 use crate::arrival::{Arrival, depth};
 use crate::digest::digest;
 use crate::events::{events_in_turn, is_close};
+use crate::found_worlds::{is_like_one, world_again, world_at, world_here};
 use crate::going_first::{goes_first, nobody_asks};
-use crate::replay::{is_idle, is_scarce, world_found};
+use crate::replay::{is_idle, is_scarce};
+use crate::task::Task;
 use crate::worlds::Worlds;
 use acc_base::{Config, Fault};
 use acc_core::World;
@@ -67,22 +67,6 @@ pub struct Exploration {
     pub whole: bool,
 }
 
-/// What is searched, and how.
-#[derive(Clone, Copy)]
-pub(crate) struct Task<'a> {
-    pub(crate) alloc: Global,
-    pub(crate) config: &'a Config,
-    pub(crate) programs: &'a [HostProgram],
-    /// What leads to the start.
-    pub(crate) before: &'a [Event],
-    /// Whether the owner may close.
-    pub(crate) closing: bool,
-    /// How many states are kept at most, without the start.
-    pub(crate) most: u32,
-    /// Whether no host asks how far queues have come, now or later.
-    pub(crate) unasked: bool,
-}
-
 // What has been found so far.
 #[derive(Drop)]
 struct Found {
@@ -103,108 +87,6 @@ enum Course {
     Led,
     // There is no room for what it leads to.
     Full,
-}
-
-// The world that was found with a number, made again.
-fn world_again(task: &Task, arrivals: &[Arrival], number: u32) -> Result<World, Fault>
-    requires hosts { OnePerHost task.now.config.now task.now.programs.now }
-    requires there { number ≤ length arrivals.now }
-    ensures world { IfOk result (λ w. w ≡ (found_at (start_of task.now) (reverse arrivals.now) number).state) }
-    ensures fault { OnlyMemory result }
-{
-    world_found(
-        task.alloc,
-        task.config,
-        task.programs,
-        task.before,
-        arrivals,
-        number,
-    )
-}
-
-// The world that was found with a number: the one at hand, or one that is made again.
-fn world_at(
-    task: &Task,
-    worlds: &mut Worlds,
-    arrivals: &[Arrival],
-    number: u32,
-) -> Result<World, Fault>
-    requires hosts { OnePerHost task.now.config.now task.now.programs.now }
-    requires there { number ≤ length arrivals.now }
-    requires worlds { AreAtHand (start_of task.now) (reverse arrivals.now) worlds.old.seats.items }
-    ensures world { IfOk result (λ w. w ≡ (found_at (start_of task.now) (reverse arrivals.now) number).state) }
-    ensures worlds { AreAtHand (start_of task.now) (reverse arrivals.now) worlds.new.seats.items }
-    ensures fault { OnlyMemory result }
-{
-    match worlds.take(number) {
-        Some(world) => Ok(world),
-        None => world_again(task, arrivals, number),
-    }
-}
-
-// The world at hand, or where there is none the one that was found with a number, made again.
-fn world_here(
-    task: &Task,
-    arrivals: &[Arrival],
-    number: u32,
-    at_hand: Option<World>,
-) -> Result<World, Fault>
-    requires hosts { OnePerHost task.now.config.now task.now.programs.now }
-    requires there { number ≤ length arrivals.now }
-    requires here { IsHere (start_of task.now) (reverse arrivals.now) number at_hand }
-    ensures world { IfOk result (λ w. w ≡ (found_at (start_of task.now) (reverse arrivals.now) number).state) }
-    ensures fault { OnlyMemory result }
-{
-    match at_hand {
-        Some(world) => Ok(world),
-        None => world_again(task, arrivals, number),
-    }
-}
-
-// Whether a world is like the one that was found with a number.
-fn is_like(
-    task: &Task,
-    worlds: &Worlds,
-    arrivals: &[Arrival],
-    number: u32,
-    world: &World,
-) -> Result<bool, Fault>
-    requires hosts { OnePerHost task.now.config.now task.now.programs.now }
-    requires there { number ≤ length arrivals.now }
-    requires worlds { AreAtHand (start_of task.now) (reverse arrivals.now) worlds.now.seats.items }
-    requires script { AreOfOneScript (start_of task.now) world.now }
-    ensures like { IfOk result (λ like. IsTrue like → Alike (found_at (start_of task.now) (reverse arrivals.now) number).state world.now) }
-    ensures fault { OnlyMemory result }
-{
-    match worlds.get(number) {
-        Some(old) => Ok(are_alike(old, world)),
-        None => {
-            let old = world_again(task, arrivals, number)?;
-            Ok(are_alike(&old, world))
-        }
-    }
-}
-
-// Whether a world is like one that was found: the one with this number is compared, if there is one.
-fn is_like_one(
-    task: &Task,
-    worlds: &Worlds,
-    arrivals: &[Arrival],
-    number: Option<u32>,
-    world: &World,
-) -> Result<bool, Fault>
-    requires hosts { OnePerHost task.now.config.now task.now.programs.now }
-    requires worlds { AreAtHand (start_of task.now) (reverse arrivals.now) worlds.now.seats.items }
-    requires script { AreOfOneScript (start_of task.now) world.now }
-    ensures like { IfOk result (λ like. IsTrue like → IsLikeOne (start_of task.now) (reverse arrivals.now) world.now) }
-    ensures fault { OnlyMemory result }
-{
-    match number {
-        Some(number) if number as usize <= arrivals.len() => {
-            is_like(task, worlds, arrivals, number, world)
-        }
-        _ => Ok(false),
-    }
 }
 
 // Keeps the number of a state by its digest.

@@ -16,6 +16,7 @@ mod reach;
 mod rows;
 mod same;
 mod stack;
+mod statements;
 mod step;
 mod uses;
 mod window;

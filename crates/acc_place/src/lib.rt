@@ -16,6 +16,7 @@ mod marked;
 mod ops;
 mod place;
 mod plan;
+mod readings;
 mod regions;
 mod same;
 mod subject;

@@ -1,22 +1,15 @@
 //! The place: the devices, the regions, the place history and the labels. It plans a directive, accepts it, and closes.
 
-ghost use Rattle.std.specs.Prelude.{reverse, false, ◌≡◌, ◌+◌, ◌<◌, [], ◌∷◌, length, true, None, IfOk, IfErr, IfSome, OnOk, OnErr, OnSome, slice_get, ◌^◌, if◌then◌else◌};
-ghost use Rattle.std.specs.Option.{option_map};
+ghost use Rattle.std.specs.Prelude.{reverse, false, ◌≡◌, ◌<◌, [], ◌∷◌, length, true, None, IfOk, IfErr, OnOk, OnErr, OnSome, if◌then◌else◌};
 ghost use Rattle.acc_base.specs.Faults.{OnlyMemory};
 ghost use Rattle.acc_base.specs.Configurations.{IsRefusal};
 ghost use Rattle.acc_base.specs.declared.ids.QueueAt.{QueueAt};
-ghost use Rattle.acc_batch.specs.Labels.{on_queue};
-ghost use Rattle.acc_present.specs.Notes.{entry_note};
-ghost use Rattle.acc_present.specs.Presences.{presences, holder, is_present};
-ghost use Rattle.acc_present.specs.Tables.{entry_presence};
 ghost use Rattle.acc_place.specs.Accepting.{refusal};
-ghost use Rattle.acc_place.specs.Answers.{answers_of, GoTogether};
 ghost use Rattle.acc_place.specs.Batches.{answer_of, next_number};
-ghost use Rattle.acc_place.specs.BlockNotes.{note_of};
 ghost use Rattle.acc_place.specs.Closing.{place_after_begin, close_of, place_after_close, handed_back, handed_out, is_at_hand, ClosesQueue, IsCloseOut};
 ghost use Rattle.acc_place.specs.declared.directive.PlaceEntry.TheVariants.{Accepted};
-ghost use Rattle.acc_place.specs.Histories.{is_closed, AllAccepted, IsQueue};
-ghost use Rattle.acc_place.specs.Plans.{nth_batch, standing_in, IsPlanOf, IsRoomy, Fits, place_after, queue_for};
+ghost use Rattle.acc_place.specs.Histories.{IsQueue};
+ghost use Rattle.acc_place.specs.Plans.{standing_in, IsPlanOf, IsRoomy, Fits, place_after, queue_for};
 ghost use Rattle.acc_place.specs.Standings.{walk_of};
 
 use crate::answer::Answer;
@@ -30,9 +23,8 @@ use crate::regions::{device_by, enter_or_leave, written_by};
 use crate::subject::ends_of;
 use crate::targets::queue_by;
 use crate::trial::Trial;
-use acc_base::{Config, DeviceId, Fault, HostId, QueueAt, Range};
-use acc_batch::{Batch, Label};
-use acc_present::Entry;
+use acc_base::{Config, DeviceId, Fault, HostId, QueueAt};
+use acc_batch::Batch;
 use std::alloc::Global;
 use std::marker::Model;
 
@@ -40,22 +32,22 @@ use std::marker::Model;
 /// place history with its counts and labels.
 #[derive(Drop)]
 pub struct Place {
-    alloc: Global,
-    config: Config,
+    pub(crate) alloc: Global,
+    pub(crate) config: Config,
     // by number
-    devices: Vec<Device>,
-    history: Vec<PlaceEntry>,
-    counts: Vec<u64>,
+    pub(crate) devices: Vec<Device>,
+    pub(crate) history: Vec<PlaceEntry>,
+    pub(crate) counts: Vec<u64>,
     // what was answered, one for each count
-    answers: Vec<Answer>,
-    closing: bool,
+    pub(crate) answers: Vec<Answer>,
+    pub(crate) closing: bool,
     // by device, then in queue order
-    closes: Vec<Close>,
+    pub(crate) closes: Vec<Close>,
     // the data constructs that the hosts are inside, the latest first
-    regions: Vec<Region>,
-    labels: Labels,
+    pub(crate) regions: Vec<Region>,
+    pub(crate) labels: Labels,
     // where a directive is tried before it is accepted
-    trial: Trial,
+    pub(crate) trial: Trial,
 }
 
 impl Model for Place {
@@ -374,112 +366,12 @@ impl Place {
         }
     }
 
-    /// Whether a queue is closed: its last batch, which is its close, is placed.
-    pub fn is_closed(&self, at: QueueAt) -> bool
-        ensures { result ≡ is_closed (standing_in self.now) at }
-    {
-        let QueueAt { device, queue } = at;
-        if !self.config.has_queue(QueueAt { device, queue }) {
-            return false;
-        }
-        self.closes[QueueAt { device, queue }.seat()]
-            .label
-            .is_none()
-    }
-
-    /// Whether a range with a cell is present on a device, one that `Config::has_device` knows.
-    #[tactic(auto, using(crate::proofs::WalkItem::held_is_present))]
-    pub fn is_present(&self, device: DeviceId, range: Range) -> bool
-        requires device { device < self.now.config.devices }
-        requires cells { 0 < range.len }
-        ensures { result ≡ is_present (presences ((standing_in self.now).marks device)) range }
-    {
-        self.counters(device, range).is_some()
-    }
-
-    /// The structured and the dynamic counter of the present range of a device that contains a range with a cell.
-    pub fn counters(&self, device: DeviceId, range: Range) -> Option<(u64, u64)>
-        requires device { device < self.now.config.devices }
-        requires cells { 0 < range.len }
-        ensures { result ≡ option_map (λ p. (p.s, p.d)) (holder (presences ((standing_in self.now).marks device)) range) }
-    {
-        self.devices[usize::from(device.number())]
-            .table
-            .counters(range)
-    }
-
-    /// The entry of the device's table with this index, from 0, by array, then by lower bound.
-    pub fn nth(&self, device: DeviceId, index: usize) -> Option<&Entry>
-        requires device { device < self.now.config.devices }
-        ensures entry { option_map (λ e. entry_presence e.now) result ≡ slice_get (presences ((standing_in self.now).marks device)) index }
-        ensures noted { IfSome result (λ e. entry_note e.now ≡ note_of device (standing_in self.now).labels e.now.block) }
-        ensures next { OnSome result (index + 1 < 2 ^ 64) }
-    {
-        self.devices[usize::from(device.number())].table.nth(index)
-    }
-
-    /// How many batches were placed on a queue.
-    pub fn placed_count(&self, at: QueueAt) -> u64
-        ensures { result ≡ length (on_queue at (standing_in self.now).labels) }
-    {
-        self.labels_on(at).len() as u64
-    }
-
     // The number of a queue's next batch.
     fn next_number(&self, at: QueueAt) -> u64
         ensures { result ≡ next_number at (standing_in self.now).labels }
     {
         let placed = self.labels_on(at);
         placed.len() as u64 + 1
-    }
-
-    /// The label of the batch with this number on a queue, from 1.
-    #[tactic(auto, using(crate::proofs::StandingIn::nth_is))]
-    pub fn placed(&self, at: QueueAt, number: u64) -> Option<&Label>
-        ensures { option_map (λ l. l.now) result ≡ nth_batch (on_queue at (standing_in self.now).labels) number }
-    {
-        if number == 0 {
-            return None;
-        }
-        self.labels_on(at).get(number as usize - 1)
-    }
-
-    /// The labels of the batches that were placed on a queue, in order.
-    pub fn labels_on(&self, at: QueueAt) -> &[Label]
-        ensures { result.now ≡ on_queue at (standing_in self.now).labels }
-    {
-        self.labels.on(at)
-    }
-
-    /// What was accepted and closed, in order: each directive after those before it, and each queue once, behind the closing.
-    pub fn history(&self) -> &[PlaceEntry]
-        ensures history { result.now ≡ reverse self.now.history }
-        ensures accepted { AllAccepted self.now.config self.now.history self.now.counts }
-    {
-        self.history.as_slice()
-    }
-
-    /// How many items the host of each accepted directive had before it, in order: each goes with the directive of the same index
-    /// of the history.
-    pub fn counts(&self) -> &[u64]
-        ensures { result.now ≡ reverse self.now.counts }
-    {
-        self.counts.as_slice()
-    }
-
-    /// What was answered to the accepted directives, in order: each goes with the directive and the count of the same index.
-    pub fn answers(&self) -> &[Answer]
-        ensures answers { result.now ≡ reverse (answers_of self.now.config self.now.history self.now.counts) }
-        ensures together { GoTogether self.now.config self.now.history self.now.counts }
-    {
-        self.answers.as_slice()
-    }
-
-    /// The configuration that it was made for.
-    pub fn config(&self) -> &Config
-        ensures { result.now ≡ self.now.config }
-    {
-        &self.config
     }
 
     /// The configuration, and the place history with the counts of its directives, the latest last.

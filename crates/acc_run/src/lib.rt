@@ -14,6 +14,7 @@ mod pause;
 mod place_side;
 mod run;
 mod runtime;
+mod serve;
 mod token;
 mod turn;
 mod watch;

@@ -17,20 +17,16 @@ ghost use Rattle.acc_work.specs.declared.item.Shown.TheVariants as shown;
 use crate::abandon::abandon_sides;
 use crate::ends::ends_of;
 use crate::finish::{Sides, SidesRefused, finish_sides};
-use crate::gate::Gate;
 use crate::marks::Marks;
 use crate::pause::{Pause, parkers_of};
 use crate::place_side::PlaceSide;
 use crate::token::{HostToken, tokens_of};
-use crate::turn::{Turn, take_turn};
-use crate::watch::Watch;
 use crate::work_side::WorkSide;
 use acc_base::{Config, DeviceId, Fault, QueueAt, QueueCounts};
 use acc_host::Outcome;
-use acc_kernel::Job;
 use acc_place::{Directive, Placed};
 use acc_queue::{Progress, Reader};
-use acc_work::{Item, ItemLabel, JobOut, Shown};
+use acc_work::{Item, ItemLabel, Shown};
 use std::alloc::Global;
 use std::marker::Model;
 use std::sync::{Mutex, Wait};
@@ -39,16 +35,16 @@ use std::thread::Parker;
 /// A place and a work side for threads, each under a lock of its own. A contract sees the configuration that it was made for.
 #[derive(Drop)]
 pub struct Runtime {
-    alloc: Global,
-    config: Config,
-    place: Mutex<PlaceSide>,
-    work: Mutex<WorkSide>,
+    pub(crate) alloc: Global,
+    pub(crate) config: Config,
+    pub(crate) place: Mutex<PlaceSide>,
+    pub(crate) work: Mutex<WorkSide>,
     // where the worker of each queue sleeps that finds it empty, by device, then in queue order
-    parkers: Vec<Parker>,
+    pub(crate) parkers: Vec<Parker>,
     // a reader of how many batches each queue has performed, off which workers split theirs
-    watch: Mutex<Reader>,
+    pub(crate) watch: Mutex<Reader>,
     // and the first, until it is taken; behind a lock, as threads share the runtime
-    reader: Option<Mutex<Reader>>,
+    pub(crate) reader: Option<Mutex<Reader>>,
 }
 
 // What of a runtime stands behind no lock.
@@ -300,76 +296,6 @@ impl Runtime {
         {
             parker.unpark();
         }
-    }
-
-    /// A worker of a queue: takes its batches, passes the gate with each, and performs them, one operation for each time that the lock
-    /// is got, but for loops, which it computes with no lock held, where it has memory for what they read and assign. Where its next
-    /// operation can't go on it pauses, each time longer, for a millisecond at most, and doesn't ask for the lock while it sees that
-    /// what it awaits isn't performed; where it finds nothing it sleeps until a batch is placed, for fifty milliseconds at most. Ends
-    /// behind the queue's close, where the gate answers false, or where there is no such queue.
-    pub fn serve<R: Wait, G: Gate>(&self, rt: &R, at: QueueAt, gate: &G) {
-        let QueueAt { device, queue } = at;
-        let Some(parker) = self.parkers.get(QueueAt { device, queue }.seat()) else {
-            return;
-        };
-        let mut passed = 0u64; // the last batch that passed the gate
-        let mut room = None; // where its last loop was computed
-        let mut watch = Watch::new(self.one_more_reader(rt));
-        let mut pause = Pause::new();
-        for _ in rt.forever() {
-            if !watch.is_due(device) {
-                pause.wait(rt);
-                continue;
-            }
-            match self.turn(rt, QueueAt { device, queue }, passed, &mut room) {
-                Turn::Did => pause.begin_anew(),
-                Turn::Blocked { awaited } => {
-                    watch.begin(awaited);
-                    pause.wait(rt);
-                }
-                Turn::Idle => pause.rest(rt, parker),
-                Turn::Holds { number, ahead } => {
-                    if !gate.pass(QueueAt { device, queue }, number) {
-                        return;
-                    }
-                    passed = number;
-                    if let Some(ahead) = ahead {
-                        room = ahead.room(self.alloc, room);
-                    }
-                    pause.begin_anew();
-                }
-                Turn::Starts { job } => match self.compute(rt, gate, job) {
-                    None => return,
-                    Some(back) => {
-                        room = back;
-                        pause.begin_anew();
-                    }
-                },
-                Turn::Ended => return,
-            }
-        }
-    }
-
-    // One turn of a worker, under the work lock.
-    fn turn<R: Wait>(&self, rt: &R, at: QueueAt, passed: u64, room: &mut Option<Box<Job>>) -> Turn {
-        take_turn(rt, &mut self.work.lock(rt), at, passed, room)
-    }
-
-    // A reader for a worker, unless memory is refused.
-    fn one_more_reader<R: Wait>(&self, rt: &R) -> Option<Reader> {
-        self.watch.lock(rt).split().ok()
-    }
-
-    // Computes a loop with no lock held, and gives it back under the work lock. Answers with its room, if its lane still waited for it.
-    fn compute<R: Wait, G: Gate>(&self, rt: &R, gate: &G, job: JobOut) -> Option<Option<Box<Job>>> {
-        let mut job = job;
-        gate.work(job.queue(), job.number());
-        job.compute();
-        let mut work = self.work.lock(rt);
-        if !work.has_queue(job.queue()) {
-            return None;
-        }
-        work.commit_job(job).ok()
     }
 
     /// What a run leaves, whose queues have performed all that was placed on them: legal histories of the runtime's configuration, with

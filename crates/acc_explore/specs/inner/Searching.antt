@@ -7,7 +7,7 @@ use Rattle.acc_explore.specs.Arrivals.{found_at, found_by}
 use Rattle.acc_explore.specs.declared.arrival.Arrival.{Arrival}
 use Rattle.acc_explore.specs.declared.search.Course.{Course}
 use Rattle.acc_explore.specs.declared.search.Course.TheVariants.{Idle, Led, Full}
-use Rattle.acc_explore.specs.declared.search.Task.{Task}
+use Rattle.acc_explore.specs.declared.task.Task.{Task}
 use Rattle.acc_explore.specs.declared.worlds.Kept.{Kept}
 use Rattle.acc_explore.specs.Explorations.{HoldsAlike, IsEnd}
 use Rattle.acc_explore.specs.Reductions.{FollowsEnough}

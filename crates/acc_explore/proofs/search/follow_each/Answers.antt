@@ -8,7 +8,7 @@ use Rattle.acc_explore.specs.Arrivals.{found_at, found_by}
 use Rattle.acc_explore.specs.declared.arrival.Arrival.{Arrival}
 use Rattle.acc_explore.specs.declared.search.Course.{Course}
 use Rattle.acc_explore.specs.declared.search.Course.TheVariants.{Full}
-use Rattle.acc_explore.specs.declared.search.Task.{Task}
+use Rattle.acc_explore.specs.declared.task.Task.{Task}
 use Rattle.acc_explore.specs.Explorations.{FollowsAll, Found, HoldsAlike, IsEnd}
 use Rattle.acc_explore.specs.inner.Searching.{AreNear, IsFollowed, Takes, events_in_turn, start_of}
 use Rattle.acc_explore.specs.Runs.{open_events}

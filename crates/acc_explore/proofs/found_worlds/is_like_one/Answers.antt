@@ -7,7 +7,7 @@ use Rattle.acc_explore.specs.Alike.{Alike}
 use Rattle.acc_explore.specs.Arrivals.{found_at}
 use Rattle.acc_explore.specs.declared.arrival.Arrival.{Arrival}
 use Rattle.acc_explore.specs.inner.Searching.{IsLikeOne, start_of}
-use Rattle.acc_explore.proofs.search.is_like_one.Goals as goal
+use Rattle.acc_explore.proofs.found_worlds.is_like_one.Goals as goal
 
 -- what is like the one with a number is like one
 is_one : (start w : State) (arrivals : List Arrival) (n : ℕ) (r : Result Bool Fault) → n ≤ length arrivals

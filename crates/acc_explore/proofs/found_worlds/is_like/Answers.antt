@@ -5,7 +5,7 @@ use Rattle.acc_explore.specs.Arrivals.{found_at}
 use Rattle.acc_explore.specs.inner.Searching.{start_of}
 use Rattle.acc_explore.specs.Scripts.{AreOfOneScript}
 use Rattle.acc_explore.proofs.SearchEvents.{script_between, script_of_found}
-use Rattle.acc_explore.proofs.search.is_like.Goals as goal
+use Rattle.acc_explore.proofs.found_worlds.is_like.Goals as goal
 
 pub are_alike-requires : goal.are_alike-requires
 are_alike-requires c =
