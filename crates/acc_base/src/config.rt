@@ -70,9 +70,13 @@ impl Config {
         capacity: u64,
         room: u32,
     ) -> Result<Self, Fault>
-        ensures held { IfOk result (λ c. c ≡ configuration devices hosts (rows arrays.items) capacity room) }
-        ensures valid { OnOk result (fault_of (configuration devices hosts (rows arrays.items) capacity room) ≡ None) }
-        ensures refused { IfErr result (λ fault. IsRefusal (fault_of (configuration devices hosts (rows arrays.items) capacity room)) fault) }
+        ensures held { IfOk result (λ c.
+            c ≡ configuration devices hosts (rows arrays.items) capacity room) }
+        ensures valid { OnOk result (fault_of (configuration devices hosts
+            (rows arrays.items) capacity room) ≡ None) }
+        ensures refused { IfErr result (λ fault.
+            IsRefusal (fault_of (configuration devices hosts
+            (rows arrays.items) capacity room)) fault) }
     {
         match first_fault(devices, hosts, arrays.as_slice(), capacity, room) {
             Some(fault) => Err(fault),

@@ -136,7 +136,8 @@ impl Op {
 
 // A block whose cells are all zero, in its node.
 fn zero_block(alloc: Global, block: BlockId, range: Range) -> Result<Node<Block>, Fault>
-    ensures block { IfOk result (λ b. b ≡ record { block = block; range = range; cells = replicate range.len (pos 0) }) }
+    ensures block { IfOk result (λ b.
+        b ≡ record { block = block; range = range; cells = replicate range.len (pos 0) }) }
     ensures fault { OnlyMemory result }
 {
     let cells = Cells::zeroed(alloc, range.len as usize)?;

@@ -69,7 +69,11 @@ impl Page {
     /// Puts an entry behind the others. It takes no memory.
     pub fn push(&mut self, entry: WorkEntry)
         requires { 0 < self.old.free }
-        ensures { self.new ≡ record { items = self.old.items ++ entry ∷ []; free = self.old.free - 1 } }
+        ensures { self.new ≡ record {
+          items = self.old.items
+              ++ entry ∷ [];
+          free = self.old.free - 1;
+        } }
     {
         self.entries.push_reserved(entry);
     }

@@ -39,7 +39,8 @@ pub(crate) fn read_file<F: Folder>(
     name: &str,
     kind: Kind,
 ) -> Result<Option<Vec<u8>>, CaseFault>
-    ensures bytes { Known (F.files folder.now) (λ fs. IfOk result (λ b. option_map (λ v. v.items) b ≡ held fs name.now kind)) }
+    ensures bytes { Known (F.files folder.now) (λ fs.
+        IfOk result (λ b. option_map (λ v. v.items) b ≡ held fs name.now kind)) }
     ensures fault { Known (F.files folder.now) (λ fs. IfErr result (λ f. f ≡ Memory)) }
 {
     let file = match file_name(alloc, name, kind) {
@@ -61,8 +62,11 @@ pub(crate) fn read_case<F: Folder>(
     name: &str,
     common: Options,
 ) -> Result<Case, CaseFault>
-    ensures read { Known (F.files folder.now) (λ fs. IfOk result (λ case. held fs name.now Script ≡ Some (asked_case case).script)) }
-    ensures asked { Known (F.files folder.now) (λ fs. IfOk result (λ case. asked_case case ≡ asked_in fs name.now common (asked_case case).script)) }
+    ensures read { Known (F.files folder.now) (λ fs.
+        IfOk result (λ case. held fs name.now Script ≡ Some (asked_case case).script)) }
+    ensures asked { Known (F.files folder.now) (λ fs.
+        IfOk result (λ case.
+        asked_case case ≡ asked_in fs name.now common (asked_case case).script)) }
     ensures fault { Known (F.files folder.now) (λ fs. IfErr result (λ f. IsUnread fs name.now f)) }
 {
     let script = match read_file(alloc, folder, name, Kind::Script) {
@@ -109,8 +113,11 @@ fn texts_of<'a>(
     script: &'a [u8],
     schedule: &'a Option<Vec<u8>>,
 ) -> Result<(&'a [u8], &'a [u8]), CaseFault>
-    ensures texts { IfOk result (λ t. texts_of script.now (option_map (λ v. v.items) schedule.now) ≡ Some (record { script = t.0.now; schedule = t.1.now })) }
-    ensures fault { IfErr result (λ f. IsTextsFault script.now (option_map (λ v. v.items) schedule.now) f) }
+    ensures texts { IfOk result (λ t.
+        texts_of script.now (option_map (λ v. v.items) schedule.now)
+        ≡ Some (record { script = t.0.now; schedule = t.1.now })) }
+    ensures fault { IfErr result (λ f.
+        IsTextsFault script.now (option_map (λ v. v.items) schedule.now) f) }
 {
     let (own, behind) = split(script);
     let is_parted = own.len() < script.len();
@@ -124,7 +131,8 @@ fn texts_of<'a>(
 
 // The options of a line, or the common ones where there is none.
 fn options_by(alloc: Global, line: &Option<Vec<u8>>, common: Options) -> Result<Options, CaseFault>
-    ensures options { IfOk result (λ o. options_by common (option_map (λ v. v.items) line.now) ≡ Some o) }
+    ensures options { IfOk result (λ o.
+        options_by common (option_map (λ v. v.items) line.now) ≡ Some o) }
     ensures fault { IfErr result (λ f. IsLineFault common (option_map (λ v. v.items) line.now) f) }
 {
     let Some(line) = line else {
@@ -147,7 +155,8 @@ fn replayed(
     schedule: &[u8],
     options: Options,
 ) -> Result<Vec<u8>, CaseFault>
-    ensures came { IfOk result (λ came. Came options (record { script = script.now; schedule = schedule.now }) came.items) }
+    ensures came { IfOk result (λ came.
+        Came options (record { script = script.now; schedule = schedule.now }) came.items) }
     ensures fault { IfErr result (λ f. f ≡ Memory) }
 {
     let mut written = Vec::new(alloc);

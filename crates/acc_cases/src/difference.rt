@@ -74,7 +74,8 @@ fn common_start(wanted: &[&[u8]], came: &[&[u8]]) -> usize
 fn common_end(wanted: &[&[u8]], came: &[&[u8]]) -> usize
     ensures wanted { result ≤ length wanted.now }
     ensures came { result ≤ length came.now }
-    ensures common { joined_lines (drop (length wanted.now - result) wanted.now) ≡ joined_lines (drop (length came.now - result) came.now) }
+    ensures common { joined_lines (drop (length wanted.now - result) wanted.now)
+        ≡ joined_lines (drop (length came.now - result) came.now) }
 {
     let mut common = 0;
     while common < wanted.len()
@@ -91,8 +92,10 @@ fn common_end(wanted: &[&[u8]], came: &[&[u8]]) -> usize
 
 // Puts a line behind others.
 fn put<'a>(lines: &mut Vec<Line<'a>>, mark: Mark, bytes: &'a [u8]) -> Result<(), AllocError>
-    ensures wanted { OnOk result (wanted_in lines.new.items ≡ wanted_in lines.old.items ++ (if is_wanted mark then bytes.now else [])) }
-    ensures came { OnOk result (came_in lines.new.items ≡ came_in lines.old.items ++ (if is_of_came mark then bytes.now else [])) }
+    ensures wanted { OnOk result (wanted_in lines.new.items ≡ wanted_in lines.old.items
+        ++ (if is_wanted mark then bytes.now else [])) }
+    ensures came { OnOk result (came_in lines.new.items ≡ came_in lines.old.items
+        ++ (if is_of_came mark then bytes.now else [])) }
 {
     lines.push(Line { mark, bytes })?;
     Ok(())
@@ -100,8 +103,10 @@ fn put<'a>(lines: &mut Vec<Line<'a>>, mark: Mark, bytes: &'a [u8]) -> Result<(),
 
 // Puts lines of one mark behind others.
 fn put_all<'a>(lines: &mut Vec<Line<'a>>, mark: Mark, all: &[&'a [u8]]) -> Result<(), AllocError>
-    ensures wanted { OnOk result (wanted_in lines.new.items ≡ wanted_in lines.old.items ++ (if is_wanted mark then joined_lines all.now else [])) }
-    ensures came { OnOk result (came_in lines.new.items ≡ came_in lines.old.items ++ (if is_of_came mark then joined_lines all.now else [])) }
+    ensures wanted { OnOk result (wanted_in lines.new.items ≡ wanted_in lines.old.items
+        ++ (if is_wanted mark then joined_lines all.now else [])) }
+    ensures came { OnOk result (came_in lines.new.items ≡ came_in lines.old.items
+        ++ (if is_of_came mark then joined_lines all.now else [])) }
 {
     for bytes in all {
         put(lines, mark, bytes)?;
@@ -172,8 +177,10 @@ fn put_middle<'a>(
     came: &[&'a [u8]],
     table: &[Vec<u32>],
 ) -> Result<(), AllocError>
-    ensures wanted { OnOk result (wanted_in lines.new.items ≡ wanted_in lines.old.items ++ joined_lines wanted.now) }
-    ensures came { OnOk result (came_in lines.new.items ≡ came_in lines.old.items ++ joined_lines came.now) }
+    ensures wanted { OnOk result (wanted_in lines.new.items ≡ wanted_in lines.old.items
+        ++ joined_lines wanted.now) }
+    ensures came { OnOk result (came_in lines.new.items ≡ came_in lines.old.items
+        ++ joined_lines came.now) }
 {
     let mut at = 0;
     let mut to = 0;
@@ -199,8 +206,10 @@ fn put_rest<'a>(
     wanted: &[&'a [u8]],
     came: &[&'a [u8]],
 ) -> Result<(), AllocError>
-    ensures wanted { OnOk result (wanted_in lines.new.items ≡ wanted_in lines.old.items ++ joined_lines wanted.now) }
-    ensures came { OnOk result (came_in lines.new.items ≡ came_in lines.old.items ++ joined_lines came.now) }
+    ensures wanted { OnOk result (wanted_in lines.new.items ≡ wanted_in lines.old.items
+        ++ joined_lines wanted.now) }
+    ensures came { OnOk result (came_in lines.new.items ≡ came_in lines.old.items
+        ++ joined_lines came.now) }
 {
     put_all(lines, Mark::Wanted, wanted)?;
     put_all(lines, Mark::Came, came)
@@ -240,8 +249,10 @@ fn put_difference<'a>(
     wanted: &[&'a [u8]],
     came: &[&'a [u8]],
 ) -> Result<(), AllocError>
-    ensures wanted { OnOk result (wanted_in lines.new.items ≡ wanted_in lines.old.items ++ joined_lines wanted.now) }
-    ensures came { OnOk result (came_in lines.new.items ≡ came_in lines.old.items ++ joined_lines came.now) }
+    ensures wanted { OnOk result (wanted_in lines.new.items ≡ wanted_in lines.old.items
+        ++ joined_lines wanted.now) }
+    ensures came { OnOk result (came_in lines.new.items ≡ came_in lines.old.items
+        ++ joined_lines came.now) }
 {
     let start = common_start(wanted, came);
     let (front, wanted) = wanted.split_at(start);

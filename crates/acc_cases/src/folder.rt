@@ -42,5 +42,6 @@ pub trait Folder {
     ///
     /// `Unusable` where it can't be written, and `Memory` for want of memory. The file may then have any bytes.
     fn write(&mut self, name: &str, bytes: &[u8]) -> Result<(), FolderFault>
-        ensures { OnOk result (Known (files self.old) (λ fs. files self.new ≡ Some (with_file fs name.now bytes.now))) };
+        ensures { OnOk result (Known (files self.old) (λ fs.
+            files self.new ≡ Some (with_file fs name.now bytes.now))) };
 }

@@ -66,7 +66,8 @@ fn hunk_len(lines: &[Line]) -> usize
 // Where the next hunk begins and ends, from a place on.
 fn next_hunk(lines: &[Line], at: usize) -> Option<(usize, usize)>
     requires { at ≤ length lines.now }
-    ensures { IfSome result (λ hunk. (at ≤ hunk.0) × (hunk.0 < hunk.1) × (hunk.1 ≤ length lines.now)) }
+    ensures { IfSome result (λ hunk. (at ≤ hunk.0) × (hunk.0 < hunk.1)
+        × (hunk.1 ≤ length lines.now)) }
 {
     let (_, rest) = lines.split_at(at);
     let first = first_change(rest)?;

@@ -19,7 +19,8 @@ fn without_ending(file: &str, kind: Kind) -> Option<&str>
 // The name of the case that a file is of.
 #[tactic(auto, using(crate::proofs::CaseNames::no_case))]
 fn case_of(file: &str) -> Option<&str>
-    ensures { (name : List ℕ) → is_of name file.now ≡ is_name name (option_map (λ n. n.now) result) }
+    ensures { (name : List ℕ)
+        → is_of name file.now ≡ is_name name (option_map (λ n. n.now) result) }
 {
     if let Some(name) = without_ending(file, Kind::Script) {
         return Some(name);
@@ -38,7 +39,8 @@ fn case_of(file: &str) -> Option<&str>
 
 // The names of the cases that files are of, each once, in their order.
 pub(crate) fn names_of<'a>(alloc: Global, files: &'a [String]) -> Result<Vec<&'a str>, AllocError>
-    ensures { IfOk result (λ names. AreCases (map string_bytes files.now) (map (λ n. n.now) names.items)) }
+    ensures { IfOk result (λ names.
+        AreCases (map string_bytes files.now) (map (λ n. n.now) names.items)) }
 {
     let mut names = cases_of(alloc, files)?;
     names.sort_unstable();
@@ -48,7 +50,9 @@ pub(crate) fn names_of<'a>(alloc: Global, files: &'a [String]) -> Result<Vec<&'a
 
 // The name of the case of each file that is of one.
 fn cases_of<'a>(alloc: Global, files: &'a [String]) -> Result<Vec<&'a str>, AllocError>
-    ensures { IfOk result (λ names. (name : List ℕ) → list_any (λ n. bytes_eq name n.now) names.items ≡ list_any (λ f. is_of name (string_bytes f)) files.now) }
+    ensures { IfOk result (λ names. (name : List ℕ)
+        → list_any (λ n. bytes_eq name n.now) names.items
+        ≡ list_any (λ f. is_of name (string_bytes f)) files.now) }
 {
     let mut names = Vec::new(alloc);
     for file in files {

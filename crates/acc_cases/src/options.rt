@@ -44,7 +44,8 @@ fn words_of(alloc: Global, text: &[u8]) -> Result<Vec<&[u8]>, AllocError>
 
 // The pieces that aren't empty.
 fn without_empty<'a>(alloc: Global, pieces: &[&'a [u8]]) -> Result<Vec<&'a [u8]>, AllocError>
-    ensures { IfOk result (λ words. map (λ w. w.now) words.items ≡ filter is_not_empty (map (λ p. p.now) pieces.now)) }
+    ensures { IfOk result (λ words.
+        map (λ w. w.now) words.items ≡ filter is_not_empty (map (λ p. p.now) pieces.now)) }
 {
     let mut words = Vec::new(alloc);
     for piece in pieces {
@@ -148,9 +149,12 @@ fn given_with(given: Given, name: &[u8], word: &[u8]) -> Option<Given>
 fn given_first<'a>(given: Given, words: &[&'a [u8]]) -> Result<Given, OptionsFault<'a>>
     requires two { 2 ≤ length words.now }
     requires bounds { AreWithin given }
-    ensures given { IfOk result (λ g. given_by given (map (λ w. w.now) words.now) ≡ given_by g (map (λ w. w.now) (drop 2 words.now))) }
+    ensures given { IfOk result (λ g.
+        given_by given (map (λ w. w.now) words.now)
+        ≡ given_by g (map (λ w. w.now) (drop 2 words.now))) }
     ensures bounds { IfOk result AreWithin }
-    ensures refused { IfErr result (λ f. (given_by given (map (λ w. w.now) words.now) ≡ None) × IsWord f) }
+    ensures refused { IfErr result (λ f. (given_by given (map (λ w. w.now) words.now) ≡ None)
+        × IsWord f) }
 {
     let name = words[0];
     match given_with(given, name, words[1]) {
@@ -163,7 +167,8 @@ fn given_first<'a>(given: Given, words: &[&'a [u8]]) -> Result<Given, OptionsFau
 fn given_by<'a>(words: &[&'a [u8]]) -> Result<Given, OptionsFault<'a>>
     ensures given { IfOk result (λ g. given_by no_options (map (λ w. w.now) words.now) ≡ Some g) }
     ensures bounds { IfOk result AreWithin }
-    ensures refused { IfErr result (λ f. (given_by no_options (map (λ w. w.now) words.now) ≡ None) × IsWord f) }
+    ensures refused { IfErr result (λ f. (given_by no_options (map (λ w. w.now) words.now) ≡ None)
+        × IsWord f) }
 {
     let mut given = Given {
         devices: None,

@@ -45,9 +45,12 @@ fn compared<F: Folder>(
     name: &str,
     common: Options,
 ) -> Result<(Option<Vec<u8>>, Vec<u8>), CaseFault>
-    ensures wanted { Known (F.files folder.now) (λ fs. IfOk result (λ p. option_map (λ v. v.items) p.0 ≡ held fs name.now Report)) }
-    ensures came { Known (F.files folder.now) (λ fs. IfOk result (λ p. CaseComes fs name.now common p.1.items)) }
-    ensures fault { Known (F.files folder.now) (λ fs. IfErr result (λ f. IsCaseFault fs name.now common f)) }
+    ensures wanted { Known (F.files folder.now) (λ fs.
+        IfOk result (λ p. option_map (λ v. v.items) p.0 ≡ held fs name.now Report)) }
+    ensures came { Known (F.files folder.now) (λ fs.
+        IfOk result (λ p. CaseComes fs name.now common p.1.items)) }
+    ensures fault { Known (F.files folder.now) (λ fs.
+        IfErr result (λ f. IsCaseFault fs name.now common f)) }
 {
     let case = match read_case(alloc, folder, name, common) {
         Ok(case) => case,
@@ -80,7 +83,8 @@ fn write_report<F: Folder>(
     name: &str,
     came: &[u8],
 ) -> Result<(), CaseFault>
-    ensures written { OnOk result (Known (F.files folder.old) (λ fs. F.files folder.new ≡ Some (with_file fs (name.now ++ ending_of Report) came.now))) }
+    ensures written { OnOk result (Known (F.files folder.old) (λ fs.
+        F.files folder.new ≡ Some (with_file fs (name.now ++ ending_of Report) came.now))) }
     ensures fault { IfErr result IsWriteFault }
 {
     let file = match file_name(alloc, name, Kind::Report) {
@@ -103,7 +107,8 @@ pub fn test_case<F: Folder>(
     common: Options,
     bless: bool,
 ) -> Outcome
-    ensures { Known (F.files folder.old) (λ fs. Tests fs name.now common bless (F.files folder.new) result) }
+    ensures { Known (F.files folder.old) (λ fs.
+        Tests fs name.now common bless (F.files folder.new) result) }
 {
     let (wanted, came) = match compared(alloc, folder, name, common) {
         Ok(both) => both,

@@ -72,7 +72,8 @@ pub fn test_all<F: Folder, W: Write>(
     bless: bool,
     writer: &mut W,
 ) -> Result<Tally, TestFault>
-    ensures tested { IfOk result (λ t. Known (F.files folder.old) (λ fs. TestedAll fs common bless t (F.files folder.new))) }
+    ensures tested { IfOk result (λ t.
+        Known (F.files folder.old) (λ fs. TestedAll fs common bless t (F.files folder.new))) }
     ensures listed { Known (F.files folder.old) (λ fs. IfErr result (λ f. f ≢ NotListed)) }
 {
     let files = match folder.names(alloc) {
@@ -100,7 +101,9 @@ fn test_each<F: Folder, W: Write>(
     bless: bool,
     writer: &mut W,
 ) -> Result<Tally, TestFault>
-    ensures tested { IfOk result (λ t. (outcomes : List Outcome) × AllTested (F.files folder.old) common bless (map (λ n. n.now) names.now) outcomes (F.files folder.new) × (t ≡ tally_of outcomes)) }
+    ensures tested { IfOk result (λ t. (outcomes : List Outcome)
+        × AllTested (F.files folder.old) common bless (map (λ n. n.now) names.now) outcomes
+        (F.files folder.new) × (t ≡ tally_of outcomes)) }
     ensures fault { IfErr result (λ f. f ≡ Output) }
 {
     let mut tally = Tally {

@@ -58,7 +58,8 @@ fn check<W: Write>(
     output: &mut W,
 ) -> Result<bool, CheckFault>
     ensures whole { IfOk result (λ whole. IsTrue whole ↔ IsNone (text_fault language text.now)) }
-    ensures told { Checks (W.contents output.old) (W.contents output.new) result (TellsFinding language name.now first_line text.now) }
+    ensures told { Checks (W.contents output.old) (W.contents output.new) result
+        (TellsFinding language name.now first_line text.now) }
 {
     let Some(finding) = finding_of(alloc, language, text, words_of(language))? else {
         return Ok(true);
@@ -82,8 +83,10 @@ pub fn check_script<W: Write>(
     text: &[u8],
     output: &mut W,
 ) -> Result<bool, CheckFault>
-    ensures script { IfOk result (λ whole. IsTrue whole ↔ IsNone (text_fault Language.Script text.now)) }
-    ensures told { Checks (W.contents output.old) (W.contents output.new) result (TellsFinding Language.Script name.now 1 text.now) }
+    ensures script { IfOk result (λ whole. IsTrue whole
+        ↔ IsNone (text_fault Language.Script text.now)) }
+    ensures told { Checks (W.contents output.old) (W.contents output.new) result
+        (TellsFinding Language.Script name.now 1 text.now) }
 {
     check(alloc, Language::Script, name, 1, text, output)
 }
@@ -103,8 +106,10 @@ pub fn check_schedule<W: Write>(
     devices: u8,
     output: &mut W,
 ) -> Result<bool, CheckFault>
-    ensures schedule { IfOk result (λ whole. IsTrue whole ↔ IsNone (text_fault (Language.Schedule hosts devices) text.now)) }
-    ensures told { Checks (W.contents output.old) (W.contents output.new) result (TellsFinding (Language.Schedule hosts devices) name.now first_line text.now) }
+    ensures schedule { IfOk result (λ whole. IsTrue whole
+        ↔ IsNone (text_fault (Language.Schedule hosts devices) text.now)) }
+    ensures told { Checks (W.contents output.old) (W.contents output.new) result
+        (TellsFinding (Language.Schedule hosts devices) name.now first_line text.now) }
 {
     let language = Language::Schedule { hosts, devices };
     check(alloc, language, name, first_line, text, output)

@@ -219,8 +219,10 @@ fn most_of(
     lack: Lack,
     token: &[u8],
 ) -> Result<Option<u64>, Fault>
-    ensures stands { IfOk result (λ most. IfSome most (λ n. stands language before.now (decimal n) ≡ true)) }
-    ensures largest { IfOk result (λ most. IfSome most (λ n. stands language before.now (decimal (n + 1)) ≡ false)) }
+    ensures stands { IfOk result (λ most.
+        IfSome most (λ n. stands language before.now (decimal n) ≡ true)) }
+    ensures largest { IfOk result (λ most.
+        IfSome most (λ n. stands language before.now (decimal (n + 1)) ≡ false)) }
     ensures fault { OnlyMemory result }
 {
     if lack == Lack::Within && is_digit(front(token)) {
@@ -342,7 +344,8 @@ pub fn finding_of<'a>(
     words: &[&'a [u8]],
 ) -> Result<Option<Finding<'a>>, Fault>
     ensures whole { IfOk result (λ found. found ≡ None → text_fault language text.now ≡ None) }
-    ensures told { IfOk result (λ found. IfSome found (λ f. TellsFault language text.now (map (λ w. w.now) words.now) f)) }
+    ensures told { IfOk result (λ found.
+        IfSome found (λ f. TellsFault language text.now (map (λ w. w.now) words.now) f)) }
     ensures fault { OnlyMemory result }
 {
     let Some(fault) = fault_of(alloc, language, text)? else {

@@ -95,7 +95,8 @@ fn is_whole_with_some(
     text: &[u8],
     tails: &[&[u8]],
 ) -> Result<bool, Fault>
-    ensures answer { IfOk result (λ r. r ≡ list_any (λ tail. is_faultless language (text.now ++ tail.now)) tails.now) }
+    ensures answer { IfOk result (λ r.
+        r ≡ list_any (λ tail. is_faultless language (text.now ++ tail.now)) tails.now) }
     ensures fault { OnlyMemory result }
 {
     for tail in tails {

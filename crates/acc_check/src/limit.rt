@@ -38,8 +38,10 @@ pub fn largest_number(
     language: Language,
     before: &[u8],
 ) -> Result<Option<u64>, Fault>
-    ensures stands { IfOk result (λ found. IfSome found (λ n. stands language before.now (decimal n) ≡ true)) }
-    ensures largest { IfOk result (λ found. IfSome found (λ n. stands language before.now (decimal (n + 1)) ≡ false)) }
+    ensures stands { IfOk result (λ found.
+        IfSome found (λ n. stands language before.now (decimal n) ≡ true)) }
+    ensures largest { IfOk result (λ found.
+        IfSome found (λ n. stands language before.now (decimal (n + 1)) ≡ false)) }
     ensures fault { OnlyMemory result }
 {
     let mut low = 1u64;

@@ -70,7 +70,8 @@ pub(crate) fn piece_len(bytes: &[u8]) -> usize
 pub(crate) fn ends_of(alloc: Global, text: &[u8]) -> Result<Vec<usize>, Fault>
     ensures ends { IfOk result (λ ends. ends.items ≡ ends_of text.now) }
     ensures some { IfOk result (λ ends. 0 < length text.now → 0 < length ends.items) }
-    ensures last { IfOk result (λ ends. 0 < length ends.items → end_of ends.items (length ends.items - 1) ≡ length text.now) }
+    ensures last { IfOk result (λ ends. 0 < length ends.items
+        → end_of ends.items (length ends.items - 1) ≡ length text.now) }
     ensures within { IfOk result (λ ends. All (λ e. e ≤ length text.now) ends.items) }
     ensures fault { OnlyMemory result }
 {

@@ -35,7 +35,9 @@ pub fn could_stand<'a>(
     before: &[u8],
     words: &[&'a [u8]],
 ) -> Result<Vec<&'a [u8]>, Fault>
-    ensures words { IfOk result (λ found. map (λ w. w.now) found.items ≡ could_stand language before.now (map (λ w. w.now) words.now)) }
+    ensures words { IfOk result (λ found.
+        map (λ w. w.now) found.items
+        ≡ could_stand language before.now (map (λ w. w.now) words.now)) }
     ensures fault { OnlyMemory result }
 {
     let mut found = Vec::new(alloc);

@@ -28,7 +28,8 @@ pub fn told_text(
     finding: &Finding,
 ) -> Result<Vec<u8>, Fault>
     requires { finding.now.start ≤ length text.now }
-    ensures text { IfOk result (λ told. told.items ≡ finding_text name.now first_line text.now finding.now) }
+    ensures text { IfOk result (λ told.
+        told.items ≡ finding_text name.now first_line text.now finding.now) }
     ensures fault { OnlyMemory result }
 {
     let (before, behind) = text.split_at(finding.start);
@@ -57,7 +58,8 @@ fn put_fault(
     begun: &[u8],
     rest: &[u8],
 ) -> Result<(), AllocError>
-    ensures { OnOk result (lines.new.items ≡ lines.old.items ++ fault_text name.now first_line finding.now begun.now rest.now) }
+    ensures { OnOk result (lines.new.items ≡ lines.old.items
+        ++ fault_text name.now first_line finding.now begun.now rest.now) }
 {
     put_place(lines, name, first_line, finding)?;
     put_token_fault(lines, finding)?;
@@ -67,7 +69,8 @@ fn put_fault(
 // What could stand there, and what helps.
 #[tactic(auto, unfolding(crate::specs::Told::ways_text))]
 fn put_ways(lines: &mut Vec<u8>, finding: &Finding, in_directive: bool) -> Result<(), Fault>
-    ensures text { OnOk result (lines.new.items ≡ lines.old.items ++ ways_text finding.now in_directive) }
+    ensures text { OnOk result (lines.new.items ≡ lines.old.items
+        ++ ways_text finding.now in_directive) }
     ensures fault { OnlyMemory result }
 {
     put_stand(lines, finding, in_directive)?;
@@ -121,7 +124,8 @@ fn put_place(
     first_line: usize,
     finding: &Finding,
 ) -> Result<(), AllocError>
-    ensures { OnOk result (lines.new.items ≡ lines.old.items ++ place_text name.now first_line finding.now) }
+    ensures { OnOk result (lines.new.items ≡ lines.old.items
+        ++ place_text name.now first_line finding.now) }
 {
     let line = (first_line as u128 + finding.line as u128).saturating_sub(1);
     lines.extend_from_slice(name)?;
@@ -374,7 +378,8 @@ fn put_names(lines: &mut Vec<u8>, finding: &Finding) -> Result<(), AllocError>
 // A number, and the end of a directive's line.
 #[tactic(auto, unfolding(crate::specs::Told::others_text))]
 fn put_others(lines: &mut Vec<u8>, finding: &Finding, in_directive: bool) -> Result<(), AllocError>
-    ensures { OnOk result (lines.new.items ≡ lines.old.items ++ others_text finding.now in_directive) }
+    ensures { OnOk result (lines.new.items ≡ lines.old.items
+        ++ others_text finding.now in_directive) }
 {
     put_answer(lines, finding.number, b", a number")?;
     put_answer(
@@ -398,7 +403,8 @@ fn put_answers(lines: &mut Vec<u8>, finding: &Finding, in_directive: bool) -> Re
 // Which tokens could stand there.
 #[tactic(auto, unfolding(crate::specs::Told::tokens_text))]
 fn put_tokens(lines: &mut Vec<u8>, finding: &Finding, in_directive: bool) -> Result<(), AllocError>
-    ensures { OnOk result (lines.new.items ≡ lines.old.items ++ tokens_text finding.now in_directive) }
+    ensures { OnOk result (lines.new.items ≡ lines.old.items
+        ++ tokens_text finding.now in_directive) }
 {
     put_words(lines, finding.words.as_slice())?;
     put_names(lines, finding)?;
@@ -408,7 +414,8 @@ fn put_tokens(lines: &mut Vec<u8>, finding: &Finding, in_directive: bool) -> Res
 // The line of what could stand there, if anything could.
 #[tactic(auto, unfolding(crate::specs::Told::stand_text))]
 fn put_stand(lines: &mut Vec<u8>, finding: &Finding, in_directive: bool) -> Result<(), Fault>
-    ensures text { OnOk result (lines.new.items ≡ lines.old.items ++ stand_text finding.now in_directive) }
+    ensures text { OnOk result (lines.new.items ≡ lines.old.items
+        ++ stand_text finding.now in_directive) }
     ensures fault { OnlyMemory result }
 {
     let mut answers = Vec::new(*lines.allocator());

@@ -122,7 +122,8 @@ impl Accelerator {
     /// Each queue has its count of batches that it has taken, which it performs in order; and a cell that no host array has is zero.
     pub(crate) fn keeps_counts(&self)
         ensures taken { length self.now.taken ≡ queue_count self.now.config }
-        ensures in_order { (at : QueueAt) → is_there self.now at ≡ true → IsTakenInOrder self.now at }
+        ensures in_order { (at : QueueAt) → is_there self.now at ≡ true
+            → IsTakenInOrder self.now at }
         ensures outside { OutsideIsZero self.now }
     {
         self.work.keeps();
@@ -171,7 +172,8 @@ impl Accelerator {
         requires item { can_tell self.old item ≡ true }
         requires few { all_items self.old.work < MAX_HOST_ITEMS }
         ensures told { IfOk result (λ shown. shown ≡ shown_by (told_of self.old item)) }
-        ensures recorded { OnOk result (self.new ≡ with_item self.old host (told_of self.old item)) }
+        ensures recorded { OnOk result (self.new ≡ with_item self.old host
+            (told_of self.old item)) }
         ensures refused { OnErr result (self.new ≡ self.old) }
         ensures back { IfErr result (λ r. r ≡ (item, no_memory)) }
     {
@@ -190,7 +192,8 @@ impl Accelerator {
     pub(crate) fn counters(&self, device: DeviceId, range: Range) -> Option<(u64, u64)>
         requires device { device < self.now.config.devices }
         requires cells { 0 < range.len }
-        ensures { result ≡ option_map (λ p. (p.s, p.d)) (holder (presences ((standing_of self.now).marks device)) range) }
+        ensures { result ≡ option_map (λ p. (p.s, p.d)) (holder
+            (presences ((standing_of self.now).marks device)) range) }
     {
         self.place.counters(device, range)
     }
@@ -198,8 +201,10 @@ impl Accelerator {
     /// The present range with this index on a device, by array, then by lower bound.
     pub(crate) fn nth(&self, device: DeviceId, index: usize) -> Option<&Entry>
         requires { device < self.now.config.devices }
-        ensures entry { option_map (λ e. entry_presence e.now) result ≡ slice_get (presences ((standing_of self.now).marks device)) index }
-        ensures noted { IfSome result (λ e. entry_note e.now ≡ note_of device (standing_of self.now).labels e.now.block) }
+        ensures entry { option_map (λ e. entry_presence e.now) result
+            ≡ slice_get (presences ((standing_of self.now).marks device)) index }
+        ensures noted { IfSome result (λ e.
+            entry_note e.now ≡ note_of device (standing_of self.now).labels e.now.block) }
         ensures next { OnSome result (index + 1 < 2 ^ 64) }
     {
         self.place.nth(device, index)
@@ -207,16 +212,20 @@ impl Accelerator {
 
     /// What a cell of a host array holds, if the array has it.
     pub(crate) fn host_cell(&self, array: u8, cell: u32) -> Option<i64>
-        ensures there { is_some result ≡ has_range self.now.config.arrays (record { array = array; lo = cell; len = 1 }) }
-        ensures value { IfSome result (λ x. x ≡ value self.now.config.arrays self.now.work (Host_cell array cell)) }
+        ensures there { is_some result
+            ≡ has_range self.now.config.arrays (record { array = array; lo = cell; len = 1 }) }
+        ensures value { IfSome result (λ x.
+            x ≡ value self.now.config.arrays self.now.work (Host_cell array cell)) }
     {
         self.work.host_cell(array, cell)
     }
 
     /// What a cell of a block holds, if the block is there on the device and has the cell.
     pub(crate) fn block_cell(&self, device: DeviceId, block: BlockId, cell: u32) -> Option<i64>
-        ensures there { is_some result ≡ has_cell (find_block (blocks_in device self.now.work) block) cell }
-        ensures value { IfSome result (λ x. x ≡ value self.now.config.arrays self.now.work (Block_cell device block cell)) }
+        ensures there { is_some result
+            ≡ has_cell (find_block (blocks_in device self.now.work) block) cell }
+        ensures value { IfSome result (λ x.
+            x ≡ value self.now.config.arrays self.now.work (Block_cell device block cell)) }
     {
         self.work.block_cell(device, block, cell)
     }

@@ -40,7 +40,8 @@ impl Accelerator {
 
     /// A queue takes a batch.
     pub(crate) fn take(&mut self, at: QueueAt) -> Reply
-        ensures { step false self.old (event.Take at) ≡ record { reply = result; state = self.new } }
+        ensures { step false self.old (event.Take at)
+            ≡ record { reply = result; state = self.new } }
     {
         self.work.keeps();
         if self.unfinished == 0 {
@@ -65,7 +66,8 @@ impl Accelerator {
 
     /// A queue performs an operation.
     pub(crate) fn perform(&mut self, at: QueueAt) -> Reply
-        ensures { step false self.old (event.Perform at) ≡ record { reply = result; state = self.new } }
+        ensures { step false self.old (event.Perform at)
+            ≡ record { reply = result; state = self.new } }
     {
         self.work.keeps();
         if self.unfinished == 0 {

@@ -60,7 +60,8 @@ impl Queue {
     /// `Memory` where memory is refused. The queue is as it was then.
     pub(crate) fn push(&mut self, batch: Batch) -> Result<(), Fault>
         requires { self.old.has_place ≡ true }
-        ensures pushed { OnOk result (self.new ≡ record { held = held_with self.old batch; has_place = true }) }
+        ensures pushed { OnOk result
+            (self.new ≡ record { held = held_with self.old batch; has_place = true }) }
         ensures kept { OnErr result (self.new ≡ self.old) }
         ensures fault { OnlyMemory result }
     {
@@ -79,7 +80,8 @@ impl Queue {
 
     /// Takes the first batch out.
     pub(crate) fn pop(&mut self) -> Option<Batch>
-        ensures next { IfSome result (λ batch. (held : List Label) × (self.old.held ≡ batch ∷ held) × (self.new ≡ record { held = held; has_place = true })) }
+        ensures next { IfSome result (λ batch. (held : List Label) × (self.old.held ≡ batch ∷ held)
+            × (self.new ≡ record { held = held; has_place = true })) }
         ensures none { IfNone result ((self.old.held ≡ []) × (self.new ≡ self.old)) }
     {
         self.batches.pop_front()

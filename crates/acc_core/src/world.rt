@@ -119,7 +119,8 @@ impl World {
         ensures legal { IsLegalState self.now }
         ensures stand { AllStand self.now 0 self.now.hosts }
         ensures taken { length self.now.taken ≡ queue_count self.now.config }
-        ensures in_order { (at : QueueAt) → is_there self.now at ≡ true → IsTakenInOrder self.now at }
+        ensures in_order { (at : QueueAt) → is_there self.now at ≡ true
+            → IsTakenInOrder self.now at }
         ensures outside { OutsideIsZero self.now }
     {
         self.accelerator.keeps_counts();
@@ -179,8 +180,10 @@ impl World {
 
     /// What a cell of a host array holds, if the array has it: what the log last wrote there, or its initial value.
     pub fn host_cell(&self, array: u8, cell: u32) -> Option<i64>
-        ensures there { is_some result ≡ has_range self.now.config.arrays (record { array = array; lo = cell; len = 1 }) }
-        ensures value { IfSome result (λ x. x ≡ value self.now.config.arrays self.now.work (Host_cell array cell)) }
+        ensures there { is_some result
+            ≡ has_range self.now.config.arrays (record { array = array; lo = cell; len = 1 }) }
+        ensures value { IfSome result (λ x.
+            x ≡ value self.now.config.arrays self.now.work (Host_cell array cell)) }
     {
         self.accelerator.host_cell(array, cell)
     }
@@ -188,8 +191,10 @@ impl World {
     /// What a cell of a block holds, if the block is there on the device and has the cell: what the log last wrote there. The cell is
     /// named by its number in the host array.
     pub fn block_cell(&self, device: DeviceId, block: BlockId, cell: u32) -> Option<i64>
-        ensures there { is_some result ≡ has_cell (find_block (blocks_in device self.now.work) block) cell }
-        ensures value { IfSome result (λ x. x ≡ value self.now.config.arrays self.now.work (Block_cell device block cell)) }
+        ensures there { is_some result
+            ≡ has_cell (find_block (blocks_in device self.now.work) block) cell }
+        ensures value { IfSome result (λ x.
+            x ≡ value self.now.config.arrays self.now.work (Block_cell device block cell)) }
     {
         self.accelerator.block_cell(device, block, cell)
     }
@@ -199,7 +204,8 @@ impl World {
     pub fn counters(&self, device: DeviceId, range: Range) -> Option<(u64, u64)>
         requires device { device < self.now.config.devices }
         requires cells { 0 < range.len }
-        ensures { result ≡ option_map (λ p. (p.s, p.d)) (holder (presences ((standing_of self.now).marks device)) range) }
+        ensures { result ≡ option_map (λ p. (p.s, p.d)) (holder
+            (presences ((standing_of self.now).marks device)) range) }
     {
         self.accelerator.counters(device, range)
     }
@@ -207,8 +213,10 @@ impl World {
     /// The present range with this index, from 0, by array, then by lower bound, on a device that is there.
     pub fn nth(&self, device: DeviceId, index: usize) -> Option<&Entry>
         requires { device < self.now.config.devices }
-        ensures entry { option_map (λ e. entry_presence e.now) result ≡ slice_get (presences ((standing_of self.now).marks device)) index }
-        ensures noted { IfSome result (λ e. entry_note e.now ≡ note_of device (standing_of self.now).labels e.now.block) }
+        ensures entry { option_map (λ e. entry_presence e.now) result
+            ≡ slice_get (presences ((standing_of self.now).marks device)) index }
+        ensures noted { IfSome result (λ e.
+            entry_note e.now ≡ note_of device (standing_of self.now).labels e.now.block) }
         ensures next { OnSome result (index + 1 < 2 ^ 64) }
     {
         self.accelerator.nth(device, index)

@@ -49,7 +49,10 @@ pub fn check<'a, R: Read + Drop, S: Read + Drop, W: Write>(
     devices: u8,
     output: &mut W,
 ) -> Result<bool, CheckFault<'a>>
-    ensures answers { IfSome (R.remaining script.entry.reader) (λ script. IfSome (S.remaining schedule.entry.reader) (λ schedule. ChecksTexts devices (record { script = script; schedule = schedule }) (W.contents output.old) (W.contents output.new) result)) }
+    ensures answers { IfSome (R.remaining script.entry.reader) (λ script.
+        IfSome (S.remaining schedule.entry.reader) (λ schedule.
+        ChecksTexts devices (record { script = script; schedule = schedule })
+        (W.contents output.old) (W.contents output.new) result)) }
 {
     let Named { name, mut reader } = script;
     let text = text_from(alloc, name, &mut reader, TEXT_LIMIT, TEXT_TURNS)?;
@@ -73,7 +76,8 @@ pub fn check_one<'a, R: Read + Drop, W: Write>(
     devices: u8,
     output: &mut W,
 ) -> Result<bool, CheckFault<'a>>
-    ensures answers { IfSome (R.remaining both.entry.reader) (λ text. ChecksTexts devices (parts text) (W.contents output.old) (W.contents output.new) result) }
+    ensures answers { IfSome (R.remaining both.entry.reader) (λ text.
+        ChecksTexts devices (parts text) (W.contents output.old) (W.contents output.new) result) }
 {
     let Named { name, mut reader } = both;
     let text = text_from(alloc, name, &mut reader, INPUT_LIMIT, INPUT_TURNS)?;
@@ -93,7 +97,8 @@ fn text_from<'a, R: Read>(
     limit: usize,
     turns: u32,
 ) -> Result<Vec<u8>, CheckFault<'a>>
-    ensures bytes { IfOk result (λ text. IfSome (R.remaining reader.old) (λ bytes. text.items ≡ take limit bytes)) }
+    ensures bytes { IfOk result (λ text.
+        IfSome (R.remaining reader.old) (λ bytes. text.items ≡ take limit bytes)) }
     ensures fault { IfErr result IsUnread }
 {
     match read_text(alloc, reader, limit, turns) {

@@ -75,7 +75,10 @@ pub fn explore<R: Read, S: Read, W: Write, V: Watcher>(
     writer: &mut W,
     watcher: &V,
 ) -> Result<Explored, DriverFault>
-    ensures answers { IfSome (R.remaining script.old) (λ script. IfSome (S.remaining schedule.old) (λ schedule. ExploreAnswer options exploring (record { script = script; schedule = schedule }) (W.contents writer.old) (W.contents writer.new) result)) }
+    ensures answers { IfSome (R.remaining script.old) (λ script.
+        IfSome (S.remaining schedule.old) (λ schedule.
+        ExploreAnswer options exploring (record { script = script; schedule = schedule })
+        (W.contents writer.old) (W.contents writer.new) result)) }
     ensures run { AreUsable options → IfErr result (λ f. IsRun (Err f)) }
 {
     let text = match read_text(alloc, script, TEXT_LIMIT, TEXT_TURNS) {
@@ -117,7 +120,9 @@ pub fn explore_script<R: Read, W: Write, V: Watcher>(
     writer: &mut W,
     watcher: &V,
 ) -> Result<Explored, DriverFault>
-    ensures answers { IfSome (R.remaining reader.old) (λ text. ExploreAnswer options exploring (script_alone text) (W.contents writer.old) (W.contents writer.new) result) }
+    ensures answers { IfSome (R.remaining reader.old) (λ text.
+        ExploreAnswer options exploring (script_alone text) (W.contents writer.old)
+        (W.contents writer.new) result) }
     ensures run { AreUsable options → IfErr result (λ f. IsRun (Err f)) }
 {
     let text = match read_text(alloc, reader, INPUT_LIMIT, INPUT_TURNS) {
@@ -141,10 +146,12 @@ fn explore_behind<W: Write, V: Watcher>(
     writer: &mut W,
     watcher: &V,
 ) -> Result<Explored, DriverFault>
-    requires declared { IsDeclared (record { names = texts script.names.keys; cells = rows script.arrays.items }) }
+    requires declared { IsDeclared
+        (record { names = texts script.names.keys; cells = rows script.arrays.items }) }
     requires numbered { AreNumbered 0 script.programs.items }
     requires few { length script.programs.items ≤ MAX_HOSTS }
-    ensures answers { ExploresSchedule options exploring schedule.now (program_of script.entry) (W.contents writer.old) (W.contents writer.new) result }
+    ensures answers { ExploresSchedule options exploring schedule.now (program_of script.entry)
+        (W.contents writer.old) (W.contents writer.new) result }
     ensures run { AreUsable options → IfErr result (λ f. IsRun (Err f)) }
 {
     let hosts = hosts_of(&script.programs);
@@ -171,11 +178,15 @@ fn explore_events<W: Write, V: Watcher>(
     writer: &mut W,
     watcher: &V,
 ) -> Result<Explored, DriverFault>
-    requires declared { IsDeclared (record { names = texts script.names.keys; cells = rows script.arrays.items }) }
+    requires declared { IsDeclared
+        (record { names = texts script.names.keys; cells = rows script.arrays.items }) }
     requires numbered { AreNumbered 0 script.programs.items }
     requires few { length script.programs.items ≤ MAX_HOSTS }
-    requires said { schedule_of (length script.programs.items) options.devices schedule.now ≡ Ok events.now }
-    ensures answers { ExploresProgram options exploring schedule.now (program_of script.entry) events.now (W.contents writer.old) (W.contents writer.new) result }
+    requires said { schedule_of (length script.programs.items) options.devices schedule.now
+        ≡ Ok events.now }
+    ensures answers { ExploresProgram options exploring schedule.now
+        (program_of script.entry) events.now (W.contents writer.old)
+        (W.contents writer.new) result }
     ensures run { AreUsable options → IfErr result (λ f. IsRun (Err f)) }
 {
     endings_are_said();
@@ -226,8 +237,12 @@ fn tell<W: Write, V: Watcher>(
     watcher: &V,
 ) -> Result<Explored, Fault>
     requires { OnePerHost origin.now.config.now origin.now.script.now.programs.items }
-    ensures told { IfOk result (TellsAllOf aim (setting_from origin.now) origin.now.schedule.now origin.now.most (sink (W.contents out.old) failed.old) (sink (W.contents out.new) failed.new)) }
-    ensures begun { OnErr result (TellsSomeOf aim (setting_from origin.now) origin.now.schedule.now (sink (W.contents out.old) failed.old) (sink (W.contents out.new) failed.new)) }
+    ensures told { IfOk result
+        (TellsAllOf aim (setting_from origin.now) origin.now.schedule.now origin.now.most
+        (sink (W.contents out.old) failed.old) (sink (W.contents out.new) failed.new)) }
+    ensures begun { OnErr result
+        (TellsSomeOf aim (setting_from origin.now) origin.now.schedule.now
+        (sink (W.contents out.old) failed.old) (sink (W.contents out.new) failed.new)) }
     ensures fault { OnlyMemory result }
 {
     match aim {

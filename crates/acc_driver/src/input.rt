@@ -43,7 +43,8 @@ fn read_turn<R: Read>(
     text: &mut Vec<u8>,
 ) -> Result<bool, InputFault>
     requires { 0 < length buffer.old }
-    ensures { IfOk result (ReadsTurn (R.remaining reader.old) (R.remaining reader.new) text.old.items text.new.items (length buffer.old)) }
+    ensures { IfOk result (ReadsTurn (R.remaining reader.old)
+        (R.remaining reader.new) text.old.items text.new.items (length buffer.old)) }
 {
     match reader.read(buffer) {
         Ok(0) => Ok(false),
@@ -77,7 +78,8 @@ pub(crate) fn read_text<R: Read>(
     limit: usize,
     turns: u32,
 ) -> Result<Vec<u8>, InputFault>
-    ensures bytes { IfOk result (λ text. IfSome (R.remaining reader.old) (λ bytes. text.items ≡ take limit bytes)) }
+    ensures bytes { IfOk result (λ text.
+        IfSome (R.remaining reader.old) (λ bytes. text.items ≡ take limit bytes)) }
     ensures within { IfOk result (λ text. vec_len text ≤ limit) }
 {
     let mut text = Vec::new(alloc);

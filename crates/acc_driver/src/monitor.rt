@@ -101,7 +101,8 @@ pub(crate) fn run_hosts<R: Threads + Wait + Sync, G: Gate + Sync, M: Monitor + S
 ) -> Result<(Vec<Host>, Vec<HostToken>), (Fault, Vec<Host>, Vec<HostToken>)>
     requires { Paired hosts.items tokens.items }
     ensures config { runtime.new.config ≡ runtime.old.config }
-    ensures ran { IfOk result (λ r. WentEach runtime.old.config.devices hosts.items tokens.items r.0.items r.1.items) }
+    ensures ran { IfOk result (λ r.
+        WentEach runtime.old.config.devices hosts.items tokens.items r.0.items r.1.items) }
     ensures kept { IfErr result (λ r. (r.0 ≡ Memory) × (r.1 ≡ hosts) × (r.2 ≡ tokens)) }
 {
     match (monitor, runtime.take_reader()) {
@@ -124,7 +125,8 @@ fn run_shown<R: Threads + Wait + Sync, G: Gate + Sync, M: Monitor + Sync>(
     reader: Reader,
 ) -> Result<(Vec<Host>, Vec<HostToken>), (Fault, Vec<Host>, Vec<HostToken>)>
     requires { Paired hosts.items tokens.items }
-    ensures ran { IfOk result (λ r. WentEach runtime.now.config.devices hosts.items tokens.items r.0.items r.1.items) }
+    ensures ran { IfOk result (λ r.
+        WentEach runtime.now.config.devices hosts.items tokens.items r.0.items r.1.items) }
     ensures kept { IfErr result (λ r. (r.0 ≡ Memory) × (r.1 ≡ hosts) × (r.2 ≡ tokens)) }
 {
     let own = Bell::new();
@@ -133,8 +135,11 @@ fn run_shown<R: Threads + Wait + Sync, G: Gate + Sync, M: Monitor + Sync>(
         thread::scope_env(),
         rt,
         move |scope| -> Result<(Vec<Host>, Vec<HostToken>), (Fault, Vec<Host>, Vec<HostToken>)>
-            requires { IsSync R.row × IsSync G.row × IsSync M.row × Paired hosts.items tokens.items }
-            ensures { MatchResult result (λ r. WentEach runtime.entry.now.config.devices hosts.items tokens.items r.0.items r.1.items) (λ r. (r.0 ≡ Memory) × (r.1 ≡ hosts) × (r.2 ≡ tokens)) }
+            requires { IsSync R.row × IsSync G.row × IsSync M.row
+                × Paired hosts.items tokens.items }
+            ensures { MatchResult result (λ r.
+                WentEach runtime.entry.now.config.devices hosts.items tokens.items r.0.items r.1.items)
+                (λ r. (r.0 ≡ Memory) × (r.1 ≡ hosts) × (r.2 ≡ tokens)) }
         {
             let _ = scope.spawn(move || watch(rt, monitor, reader, bell));
             let ran = runtime.run(rt, alloc, gate, hosts, tokens);

@@ -19,7 +19,8 @@ use std::alloc::Global;
 // What a script says.
 pub(crate) fn read_script<'a>(alloc: Global, text: &'a [u8]) -> Result<Script<'a>, ReplayFault>
     ensures found { IfOk result (λ s. script_of text.now ≡ Ok (program_of s)) }
-    ensures declared { IfOk result (λ s. IsDeclared (record { names = texts s.names.keys; cells = rows s.arrays.items })) }
+    ensures declared { IfOk result (λ s.
+        IsDeclared (record { names = texts s.names.keys; cells = rows s.arrays.items })) }
     ensures numbered { IfOk result (λ s. AreNumbered 0 s.programs.items) }
     ensures few { IfOk result (λ s. length s.programs.items ≤ MAX_HOSTS) }
     ensures refused { IfErr result (IsScriptFault text.now) }
@@ -47,9 +48,15 @@ pub(crate) fn config_of(
     arrays: Vec<Vec<i64>>,
 ) -> Result<Config, ReplayFault>
     requires few { length programs.now.items ≤ MAX_HOSTS }
-    ensures held { IfOk result (λ c. c ≡ configuration options.devices (length programs.now.items) (rows arrays.items) options.cells options.room) }
-    ensures valid { OnOk result (fault_of (configuration options.devices (length programs.now.items) (rows arrays.items) options.cells options.room) ≡ None) }
-    ensures refused { IfErr result (λ f. IsWorldFault (configuration options.devices (length programs.now.items) (rows arrays.items) options.cells options.room) (driver_fault f)) }
+    ensures held { IfOk result (λ c.
+        c ≡ configuration options.devices (length programs.now.items)
+        (rows arrays.items) options.cells options.room) }
+    ensures valid { OnOk result (fault_of (configuration options.devices (length programs.now.items)
+        (rows arrays.items) options.cells options.room) ≡ None) }
+    ensures refused { IfErr result (λ f.
+        IsWorldFault
+        (configuration options.devices (length programs.now.items)
+        (rows arrays.items) options.cells options.room) (driver_fault f)) }
 {
     match Config::new(
         alloc,

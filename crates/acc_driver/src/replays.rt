@@ -60,9 +60,13 @@ pub fn replay<R: Read, S: Read, W: Write>(
     writer: &mut W,
     remains: &mut Remains,
 ) -> Result<Ended, DriverFault>
-    ensures answers { IfSome (R.remaining script.old) (λ script. IfSome (S.remaining schedule.old) (λ schedule. Answers options (record { script = script; schedule = schedule }) (W.contents writer.old) (W.contents writer.new) result)) }
+    ensures answers { IfSome (R.remaining script.old) (λ script.
+        IfSome (S.remaining schedule.old) (λ schedule.
+        Answers options (record { script = script; schedule = schedule }) (W.contents writer.old)
+        (W.contents writer.new) result)) }
     ensures unread { IfErr result (λ f. IsOfScript f → schedule.new ≡ schedule.old) }
-    ensures understood { IfSome (R.remaining script.old) (λ script. IsScript script ⊎ (schedule.new ≡ schedule.old)) }
+    ensures understood { IfSome (R.remaining script.old) (λ script. IsScript script
+        ⊎ (schedule.new ≡ schedule.old)) }
     ensures run { AreUsable options → IsRun result }
 {
     let text = match read_text(alloc, script, TEXT_LIMIT, TEXT_TURNS) {
@@ -95,7 +99,8 @@ pub fn replay_one<R: Read, W: Write>(
     writer: &mut W,
     remains: &mut Remains,
 ) -> Result<Ended, DriverFault>
-    ensures answers { IfSome (R.remaining reader.old) (λ text. Answers options (parts text) (W.contents writer.old) (W.contents writer.new) result) }
+    ensures answers { IfSome (R.remaining reader.old) (λ text.
+        Answers options (parts text) (W.contents writer.old) (W.contents writer.new) result) }
     ensures run { AreUsable options → IsRun result }
 {
     match read_text(alloc, reader, INPUT_LIMIT, INPUT_TURNS) {
@@ -133,7 +138,8 @@ pub fn replay_texts<W: Write>(
     writer: &mut W,
     remains: &mut Remains,
 ) -> Result<Ended, ReplayFault>
-    ensures answers { Answers options (record { script = script.now; schedule = schedule.now }) (W.contents writer.old) (W.contents writer.new) (of_input result) }
+    ensures answers { Answers options (record { script = script.now; schedule = schedule.now })
+        (W.contents writer.old) (W.contents writer.new) (of_input result) }
     ensures run { AreUsable options → IsRun (of_input result) }
 {
     match read_script(alloc, script) {
@@ -151,10 +157,12 @@ fn replay_script<W: Write>(
     writer: &mut W,
     remains: &mut Remains,
 ) -> Result<Ended, ReplayFault>
-    requires declared { IsDeclared (record { names = texts script.names.keys; cells = rows script.arrays.items }) }
+    requires declared { IsDeclared
+        (record { names = texts script.names.keys; cells = rows script.arrays.items }) }
     requires numbered { AreNumbered 0 script.programs.items }
     requires few { length script.programs.items ≤ MAX_HOSTS }
-    ensures answers { ScheduleAnswers options (program_of script.entry) schedule.now (W.contents writer.old) (W.contents writer.new) (of_input result) }
+    ensures answers { ScheduleAnswers options (program_of script.entry) schedule.now
+        (W.contents writer.old) (W.contents writer.new) (of_input result) }
     ensures run { AreUsable options → IsRun (of_input result) }
 {
     let hosts = hosts_of(&script.programs);
@@ -174,10 +182,12 @@ fn run<W: Write>(
     writer: &mut W,
     remains: &mut Remains,
 ) -> Result<Ended, ReplayFault>
-    requires declared { IsDeclared (record { names = texts script.names.keys; cells = rows script.arrays.items }) }
+    requires declared { IsDeclared
+        (record { names = texts script.names.keys; cells = rows script.arrays.items }) }
     requires numbered { AreNumbered 0 script.programs.items }
     requires few { length script.programs.items ≤ MAX_HOSTS }
-    ensures answers { RunAnswers options (program_of script.entry) schedule.now (W.contents writer.old) (W.contents writer.new) (of_input result) }
+    ensures answers { RunAnswers options (program_of script.entry) schedule.now
+        (W.contents writer.old) (W.contents writer.new) (of_input result) }
     ensures run { AreUsable options → IsRun (of_input result) }
 {
     let Script {
@@ -202,7 +212,8 @@ pub(crate) fn report_world<W: Write>(
     writer: &mut W,
     remains: &mut Remains,
 ) -> Result<Ended, ReplayFault>
-    ensures answers { ReportsWorld (texts names.entry.keys) world (W.contents writer.old) (W.contents writer.new) (of_input result) }
+    ensures answers { ReportsWorld (texts names.entry.keys) world (W.contents writer.old)
+        (W.contents writer.new) (of_input result) }
     ensures legal { IsLegalState world }
     ensures follow { AllFollow world 0 world.hosts }
 {
@@ -242,7 +253,8 @@ fn run_schedule(schedule: &Schedule, world: &mut World)
 
 // The same for the events of one line. A turn in which nothing was possible isn't made again: the next would be the same.
 fn run_line(round: &[Event], line: &ScheduleLine, world: &mut World)
-    ensures { (replies : List Reply) × Runs world.old (kept_events round.now line.now) replies world.new }
+    ensures { (replies : List Reply)
+        × Runs world.old (kept_events round.now line.now) replies world.new }
 {
     let turn = line.turn.events(round);
     for _ in 0..line.times {
@@ -261,8 +273,13 @@ pub(crate) fn new_world(
 ) -> Result<World, ReplayFault>
     requires few { length programs.items ≤ MAX_HOSTS }
     requires numbered { AreNumbered 0 programs.items }
-    ensures opened { IfOk result (λ w. w ≡ first_state (configuration options.devices (length programs.items) (rows arrays.items) options.cells options.room) programs.items) }
-    ensures refused { IfErr result (λ f. IsWorldFault (configuration options.devices (length programs.items) (rows arrays.items) options.cells options.room) (driver_fault f)) }
+    ensures opened { IfOk result (λ w.
+        w ≡ first_state (configuration options.devices (length programs.items)
+        (rows arrays.items) options.cells options.room) programs.items) }
+    ensures refused { IfErr result (λ f.
+        IsWorldFault
+        (configuration options.devices (length programs.items)
+        (rows arrays.items) options.cells options.room) (driver_fault f)) }
 {
     let config = match config_of(alloc, options, &programs, arrays) {
         Ok(config) => config,

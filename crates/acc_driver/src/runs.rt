@@ -64,7 +64,8 @@ pub fn run_script<R: Threads + Wait + Sync, S: Read, G: Gate + Sync, M: Monitor 
     writer: &mut W,
     remains: &mut Remains,
 ) -> Result<Ended, DriverFault>
-    ensures answers { IfSome (S.remaining script.old) (λ script. ScriptAnswers options script (W.contents writer.old) (W.contents writer.new) result) }
+    ensures answers { IfSome (S.remaining script.old) (λ script.
+        ScriptAnswers options script (W.contents writer.old) (W.contents writer.new) result) }
     ensures configured { AreUsable options → IsConfigured result }
 {
     let text = match read_text(alloc, script, TEXT_LIMIT, TEXT_TURNS) {
@@ -88,10 +89,12 @@ fn run<R: Threads + Wait + Sync, G: Gate + Sync, M: Monitor + Sync, W: Write>(
     writer: &mut W,
     remains: &mut Remains,
 ) -> Result<Ended, DriverFault>
-    requires declared { IsDeclared (record { names = texts script.names.keys; cells = rows script.arrays.items }) }
+    requires declared { IsDeclared
+        (record { names = texts script.names.keys; cells = rows script.arrays.items }) }
     requires numbered { AreNumbered 0 script.programs.items }
     requires few { length script.programs.items ≤ MAX_HOSTS }
-    ensures answers { ProgramAnswers options (program_of script.entry) (W.contents writer.old) (W.contents writer.new) result }
+    ensures answers { ProgramAnswers options (program_of script.entry) (W.contents writer.old)
+        (W.contents writer.new) result }
     ensures configured { AreUsable options → IsConfigured result }
 {
     let Script {
@@ -162,7 +165,8 @@ fn end(alloc: Global, runtime: Runtime, tokens: Vec<HostToken>) -> Result<Outcom
     ensures config { IfOk result (λ o. o.config ≡ runtime.config) }
     ensures legal { IfOk result (λ o. Legal (histories_of o)) }
     ensures agree { IfOk result (λ o. Agree tokens.items (histories_of o)) }
-    ensures queues { IfOk result (λ o. AreFinished (histories_of o) o.discarded.items ⊎ AreAbandoned (histories_of o) o.discarded.items) }
+    ensures queues { IfOk result (λ o. AreFinished (histories_of o) o.discarded.items
+        ⊎ AreAbandoned (histories_of o) o.discarded.items) }
     ensures counted { IfOk result (λ o. HasCounts o) }
     ensures fault { IfErr result (λ f. (f ≡ HostsDiffer) ⊎ (f ≡ Memory)) }
 {

@@ -64,7 +64,10 @@ pub fn show<R: Read, S: Read, W: Write>(
     writer: &mut W,
     remains: &mut Remains,
 ) -> Result<Option<Ended>, DriverFault>
-    ensures answers { IfSome (R.remaining script.old) (λ script. IfSome (S.remaining schedule.old) (λ schedule. StepsAnswer options form (record { script = script; schedule = schedule }) (W.contents writer.old) (W.contents writer.new) result)) }
+    ensures answers { IfSome (R.remaining script.old) (λ script.
+        IfSome (S.remaining schedule.old) (λ schedule.
+        StepsAnswer options form (record { script = script; schedule = schedule })
+        (W.contents writer.old) (W.contents writer.new) result)) }
     ensures run { AreUsable options → IfErr result (λ f. IsRun (Err f)) }
 {
     let text = match read_text(alloc, script, TEXT_LIMIT, TEXT_TURNS) {
@@ -107,7 +110,9 @@ pub fn show_one<R: Read, W: Write>(
     writer: &mut W,
     remains: &mut Remains,
 ) -> Result<Option<Ended>, DriverFault>
-    ensures answers { IfSome (R.remaining reader.old) (λ text. StepsAnswer options form (parts text) (W.contents writer.old) (W.contents writer.new) result) }
+    ensures answers { IfSome (R.remaining reader.old) (λ text.
+        StepsAnswer options form (parts text) (W.contents writer.old)
+        (W.contents writer.new) result) }
     ensures run { AreUsable options → IfErr result (λ f. IsRun (Err f)) }
 {
     let text = match read_text(alloc, reader, INPUT_LIMIT, INPUT_TURNS) {
@@ -134,10 +139,13 @@ fn steps_of<'t, W: Write>(
     writer: &mut W,
     remains: &mut Remains,
 ) -> Result<Option<Ended>, DriverFault>
-    requires declared { IsDeclared (record { names = texts script.names.keys; cells = rows script.arrays.items }) }
+    requires declared { IsDeclared
+        (record { names = texts script.names.keys; cells = rows script.arrays.items }) }
     requires numbered { AreNumbered 0 script.programs.items }
     requires few { length script.programs.items ≤ MAX_HOSTS }
-    ensures answers { StepsOfSchedule options form (record { script = text.now; schedule = schedule.now }) (program_of script.entry) (W.contents writer.old) (W.contents writer.new) result }
+    ensures answers { StepsOfSchedule options form
+        (record { script = text.now; schedule = schedule.now }) (program_of script.entry)
+        (W.contents writer.old) (W.contents writer.new) result }
     ensures run { AreUsable options → IfErr result (λ f. IsRun (Err f)) }
 {
     let events = events_of(alloc, schedule, hosts_of(&script.programs), options.devices)?;
@@ -166,7 +174,8 @@ fn events_of(
     devices: u8,
 ) -> Result<Vec<Numbered>, DriverFault>
     ensures events { IfOk result (λ list. list.items ≡ numbered_events hosts devices schedule.now) }
-    ensures said { OnOk result ((events : List Event) × (schedule_of hosts devices schedule.now ≡ Ok events)) }
+    ensures said { OnOk result ((events : List Event)
+        × (schedule_of hosts devices schedule.now ≡ Ok events)) }
     ensures fault { IfErr result (IsEventsFault hosts devices schedule.now) }
 {
     match Schedule::read(alloc, schedule, hosts, devices) {
@@ -194,7 +203,9 @@ fn show_world<'t, W: Write>(
     writer: &mut W,
     remains: &mut Remains,
 ) -> Result<Option<Ended>, DriverFault>
-    ensures { StepsOfWorld form (record { names = texts names.entry.keys; source = texts source.entry.items; idle = tells_idle form }) events.now world (W.contents writer.old) (W.contents writer.new) result }
+    ensures { StepsOfWorld form
+        (record { names = texts names.entry.keys; source = texts source.entry.items; idle = tells_idle form }) events.now world
+        (W.contents writer.old) (W.contents writer.new) result }
 {
     match form {
         StepsAs::Lines => tell_world(alloc, names, source, false, events, world, writer, remains),
@@ -214,7 +225,10 @@ fn tell_world<'t, W: Write>(
     writer: &mut W,
     remains: &mut Remains,
 ) -> Result<Option<Ended>, DriverFault>
-    ensures { (form : StepsAs) → TellsLines form → StepsOfWorld form (record { names = texts names.entry.keys; source = texts source.entry.items; idle = idle }) events.now world (W.contents writer.old) (W.contents writer.new) result }
+    ensures { (form : StepsAs) → TellsLines form
+        → StepsOfWorld form
+        (record { names = texts names.entry.keys; source = texts source.entry.items; idle = idle }) events.now world
+        (W.contents writer.old) (W.contents writer.new) result }
 {
     let mut world = world;
     let mut failed = false;
@@ -246,7 +260,9 @@ fn draw_world<'t, W: Write>(
     writer: &mut W,
     remains: &mut Remains,
 ) -> Result<Option<Ended>, DriverFault>
-    ensures { StepsOfWorld Picture (record { names = texts names.entry.keys; source = texts source.entry.items; idle = false }) events.now world (W.contents writer.old) (W.contents writer.new) result }
+    ensures { StepsOfWorld Picture
+        (record { names = texts names.entry.keys; source = texts source.entry.items; idle = false }) events.now world
+        (W.contents writer.old) (W.contents writer.new) result }
 {
     let mut world = world;
     let mut failed = false;

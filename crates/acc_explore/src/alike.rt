@@ -37,7 +37,8 @@ fn have_same_progress(old: &World, new: &World) -> bool
 
 // Whether a host stands alike in both worlds.
 fn stands_alike(old: &World, new: &World, host: HostId) -> bool
-    ensures { IsTrue result → StandAlike (slice_get old.now.hosts host) (slice_get new.now.hosts host) }
+    ensures { IsTrue result
+        → StandAlike (slice_get old.now.hosts host) (slice_get new.now.hosts host) }
 {
     let (Some(host), Some(other)) = (old.host(host), new.host(host)) else {
         return false;

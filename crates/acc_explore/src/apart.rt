@@ -23,21 +23,24 @@ use acc_host::{Host, Phase, Statement};
 
 // Whether an operation of a device conflicts with none of these of another one.
 fn ops_are_clear(device: DeviceId, op: &OpLabel, other: DeviceId, ops: &[OpLabel]) -> bool
-    ensures { result ≡ list_all (λ (x : OpLabel). not (ops_conflict device op.now other x)) ops.now }
+    ensures { result
+        ≡ list_all (λ (x : OpLabel). not (ops_conflict device op.now other x)) ops.now }
 {
     ops.iter().all(|x| !ops_conflict(device, op, other, x))
 }
 
 // Whether it conflicts with none of a batch.
 fn batch_is_clear(device: DeviceId, op: &OpLabel, other: DeviceId, label: &Label) -> bool
-    ensures { result ≡ list_all (λ (x : OpLabel). not (ops_conflict device op.now other x)) label.now.ops }
+    ensures { result
+        ≡ list_all (λ (x : OpLabel). not (ops_conflict device op.now other x)) label.now.ops }
 {
     ops_are_clear(device, op, other, label.ops.get().as_slice())
 }
 
 // Whether it conflicts with none of these batches.
 fn batches_are_clear(device: DeviceId, op: &OpLabel, other: DeviceId, labels: &[Label]) -> bool
-    ensures { result ≡ list_all (λ (l : Label). list_all (λ (x : OpLabel). not (ops_conflict device op.now other x)) l.ops) labels.now }
+    ensures { result ≡ list_all (λ (l : Label). list_all (λ (x : OpLabel).
+        not (ops_conflict device op.now other x)) l.ops) labels.now }
 {
     labels
         .iter()
@@ -52,7 +55,9 @@ fn rest_is_clear(
     labels: &[Label],
     first: usize,
 ) -> bool
-    ensures { IsTrue result → IsTrue (list_all (λ (l : Label). list_all (λ (x : OpLabel). not (ops_conflict device op.now other x)) l.ops) (drop first labels.now)) }
+    ensures { IsTrue result
+        → IsTrue (list_all (λ (l : Label). list_all (λ (x : OpLabel).
+        not (ops_conflict device op.now other x)) l.ops) (drop first labels.now)) }
 {
     first >= labels.len() || batches_are_clear(device, op, other, &labels[first..])
 }
@@ -88,7 +93,8 @@ fn queue_is_clear(world: &World, at: QueueAt, op: &OpLabel, other: QueueAt) -> b
 
 // Whether each queue is.
 fn queues_are_clear(world: &World, at: QueueAt, op: &OpLabel) -> bool
-    ensures { IsTrue result → IsTrue (queues_are_clear world.now at op.now (queue_count world.now.config)) }
+    ensures { IsTrue result
+        → IsTrue (queues_are_clear world.now at op.now (queue_count world.now.config)) }
 {
     let QueueAt { device, queue } = at;
     for seat in 0..world.place().config().queue_count() {
@@ -121,7 +127,8 @@ fn waits_for(world: &World, at: QueueAt, phase: &Phase) -> bool
 
 // Whether none of these statements may conflict with an operation, or place what does.
 fn statements_are_clear(op: &OpLabel, statements: &[Statement]) -> bool
-    ensures { result ≡ list_all (λ (s : Statement). not (meets op.now (bare_act s.act))) statements.now }
+    ensures { result ≡ list_all (λ (s : Statement). not
+        (meets op.now (bare_act s.act))) statements.now }
 {
     statements
         .iter()
@@ -130,7 +137,9 @@ fn statements_are_clear(op: &OpLabel, statements: &[Statement]) -> bool
 
 // Whether none of those behind the first one may.
 fn behind_are_clear(op: &OpLabel, statements: &[Statement]) -> bool
-    ensures { IsTrue result → IsTrue (list_all (λ (s : Statement). not (meets op.now (bare_act s.act))) (drop 1 statements.now)) }
+    ensures { IsTrue result
+        → IsTrue (list_all (λ (s : Statement). not (meets op.now (bare_act s.act)))
+        (drop 1 statements.now)) }
 {
     statements.len() <= 1 || statements_are_clear(op, &statements[1..])
 }
@@ -157,7 +166,8 @@ fn host_is_clear(world: &World, at: QueueAt, op: &OpLabel, host: &Host) -> bool
 
 // Whether each host does.
 fn hosts_are_clear(world: &World, at: QueueAt, op: &OpLabel) -> bool
-    ensures { IsTrue result → IsTrue (list_all (host_is_clear world.now at op.now) world.now.hosts) }
+    ensures { IsTrue result
+        → IsTrue (list_all (host_is_clear world.now at op.now) world.now.hosts) }
 {
     let QueueAt { device, queue } = at;
     for number in 0..world.hosts() {

@@ -22,7 +22,8 @@ pub struct Arrival {
 /// `Memory` where memory is refused.
 pub fn path(alloc: Global, arrivals: &[Arrival], number: u32) -> Result<Vec<Event>, Fault>
     requires { number ≤ length arrivals.now }
-    ensures events { IfOk result (λ events. events.items ≡ events_to (reverse arrivals.now) number) }
+    ensures events { IfOk result (λ events.
+        events.items ≡ events_to (reverse arrivals.now) number) }
     ensures fault { OnlyMemory result }
 {
     let mut events = Vec::new(alloc);

@@ -26,7 +26,8 @@ fn hold_same_array(old: &World, new: &World, array: u8) -> bool
 
 // Whether all do.
 fn hold_same_arrays(old: &World, new: &World) -> bool
-    ensures { IsTrue result → (array : ℕ) → array < length old.now.config.arrays → HoldSameArray old.now new.now array }
+    ensures { IsTrue result → (array : ℕ) → array < length old.now.config.arrays
+        → HoldSameArray old.now new.now array }
 {
     let config = old.place().config();
     config.keeps();
@@ -83,7 +84,8 @@ fn hold_same_blocks(old: &World, new: &World) -> bool
 
 /// Whether the host arrays hold the same in both worlds, and the blocks that the first one's log made and that are there.
 pub(crate) fn hold_same_cells(old: &World, new: &World) -> bool
-    ensures arrays { IsTrue result → (array : ℕ) → array < length old.now.config.arrays → HoldSameArray old.now new.now array }
+    ensures arrays { IsTrue result → (array : ℕ) → array < length old.now.config.arrays
+        → HoldSameArray old.now new.now array }
     ensures blocks { IsTrue result → All (HoldSameMade old.now new.now) (reverse old.now.work) }
 {
     hold_same_arrays(old, new) && hold_same_blocks(old, new)

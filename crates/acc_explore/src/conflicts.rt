@@ -117,7 +117,9 @@ fn loop_conflicts(
     range: &Range,
     writes: bool,
 ) -> bool
-    ensures { result ≡ list_any (λ (u : Use). conflict (record { cells = in_block block range.now; writes = writes }) (use_access kernel.now u)) uses.now }
+    ensures { result ≡ list_any (λ (u : Use). conflict
+        (record { cells = in_block block range.now; writes = writes })
+        (use_access kernel.now u)) uses.now }
 {
     uses.iter().any(|(other, cells)| {
         (writes || assigns(kernel, cells.array)) && meet(block, range, *other, cells)
@@ -126,7 +128,9 @@ fn loop_conflicts(
 
 // Whether an operation does, on the same device.
 fn op_conflicts(op: &OpLabel, block: BlockId, range: &Range, writes: bool) -> bool
-    ensures { result ≡ list_any (conflict (record { cells = in_block block range.now; writes = writes })) (block_accesses op.now) }
+    ensures { result
+        ≡ list_any (conflict (record { cells = in_block block range.now; writes = writes }))
+        (block_accesses op.now) }
 {
     match op {
         OpLabel::Make {
@@ -150,7 +154,8 @@ fn op_conflicts(op: &OpLabel, block: BlockId, range: &Range, writes: bool) -> bo
 
 // Whether a loop that uses these blocks conflicts with an operation of the same device.
 fn uses_conflict(kernel: &Kernel, uses: &[(BlockId, Range)], other: &OpLabel) -> bool
-    ensures { result ≡ list_any (λ (u : Use). list_any (conflict (use_access kernel.now u)) (block_accesses other.now)) uses.now }
+    ensures { result ≡ list_any (λ (u : Use). list_any (conflict (use_access kernel.now u))
+        (block_accesses other.now)) uses.now }
 {
     uses.iter().any(|(block, cells)| {
         op_conflicts(other, *block, cells, assigns(kernel, cells.array))

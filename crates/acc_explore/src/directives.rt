@@ -40,7 +40,8 @@ fn has_same_directives(host: HostId, old: &Place, new: &Place) -> bool
 
 /// Whether each of the first hosts has.
 pub(crate) fn have_same_directives(hosts: u8, old: &Place, new: &Place) -> bool
-    ensures { IsTrue result → (host : ℕ) → host < hosts → own_in old.now host ≡ own_in new.now host }
+    ensures { IsTrue result → (host : ℕ) → host < hosts
+        → own_in old.now host ≡ own_in new.now host }
 {
     for host in 0..hosts {
         if !has_same_directives(HostId::new(host), old, new) {

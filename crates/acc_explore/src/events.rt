@@ -12,7 +12,8 @@ use std::alloc::Global;
 
 // Those of the hosts, in their order.
 fn push_hosts(events: &mut Vec<Event>, hosts: u8) -> Result<(), Fault>
-    ensures pushed { OnOk result (events.new.items ≡ events.old.items ++ reverse (events_of_hosts hosts)) }
+    ensures pushed { OnOk result (events.new.items ≡ events.old.items
+        ++ reverse (events_of_hosts hosts)) }
     ensures fault { OnlyMemory result }
 {
     for host in 0..hosts {
@@ -23,7 +24,8 @@ fn push_hosts(events: &mut Vec<Event>, hosts: u8) -> Result<(), Fault>
 
 // Those of the queues, in their order. Of one queue one of the two alone can do something in a state.
 fn push_queues(events: &mut Vec<Event>, config: &Config) -> Result<(), Fault>
-    ensures pushed { OnOk result (events.new.items ≡ events.old.items ++ reverse (events_of_queues (queue_count config.now))) }
+    ensures pushed { OnOk result (events.new.items ≡ events.old.items
+        ++ reverse (events_of_queues (queue_count config.now))) }
     ensures fault { OnlyMemory result }
 {
     for seat in 0..config.queue_count() {
@@ -39,7 +41,8 @@ pub(crate) fn events_in_turn(
     config: &Config,
     closing: bool,
 ) -> Result<Vec<Event>, Fault>
-    ensures events { IfOk result (λ events. events.items ≡ events_in_turn closing config.now.hosts (queue_count config.now)) }
+    ensures events { IfOk result (λ events.
+        events.items ≡ events_in_turn closing config.now.hosts (queue_count config.now)) }
     ensures fault { OnlyMemory result }
 {
     let mut events = Vec::new(alloc);

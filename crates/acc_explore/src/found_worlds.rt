@@ -20,7 +20,8 @@ use acc_core::World;
 pub(crate) fn world_again(task: &Task, arrivals: &[Arrival], number: u32) -> Result<World, Fault>
     requires hosts { OnePerHost task.now.config.now task.now.programs.now }
     requires there { number ≤ length arrivals.now }
-    ensures world { IfOk result (λ w. w ≡ (found_at (start_of task.now) (reverse arrivals.now) number).state) }
+    ensures world { IfOk result (λ w.
+        w ≡ (found_at (start_of task.now) (reverse arrivals.now) number).state) }
     ensures fault { OnlyMemory result }
 {
     world_found(
@@ -43,7 +44,8 @@ pub(crate) fn world_at(
     requires hosts { OnePerHost task.now.config.now task.now.programs.now }
     requires there { number ≤ length arrivals.now }
     requires worlds { AreAtHand (start_of task.now) (reverse arrivals.now) worlds.old.seats.items }
-    ensures world { IfOk result (λ w. w ≡ (found_at (start_of task.now) (reverse arrivals.now) number).state) }
+    ensures world { IfOk result (λ w.
+        w ≡ (found_at (start_of task.now) (reverse arrivals.now) number).state) }
     ensures worlds { AreAtHand (start_of task.now) (reverse arrivals.now) worlds.new.seats.items }
     ensures fault { OnlyMemory result }
 {
@@ -63,7 +65,8 @@ pub(crate) fn world_here(
     requires hosts { OnePerHost task.now.config.now task.now.programs.now }
     requires there { number ≤ length arrivals.now }
     requires here { IsHere (start_of task.now) (reverse arrivals.now) number at_hand }
-    ensures world { IfOk result (λ w. w ≡ (found_at (start_of task.now) (reverse arrivals.now) number).state) }
+    ensures world { IfOk result (λ w.
+        w ≡ (found_at (start_of task.now) (reverse arrivals.now) number).state) }
     ensures fault { OnlyMemory result }
 {
     match at_hand {
@@ -84,7 +87,8 @@ fn is_like(
     requires there { number ≤ length arrivals.now }
     requires worlds { AreAtHand (start_of task.now) (reverse arrivals.now) worlds.now.seats.items }
     requires script { AreOfOneScript (start_of task.now) world.now }
-    ensures like { IfOk result (λ like. IsTrue like → Alike (found_at (start_of task.now) (reverse arrivals.now) number).state world.now) }
+    ensures like { IfOk result (λ like. IsTrue like
+        → Alike (found_at (start_of task.now) (reverse arrivals.now) number).state world.now) }
     ensures fault { OnlyMemory result }
 {
     match worlds.get(number) {
@@ -107,7 +111,8 @@ pub(crate) fn is_like_one(
     requires hosts { OnePerHost task.now.config.now task.now.programs.now }
     requires worlds { AreAtHand (start_of task.now) (reverse arrivals.now) worlds.now.seats.items }
     requires script { AreOfOneScript (start_of task.now) world.now }
-    ensures like { IfOk result (λ like. IsTrue like → IsLikeOne (start_of task.now) (reverse arrivals.now) world.now) }
+    ensures like { IfOk result (λ like. IsTrue like
+        → IsLikeOne (start_of task.now) (reverse arrivals.now) world.now) }
     ensures fault { OnlyMemory result }
 {
     match number {

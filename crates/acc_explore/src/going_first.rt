@@ -40,7 +40,8 @@ fn asks_queues(act: &Act) -> bool
 
 // Whether none of these does.
 fn ask_nothing(statements: &[Statement]) -> bool
-    ensures { result ≡ list_all (λ (s : Statement). not (asks_queues (bare_act s.act))) statements.now }
+    ensures { result ≡ list_all (λ (s : Statement). not
+        (asks_queues (bare_act s.act))) statements.now }
 {
     statements
         .iter()
@@ -56,7 +57,8 @@ fn asks_nothing(program: &HostProgram) -> bool
 
 /// Whether no host of these programs asks how far queues have come.
 pub(crate) fn nobody_asks(programs: &[HostProgram]) -> bool
-    ensures { result ≡ list_all (λ (program : HostProgram). asks_no_more (ready program)) programs.now }
+    ensures { result ≡ list_all (λ (program : HostProgram).
+        asks_no_more (ready program)) programs.now }
 {
     programs.iter().all(asks_nothing)
 }

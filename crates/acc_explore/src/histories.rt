@@ -97,7 +97,8 @@ fn have_accepted_alike(hosts: u8, old: &Place, new: &Place) -> bool
 pub(crate) fn leave_alike(old: &World, new: &World) -> bool
     requires { AreOfOneScript old.now new.now }
     ensures places { IsTrue result → AlikePlaces (standing_of old.now) (standing_of new.now) }
-    ensures own { IsTrue result → (host : ℕ) → own_directives old.now host ≡ own_directives new.now host }
+    ensures own { IsTrue result → (host : ℕ)
+        → own_directives old.now host ≡ own_directives new.now host }
 {
     old.keeps();
     new.keeps();

@@ -86,7 +86,8 @@ fn is_same_item(item: &Told, other: &Told) -> bool
 
 // Whether a host has the same items in both logs.
 fn has_same_items(host: HostId, old: &WorkLog, new: &WorkLog) -> bool
-    ensures { IsTrue result → items_shown host (reverse old.now.items) ≡ items_shown host (reverse new.now.items) }
+    ensures { IsTrue result
+        → items_shown host (reverse old.now.items) ≡ items_shown host (reverse new.now.items) }
 {
     let mut items = OwnItems::new(old, host);
     let mut others = OwnItems::new(new, host);
@@ -122,8 +123,10 @@ fn are_shown_below(works: &WorkLog, hosts: u8) -> bool
 
 /// Whether each host has the same items in both logs, which have items of the first hosts alone.
 pub(crate) fn have_same_items(hosts: u8, old: &WorkLog, new: &WorkLog) -> bool
-    ensures shown { IsTrue result → (host : ℕ) → items_shown host (reverse old.now.items) ≡ items_shown host (reverse new.now.items) }
-    ensures all { IsTrue result → all_items (reverse old.now.items) ≡ all_items (reverse new.now.items) }
+    ensures shown { IsTrue result → (host : ℕ)
+        → items_shown host (reverse old.now.items) ≡ items_shown host (reverse new.now.items) }
+    ensures all { IsTrue result
+        → all_items (reverse old.now.items) ≡ all_items (reverse new.now.items) }
 {
     if !are_shown_below(old, hosts) || !are_shown_below(new, hosts) {
         return false;

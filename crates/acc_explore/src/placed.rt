@@ -15,7 +15,8 @@ use acc_present::Entry;
 // Whether a queue has the same batches in both.
 fn has_same_batches(old: &Place, new: &Place, seat: u16) -> bool
     requires { seat < 256 * QUEUES }
-    ensures { IsTrue result → HasSameBatches (standing_in old.now) (standing_in new.now) (at_seat seat) }
+    ensures { IsTrue result
+        → HasSameBatches (standing_in old.now) (standing_in new.now) (at_seat seat) }
 {
     are_same_labels(
         old.labels_on(QueueAt::at_seat(seat)),
@@ -25,7 +26,8 @@ fn has_same_batches(old: &Place, new: &Place, seat: u16) -> bool
 
 /// Whether each queue has, as many as the first of two places has.
 pub(crate) fn have_same_batches(old: &Place, new: &Place) -> bool
-    ensures { IsTrue result → HaveSameBatches (queue_count old.now.config) (standing_in old.now) (standing_in new.now) }
+    ensures { IsTrue result
+        → HaveSameBatches (queue_count old.now.config) (standing_in old.now) (standing_in new.now) }
 {
     for seat in 0..old.config().queue_count() {
         if !has_same_batches(old, new, seat) {
@@ -69,7 +71,8 @@ fn has_same_presences(device: DeviceId, old: &Place, new: &Place) -> bool
 /// Whether it is so on each device of two places of one configuration.
 pub(crate) fn have_same_presences(old: &Place, new: &Place) -> bool
     requires { new.now.config ≡ old.now.config }
-    ensures { IsTrue result → (device : ℕ) → device < old.now.config.devices → HasSamePresences (standing_in old.now) (standing_in new.now) device }
+    ensures { IsTrue result → (device : ℕ) → device < old.now.config.devices
+        → HasSamePresences (standing_in old.now) (standing_in new.now) device }
 {
     for device in 0..old.config().devices() {
         if !has_same_presences(DeviceId::new(device), old, new) {

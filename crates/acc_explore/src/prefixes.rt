@@ -49,7 +49,8 @@ fn put_prefix<W: Write>(
     number: usize,
     events: &[Event],
 )
-    ensures { Puts (sink (W.contents out.old) failed.old) (sink (W.contents out.new) failed.new) (prefix_text schedule.now number events.now) }
+    ensures { Puts (sink (W.contents out.old) failed.old) (sink (W.contents out.new) failed.new)
+        (prefix_text schedule.now number events.now) }
 {
     put(out, failed, b"# prefix ");
     put_number(out, failed, number);
@@ -67,8 +68,12 @@ fn tell_each<W: Write>(
     numbers: &[u32],
 ) -> Result<(), Fault>
     requires { All (λ n. n ≤ length arrivals.now) numbers.now }
-    ensures told { OnOk result (Puts (sink (W.contents out.old) failed.old) (sink (W.contents out.new) failed.new) (prefixes_text schedule.now 1 (map (events_to (reverse arrivals.now)) numbers.now))) }
-    ensures begun { OnErr result (TellsFirstPrefixes schedule.now (reverse arrivals.now) numbers.now (sink (W.contents out.old) failed.old) (sink (W.contents out.new) failed.new)) }
+    ensures told { OnOk result (Puts (sink (W.contents out.old) failed.old)
+        (sink (W.contents out.new) failed.new)
+        (prefixes_text schedule.now 1 (map (events_to (reverse arrivals.now)) numbers.now))) }
+    ensures begun { OnErr result
+        (TellsFirstPrefixes schedule.now (reverse arrivals.now) numbers.now
+        (sink (W.contents out.old) failed.old) (sink (W.contents out.new) failed.new)) }
     ensures fault { OnlyMemory result }
 {
     let mut count = 0usize;
@@ -107,7 +112,8 @@ fn depth_text(is_whole: bool) -> &'static [u8]
 
 // Puts the last line.
 fn put_count<W: Write>(out: &mut W, failed: &mut bool, count: PrefixCount)
-    ensures { Puts (sink (W.contents out.old) failed.old) (sink (W.contents out.new) failed.new) (prefix_line count) }
+    ensures { Puts (sink (W.contents out.old) failed.old) (sink (W.contents out.new) failed.new)
+        (prefix_line count) }
 {
     put_number(out, failed, count.prefixes);
     put(out, failed, prefix_word(count.prefixes));
@@ -131,8 +137,12 @@ pub fn tell_prefixes<W: Write, V: Watcher>(
     watcher: &V,
 ) -> Result<PrefixCount, Fault>
     requires { OnePerHost origin.now.config.now origin.now.script.now.programs.items }
-    ensures told { IfOk result (TellsPrefixes (setting_from origin.now) origin.now.schedule.now depth origin.now.most (sink (W.contents out.old) failed.old) (sink (W.contents out.new) failed.new)) }
-    ensures begun { OnErr result (TellsSomePrefixes (setting_from origin.now) origin.now.schedule.now (sink (W.contents out.old) failed.old) (sink (W.contents out.new) failed.new)) }
+    ensures told { IfOk result
+        (TellsPrefixes (setting_from origin.now) origin.now.schedule.now depth origin.now.most
+        (sink (W.contents out.old) failed.old) (sink (W.contents out.new) failed.new)) }
+    ensures begun { OnErr result
+        (TellsSomePrefixes (setting_from origin.now) origin.now.schedule.now
+        (sink (W.contents out.old) failed.old) (sink (W.contents out.new) failed.new)) }
     ensures fault { OnlyMemory result }
 {
     runs_are_legal();

@@ -11,7 +11,8 @@ use acc_work::WorkLog;
 
 // Whether a host waits or asks for what each queue has performed.
 fn is_reached(world: &World, host: &Host) -> bool
-    ensures { IsTrue result → IsTrue (is_reached world.now (wants world.now.config.devices host.now)) }
+    ensures { IsTrue result
+        → IsTrue (is_reached world.now (wants world.now.config.devices host.now)) }
 {
     if host.statement().is_none() {
         return false;

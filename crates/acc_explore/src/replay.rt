@@ -77,7 +77,9 @@ pub fn world_found(
 ) -> Result<World, Fault>
     requires hosts { OnePerHost config.now programs.now }
     requires there { number ≤ length arrivals.now }
-    ensures world { IfOk result (λ w. w ≡ (found_at (after (first_state config.now programs.now) before.now) (reverse arrivals.now) number).state) }
+    ensures world { IfOk result (λ w.
+        w ≡ (found_at (after (first_state config.now programs.now) before.now)
+        (reverse arrivals.now) number).state) }
     ensures fault { OnlyMemory result }
 {
     arrivals_are_reached();

@@ -71,8 +71,13 @@ fn report_at(
 ) -> Result<(Vec<u8>, bool), Fault>
     requires hosts { OnePerHost origin.now.config.now origin.now.script.now.programs.items }
     requires there { number ≤ length arrivals.now }
-    ensures report { IfOk result (λ r. r.0.items ≡ report_of (texts origin.now.script.now.names.keys) origin.now.script.now.programs.items (found_at (start_of origin.now) (reverse arrivals.now) number).state) }
-    ensures refused { IfOk result (λ r. r.1 ≡ list_any is_refused (map state_of (found_at (start_of origin.now) (reverse arrivals.now) number).state.hosts)) }
+    ensures report { IfOk result (λ r.
+        r.0.items
+        ≡ report_of (texts origin.now.script.now.names.keys) origin.now.script.now.programs.items
+        (found_at (start_of origin.now) (reverse arrivals.now) number).state) }
+    ensures refused { IfOk result (λ r.
+        r.1 ≡ list_any is_refused (map state_of (found_at (start_of origin.now)
+        (reverse arrivals.now) number).state.hosts)) }
     ensures fault { OnlyMemory result }
 {
     let programs = origin.script.programs.as_slice();
@@ -106,7 +111,8 @@ pub(crate) fn put_going_on<W: Write>(
     schedule: &[u8],
     events: &[Event],
 )
-    ensures { Puts (sink (W.contents out.old) failed.old) (sink (W.contents out.new) failed.new) (going_on schedule.now events.now) }
+    ensures { Puts (sink (W.contents out.old) failed.old) (sink (W.contents out.new) failed.new)
+        (going_on schedule.now events.now) }
 {
     match schedule {
         [] => put_schedule(out, failed, events),
@@ -120,7 +126,8 @@ pub(crate) fn put_going_on<W: Write>(
 
 // Puts a byte of a report that stands on one line.
 fn put_in_line<W: Write>(out: &mut W, failed: &mut bool, byte: u8)
-    ensures { Puts (sink (W.contents out.old) failed.old) (sink (W.contents out.new) failed.new) (in_line byte) }
+    ensures { Puts (sink (W.contents out.old) failed.old) (sink (W.contents out.new) failed.new)
+        (in_line byte) }
 {
     match byte {
         b'\n' => put(out, failed, b";"),
@@ -130,7 +137,8 @@ fn put_in_line<W: Write>(out: &mut W, failed: &mut bool, byte: u8)
 
 // Puts a report on one line.
 fn put_on_one_line<W: Write>(out: &mut W, failed: &mut bool, report: &[u8])
-    ensures { Puts (sink (W.contents out.old) failed.old) (sink (W.contents out.new) failed.new) (on_one_line report.now) }
+    ensures { Puts (sink (W.contents out.old) failed.old) (sink (W.contents out.new) failed.new)
+        (on_one_line report.now) }
 {
     for byte in report {
         put_in_line(out, failed, *byte);
@@ -148,7 +156,9 @@ fn put_ending<W: Write>(
     events: &[Event],
     report: &[u8],
 )
-    ensures { Puts (sink (W.contents out.old) failed.old) (sink (W.contents out.new) failed.new) (ending_text form schedule.now number (record { events = events.now; report = report.now })) }
+    ensures { Puts (sink (W.contents out.old) failed.old) (sink (W.contents out.new) failed.new)
+        (ending_text form schedule.now number
+        (record { events = events.now; report = report.now })) }
 {
     match form {
         Form::Short => put_on_one_line(out, failed, report),
@@ -187,8 +197,13 @@ fn tell_end<W: Write>(
     requires hosts { OnePerHost origin.now.config.now origin.now.script.now.programs.items }
     requires there { end ≤ length arrivals.now }
     requires few { tally.old.count + 1 < 2 ^ 64 }
-    ensures told { OnOk result (TellsOne (setting_from origin.now) form origin.now.schedule.now (reverse arrivals.now) end tally.old tally.new (sink (W.contents out.old) failed.old) (sink (W.contents out.new) failed.new)) }
-    ensures begun { OnErr result (TellsAtMost (setting_from origin.now) form origin.now.schedule.now (reverse arrivals.now) end tally.old (sink (W.contents out.old) failed.old) (sink (W.contents out.new) failed.new)) }
+    ensures told { OnOk result (TellsOne (setting_from origin.now) form origin.now.schedule.now
+        (reverse arrivals.now) end tally.old tally.new (sink (W.contents out.old) failed.old)
+        (sink (W.contents out.new) failed.new)) }
+    ensures begun { OnErr result
+        (TellsAtMost (setting_from origin.now) form origin.now.schedule.now
+        (reverse arrivals.now) end tally.old (sink (W.contents out.old) failed.old)
+        (sink (W.contents out.new) failed.new)) }
     ensures fault { OnlyMemory result }
 {
     let (report, refused) = match report_at(alloc, origin, arrivals, end) {
@@ -232,8 +247,14 @@ fn tell_ends<W: Write>(
 ) -> Result<Tally, Fault>
     requires hosts { OnePerHost origin.now.config.now origin.now.script.now.programs.items }
     requires there { All (λ n. n ≤ length arrivals.now) ends.now }
-    ensures told { IfOk result (λ t. IsTally (setting_from origin.now) form origin.now.schedule.now (told_of (setting_from origin.now) (reverse arrivals.now) ends.now) t (sink (W.contents out.old) failed.old) (sink (W.contents out.new) failed.new)) }
-    ensures begun { OnErr result (TellsFirst (setting_from origin.now) form origin.now.schedule.now (reverse arrivals.now) ends.now (sink (W.contents out.old) failed.old) (sink (W.contents out.new) failed.new)) }
+    ensures told { IfOk result (λ t.
+        IsTally (setting_from origin.now) form origin.now.schedule.now
+        (told_of (setting_from origin.now) (reverse arrivals.now) ends.now) t
+        (sink (W.contents out.old) failed.old) (sink (W.contents out.new) failed.new)) }
+    ensures begun { OnErr result
+        (TellsFirst (setting_from origin.now) form origin.now.schedule.now
+        (reverse arrivals.now) ends.now (sink (W.contents out.old) failed.old)
+        (sink (W.contents out.new) failed.new)) }
     ensures fault { OnlyMemory result }
 {
     let mut tally = Tally {
@@ -252,7 +273,8 @@ fn tell_ends<W: Write>(
 
 // Puts a word for one, or for more.
 fn put_plural<W: Write>(out: &mut W, failed: &mut bool, count: usize, word: &[u8])
-    ensures { Puts (sink (W.contents out.old) failed.old) (sink (W.contents out.new) failed.new) (plural count word.now) }
+    ensures { Puts (sink (W.contents out.old) failed.old) (sink (W.contents out.new) failed.new)
+        (plural count word.now) }
 {
     put(out, failed, word);
     put(out, failed, plural_end(count));
@@ -267,7 +289,8 @@ fn plural_end(count: usize) -> &'static [u8]
 
 // Puts the last line.
 fn put_counts<W: Write>(out: &mut W, failed: &mut bool, form: Form, counts: Counts)
-    ensures { Puts (sink (W.contents out.old) failed.old) (sink (W.contents out.new) failed.new) (counts_text form counts) }
+    ensures { Puts (sink (W.contents out.old) failed.old) (sink (W.contents out.new) failed.new)
+        (counts_text form counts) }
 {
     match form {
         Form::Short => {}
@@ -277,7 +300,8 @@ fn put_counts<W: Write>(out: &mut W, failed: &mut bool, form: Form, counts: Coun
 
 // Puts how much there is, in words.
 fn put_line<W: Write>(out: &mut W, failed: &mut bool, counts: Counts)
-    ensures { Puts (sink (W.contents out.old) failed.old) (sink (W.contents out.new) failed.new) (counts_line counts) }
+    ensures { Puts (sink (W.contents out.old) failed.old) (sink (W.contents out.new) failed.new)
+        (counts_line counts) }
 {
     put_number(out, failed, counts.reports);
     put_plural(out, failed, counts.reports, b" report");
@@ -307,7 +331,9 @@ pub(crate) fn search<V: Watcher>(
     watcher: &V,
 ) -> Result<Exploration, Fault>
     requires { OnePerHost origin.now.config.now origin.now.script.now.programs.items }
-    ensures found { IfOk result (λ x. IsSearch origin.now.closing origin.now.most deepest (start_of origin.now) (reverse x.arrivals.items) x.ends.items x.followed x.whole) }
+    ensures found { IfOk result (λ x.
+        IsSearch origin.now.closing origin.now.most deepest (start_of origin.now)
+        (reverse x.arrivals.items) x.ends.items x.followed x.whole) }
     ensures fault { OnlyMemory result }
 {
     let found = explore(
@@ -340,8 +366,12 @@ pub fn tell_reports<W: Write, V: Watcher>(
     watcher: &V,
 ) -> Result<Counts, Fault>
     requires { OnePerHost origin.now.config.now origin.now.script.now.programs.items }
-    ensures told { IfOk result (TellsAll (setting_from origin.now) form origin.now.schedule.now origin.now.most (sink (W.contents out.old) failed.old) (sink (W.contents out.new) failed.new)) }
-    ensures begun { OnErr result (TellsSome (setting_from origin.now) form origin.now.schedule.now (sink (W.contents out.old) failed.old) (sink (W.contents out.new) failed.new)) }
+    ensures told { IfOk result
+        (TellsAll (setting_from origin.now) form origin.now.schedule.now origin.now.most
+        (sink (W.contents out.old) failed.old) (sink (W.contents out.new) failed.new)) }
+    ensures begun { OnErr result
+        (TellsSome (setting_from origin.now) form origin.now.schedule.now
+        (sink (W.contents out.old) failed.old) (sink (W.contents out.new) failed.new)) }
     ensures fault { OnlyMemory result }
 {
     runs_are_legal();

@@ -13,7 +13,8 @@ use std::io::Write;
 /// Puts events as a schedule that says them again: a line for each, or for up to `MAX_TIMES` of one in a row. `failed` tells afterwards
 /// whether a write has failed; then nothing more is written.
 pub fn put_schedule<W: Write>(out: &mut W, failed: &mut bool, events: &[Event])
-    ensures { Puts (sink (W.contents out.old) failed.old) (sink (W.contents out.new) failed.new) (schedule_text events.now) }
+    ensures { Puts (sink (W.contents out.old) failed.old) (sink (W.contents out.new) failed.new)
+        (schedule_text events.now) }
 {
     match events {
         [] => {}
@@ -23,7 +24,8 @@ pub fn put_schedule<W: Write>(out: &mut W, failed: &mut bool, events: &[Event])
 
 // The lines of an event and of those behind it.
 fn put_lines<W: Write>(out: &mut W, failed: &mut bool, first: &Event, others: &[Event])
-    ensures { Puts (sink (W.contents out.old) failed.old) (sink (W.contents out.new) failed.new) (lines_from first.now 1 others.now) }
+    ensures { Puts (sink (W.contents out.old) failed.old) (sink (W.contents out.new) failed.new)
+        (lines_from first.now 1 others.now) }
 {
     let mut event = *first;
     let mut times = 1;
@@ -48,7 +50,8 @@ fn joins(event: &Event, times: u32, next: &Event) -> bool
 
 // The line of an event that comes so many times in a row.
 fn put_line<W: Write>(out: &mut W, failed: &mut bool, event: &Event, times: u32)
-    ensures { Puts (sink (W.contents out.old) failed.old) (sink (W.contents out.new) failed.new) (event_line event.now times) }
+    ensures { Puts (sink (W.contents out.old) failed.old) (sink (W.contents out.new) failed.new)
+        (event_line event.now times) }
 {
     put_event(out, failed, event);
     put_times(out, failed, times);
@@ -57,7 +60,8 @@ fn put_line<W: Write>(out: &mut W, failed: &mut bool, event: &Event, times: u32)
 
 // How often, unless it is once.
 fn put_times<W: Write>(out: &mut W, failed: &mut bool, times: u32)
-    ensures { Puts (sink (W.contents out.old) failed.old) (sink (W.contents out.new) failed.new) (times_text times) }
+    ensures { Puts (sink (W.contents out.old) failed.old) (sink (W.contents out.new) failed.new)
+        (times_text times) }
 {
     if times != 1 {
         put(out, failed, b" ");
@@ -68,7 +72,8 @@ fn put_times<W: Write>(out: &mut W, failed: &mut bool, times: u32)
 // What a line says of an event.
 #[tactic(auto, unfolding(crate::specs::Spellings::event_words))]
 fn put_event<W: Write>(out: &mut W, failed: &mut bool, event: &Event)
-    ensures { Puts (sink (W.contents out.old) failed.old) (sink (W.contents out.new) failed.new) (event_words event.now) }
+    ensures { Puts (sink (W.contents out.old) failed.old) (sink (W.contents out.new) failed.new)
+        (event_words event.now) }
 {
     match event {
         Event::Host(host) => {
@@ -89,7 +94,8 @@ fn put_event<W: Write>(out: &mut W, failed: &mut bool, event: &Event)
 
 // A queue, by its device and its name.
 fn put_queue<W: Write>(out: &mut W, failed: &mut bool, at: QueueAt)
-    ensures { Puts (sink (W.contents out.old) failed.old) (sink (W.contents out.new) failed.new) (queue_words at) }
+    ensures { Puts (sink (W.contents out.old) failed.old) (sink (W.contents out.new) failed.new)
+        (queue_words at) }
 {
     put_number(out, failed, at.device.number());
     put(out, failed, b" ");

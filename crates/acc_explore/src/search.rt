@@ -100,12 +100,19 @@ fn remember(numbers: &mut HashMap<u64, u32>, digest: u64, number: u32) -> Result
 // Keeps how a world was found, unless it is like one that was found before. Whether there was room.
 fn note(task: &Task, found: &mut Found, world: World, arrival: Arrival) -> Result<bool, Fault>
     requires hosts { OnePerHost task.now.config.now task.now.programs.now }
-    requires led { world ≡ (step false (found_at (start_of task.now) (reverse found.old.arrivals.items) arrival.from).state arrival.by).state }
+    requires led { world ≡ (step false (found_at (start_of task.now)
+        (reverse found.old.arrivals.items) arrival.from).state arrival.by).state }
     requires script { AreOfOneScript (start_of task.now) world }
-    requires worlds { AreAtHand (start_of task.now) (reverse found.old.arrivals.items) found.old.worlds.seats.items }
-    ensures noted { IfOk result (λ room. IsTrue room → IsNoted task.now.most (start_of task.now) (reverse found.old.arrivals.items) (reverse found.new.arrivals.items) arrival world) }
-    ensures full { IfOk result (λ room. room ≡ false → (found.new.arrivals.items ≡ found.old.arrivals.items) × (task.now.most ≤ length found.old.arrivals.items)) }
-    ensures worlds { OnOk result (AreAtHand (start_of task.now) (reverse found.new.arrivals.items) found.new.worlds.seats.items) }
+    requires worlds { AreAtHand (start_of task.now)
+        (reverse found.old.arrivals.items) found.old.worlds.seats.items }
+    ensures noted { IfOk result (λ room. IsTrue room
+        → IsNoted task.now.most (start_of task.now) (reverse found.old.arrivals.items)
+        (reverse found.new.arrivals.items) arrival world) }
+    ensures full { IfOk result (λ room. room ≡ false
+        → (found.new.arrivals.items ≡ found.old.arrivals.items)
+        × (task.now.most ≤ length found.old.arrivals.items)) }
+    ensures worlds { OnOk result (AreAtHand (start_of task.now)
+        (reverse found.new.arrivals.items) found.new.worlds.seats.items) }
     ensures ends { found.new.ends.items ≡ found.old.ends.items }
     ensures fault { OnlyMemory result }
 {
@@ -142,11 +149,19 @@ fn follow(
 ) -> Result<Course, Fault>
     requires hosts { OnePerHost task.now.config.now task.now.programs.now }
     requires there { number ≤ length found.old.arrivals.items }
-    requires here { IsHere (start_of task.now) (reverse found.old.arrivals.items) number at_hand.old }
-    requires worlds { AreAtHand (start_of task.now) (reverse found.old.arrivals.items) found.old.worlds.seats.items }
-    ensures course { IfOk result (λ course. Takes task.now.most (start_of task.now) (reverse found.old.arrivals.items) (reverse found.new.arrivals.items) number (found_at (start_of task.now) (reverse found.old.arrivals.items) number).state event course) }
-    ensures here { OnOk result (IsHere (start_of task.now) (reverse found.new.arrivals.items) number at_hand.new) }
-    ensures worlds { OnOk result (AreAtHand (start_of task.now) (reverse found.new.arrivals.items) found.new.worlds.seats.items) }
+    requires here { IsHere (start_of task.now)
+        (reverse found.old.arrivals.items) number at_hand.old }
+    requires worlds { AreAtHand (start_of task.now)
+        (reverse found.old.arrivals.items) found.old.worlds.seats.items }
+    ensures course { IfOk result (λ course.
+        Takes task.now.most (start_of task.now) (reverse found.old.arrivals.items)
+        (reverse found.new.arrivals.items) number
+        (found_at (start_of task.now)
+        (reverse found.old.arrivals.items) number).state event course) }
+    ensures here { OnOk result
+        (IsHere (start_of task.now) (reverse found.new.arrivals.items) number at_hand.new) }
+    ensures worlds { OnOk result (AreAtHand (start_of task.now)
+        (reverse found.new.arrivals.items) found.new.worlds.seats.items) }
     ensures ends { found.new.ends.items ≡ found.old.ends.items }
     ensures fault { OnlyMemory result }
 {
@@ -196,15 +211,25 @@ fn follow_each(
     world: World,
 ) -> Result<bool, Fault>
     requires hosts { OnePerHost task.now.config.now task.now.programs.now }
-    requires events { events.now ≡ events_in_turn task.now.closing task.now.config.now.hosts (queue_count task.now.config.now) }
+    requires events { events.now ≡ events_in_turn task.now.closing task.now.config.now.hosts
+        (queue_count task.now.config.now) }
     requires there { number ≤ length found.old.arrivals.items }
-    requires world { world ≡ (found_at (start_of task.now) (reverse found.old.arrivals.items) number).state }
-    requires worlds { AreAtHand (start_of task.now) (reverse found.old.arrivals.items) found.old.worlds.seats.items }
-    requires followed { IsFollowed task.now.closing task.now.most (start_of task.now) (reverse found.old.arrivals.items) found.old.ends.items number [] }
-    ensures followed { IfOk result (λ room. IsFollowed task.now.closing task.now.most (start_of task.now) (reverse found.new.arrivals.items) found.new.ends.items (if room then number + 1 else number) []) }
-    ensures worlds { OnOk result (AreAtHand (start_of task.now) (reverse found.new.arrivals.items) found.new.worlds.seats.items) }
-    ensures near { OnOk result (AreNear (start_of task.now) (reverse found.old.arrivals.items) (reverse found.new.arrivals.items) number) }
-    ensures full { IfOk result (λ room. room ≡ false → task.now.most ≤ length found.new.arrivals.items) }
+    requires world { world
+        ≡ (found_at (start_of task.now) (reverse found.old.arrivals.items) number).state }
+    requires worlds { AreAtHand (start_of task.now)
+        (reverse found.old.arrivals.items) found.old.worlds.seats.items }
+    requires followed { IsFollowed task.now.closing task.now.most (start_of task.now)
+        (reverse found.old.arrivals.items) found.old.ends.items number [] }
+    ensures followed { IfOk result (λ room.
+        IsFollowed task.now.closing task.now.most (start_of task.now)
+        (reverse found.new.arrivals.items) found.new.ends.items
+        (if room then number + 1 else number) []) }
+    ensures worlds { OnOk result (AreAtHand (start_of task.now)
+        (reverse found.new.arrivals.items) found.new.worlds.seats.items) }
+    ensures near { OnOk result (AreNear (start_of task.now) (reverse found.old.arrivals.items)
+        (reverse found.new.arrivals.items) number) }
+    ensures full { IfOk result (λ room. room ≡ false
+        → task.now.most ≤ length found.new.arrivals.items) }
     ensures fault { OnlyMemory result }
 {
     let mut is_end = true;
@@ -233,15 +258,24 @@ fn follow_one(
 ) -> Result<bool, Fault>
     requires hosts { OnePerHost task.now.config.now task.now.programs.now }
     requires there { number ≤ length found.old.arrivals.items }
-    requires world { world ≡ (found_at (start_of task.now) (reverse found.old.arrivals.items) number).state }
+    requires world { world
+        ≡ (found_at (start_of task.now) (reverse found.old.arrivals.items) number).state }
     requires listed { Contains (open_events task.now.closing (start_of task.now)) event }
     requires first { MayGoFirst task.now.closing world event }
-    requires worlds { AreAtHand (start_of task.now) (reverse found.old.arrivals.items) found.old.worlds.seats.items }
-    requires followed { IsFollowed task.now.closing task.now.most (start_of task.now) (reverse found.old.arrivals.items) found.old.ends.items number [] }
-    ensures followed { IfOk result (λ room. IsFollowed task.now.closing task.now.most (start_of task.now) (reverse found.new.arrivals.items) found.new.ends.items (if room then number + 1 else number) []) }
-    ensures worlds { OnOk result (AreAtHand (start_of task.now) (reverse found.new.arrivals.items) found.new.worlds.seats.items) }
-    ensures near { OnOk result (AreNear (start_of task.now) (reverse found.old.arrivals.items) (reverse found.new.arrivals.items) number) }
-    ensures full { IfOk result (λ room. room ≡ false → task.now.most ≤ length found.new.arrivals.items) }
+    requires worlds { AreAtHand (start_of task.now)
+        (reverse found.old.arrivals.items) found.old.worlds.seats.items }
+    requires followed { IsFollowed task.now.closing task.now.most (start_of task.now)
+        (reverse found.old.arrivals.items) found.old.ends.items number [] }
+    ensures followed { IfOk result (λ room.
+        IsFollowed task.now.closing task.now.most (start_of task.now)
+        (reverse found.new.arrivals.items) found.new.ends.items
+        (if room then number + 1 else number) []) }
+    ensures worlds { OnOk result (AreAtHand (start_of task.now)
+        (reverse found.new.arrivals.items) found.new.worlds.seats.items) }
+    ensures near { OnOk result (AreNear (start_of task.now) (reverse found.old.arrivals.items)
+        (reverse found.new.arrivals.items) number) }
+    ensures full { IfOk result (λ room. room ≡ false
+        → task.now.most ≤ length found.new.arrivals.items) }
     ensures fault { OnlyMemory result }
 {
     let mut at_hand = Some(world);
@@ -261,14 +295,23 @@ fn follow_enough(
 ) -> Result<bool, Fault>
     requires hosts { OnePerHost task.now.config.now task.now.programs.now }
     requires asked { IsTrue task.now.unasked → IsTrue (nobody_asks (start_of task.now)) }
-    requires events { events.now ≡ events_in_turn task.now.closing task.now.config.now.hosts (queue_count task.now.config.now) }
+    requires events { events.now ≡ events_in_turn task.now.closing task.now.config.now.hosts
+        (queue_count task.now.config.now) }
     requires there { number ≤ length found.old.arrivals.items }
-    requires worlds { AreAtHand (start_of task.now) (reverse found.old.arrivals.items) found.old.worlds.seats.items }
-    requires followed { IsFollowed task.now.closing task.now.most (start_of task.now) (reverse found.old.arrivals.items) found.old.ends.items number [] }
-    ensures followed { IfOk result (λ room. IsFollowed task.now.closing task.now.most (start_of task.now) (reverse found.new.arrivals.items) found.new.ends.items (if room then number + 1 else number) []) }
-    ensures worlds { OnOk result (AreAtHand (start_of task.now) (reverse found.new.arrivals.items) found.new.worlds.seats.items) }
-    ensures near { OnOk result (AreNear (start_of task.now) (reverse found.old.arrivals.items) (reverse found.new.arrivals.items) number) }
-    ensures full { IfOk result (λ room. room ≡ false → task.now.most ≤ length found.new.arrivals.items) }
+    requires worlds { AreAtHand (start_of task.now)
+        (reverse found.old.arrivals.items) found.old.worlds.seats.items }
+    requires followed { IsFollowed task.now.closing task.now.most (start_of task.now)
+        (reverse found.old.arrivals.items) found.old.ends.items number [] }
+    ensures followed { IfOk result (λ room.
+        IsFollowed task.now.closing task.now.most (start_of task.now)
+        (reverse found.new.arrivals.items) found.new.ends.items
+        (if room then number + 1 else number) []) }
+    ensures worlds { OnOk result (AreAtHand (start_of task.now)
+        (reverse found.new.arrivals.items) found.new.worlds.seats.items) }
+    ensures near { OnOk result (AreNear (start_of task.now) (reverse found.old.arrivals.items)
+        (reverse found.new.arrivals.items) number) }
+    ensures full { IfOk result (λ room. room ≡ false
+        → task.now.most ≤ length found.new.arrivals.items) }
     ensures fault { OnlyMemory result }
 {
     let world = world_at(task, &mut found.worlds, found.arrivals.as_slice(), number)?;
@@ -284,7 +327,8 @@ fn at_first(task: &Task) -> Result<Found, Fault>
     ensures arrivals { IfOk result (λ found. found.arrivals.items ≡ []) }
     ensures ends { IfOk result (λ found. found.ends.items ≡ []) }
     ensures fault { OnlyMemory result }
-    ensures worlds { IfOk result (λ found. AreAtHand (start_of task.now) [] found.worlds.seats.items) }
+    ensures worlds { IfOk result (λ found.
+        AreAtHand (start_of task.now) [] found.worlds.seats.items) }
 {
     let arrivals = Vec::new(task.alloc);
     let world = world_again(task, arrivals.as_slice(), 0)?;
@@ -340,7 +384,9 @@ pub fn explore<W: Watcher>(
     watcher: &W,
 ) -> Result<Exploration, Fault>
     requires { OnePerHost config.now programs.now }
-    ensures found { IfOk result (λ x. IsSearch closing most deepest (after (first_state config.now programs.now) before.now) (reverse x.arrivals.items) x.ends.items x.followed x.whole) }
+    ensures found { IfOk result (λ x.
+        IsSearch closing most deepest (after (first_state config.now programs.now) before.now)
+        (reverse x.arrivals.items) x.ends.items x.followed x.whole) }
     ensures fault { OnlyMemory result }
 {
     let task = Task {

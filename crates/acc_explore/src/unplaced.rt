@@ -77,7 +77,8 @@ pub(crate) fn unplaced(world: &World) -> Option<u64>
 
 /// How many batches a queue holds, if it is there.
 pub(crate) fn held(world: &World, at: QueueAt) -> u64
-    ensures { IsTrue (is_there world.now at) → result ≡ batches_held world.now (labels_of world.now) at }
+    ensures { IsTrue (is_there world.now at)
+        → result ≡ batches_held world.now (labels_of world.now) at }
 {
     let QueueAt { device, queue } = at;
     world

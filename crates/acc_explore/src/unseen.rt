@@ -24,8 +24,10 @@ fn is_unseen(op: &OpLabel) -> bool
 
 /// Whether a queue has performed so many batches.
 pub(crate) fn has_performed(world: &World, at: QueueAt, count: u64) -> bool
-    ensures performed { IsTrue result → count ≤ batches_done (labels_of world.now) world.now.work at }
-    ensures not_yet { result ≡ false → at.queue < QUEUES → batches_done (labels_of world.now) world.now.work at < count }
+    ensures performed { IsTrue result
+        → count ≤ batches_done (labels_of world.now) world.now.work at }
+    ensures not_yet { result ≡ false → at.queue < QUEUES
+        → batches_done (labels_of world.now) world.now.work at < count }
 {
     let queue = usize::from(at.queue.number());
     if queue >= usize::from(QUEUES) {

@@ -39,7 +39,9 @@ impl Worlds {
 
     /// The world of the state with this number, if it is at hand.
     pub(crate) fn get(&self, number: u32) -> Option<&World>
-        ensures { (start : State) (arrivals : List Arrival) → AreAtHand start arrivals self.now.seats.items → IfSome result (λ w. w.now ≡ (found_at start arrivals number).state) }
+        ensures { (start : State) (arrivals : List Arrival)
+            → AreAtHand start arrivals self.now.seats.items
+            → IfSome result (λ w. w.now ≡ (found_at start arrivals number).state) }
     {
         let seat = seat_of(number);
         if seat >= self.seats.len() {
@@ -53,8 +55,12 @@ impl Worlds {
 
     /// The world of the state with this number, if it is at hand; then it isn't any longer.
     pub(crate) fn take(&mut self, number: u32) -> Option<World>
-        ensures world { (start : State) (arrivals : List Arrival) → AreAtHand start arrivals self.old.seats.items → IfSome result (λ w. w ≡ (found_at start arrivals number).state) }
-        ensures left { (start : State) (arrivals : List Arrival) → AreAtHand start arrivals self.old.seats.items → AreAtHand start arrivals self.new.seats.items }
+        ensures world { (start : State) (arrivals : List Arrival)
+            → AreAtHand start arrivals self.old.seats.items
+            → IfSome result (λ w. w ≡ (found_at start arrivals number).state) }
+        ensures left { (start : State) (arrivals : List Arrival)
+            → AreAtHand start arrivals self.old.seats.items
+            → AreAtHand start arrivals self.new.seats.items }
     {
         let seat = seat_of(number);
         if seat >= self.seats.len() {
@@ -72,7 +78,10 @@ impl Worlds {
 
     /// Keeps the world of the state with this number, where its seat is free.
     pub(crate) fn put(&mut self, number: u32, world: World) -> Result<(), Fault>
-        ensures kept { (start : State) (arrivals : List Arrival) → number ≤ length arrivals → world ≡ (found_at start arrivals number).state → AreAtHand start arrivals self.old.seats.items → AreAtHand start arrivals self.new.seats.items }
+        ensures kept { (start : State) (arrivals : List Arrival) → number ≤ length arrivals
+            → world ≡ (found_at start arrivals number).state
+            → AreAtHand start arrivals self.old.seats.items
+            → AreAtHand start arrivals self.new.seats.items }
         ensures fault { OnlyMemory result }
     {
         let seat = seat_of(number);

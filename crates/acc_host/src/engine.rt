@@ -29,7 +29,8 @@ pub trait Engine {
     fn place(&mut self, host: HostId, directive: &Directive) -> Result<Placed, Fault>
         requires host { serves self.old host }
         ensures makes { makes self.old host (Place directive.now result) self.new }
-        ensures lists { Lists (Place directive.now result) (entries self.old host) (entries self.new host) }
+        ensures lists { Lists (Place directive.now result) (entries self.old host)
+            (entries self.new host) }
         ensures keeps { Keeps devices serves entries host self.old self.new }
         ensures refused { OnErr result (self.new ≡ self.old) };
 
@@ -46,7 +47,8 @@ pub trait Engine {
     ) -> Result<bool, Fault>
         requires host { serves self.old host }
         ensures makes { makes self.old host (Wait device counts result) self.new }
-        ensures lists { Lists (Wait device counts result) (entries self.old host) (entries self.new host) }
+        ensures lists { Lists (Wait device counts result) (entries self.old host)
+            (entries self.new host) }
         ensures keeps { Keeps devices serves entries host self.old self.new }
         ensures refused { OnErr result (self.new ≡ self.old) }
         ensures idle { result ≡ Ok false → self.new ≡ self.old };
@@ -60,7 +62,8 @@ pub trait Engine {
         requires host { serves self.old host }
         requires item { MayRecord item }
         ensures makes { makes self.old host (Record item (without_item result)) self.new }
-        ensures lists { Lists (Record item (without_item result)) (entries self.old host) (entries self.new host) }
+        ensures lists { Lists (Record item (without_item result)) (entries self.old host)
+            (entries self.new host) }
         ensures keeps { Keeps devices serves entries host self.old self.new }
         ensures refused { OnErr result (self.new ≡ self.old) }
         ensures back { IfErr result (λ r. r.0 ≡ item) };

@@ -63,8 +63,11 @@ impl Host {
     #[inline(never)]
     pub fn next<E: Engine>(&mut self, alloc: Global, engine: &mut E) -> Reply
         requires { E.serves engine.old self.old.host }
-        ensures steps { Steps E.makes E.entries (E.devices engine.old) engine.old self.old result engine.new self.new }
-        ensures follows { Stands (E.devices engine.old) self.old (E.entries engine.old self.old.host) → Stands (E.devices engine.new) self.new (E.entries engine.new self.new.host) }
+        ensures steps { Steps E.makes E.entries
+            (E.devices engine.old) engine.old self.old result engine.new self.new }
+        ensures follows { Stands (E.devices engine.old) self.old
+            (E.entries engine.old self.old.host)
+            → Stands (E.devices engine.new) self.new (E.entries engine.new self.new.host) }
         ensures keeps { Keeps E.devices E.serves E.entries self.old.host engine.old engine.new }
     {
         self.go_on(alloc, engine)
@@ -73,7 +76,8 @@ impl Host {
     // The same, without the law on its list.
     fn go_on<E: Engine>(&mut self, alloc: Global, engine: &mut E) -> Reply
         requires { E.serves engine.old self.old.host }
-        ensures steps { Steps E.makes E.entries (E.devices engine.old) engine.old self.old result engine.new self.new }
+        ensures steps { Steps E.makes E.entries
+            (E.devices engine.old) engine.old self.old result engine.new self.new }
         ensures keeps { Keeps E.devices E.serves E.entries self.old.host engine.old engine.new }
     {
         if self.ended >= self.statements.len() {
@@ -120,7 +124,8 @@ impl Host {
 
     /// The statement that it stands at; `None` where it has ended them all.
     pub fn statement(&self) -> Option<&Statement>
-        ensures { option_map (λ s. bare s.now) result ≡ slice_get self.now.statements self.now.ended }
+        ensures { option_map (λ s. bare s.now) result
+            ≡ slice_get self.now.statements self.now.ended }
     {
         self.statements.get(self.ended)
     }

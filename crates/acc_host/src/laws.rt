@@ -15,10 +15,16 @@ ghost use Rattle.acc_host.specs.Hosts.{HostView, ready, state_of, refused_at, ba
 /// stands so with an empty list at its start, behind each step, and where it is refused.
 pub fn hosts_follow()
     ensures first { (devices : ℕ) (program : HostProgram) → Stands devices (ready program) [] }
-    ensures steps { (devices : ℕ) (host : HostView) (goes : Result After Fault) (list longer : List HostEntry) → Adds (wants devices host) goes list longer → Stands devices host list → Stands devices (host_after goes host) longer }
-    ensures refused { (devices : ℕ) (host : HostView) (list : List HostEntry) (fault : Fault) → Stands devices host list → Stands devices (refused_at (state_of host) fault host) list }
-    ensures follow { (devices : ℕ) (host : HostView) (list : List HostEntry) → Stands devices host list → Follows devices host.statements (state_of host) list }
-    ensures bare { (devices : ℕ) (statements : List Statement) (state : HostState) (list : List HostEntry) → Follows devices (map bare statements) state list → Follows devices statements state list }
+    ensures steps { (devices : ℕ) (host : HostView) (goes : Result After Fault)
+        (list longer : List HostEntry) → Adds (wants devices host) goes list longer
+        → Stands devices host list → Stands devices (host_after goes host) longer }
+    ensures refused { (devices : ℕ) (host : HostView) (list : List HostEntry) (fault : Fault)
+        → Stands devices host list → Stands devices (refused_at (state_of host) fault host) list }
+    ensures follow { (devices : ℕ) (host : HostView) (list : List HostEntry)
+        → Stands devices host list → Follows devices host.statements (state_of host) list }
+    ensures bare { (devices : ℕ) (statements : List Statement) (state : HostState)
+        (list : List HostEntry) → Follows devices (map bare statements) state list
+        → Follows devices statements state list }
 {}
 
 /// Three programs worked by hand: a host that asks, waits and is refused; a directive that is seen once its batch is

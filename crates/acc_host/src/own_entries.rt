@@ -83,7 +83,11 @@ fn own_at<'a>(
     index: usize,
 ) -> Option<OwnDirective<'a>>
     requires { index < length places.now }
-    ensures { MatchOption result (owned_from host places.now counts.now answers.now index ≡ owned_from host places.now counts.now answers.now (index + 1)) (λ o. owned_from host places.now counts.now answers.now index ≡ own o ∷ owned_from host places.now counts.now answers.now (index + 1)) }
+    ensures { MatchOption result
+        (owned_from host places.now counts.now answers.now index
+        ≡ owned_from host places.now counts.now answers.now (index + 1)) (λ o.
+        owned_from host places.now counts.now answers.now index
+        ≡ own o ∷ owned_from host places.now counts.now answers.now (index + 1)) }
 {
     let directive = directive_by(host, &places[index])?;
     Some(OwnDirective {
@@ -95,7 +99,8 @@ fn own_at<'a>(
 
 // The directive of an entry, if it is one of the host.
 fn directive_by(host: HostId, entry: &PlaceEntry) -> Option<&Directive>
-    ensures { MatchOption result (IsOther host entry.now) (λ directive. entry.now ≡ Accepted host directive.now) }
+    ensures { MatchOption result (IsOther host entry.now) (λ directive.
+        entry.now ≡ Accepted host directive.now) }
 {
     match entry {
         PlaceEntry::Accepted {
@@ -157,7 +162,8 @@ impl<'a> OwnItems<'a> {
 
 // The first item of a host among these entries, and the entries behind it.
 fn first_item(host: HostId, entries: &[WorkEntry]) -> Option<(&Told, &[WorkEntry])>
-    ensures { MatchOption result (items_by host entries.now ≡ []) (λ found. items_by host entries.now ≡ Had found.0.now ∷ items_by host found.1.now) }
+    ensures { MatchOption result (items_by host entries.now ≡ []) (λ found.
+        items_by host entries.now ≡ Had found.0.now ∷ items_by host found.1.now) }
 {
     let mut left = entries;
     while let Some((entry, behind)) = left.split_first() {
@@ -207,7 +213,9 @@ impl<'a> Model for OwnEntries<'a> {
 impl<'a> OwnEntries<'a> {
     /// All entries of a host.
     pub fn new(place: &'a Place, works: &'a WorkLog, host: HostId) -> Self
-        ensures { result ≡ entries_merged 0 (own_of place.now.config host place.now.history place.now.counts) (items_shown host (reverse works.now.items)) }
+        ensures { result
+            ≡ entries_merged 0 (own_of place.now.config host place.now.history place.now.counts)
+            (items_shown host (reverse works.now.items)) }
     {
         let mut directives = OwnDirectives::new(place, host);
         let mut items = OwnItems::new(works, host);

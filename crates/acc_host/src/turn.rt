@@ -104,7 +104,8 @@ fn with_device(ids: Ids, device: u32, devices: u8) -> Result<Ids, Fault>
 
 // A host's ids with another default, if it is an async value.
 fn with_default(ids: Ids, value: i64) -> Result<Ids, Fault>
-    ensures { set_by result ≡ set_or_refuse (is_async value) BadAsync (ids_after (SetAsync value) ids) }
+    ensures { set_by result
+        ≡ set_or_refuse (is_async value) BadAsync (ids_after (SetAsync value) ids) }
 {
     if is_async(value) {
         Ok(Ids {
@@ -120,8 +121,10 @@ fn with_default(ids: Ids, value: i64) -> Result<Ids, Fault>
 fn record_item<E: Engine>(engine: &mut E, host: HostId, item: Item) -> Result<After, Fault>
     requires host { E.serves engine.old host }
     requires item { MayRecord item }
-    ensures asks { (answer : Result Shown Fault) × E.makes engine.old host (Record item answer) engine.new × (result ≡ after_answer answer) }
-    ensures adds { Adds (records item) result (E.entries engine.old host) (E.entries engine.new host) }
+    ensures asks { (answer : Result Shown Fault)
+        × E.makes engine.old host (Record item answer) engine.new × (result ≡ after_answer answer) }
+    ensures adds { Adds (records item) result (E.entries engine.old host)
+        (E.entries engine.new host) }
     ensures keeps { Keeps E.devices E.serves E.entries host engine.old engine.new }
 {
     match engine.item(host, item) {
@@ -139,7 +142,8 @@ fn wait<E: Engine>(
 ) -> Result<After, Fault>
     requires { E.serves engine.old host }
     ensures asks { Asks E.makes engine.old host (awaits device counts) result engine.new }
-    ensures adds { Adds (awaits device counts) result (E.entries engine.old host) (E.entries engine.new host) }
+    ensures adds { Adds (awaits device counts) result (E.entries engine.old host)
+        (E.entries engine.new host) }
     ensures keeps { Keeps E.devices E.serves E.entries host engine.old engine.new }
 {
     match engine.wait_for(host, device, counts) {
@@ -159,8 +163,10 @@ fn act<E: Engine>(
 ) -> Result<After, Fault>
     requires host { E.serves engine.old host }
     requires set { IsSet ids act.now }
-    ensures asks { Asks E.makes engine.old host (wanted (E.devices engine.old) ids act.now) result engine.new }
-    ensures adds { Adds (wanted (E.devices engine.old) ids act.now) result (E.entries engine.old host) (E.entries engine.new host) }
+    ensures asks { Asks E.makes engine.old host
+        (wanted (E.devices engine.old) ids act.now) result engine.new }
+    ensures adds { Adds (wanted (E.devices engine.old) ids act.now) result
+        (E.entries engine.old host) (E.entries engine.new host) }
     ensures keeps { Keeps E.devices E.serves E.entries host engine.old engine.new }
 {
     match act {
@@ -198,8 +204,12 @@ fn turn<E: Engine>(
 ) -> Result<After, Fault>
     requires host { E.serves engine.old host }
     ensures bare { bare statement.new ≡ bare statement.old }
-    ensures asks { Asks E.makes engine.old host (wants_at (E.devices engine.old) ids.now phase.now (Some (bare statement.old))) result engine.new }
-    ensures adds { Adds (wants_at (E.devices engine.old) ids.now phase.now (Some (bare statement.old))) result (E.entries engine.old host) (E.entries engine.new host) }
+    ensures asks { Asks E.makes engine.old host
+        (wants_at (E.devices engine.old) ids.now phase.now
+        (Some (bare statement.old))) result engine.new }
+    ensures adds { Adds (wants_at (E.devices engine.old) ids.now phase.now
+        (Some (bare statement.old))) result (E.entries engine.old host)
+        (E.entries engine.new host) }
     ensures keeps { Keeps E.devices E.serves E.entries host engine.old engine.new }
 {
     match phase {
@@ -229,8 +239,12 @@ pub(crate) fn turn_at<E: Engine>(
     requires host { E.serves engine.old host }
     requires within { ended < length statements.old }
     ensures bare { map bare statements.new ≡ map bare statements.old }
-    ensures asks { Asks E.makes engine.old host (wants_at (E.devices engine.old) ids.now phase.now (slice_get (map bare statements.old) ended)) result engine.new }
-    ensures adds { Adds (wants_at (E.devices engine.old) ids.now phase.now (slice_get (map bare statements.old) ended)) result (E.entries engine.old host) (E.entries engine.new host) }
+    ensures asks { Asks E.makes engine.old host
+        (wants_at (E.devices engine.old) ids.now phase.now
+        (slice_get (map bare statements.old) ended)) result engine.new }
+    ensures adds { Adds (wants_at (E.devices engine.old) ids.now phase.now
+        (slice_get (map bare statements.old) ended)) result (E.entries engine.old host)
+        (E.entries engine.new host) }
     ensures keeps { Keeps E.devices E.serves E.entries host engine.old engine.new }
 {
     turn(engine, alloc, host, &mut statements[ended], ids, phase)

@@ -55,7 +55,8 @@ impl Job {
         ensures kernel { IfOk result (λ j. j.kernel ≡ kernel.now) }
         ensures uses { IfOk result (λ j. j.uses ≡ uses.now) }
         ensures inputs { IfOk result (λ j. j.inputs ≡ zero_rows (read_uses kernel.now uses.now)) }
-        ensures outputs { IfOk result (λ j. j.outputs ≡ zero_rows (written_uses kernel.now uses.now)) }
+        ensures outputs { IfOk result (λ j.
+            j.outputs ≡ zero_rows (written_uses kernel.now uses.now)) }
         ensures fault { OnlyMemory result }
     {
         let listed = uses.get().as_slice();
@@ -140,8 +141,10 @@ impl Job {
     /// Sets the inputs of one of `read_uses`, by its place among them, from 0: one value for each cell of its range.
     pub fn set_input(&mut self, place: usize, values: &[i64])
         requires place { place < length (read_uses self.old.kernel self.old.uses) }
-        requires len { length values.now ≡ (slice_index_or (read_uses self.old.kernel self.old.uses) place no_use).1.len }
-        ensures { self.new ≡ record self.old { inputs = slice_set self.old.inputs place values.now } }
+        requires len { length values.now
+            ≡ (slice_index_or (read_uses self.old.kernel self.old.uses) place no_use).1.len }
+        ensures { self.new
+            ≡ record self.old { inputs = slice_set self.old.inputs place values.now } }
     {
         self.cells.inputs.fill(place, values);
     }
@@ -157,7 +160,10 @@ impl Job {
     /// Makes the inputs what a window shows, which has all cells of the uses. It takes no memory.
     pub fn load<W: Window>(&mut self, window: &W)
         requires { HasUses self.old.uses (W.has window.now) }
-        ensures { self.new ≡ record self.old { inputs = shown (read_uses self.old.kernel self.old.uses) (W.cells window.now) } }
+        ensures { self.new ≡ record self.old {
+          inputs = shown
+              (read_uses self.old.kernel self.old.uses) (W.cells window.now);
+        } }
     {
         self.cells.inputs.load(window);
     }
@@ -165,7 +171,9 @@ impl Job {
     /// Whether the inputs are what a window shows, which has all cells of the uses. It takes no memory.
     pub fn same<W: Window>(&self, window: &W) -> bool
         requires { HasUses self.now.uses (W.has window.now) }
-        ensures { IsTrue result ↔ (self.now.inputs ≡ shown (read_uses self.now.kernel self.now.uses) (W.cells window.now)) }
+        ensures { IsTrue result
+            ↔ (self.now.inputs ≡ shown (read_uses self.now.kernel self.now.uses)
+            (W.cells window.now)) }
     {
         self.cells.inputs.are_shown(window)
     }
@@ -175,7 +183,9 @@ impl Job {
         requires { HasUses self.now.uses (W.has window.old) }
         ensures has { W.has window.new ≡ W.has window.old }
         ensures keeps { W.keeps window.old window.new }
-        ensures cells { W.cells window.new ≡ stored (written_uses self.now.kernel self.now.uses) self.now.outputs (W.cells window.old) }
+        ensures cells { W.cells window.new
+            ≡ stored (written_uses self.now.kernel self.now.uses) self.now.outputs
+            (W.cells window.old) }
     {
         self.cells.outputs.store(window);
     }

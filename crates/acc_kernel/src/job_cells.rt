@@ -17,10 +17,19 @@ pub(crate) struct JobCells {
 impl JobCells {
     /// Each output, whose cell is among the inputs if some input is of its array, begins with the input of its cell.
     pub(crate) fn start(&mut self)
-        requires has { (place : ℕ) → place < length self.old.outputs.uses → is_used self.old.inputs.uses (slice_index_or self.old.outputs.uses place no_use).1.array ≡ true → HasRange (slice_index_or self.old.outputs.uses place no_use).1 (uses_have self.old.inputs.uses) }
+        requires has { (place : ℕ) → place < length self.old.outputs.uses
+            → is_used self.old.inputs.uses
+            (slice_index_or self.old.outputs.uses place no_use).1.array ≡ true
+            → HasRange (slice_index_or self.old.outputs.uses place no_use).1
+            (uses_have self.old.inputs.uses) }
         ensures inputs { self.new.inputs ≡ self.old.inputs }
         ensures uses { self.new.outputs.uses ≡ self.old.outputs.uses }
-        ensures outputs { (place : ℕ) → place < length self.old.outputs.uses → is_used self.old.inputs.uses (slice_index_or self.old.outputs.uses place no_use).1.array ≡ true → slice_index_or self.new.outputs.rows place [] ≡ values_shown (cell_in self.old.inputs.uses self.old.inputs.rows) (slice_index_or self.old.outputs.uses place no_use).1 }
+        ensures outputs { (place : ℕ) → place < length self.old.outputs.uses
+            → is_used self.old.inputs.uses
+            (slice_index_or self.old.outputs.uses place no_use).1.array ≡ true
+            → slice_index_or self.new.outputs.rows place []
+            ≡ values_shown (cell_in self.old.inputs.uses self.old.inputs.rows)
+            (slice_index_or self.old.outputs.uses place no_use).1 }
     {
         self.outputs.load_known(&self.inputs);
     }

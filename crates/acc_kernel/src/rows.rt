@@ -115,9 +115,15 @@ impl Rows {
 
     /// Takes the values that other rows have of its cells, of each array that these have.
     pub(crate) fn load_known(&mut self, source: &Rows)
-        requires has { (place : ℕ) → place < length self.old.uses → is_used source.now.uses (slice_index_or self.old.uses place no_use).1.array ≡ true → HasRange (slice_index_or self.old.uses place no_use).1 (uses_have source.now.uses) }
+        requires has { (place : ℕ) → place < length self.old.uses
+            → is_used source.now.uses (slice_index_or self.old.uses place no_use).1.array ≡ true
+            → HasRange (slice_index_or self.old.uses place no_use).1 (uses_have source.now.uses) }
         ensures uses { self.new.uses ≡ self.old.uses }
-        ensures rows { (place : ℕ) → place < length self.old.uses → is_used source.now.uses (slice_index_or self.old.uses place no_use).1.array ≡ true → slice_index_or self.new.rows place [] ≡ values_shown (cell_in source.now.uses source.now.rows) (slice_index_or self.old.uses place no_use).1 }
+        ensures rows { (place : ℕ) → place < length self.old.uses
+            → is_used source.now.uses (slice_index_or self.old.uses place no_use).1.array ≡ true
+            → slice_index_or self.new.rows place []
+            ≡ values_shown (cell_in source.now.uses source.now.rows)
+            (slice_index_or self.old.uses place no_use).1 }
     {
         for place in 0..self.rows.len() {
             let range = self.uses[place].1;
@@ -146,7 +152,8 @@ impl Rows {
         requires has { HasUses self.now.uses (W.has window.old) }
         ensures has { W.has window.new ≡ W.has window.old }
         ensures keeps { W.keeps window.old window.new }
-        ensures cells { W.cells window.new ≡ stored self.now.uses self.now.rows (W.cells window.old) }
+        ensures cells { W.cells window.new
+            ≡ stored self.now.uses self.now.rows (W.cells window.old) }
     {
         for place in 0..self.rows.len() {
             let range = self.uses[place].1;
@@ -172,7 +179,8 @@ fn write_row<W: Window>(window: &mut W, range: Range, values: &[i64])
     requires has { HasRange range (W.has window.old) }
     ensures has { W.has window.new ≡ W.has window.old }
     ensures keeps { W.keeps window.old window.new }
-    ensures cells { W.cells window.new ≡ with_cells (W.cells window.old) range.array (pos range.lo) range.len values.now }
+    ensures cells { W.cells window.new
+        ≡ with_cells (W.cells window.old) range.array (pos range.lo) range.len values.now }
 {
     if range.len > 0 {
         window.write(range.array, i64::from(range.lo), values);
@@ -282,9 +290,11 @@ fn places(alloc: Global, uses: &[(BlockId, Range)]) -> Result<Vec<usize>, Fault>
 fn put_places(uses: &[(BlockId, Range)], before: usize, places: &mut [usize])
     requires count { length places.old ≡ 256 }
     requires few { before + length uses.now < 2 ^ 64 }
-    requires behind { (array : ℕ) → array < 256 → slice_index_or places.old array 0 ≡ before + length uses.now }
+    requires behind { (array : ℕ) → array < 256
+        → slice_index_or places.old array 0 ≡ before + length uses.now }
     ensures count { length places.new ≡ 256 }
-    ensures places { (array : ℕ) → array < 256 → slice_index_or places.new array 0 ≡ before + place_of uses.now array }
+    ensures places { (array : ℕ) → array < 256
+        → slice_index_or places.new array 0 ≡ before + place_of uses.now array }
 {
     match uses {
         [] => {}

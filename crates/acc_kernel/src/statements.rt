@@ -44,7 +44,8 @@ pub(crate) fn has_far_offset(statements: &[Assign]) -> bool
 
 // The tests statement by statement.
 pub(crate) fn finds_off(statements: &[Assign], assigned: &[bool; 256]) -> bool
-    ensures { result ≡ list_any (λ s. list_any (is_off_by (λ array. slice_index_or assigned.now array false)) (references_of s.value)) statements.now }
+    ensures { result ≡ list_any (λ s. list_any (is_off_by (λ array.
+        slice_index_or assigned.now array false)) (references_of s.value)) statements.now }
 {
     statements.iter().any(|s| s.value.reads_assigned(assigned))
 }
@@ -62,7 +63,8 @@ pub(crate) fn finds_assigned(statements: &[Assign], array: u8) -> bool
 }
 
 pub(crate) fn finds_far(statements: &[Assign]) -> bool
-    ensures { result ≡ list_any (λ s. list_any (λ (r : Reference). is_far r.offset) (references_of s.value)) statements.now }
+    ensures { result ≡ list_any (λ s. list_any (λ (r : Reference). is_far r.offset)
+        (references_of s.value)) statements.now }
 {
     statements.iter().any(|s| s.value.has_far_offset())
 }
@@ -73,7 +75,8 @@ pub(crate) fn finds_lacking(
     last: i64,
     uses: &[(BlockId, Range)],
 ) -> bool
-    ensures { result ≡ list_any (λ s. list_any (is_lacking first last uses.now) (references_at s)) statements.now }
+    ensures { result ≡ list_any (λ s. list_any (is_lacking first last uses.now)
+        (references_at s)) statements.now }
 {
     statements.iter().any(|s| {
         is_lacking(uses, s.array, 0, first, last) || s.value.is_lacking(first, last, uses)

@@ -29,21 +29,28 @@ pub trait Window {
     /// The values of as many cells, side by side from the first on.
     fn read(&self, array: u8, first: i64, into: &mut [i64])
         requires some { 0 < length into.old }
-        requires has { (k : ℕ) → k < length into.old → IsTrue (has self.now array (first +ℤ pos k)) }
-        ensures { (k : ℕ) → k < length into.old → slice_index_or into.new k (pos 0) ≡ cells self.now array (first +ℤ pos k) };
+        requires has { (k : ℕ) → k < length into.old
+            → IsTrue (has self.now array (first +ℤ pos k)) }
+        ensures { (k : ℕ) → k < length into.old
+            → slice_index_or into.new k (pos 0) ≡ cells self.now array (first +ℤ pos k) };
 
     /// Whether as many cells, side by side from the first on, have these values.
     fn has_values(&self, array: u8, first: i64, values: &[i64]) -> bool
         requires some { 0 < length values.now }
-        requires has { (k : ℕ) → k < length values.now → IsTrue (has self.now array (first +ℤ pos k)) }
-        ensures { IsTrue result ↔ ((k : ℕ) → k < length values.now → slice_index_or values.now k (pos 0) ≡ cells self.now array (first +ℤ pos k)) };
+        requires has { (k : ℕ) → k < length values.now
+            → IsTrue (has self.now array (first +ℤ pos k)) }
+        ensures { IsTrue result
+            ↔ ((k : ℕ) → k < length values.now
+            → slice_index_or values.now k (pos 0) ≡ cells self.now array (first +ℤ pos k)) };
 
     /// Writes as many cells, side by side from the first on.
     fn write(&mut self, array: u8, first: i64, values: &[i64])
         requires some { 0 < length values.now }
-        requires has { (k : ℕ) → k < length values.now → IsTrue (has self.old array (first +ℤ pos k)) }
+        requires has { (k : ℕ) → k < length values.now
+            → IsTrue (has self.old array (first +ℤ pos k)) }
         ensures has { has self.new ≡ has self.old }
-        ensures cells { cells self.new ≡ with_cells (cells self.old) array first (length values.now) values.now }
+        ensures cells { cells self.new
+            ≡ with_cells (cells self.old) array first (length values.now) values.now }
         ensures keeps { keeps self.old self.new };
 
     ghost keeps_itself: { (w : Self) → keeps w w };

@@ -73,8 +73,11 @@ impl Blocks {
     /// Writes some cells of a block, if it is there, side by side from one on, which is named by its number in the host array. Takes no
     /// memory.
     pub(crate) fn store(&mut self, block: BlockId, first: usize, values: &[i64])
-        requires { (row : Row) → find_row self.old block ≡ Some row → HasRoom row first (length values.now) }
-        ensures { IsSetAt block (option_map (λ row. stored row (first - row.range.lo) values.now) (find_row self.old block)) self.old self.new }
+        requires { (row : Row) → find_row self.old block ≡ Some row
+            → HasRoom row first (length values.now) }
+        ensures { IsSetAt block
+            (option_map (λ row. stored row (first - row.range.lo) values.now)
+            (find_row self.old block)) self.old self.new }
     {
         self.buckets.store(block.number(), first, values);
     }
@@ -83,8 +86,10 @@ impl Blocks {
     pub(crate) fn make(&mut self, block: Node<Block>)
         requires fresh { find_block (map made_of self.old) block.block ≡ None }
         requires zeros { block.cells ≡ replicate block.range.len (pos 0) }
-        ensures shows { (device : ℕ) (was : Cell → ℤ) → ShowsRows device self.old was → ShowsRows device self.new (after_op device (op.Make block.range block.block) was) }
-        ensures blocks { SameBlocks (map made_of self.new) (blocks_after (op.Make block.range block.block) (map made_of self.old)) }
+        ensures shows { (device : ℕ) (was : Cell → ℤ) → ShowsRows device self.old was
+            → ShowsRows device self.new (after_op device (op.Make block.range block.block) was) }
+        ensures blocks { SameBlocks (map made_of self.new)
+            (blocks_after (op.Make block.range block.block) (map made_of self.old)) }
     {
         self.buckets.put(block);
     }
@@ -94,7 +99,9 @@ impl Blocks {
         requires held { HasRange (map made_of self.old) block range }
         requires some { 0 < range.len }
         requires array { range.lo + range.len ≤ length cells.now }
-        ensures shows { (device : ℕ) (was : Cell → ℤ) → ShowsArray range.array cells.now was → ShowsRows device self.old was → ShowsRows device self.new (after_op device (op.CopyIn range block) was) }
+        ensures shows { (device : ℕ) (was : Cell → ℤ) → ShowsArray range.array cells.now was
+            → ShowsRows device self.old was
+            → ShowsRows device self.new (after_op device (op.CopyIn range block) was) }
         ensures blocks { SameBlocks (map made_of self.new) (map made_of self.old) }
     {
         self.keeps();
@@ -107,7 +114,9 @@ impl Blocks {
         requires held { HasRange (map made_of self.now) block range }
         requires some { 0 < range.len }
         requires array { range.lo + range.len ≤ length cells.old }
-        ensures shows { (device : ℕ) (was : Cell → ℤ) → ShowsArray range.array cells.old was → ShowsRows device self.now was → ShowsArray range.array cells.new (after_op device (op.CopyOut range block) was) }
+        ensures shows { (device : ℕ) (was : Cell → ℤ) → ShowsArray range.array cells.old was
+            → ShowsRows device self.now was
+            → ShowsArray range.array cells.new (after_op device (op.CopyOut range block) was) }
         ensures len { length cells.new ≡ length cells.old }
     {
         self.keeps();
@@ -126,8 +135,10 @@ impl Blocks {
     /// Lets the block go.
     pub(crate) fn release(&mut self, block: BlockId)
         requires held { is_some (find_block (map made_of self.old) block) ≡ true }
-        ensures shows { (device : ℕ) (was : Cell → ℤ) → ShowsRows device self.old was → ShowsRows device self.new (after_op device (op.Release block) was) }
-        ensures blocks { SameBlocks (map made_of self.new) (blocks_after (op.Release block) (map made_of self.old)) }
+        ensures shows { (device : ℕ) (was : Cell → ℤ) → ShowsRows device self.old was
+            → ShowsRows device self.new (after_op device (op.Release block) was) }
+        ensures blocks { SameBlocks (map made_of self.new)
+            (blocks_after (op.Release block) (map made_of self.old)) }
     {
         self.buckets.remove(block.number());
     }
@@ -135,7 +146,11 @@ impl Blocks {
     /// Makes a job's inputs the values of the blocks that it uses. Takes no memory.
     pub(crate) fn load(&self, job: &mut Job)
         requires { HasRanges (map made_of self.now) job.old.uses }
-        ensures { (device : ℕ) (was : Cell → ℤ) → ShowsRows device self.now was → job.new ≡ record job.old { inputs = shown (read_uses job.old.kernel job.old.uses) (cells_by job.old.uses device was) } }
+        ensures { (device : ℕ) (was : Cell → ℤ) → ShowsRows device self.now was
+            → job.new ≡ record job.old {
+              inputs = shown (read_uses job.old.kernel job.old.uses)
+                  (cells_by job.old.uses device was);
+            } }
     {
         job.keeps();
         for place in 0..job.read_uses().len() {
@@ -148,7 +163,8 @@ impl Blocks {
     fn values(&self, block: BlockId, range: Range) -> &[i64]
         requires { HasRange (map made_of self.now) block range }
         ensures len { length result.now ≡ range.len }
-        ensures cells { (device : ℕ) (was : Cell → ℤ) → ShowsRows device self.now was → result.now ≡ range_values device block range was }
+        ensures cells { (device : ℕ) (was : Cell → ℤ) → ShowsRows device self.now was
+            → result.now ≡ range_values device block range was }
     {
         if range.len == 0 {
             return &[];

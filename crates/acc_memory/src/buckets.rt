@@ -93,8 +93,11 @@ impl Buckets<Block> {
     /// Writes some cells of the block of this number, if it is there, side by side from one on, which is named by its number in the
     /// host array. Takes no memory.
     pub(crate) fn store(&mut self, number: u64, first: usize, values: &[i64])
-        requires { (row : Row) → find_row self.old number ≡ Some row → HasRoom row first (length values.now) }
-        ensures { IsSetAt number (option_map (λ row. stored row (first - row.range.lo) values.now) (find_row self.old number)) self.old self.new }
+        requires { (row : Row) → find_row self.old number ≡ Some row
+            → HasRoom row first (length values.now) }
+        ensures { IsSetAt number
+            (option_map (λ row. stored row (first - row.range.lo) values.now)
+            (find_row self.old number)) self.old self.new }
     {
         let bucket = bucket_of(self.last, number);
         if bucket >= self.chains.len() {

@@ -56,7 +56,8 @@ impl Makes {
 
     /// Notes the block of a mark. Takes no memory: where the block is the next one the bound rises, and else the mark stays in its node.
     pub(crate) fn note(&mut self, mark: Node<Mark>)
-        ensures { (block : ℕ) → is_made self.new block ≡ ((mark.block == block) || is_made self.old block) }
+        ensures { (block : ℕ) → is_made self.new block ≡ ((mark.block == block)
+            || is_made self.old block) }
     {
         let block = mark.value().block;
         if block.number() > self.all_to && block.number() - self.all_to == 1 {
@@ -69,7 +70,8 @@ impl Makes {
 
 // How far a bound rises, over all marks that come next. These go.
 fn risen(mut all_to: u64, marks: &mut Buckets<Mark>) -> u64
-    ensures made { (block : ℕ) → is_made (makes_with result marks.new) block ≡ is_made (makes_with all_to marks.old) block }
+    ensures made { (block : ℕ) → is_made (makes_with result marks.new) block
+        ≡ is_made (makes_with all_to marks.old) block }
     ensures all { IsRisen result marks.new }
 {
     while let Some(next) = all_to.checked_add(1) {

@@ -107,7 +107,11 @@ impl Memory {
     pub fn load(&self, device: DeviceId, job: &mut Job)
         requires device { device < length self.now.devices }
         requires held { HasRanges (held_blocks self.now device) job.old.uses }
-        ensures { (was : Cell → ℤ) → Shows self.now was → job.new ≡ record job.old { inputs = shown (read_uses job.old.kernel job.old.uses) (cells_by job.old.uses device was) } }
+        ensures { (was : Cell → ℤ) → Shows self.now was
+            → job.new ≡ record job.old {
+              inputs = shown (read_uses job.old.kernel job.old.uses)
+                  (cells_by job.old.uses device was);
+            } }
     {
         self.devices[usize::from(device.number())].blocks.load(job);
     }
@@ -136,7 +140,8 @@ impl Memory {
     /// Writes a cell of a host array, one that the configuration's array has.
     pub fn host_set(&mut self, array: u8, cell: u32, value: i64)
         requires there { has_array self.old (record { array = array; lo = cell; len = 1 }) ≡ true }
-        ensures shows { (was : Cell → ℤ) → Shows self.old was → Shows self.new (after_write array cell value was) }
+        ensures shows { (was : Cell → ℤ) → Shows self.old was
+            → Shows self.new (after_write array cell value was) }
         ensures lengths { lengths_of self.new.arrays ≡ lengths_of self.old.arrays }
         ensures devices { self.new.devices ≡ self.old.devices }
     {
@@ -157,7 +162,8 @@ impl Memory {
     /// The range and the cells of a block, if it is there on the device, one that `Config::has_device` knows.
     pub fn block(&self, device: DeviceId, id: BlockId) -> Option<(Range, &Cells)>
         requires { device < length self.now.devices }
-        ensures { option_map (λ b. row_with id b.0 b.1.now) result ≡ find_row (rows_on self.now device) id }
+        ensures { option_map (λ b. row_with id b.0 b.1.now) result
+            ≡ find_row (rows_on self.now device) id }
     {
         let blocks = &self.devices[usize::from(device.number())].blocks;
         match blocks.get(id) {
@@ -168,7 +174,8 @@ impl Memory {
 
     /// What a cell of a block holds, if the block is there on the device and has the cell. It is named by its number in the host array.
     pub fn block_cell(&self, device: DeviceId, block: BlockId, cell: u32) -> Option<i64>
-        ensures there { is_some result ≡ has_cell (find_block (held_blocks self.now device) block) cell }
+        ensures there { is_some result
+            ≡ has_cell (find_block (held_blocks self.now device) block) cell }
         ensures held { is_some result ≡ is_held self.now (Block_cell device block cell) }
         ensures value { IfSome result (λ x. x ≡ cell_of self.now (Block_cell device block cell)) }
     {
@@ -219,7 +226,8 @@ impl Memory {
     // The range of a block, if it is there.
     fn range_of(&self, device: DeviceId, block: BlockId) -> Option<Range>
         requires { device < length self.now.devices }
-        ensures { result ≡ option_map (λ b. b.range) (find_block (held_blocks self.now device) block) }
+        ensures { result ≡ option_map (λ b. b.range) (find_block
+            (held_blocks self.now device) block) }
     {
         match self.block(device, block) {
             None => None,
@@ -241,7 +249,8 @@ impl Memory {
     // So of all that a loop uses.
     fn all_within(&self, device: DeviceId, uses: &[(BlockId, Range)]) -> bool
         requires { device < length self.now.devices }
-        ensures { result ≡ list_all (λ (u : Use). is_within (find_block (held_blocks self.now device) u.0) u.1) uses.now }
+        ensures { result ≡ list_all (λ (u : Use). is_within
+            (find_block (held_blocks self.now device) u.0) u.1) uses.now }
     {
         uses.iter()
             .all(|(block, range)| self.is_within(device, *block, range))

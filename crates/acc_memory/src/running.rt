@@ -18,7 +18,8 @@ impl Blocks {
         requires held { HasRanges (map made_of self.old) uses.now }
         requires distinct { AreDistinct uses.now }
         requires reached { HoldReached kernel.now uses.now }
-        ensures shows { (device : ℕ) (was : Cell → ℤ) → ShowsRows device self.old was → ShowsRows device self.new (after_op device (op.Run kernel.now uses.now) was) }
+        ensures shows { (device : ℕ) (was : Cell → ℤ) → ShowsRows device self.old was
+            → ShowsRows device self.new (after_op device (op.Run kernel.now uses.now) was) }
         ensures blocks { SameBlocks (map made_of self.new) (map made_of self.old) }
     {
         self.keeps();
@@ -30,7 +31,8 @@ impl Blocks {
     pub(crate) fn commit(&mut self, job: &Job)
         requires computed { job.now.outputs ≡ computed job.now }
         requires held { HasRanges (map made_of self.old) job.now.uses }
-        ensures shows { (device : ℕ) (was : Cell → ℤ) → ShowsRows device self.old was → ShowsRows device self.new (after_op device (op.Run job.now.kernel job.now.uses) was) }
+        ensures shows { (device : ℕ) (was : Cell → ℤ) → ShowsRows device self.old was
+            → ShowsRows device self.new (after_op device (op.Run job.now.kernel job.now.uses) was) }
         ensures blocks { SameBlocks (map made_of self.new) (map made_of self.old) }
     {
         self.keeps();

@@ -19,9 +19,11 @@ struct LoopBlocks<'a> {
 
 /// Runs the loop over the blocks of these uses. Takes no memory.
 pub(crate) fn run_over(blocks: &mut Blocks, uses: &[(BlockId, Range)], kernel: &Kernel)
-    requires { (array : ℕ) (cell : ℤ) → Reaches kernel.now array cell → IsTrue (window_has blocks.old uses.now array cell) }
+    requires { (array : ℕ) (cell : ℤ) → Reaches kernel.now array cell
+        → IsTrue (window_has blocks.old uses.now array cell) }
     ensures kept { KeepsRows uses.now blocks.old blocks.new }
-    ensures cells { window_cells blocks.new uses.now ≡ value_after kernel.now (window_cells blocks.old uses.now) }
+    ensures cells { window_cells blocks.new uses.now
+        ≡ value_after kernel.now (window_cells blocks.old uses.now) }
 {
     let mut window = LoopBlocks { blocks, uses };
     run_all(kernel, &mut window);
@@ -29,10 +31,12 @@ pub(crate) fn run_over(blocks: &mut Blocks, uses: &[(BlockId, Range)], kernel: &
 
 // Runs the loop over what it sees, which stays the same blocks.
 fn run_all(kernel: &Kernel, window: &mut LoopBlocks<'_>)
-    requires { (array : ℕ) (cell : ℤ) → Reaches kernel.now array cell → IsTrue (window_has window.old.blocks.now window.old.uses.now array cell) }
+    requires { (array : ℕ) (cell : ℤ) → Reaches kernel.now array cell
+        → IsTrue (window_has window.old.blocks.now window.old.uses.now array cell) }
     ensures same_reference { window.new.blocks.ghost_name ≡ window.old.blocks.ghost_name }
     ensures kept { KeepsRows window.old.uses.now window.old.blocks.now window.new.blocks.now }
-    ensures cells { window_cells window.new.blocks.now window.old.uses.now ≡ value_after kernel.now (window_cells window.old.blocks.now window.old.uses.now) }
+    ensures cells { window_cells window.new.blocks.now window.old.uses.now
+        ≡ value_after kernel.now (window_cells window.old.blocks.now window.old.uses.now) }
 {
     kernel.run(window);
 }
@@ -42,7 +46,8 @@ pub(crate) fn commit_over(blocks: &mut Blocks, job: &Job)
     requires computed { job.now.outputs ≡ computed job.now }
     requires has { HasUses job.now.uses (window_has blocks.old job.now.uses) }
     ensures kept { KeepsRows job.now.uses blocks.old blocks.new }
-    ensures cells { window_cells blocks.new job.now.uses ≡ value_after job.now.kernel (window_cells blocks.old job.now.uses) }
+    ensures cells { window_cells blocks.new job.now.uses
+        ≡ value_after job.now.kernel (window_cells blocks.old job.now.uses) }
 {
     let mut window = LoopBlocks {
         blocks,
@@ -57,7 +62,8 @@ fn commit_all(job: &Job, window: &mut LoopBlocks<'_>)
     requires has { HasUses job.now.uses (window_has window.old.blocks.now window.old.uses.now) }
     ensures same_reference { window.new.blocks.ghost_name ≡ window.old.blocks.ghost_name }
     ensures kept { KeepsRows window.old.uses.now window.old.blocks.now window.new.blocks.now }
-    ensures cells { window_cells window.new.blocks.now window.old.uses.now ≡ value_after job.now.kernel (window_cells window.old.blocks.now window.old.uses.now) }
+    ensures cells { window_cells window.new.blocks.now window.old.uses.now
+        ≡ value_after job.now.kernel (window_cells window.old.blocks.now window.old.uses.now) }
 {
     job.commit(window);
 }

@@ -242,7 +242,9 @@ pub(crate) fn is_answered(table: &Table, kind: &Kind, items: &[DataItem]) -> boo
 
 // How many batches were placed on each queue that a wait on queue sync or a question names, else 0.
 fn counts_for(labels: &Labels, device: DeviceId, directive: &Directive) -> QueueCounts
-    ensures { result ≡ counts_in (counts_queues directive.now.kind (queue_by directive.now.kind directive.now)) labels.now.queues device (queues_named directive.now) }
+    ensures { result ≡ counts_in (counts_queues directive.now.kind
+        (queue_by directive.now.kind directive.now)) labels.now.queues device
+        (queues_named directive.now) }
 {
     let are_asked = match directive.kind() {
         Kind::Wait => queue_by(directive) == QueueId::SYNC,

@@ -27,7 +27,8 @@ use acc_present::Table;
 
 /// How many batches were placed on each queue of a device that a directive waits for, and 0 for the others.
 pub(crate) fn named_counts(labels: &Labels, device: DeviceId, directive: &Directive) -> QueueCounts
-    ensures { result ≡ map (named_count labels.now.queues device (queues_named directive.now)) every_queue }
+    ensures { result ≡ map (named_count labels.now.queues device
+        (queues_named directive.now)) every_queue }
 {
     match directive.waits() {
         Waits::Nothing => [0; QUEUES as usize],
@@ -40,7 +41,8 @@ pub(crate) fn named_counts(labels: &Labels, device: DeviceId, directive: &Direct
 
 // How many batches were placed on each queue of a device.
 fn all_counts(labels: &Labels, device: DeviceId) -> QueueCounts
-    ensures { result ≡ map (λ q. length (queue_in labels.now.queues (record { device = device; queue = q }))) every_queue }
+    ensures { result ≡ map (λ q. length (queue_in labels.now.queues
+        (record { device = device; queue = q }))) every_queue }
 {
     let mut counts = [0; QUEUES as usize];
     for queue in 0..QUEUES {
@@ -50,14 +52,16 @@ fn all_counts(labels: &Labels, device: DeviceId) -> QueueCounts
 }
 
 fn placed_on(labels: &Labels, device: DeviceId, queue: QueueId) -> u64
-    ensures { result ≡ length (queue_in labels.now.queues (record { device = device; queue = queue })) }
+    ensures { result ≡ length (queue_in labels.now.queues
+        (record { device = device; queue = queue })) }
 {
     labels.on(QueueAt { device, queue }).len() as u64
 }
 
 // How many batches were placed on each queue that these values name, for a host with this default.
 fn listed_counts(labels: &Labels, device: DeviceId, default: i64, values: &[i64]) -> QueueCounts
-    ensures { result ≡ map (named_count labels.now.queues device (flat_map option_to_list (map (queue_meant default) values.now))) every_queue }
+    ensures { result ≡ map (named_count labels.now.queues device
+        (flat_map option_to_list (map (queue_meant default) values.now))) every_queue }
 {
     let mut counts = [0; QUEUES as usize];
     raise_named(labels, device, default, values, &mut counts);
@@ -72,7 +76,9 @@ fn raise_named(
     values: &[i64],
     numbers: &mut QueueCounts,
 )
-    ensures { Raises numbers.old (named_count labels.now.queues device (flat_map option_to_list (map (queue_meant default) values.now))) numbers.new }
+    ensures { Raises numbers.old
+        (named_count labels.now.queues device
+        (flat_map option_to_list (map (queue_meant default) values.now))) numbers.new }
 {
     match values {
         [] => {}
@@ -90,7 +96,8 @@ fn raise_placed(
     queue: Option<QueueId>,
     numbers: &mut QueueCounts,
 )
-    ensures { Raises numbers.old (named_count labels.now.queues device (option_to_list queue)) numbers.new }
+    ensures { Raises numbers.old
+        (named_count labels.now.queues device (option_to_list queue)) numbers.new }
 {
     match queue {
         None => {}
@@ -108,7 +115,9 @@ pub(crate) fn awaited_numbers(
 ) -> QueueCounts
     requires cells { All (λ t. 0 < t.item.range.len) steps.now }
     requires run_cells { All (λ u. 0 < u.1.len) (flat_map used_ranges (option_to_list run.now)) }
-    ensures { (notes : Range → ℕ → Note) → HasNotes notes known.now.table.now.notes → result ≡ map (number_in known.now notes (queues_named directive.now) (marked_ops (option_to_list run.now) steps.now) steps.now) every_queue }
+    ensures { (notes : Range → ℕ → Note) → HasNotes notes known.now.table.now.notes
+        → result ≡ map (number_in known.now notes (queues_named directive.now)
+        (marked_ops (option_to_list run.now) steps.now) steps.now) every_queue }
 {
     let table = known.table;
     let mut numbers = named_counts(known.labels, known.at.device, directive);
@@ -180,7 +189,10 @@ fn add_await(own: QueueId, queue: QueueId, number: u64, ops: &mut Few<OpLabel>) 
 // Raises the numbers by the makers of what the steps' operations of this group use.
 fn raise_group(table: &Table, group: Group, steps: &[Marked], numbers: &mut QueueCounts)
     requires { All (λ t. 0 < t.item.range.len) steps.now }
-    ensures { (notes : Range → ℕ → Note) → HasNotes notes table.now.notes → Raises numbers.old (last_made (note_found notes table.now.presences) (flat_map used_ranges (flat_map (group_ops group) steps.now))) numbers.new }
+    ensures { (notes : Range → ℕ → Note) → HasNotes notes table.now.notes
+        → Raises numbers.old
+        (last_made (note_found notes table.now.presences)
+        (flat_map used_ranges (flat_map (group_ops group) steps.now))) numbers.new }
 {
     match steps {
         [] => {}
@@ -194,7 +206,10 @@ fn raise_group(table: &Table, group: Group, steps: &[Marked], numbers: &mut Queu
 // Raises the numbers by the makers of what an operation uses, if there is one.
 fn raise_if(table: &Table, op: &Option<OpLabel>, numbers: &mut QueueCounts)
     requires { All (λ u. 0 < u.1.len) (flat_map used_ranges (option_to_list op.now)) }
-    ensures { (notes : Range → ℕ → Note) → HasNotes notes table.now.notes → Raises numbers.old (last_made (note_found notes table.now.presences) (flat_map used_ranges (option_to_list op.now))) numbers.new }
+    ensures { (notes : Range → ℕ → Note) → HasNotes notes table.now.notes
+        → Raises numbers.old
+        (last_made (note_found notes table.now.presences)
+        (flat_map used_ranges (option_to_list op.now))) numbers.new }
 {
     match op {
         None => {}
@@ -204,7 +219,9 @@ fn raise_if(table: &Table, op: &Option<OpLabel>, numbers: &mut QueueCounts)
 
 fn raise_op(table: &Table, op: &OpLabel, numbers: &mut QueueCounts)
     requires { All (λ u. 0 < u.1.len) (used_ranges op.now) }
-    ensures { (notes : Range → ℕ → Note) → HasNotes notes table.now.notes → Raises numbers.old (last_made (note_found notes table.now.presences) (used_ranges op.now)) numbers.new }
+    ensures { (notes : Range → ℕ → Note) → HasNotes notes table.now.notes
+        → Raises numbers.old
+        (last_made (note_found notes table.now.presences) (used_ranges op.now)) numbers.new }
 {
     match op {
         OpLabel::CopyIn { range, .. } => raise_range(table, *range, numbers),
@@ -217,7 +234,9 @@ fn raise_op(table: &Table, op: &OpLabel, numbers: &mut QueueCounts)
 
 fn raise_uses(table: &Table, uses: &[(BlockId, Range)], numbers: &mut QueueCounts)
     requires { All (λ u. 0 < u.1.len) uses.now }
-    ensures { (notes : Range → ℕ → Note) → HasNotes notes table.now.notes → Raises numbers.old (last_made (note_found notes table.now.presences) uses.now) numbers.new }
+    ensures { (notes : Range → ℕ → Note) → HasNotes notes table.now.notes
+        → Raises numbers.old
+        (last_made (note_found notes table.now.presences) uses.now) numbers.new }
 {
     match uses {
         [] => {}
@@ -231,7 +250,9 @@ fn raise_uses(table: &Table, uses: &[(BlockId, Range)], numbers: &mut QueueCount
 // Raises the numbers by the maker of the block of a range, if the range is present.
 fn raise_range(table: &Table, range: Range, numbers: &mut QueueCounts)
     requires { 0 < range.len }
-    ensures { (notes : Range → ℕ → Note) → HasNotes notes table.now.notes → Raises numbers.old (λ q. made_at q (note_found notes table.now.presences range)) numbers.new }
+    ensures { (notes : Range → ℕ → Note) → HasNotes notes table.now.notes
+        → Raises numbers.old (λ q.
+        made_at q (note_found notes table.now.presences range)) numbers.new }
 {
     match table.find(range) {
         Some(entry) => {
@@ -245,7 +266,10 @@ fn raise_range(table: &Table, range: Range, numbers: &mut QueueCounts)
 // Raises the numbers by all that made or used the blocks that items ended.
 fn raise_ended(table: &Table, steps: &[Marked], numbers: &mut QueueCounts)
     requires { All (λ t. 0 < t.item.range.len) steps.now }
-    ensures { (notes : Range → ℕ → Note) → HasNotes notes table.now.notes → Raises numbers.old (last_used (note_found notes table.now.presences) (flat_map ended_range steps.now)) numbers.new }
+    ensures { (notes : Range → ℕ → Note) → HasNotes notes table.now.notes
+        → Raises numbers.old
+        (last_used (note_found notes table.now.presences)
+        (flat_map ended_range steps.now)) numbers.new }
 {
     match steps {
         [] => {}
@@ -258,7 +282,9 @@ fn raise_ended(table: &Table, steps: &[Marked], numbers: &mut QueueCounts)
 
 fn raise_step(table: &Table, step: Marked, numbers: &mut QueueCounts)
     requires { 0 < step.item.range.len }
-    ensures { (notes : Range → ℕ → Note) → HasNotes notes table.now.notes → Raises numbers.old (last_used (note_found notes table.now.presences) (ended_range step)) numbers.new }
+    ensures { (notes : Range → ℕ → Note) → HasNotes notes table.now.notes
+        → Raises numbers.old
+        (last_used (note_found notes table.now.presences) (ended_range step)) numbers.new }
 {
     match step.ended {
         None => {}
@@ -269,7 +295,9 @@ fn raise_step(table: &Table, step: Marked, numbers: &mut QueueCounts)
 // Raises the numbers by all that made or used the block of a range, if the range is present.
 fn raise_used(table: &Table, range: Range, numbers: &mut QueueCounts)
     requires { 0 < range.len }
-    ensures { (notes : Range → ℕ → Note) → HasNotes notes table.now.notes → Raises numbers.old (λ q. used_at q (note_found notes table.now.presences range)) numbers.new }
+    ensures { (notes : Range → ℕ → Note) → HasNotes notes table.now.notes
+        → Raises numbers.old (λ q.
+        used_at q (note_found notes table.now.presences range)) numbers.new }
 {
     match table.find(range) {
         Some(entry) => raise_all(numbers, &entry.uses),

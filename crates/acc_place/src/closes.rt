@@ -48,7 +48,8 @@ impl Close {
 /// `Memory` where memory is refused.
 pub(crate) fn closes_of(alloc: Global, config: &Config) -> Result<Vec<Close>, Fault>
     ensures count { IfOk result (λ closes. length closes.items ≡ queue_count config.now) }
-    ensures new { IfOk result (λ closes. (at : QueueAt) → IsQueue config.now at → close_in closes.items at ≡ new_close at) }
+    ensures new { IfOk result (λ closes. (at : QueueAt) → IsQueue config.now at
+        → close_in closes.items at ≡ new_close at) }
     ensures fault { OnlyMemory result }
 {
     let mut closes = Vec::new(alloc);

@@ -38,9 +38,11 @@ impl Device {
         ensures capacity { self.new.table.capacity ≡ self.old.table.capacity }
         ensures notes { self.new.table.notes ≡ self.old.table.notes }
         ensures room { self.old.table.room ≤ self.new.table.room }
-        ensures ok { OnOk result (length self.new.table.presences + 2 * MAX_ITEMS ≤ self.new.table.room) }
+        ensures ok { OnOk result
+            (length self.new.table.presences + 2 * MAX_ITEMS ≤ self.new.table.room) }
         ensures fault { OnlyMemory result }
-        ensures missing { OnErr result (self.old.table.room < length self.old.table.presences + 2 * MAX_ITEMS) }
+        ensures missing { OnErr result
+            (self.old.table.room < length self.old.table.presences + 2 * MAX_ITEMS) }
     {
         self.table.spare(2 * MAX_ITEMS)
     }
@@ -50,7 +52,8 @@ impl Device {
         requires queue { queue < QUEUES }
         requires cells { All (λ u. 0 < u.1.len) (flat_map noted_ranges ops.now) }
         ensures held { held_on self.new ≡ held_on self.old }
-        ensures notes { (notes : Range → ℕ → Note) → HasNotes notes self.old.table.notes → HasNotes (noted_by queue number ops.now notes) self.new.table.notes }
+        ensures notes { (notes : Range → ℕ → Note) → HasNotes notes self.old.table.notes
+            → HasNotes (noted_by queue number ops.now notes) self.new.table.notes }
         ensures capacity { self.new.table.capacity ≡ self.old.table.capacity }
         ensures room { self.new.table.room ≡ self.old.table.room }
     {
@@ -67,7 +70,8 @@ impl Device {
         requires queue { queue < QUEUES }
         requires cells { All (λ u. 0 < u.1.len) (noted_ranges op.now) }
         ensures held { held_on self.new ≡ held_on self.old }
-        ensures notes { (notes : Range → ℕ → Note) → HasNotes notes self.old.table.notes → HasNotes (noted_by queue number (op.now ∷ []) notes) self.new.table.notes }
+        ensures notes { (notes : Range → ℕ → Note) → HasNotes notes self.old.table.notes
+            → HasNotes (noted_by queue number (op.now ∷ []) notes) self.new.table.notes }
         ensures capacity { self.new.table.capacity ≡ self.old.table.capacity }
         ensures room { self.new.table.room ≡ self.old.table.room }
     {
@@ -84,7 +88,8 @@ impl Device {
         requires queue { queue < QUEUES }
         requires cells { All (λ u. 0 < u.1.len) uses.now }
         ensures held { held_on self.new ≡ held_on self.old }
-        ensures notes { (notes : Range → ℕ → Note) → HasNotes notes self.old.table.notes → HasNotes (changed_all (used_by queue number) uses.now notes) self.new.table.notes }
+        ensures notes { (notes : Range → ℕ → Note) → HasNotes notes self.old.table.notes
+            → HasNotes (changed_all (used_by queue number) uses.now notes) self.new.table.notes }
         ensures capacity { self.new.table.capacity ≡ self.old.table.capacity }
         ensures room { self.new.table.room ≡ self.old.table.room }
     {
@@ -102,8 +107,10 @@ impl Device {
         requires fine { AllFine self.old.table.capacity kind.now (held_on self.old) items.now }
         requires entered { AllEntered kind.now (held_on self.old) items.now }
         requires room { HasRoomFor (length items.now) self.old.table self.old.opened }
-        ensures holding { held_on self.new ≡ holding_after_all kind.now (held_on self.old) items.now }
-        ensures notes { (notes : Range → ℕ → Note) → AreFresh notes self.old.opened → HasNotes notes self.old.table.notes → HasNotes notes self.new.table.notes }
+        ensures holding { held_on self.new
+            ≡ holding_after_all kind.now (held_on self.old) items.now }
+        ensures notes { (notes : Range → ℕ → Note) → AreFresh notes self.old.opened
+            → HasNotes notes self.old.table.notes → HasNotes notes self.new.table.notes }
         ensures capacity { self.new.table.capacity ≡ self.old.table.capacity }
         ensures room { self.new.table.room ≡ self.old.table.room }
     {
@@ -118,13 +125,16 @@ impl Device {
 
     // Leaves the mark of an item, if it leaves one.
     fn mark_item(&mut self, kind: &Kind, item: &DataItem)
-        requires fine { IsFine self.old.table.capacity (change_in kind.now self.old.table.presences item.now) self.old.table.presences item.now.range }
-        requires entered { HasEntered (change_in kind.now self.old.table.presences item.now) item.now.range self.old.table.presences }
+        requires fine { IsFine self.old.table.capacity
+            (change_in kind.now self.old.table.presences item.now) self.old.table.presences item.now.range }
+        requires entered { HasEntered
+            (change_in kind.now self.old.table.presences item.now) item.now.range self.old.table.presences }
         requires low { AllLow COUNTER_LIMIT 1 self.old.table.presences }
         requires room { length self.old.table.presences < self.old.table.room }
         requires few { self.old.opened < COUNTER_LIMIT }
         ensures holding { held_on self.new ≡ holding_with kind.now item.now (held_on self.old) }
-        ensures notes { (notes : Range → ℕ → Note) → AreFresh notes self.old.opened → HasNotes notes self.old.table.notes → HasNotes notes self.new.table.notes }
+        ensures notes { (notes : Range → ℕ → Note) → AreFresh notes self.old.opened
+            → HasNotes notes self.old.table.notes → HasNotes notes self.new.table.notes }
         ensures capacity { self.new.table.capacity ≡ self.old.table.capacity }
         ensures room { self.new.table.room ≡ self.old.table.room }
     {
@@ -144,7 +154,8 @@ impl Device {
         requires room { length self.old.table.presences < self.old.table.room }
         requires few { self.old.opened < COUNTER_LIMIT }
         ensures holding { held_on self.new ≡ holding_after change range (held_on self.old) }
-        ensures notes { (notes : Range → ℕ → Note) → AreFresh notes self.old.opened → HasNotes notes self.old.table.notes → HasNotes notes self.new.table.notes }
+        ensures notes { (notes : Range → ℕ → Note) → AreFresh notes self.old.opened
+            → HasNotes notes self.old.table.notes → HasNotes notes self.new.table.notes }
         ensures capacity { self.new.table.capacity ≡ self.old.table.capacity }
         ensures room { self.new.table.room ≡ self.old.table.room }
     {
@@ -169,9 +180,13 @@ impl Device {
         requires can { CanEnter counter range self.old.table.presences self.old.table.capacity }
         requires room { length self.old.table.presences < self.old.table.room }
         requires few { self.old.opened < COUNTER_LIMIT }
-        ensures presences { self.new.table.presences ≡ presences_after (entry_mark counter range) (self.old.opened + 1) self.old.table.presences }
-        ensures opened { self.new.opened ≡ opened_after (not (is_present self.old.table.presences range)) self.old.opened }
-        ensures notes { (notes : Range → ℕ → Note) → AreFresh notes self.old.opened → HasNotes notes self.old.table.notes → HasNotes notes self.new.table.notes }
+        ensures presences { self.new.table.presences
+            ≡ presences_after (entry_mark counter range)
+            (self.old.opened + 1) self.old.table.presences }
+        ensures opened { self.new.opened
+            ≡ opened_after (not (is_present self.old.table.presences range)) self.old.opened }
+        ensures notes { (notes : Range → ℕ → Note) → AreFresh notes self.old.opened
+            → HasNotes notes self.old.table.notes → HasNotes notes self.new.table.notes }
         ensures capacity { self.new.table.capacity ≡ self.old.table.capacity }
         ensures room { self.new.table.room ≡ self.old.table.room }
     {
@@ -212,9 +227,11 @@ pub(crate) fn devices_of(alloc: Global, config: &Config) -> Result<Vec<Device>, 
 
 // Notes what a batch makes and uses, if there is one.
 pub(crate) fn note_label(device: &mut Device, label: &Option<Label>)
-    requires { IfSome label.now (λ l. (l.at.queue < QUEUES) × All (λ u. 0 < u.1.len) (flat_map noted_ranges l.ops)) }
+    requires { IfSome label.now (λ l. (l.at.queue < QUEUES)
+        × All (λ u. 0 < u.1.len) (flat_map noted_ranges l.ops)) }
     ensures held { held_on device.new ≡ held_on device.old }
-    ensures notes { (notes : Range → ℕ → Note) → HasNotes notes device.old.table.notes → HasNotes (noted_with label.now notes) device.new.table.notes }
+    ensures notes { (notes : Range → ℕ → Note) → HasNotes notes device.old.table.notes
+        → HasNotes (noted_with label.now notes) device.new.table.notes }
     ensures capacity { device.new.table.capacity ≡ device.old.table.capacity }
     ensures room { device.new.table.room ≡ device.old.table.room }
 {

@@ -43,7 +43,8 @@ pub(crate) fn limit_fault(
     directive: &Directive,
     count: usize,
 ) -> Option<Fault>
-    ensures { result ≡ limit_fault known.now.accepted known.now.regions.now host directive.now count }
+    ensures { result
+        ≡ limit_fault known.now.accepted known.now.regions.now host directive.now count }
 {
     if has_bad_queue(directive) {
         return Some(Fault::BadAsync);
@@ -92,14 +93,24 @@ pub(crate) fn judge_all(
     requires draft_room { length draft.old.changed + length items.now ≤ draft.old.room }
     requires low { AllLow COUNTER_LIMIT (length items.now) (drafted known.now.table.now draft.old) }
     requires few { opened + length items.now ≤ COUNTER_LIMIT }
-    requires entered { AllEntered kind.now (holding (drafted known.now.table.now draft.old) opened) items.now }
+    requires entered { AllEntered kind.now
+        (holding (drafted known.now.table.now draft.old) opened) items.now }
     requires step_room { vec_len steps.old + length items.now ≤ vec_capacity steps.old }
     ensures draft_room { draft.new.room ≡ draft.old.room }
-    ensures fault { result ≡ first_fault_in known.now.config.now kind.now (holding (drafted known.now.table.now draft.old) opened) items.now }
+    ensures fault { result ≡ first_fault_in known.now.config.now kind.now
+        (holding (drafted known.now.table.now draft.old) opened) items.now }
     ensures draft { IfNone result (IsDraft known.now.table.now draft.new) }
-    ensures drafted { IfNone result (drafted known.now.table.now draft.new ≡ (holding_after_all kind.now (holding (drafted known.now.table.now draft.old) opened) items.now).presences) }
-    ensures changed { IfNone result (length draft.new.changed ≤ length draft.old.changed + length items.now) }
-    ensures steps { IfNone result (steps.new.items ≡ steps.old.items ++ all_marked kind.now (holding (drafted known.now.table.now draft.old) opened) items.now) }
+    ensures drafted { IfNone result
+        (drafted known.now.table.now draft.new
+        ≡
+        (holding_after_all kind.now
+        (holding (drafted known.now.table.now draft.old) opened) items.now).presences) }
+    ensures changed { IfNone result
+        (length draft.new.changed ≤ length draft.old.changed + length items.now) }
+    ensures steps { IfNone result
+        (steps.new.items
+        ≡ steps.old.items
+        ++ all_marked kind.now (holding (drafted known.now.table.now draft.old) opened) items.now) }
     ensures step_room { vec_capacity steps.new ≡ vec_capacity steps.old }
 {
     match items {
@@ -128,12 +139,22 @@ fn visit(
     requires draft_room { length draft.old.changed < draft.old.room }
     requires low { AllLow COUNTER_LIMIT 1 (drafted known.now.table.now draft.old) }
     requires few { opened < COUNTER_LIMIT }
-    requires entered { HasEntered (change_in kind.now (drafted known.now.table.now draft.old) item.now) item.now.range (drafted known.now.table.now draft.old) }
-    ensures refused { IfErr result (λ fault. fault_in known.now.config.now kind.now (drafted known.now.table.now draft.old) item.now ≡ Some fault) }
-    ensures fine { OnOk result (fault_in known.now.config.now kind.now (drafted known.now.table.now draft.old) item.now ≡ None) }
-    ensures marked { IfOk result (λ m. m ≡ marked_in (change_in kind.now (drafted known.now.table.now draft.old) item.now) (holding (drafted known.now.table.now draft.old) opened) item.now) }
+    requires entered { HasEntered
+        (change_in kind.now (drafted known.now.table.now draft.old) item.now) item.now.range
+        (drafted known.now.table.now draft.old) }
+    ensures refused { IfErr result (λ fault.
+        fault_in known.now.config.now kind.now (drafted known.now.table.now draft.old) item.now
+        ≡ Some fault) }
+    ensures fine { OnOk result (fault_in known.now.config.now kind.now
+        (drafted known.now.table.now draft.old) item.now ≡ None) }
+    ensures marked { IfOk result (λ m.
+        m ≡ marked_in (change_in kind.now (drafted known.now.table.now draft.old) item.now)
+        (holding (drafted known.now.table.now draft.old) opened) item.now) }
     ensures draft { OnOk result (IsDraft known.now.table.now draft.new) }
-    ensures drafted { OnOk result (drafted known.now.table.now draft.new ≡ presences_by (change_in kind.now (drafted known.now.table.now draft.old) item.now) item.now.range (opened + 1) (drafted known.now.table.now draft.old)) }
+    ensures drafted { OnOk result (drafted known.now.table.now draft.new
+        ≡ presences_by
+        (change_in kind.now (drafted known.now.table.now draft.old) item.now) item.now.range
+        (opened + 1) (drafted known.now.table.now draft.old)) }
     ensures changed { OnOk result (length draft.new.changed ≤ length draft.old.changed + 1) }
     ensures draft_room { draft.new.room ≡ draft.old.room }
 {
@@ -165,7 +186,9 @@ pub(crate) fn leave_all(
     requires entered { AllEntered EndData (holding (drafted table.now draft.old) 0) items.now }
     requires step_room { vec_len steps.old + length items.now ≤ vec_capacity steps.old }
     ensures draft_room { draft.new.room ≡ draft.old.room }
-    ensures steps { steps.new.items ≡ steps.old.items ++ all_marked EndData (holding (drafted table.now draft.old) 0) items.now }
+    ensures steps { steps.new.items
+        ≡ steps.old.items
+        ++ all_marked EndData (holding (drafted table.now draft.old) 0) items.now }
     ensures step_room { vec_capacity steps.new ≡ vec_capacity steps.old }
 {
     match items {
@@ -263,10 +286,12 @@ fn mark(
     requires few { opened < COUNTER_LIMIT }
     requires found { IsFound (drafted table.now draft.old) item.now.range found.now }
     ensures draft { IsDraft table.now draft.new }
-    ensures drafted { drafted table.now draft.new ≡ presences_by change item.now.range (opened + 1) (drafted table.now draft.old) }
+    ensures drafted { drafted table.now draft.new
+        ≡ presences_by change item.now.range (opened + 1) (drafted table.now draft.old) }
     ensures changed { length draft.new.changed ≤ length draft.old.changed + 1 }
     ensures draft_room { draft.new.room ≡ draft.old.room }
-    ensures result { result ≡ marked_in change (holding (drafted table.now draft.old) opened) item.now }
+    ensures result { result
+        ≡ marked_in change (holding (drafted table.now draft.old) opened) item.now }
 {
     let range = item.range;
     let (entered, ended) = match change {
@@ -314,10 +339,12 @@ fn enter(
     requires found { IsFound (drafted table.now draft.old) range found.now }
     requires few { opened < COUNTER_LIMIT }
     ensures draft { IsDraft table.now draft.new }
-    ensures drafted { drafted table.now draft.new ≡ presences_after (entry_mark counter range) (opened + 1) (drafted table.now draft.old) }
+    ensures drafted { drafted table.now draft.new
+        ≡ presences_after (entry_mark counter range) (opened + 1) (drafted table.now draft.old) }
     ensures changed { length draft.new.changed ≤ length draft.old.changed + 1 }
     ensures draft_room { draft.new.room ≡ draft.old.room }
-    ensures result { result ≡ block_opened (not (is_present (drafted table.now draft.old) range)) opened }
+    ensures result { result
+        ≡ block_opened (not (is_present (drafted table.now draft.old) range)) opened }
 {
     let block = opened + 1;
     match draft.enter(table, range, found, counter, BlockId::new(block)) {

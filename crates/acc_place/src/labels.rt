@@ -71,10 +71,14 @@ impl Labels {
     pub(crate) fn spare(&mut self, at: QueueAt) -> Result<(), Fault>
         requires { seat at < length self.old.queues }
         ensures queues { self.new.queues ≡ self.old.queues }
-        ensures room { (i : ℕ) → slice_index_or self.old.room i 0 ≤ slice_index_or self.new.room i 0 }
-        ensures ok { OnOk result (length (slice_index_or self.new.queues (seat at) []) < slice_index_or self.new.room (seat at) 0) }
+        ensures room { (i : ℕ)
+            → slice_index_or self.old.room i 0 ≤ slice_index_or self.new.room i 0 }
+        ensures ok { OnOk result (length (slice_index_or self.new.queues
+            (seat at) []) < slice_index_or self.new.room (seat at) 0) }
         ensures fault { OnlyMemory result }
-        ensures missing { OnErr result (¬ (length (slice_index_or self.old.queues (seat at) []) < slice_index_or self.old.room (seat at) 0)) }
+        ensures missing { OnErr result
+            (¬ (length (slice_index_or self.old.queues (seat at) []) < slice_index_or self.old.room
+            (seat at) 0)) }
     {
         self.queues[at.seat()].reserve(2)?;
         Ok(())
@@ -83,8 +87,12 @@ impl Labels {
     /// Adds a label to its queue, which may be its close. Takes no memory.
     pub(crate) fn push(&mut self, label: Label)
         requires seat { seat label.at < length self.old.queues }
-        requires room { length (slice_index_or self.old.queues (seat label.at) []) ≤ slice_index_or self.old.room (seat label.at) 0 }
-        ensures queues { self.new.queues ≡ slice_set self.old.queues (seat label.at) (slice_index_or self.old.queues (seat label.at) [] ++ label ∷ []) }
+        requires room { length
+            (slice_index_or self.old.queues (seat label.at) []) ≤ slice_index_or self.old.room
+            (seat label.at) 0 }
+        ensures queues { self.new.queues
+            ≡ slice_set self.old.queues (seat label.at)
+            (slice_index_or self.old.queues (seat label.at) [] ++ label ∷ []) }
         ensures room { self.new.room ≡ self.old.room }
     {
         let seat = label.at.seat();
@@ -94,7 +102,9 @@ impl Labels {
 
 // Adds the label of a batch, if there is one.
 pub(crate) fn push_label(labels: &mut Labels, label: Option<Label>)
-    requires { IfSome label (λ l. (seat l.at < length labels.old.queues) × (length (slice_index_or labels.old.queues (seat l.at) []) < slice_index_or labels.old.room (seat l.at) 0)) }
+    requires { IfSome label (λ l. (seat l.at < length labels.old.queues)
+        × (length (slice_index_or labels.old.queues (seat l.at) []) < slice_index_or labels.old.room
+        (seat l.at) 0)) }
     ensures queues { labels.new.queues ≡ queues_after labels.old.queues label }
     ensures room { labels.new.room ≡ labels.old.room }
 {

@@ -37,7 +37,11 @@ pub(crate) fn fill_items(
     into: &mut Vec<DataItem>,
 )
     requires { MAX_ITEMS + 1 ≤ vec_capacity into.old }
-    ensures items { into.new.items ≡ take (MAX_ITEMS + 1) (directive.now.items ++ implicit_items (lengths_of config.now.arrays) regions.now host directive.now kernel.now) }
+    ensures items { into.new.items
+        ≡ take (MAX_ITEMS + 1)
+        (directive.now.items
+        ++ implicit_items
+        (lengths_of config.now.arrays) regions.now host directive.now kernel.now) }
     ensures room { vec_capacity into.new ≡ vec_capacity into.old }
 {
     into.clear();
@@ -74,7 +78,8 @@ pub(crate) fn uses_in(
 ) -> Result<Vec<(BlockId, Range)>, Fault>
     requires draft { IsDraft table.now draft.now }
     requires cells { All (λ i. 0 < i.range.len) items.now }
-    ensures uses { IfOk result (λ u. u.items ≡ uses_in kernel.now items.now (drafted table.now draft.now)) }
+    ensures uses { IfOk result (λ u.
+        u.items ≡ uses_in kernel.now items.now (drafted table.now draft.now)) }
     ensures fault { OnlyMemory result }
 {
     let arrays = kernel.arrays();
@@ -131,7 +136,8 @@ fn implicit_item(
     device: DeviceId,
     array: u8,
 ) -> DataItem
-    ensures { result ≡ implicit_item (lengths_of config.now.arrays) array (item_of array (items_around host device regions.now)) }
+    ensures { result ≡ implicit_item (lengths_of config.now.arrays) array
+        (item_of array (items_around host device regions.now)) }
 {
     match item_around(regions, host, device, array) {
         Some(item) => DataItem {
@@ -180,7 +186,11 @@ fn add_implicit(
 )
     requires within { vec_len into.old ≤ MAX_ITEMS + 1 }
     requires room { MAX_ITEMS + 1 ≤ vec_capacity into.old }
-    ensures items { into.new.items ≡ take (MAX_ITEMS + 1) (into.old.items ++ implicit_among (lengths_of config.now.arrays) regions.now host directive.now (array ∷ [])) }
+    ensures items { into.new.items
+        ≡ take (MAX_ITEMS + 1)
+        (into.old.items
+        ++ implicit_among (lengths_of config.now.arrays) regions.now host directive.now
+        (array ∷ [])) }
     ensures room { vec_capacity into.new ≡ vec_capacity into.old }
 {
     if item_of(directive.items().as_slice(), array).is_none() {
@@ -200,7 +210,11 @@ fn add_all_implicit(
 )
     requires within { vec_len into.old ≤ MAX_ITEMS + 1 }
     requires room { MAX_ITEMS + 1 ≤ vec_capacity into.old }
-    ensures items { into.new.items ≡ take (MAX_ITEMS + 1) (into.old.items ++ implicit_among (lengths_of config.now.arrays) regions.now host directive.now arrays.now) }
+    ensures items { into.new.items
+        ≡ take (MAX_ITEMS + 1)
+        (into.old.items
+        ++ implicit_among
+        (lengths_of config.now.arrays) regions.now host directive.now arrays.now) }
     ensures room { vec_capacity into.new ≡ vec_capacity into.old }
 {
     for array in arrays {
@@ -235,7 +249,8 @@ fn reaches_past_item(reach: Reach, item: &DataItem) -> bool
 fn use_in(table: &Table, draft: &Draft, items: &[DataItem], array: u8) -> Option<(BlockId, Range)>
     requires draft { IsDraft table.now draft.now }
     requires cells { All (λ i. 0 < i.range.len) items.now }
-    ensures { option_to_list result ≡ use_in (drafted table.now draft.now) (item_of array items.now) }
+    ensures { option_to_list result
+        ≡ use_in (drafted table.now draft.now) (item_of array items.now) }
 {
     let item = item_of(items, array)?;
     match draft.look(table, item.range) {

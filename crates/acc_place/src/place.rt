@@ -77,7 +77,8 @@ impl Place {
         ensures config { IfOk result (λ p. p.config ≡ config) }
         ensures history { IfOk result (λ p. p.history ≡ []) }
         ensures counts { IfOk result (λ p. p.counts ≡ []) }
-        ensures closes { IfOk result (λ p. (at : QueueAt) → IsQueue config at → is_at_hand p at ≡ true) }
+        ensures closes { IfOk result (λ p. (at : QueueAt) → IsQueue config at
+            → is_at_hand p at ≡ true) }
         ensures fault { OnlyMemory result }
     {
         let devices = devices_of(alloc, &config)?;
@@ -117,8 +118,10 @@ impl Place {
         ensures counts { self.new.counts ≡ self.old.counts }
         ensures closes { self.new.closes ≡ self.old.closes }
         ensures roomy { (at : QueueAt) → IsRoomy self.old at → IsRoomy self.new at }
-        ensures refused { IfErr result (λ fault. IsRefusal (refusal self.old.config (standing_in self.old) host directive.now) fault) }
-        ensures plan { IfOk result (λ q. (q.host ≡ host) × (q.items_done ≡ items_done) × (q.directive ≡ directive.now)) }
+        ensures refused { IfErr result (λ fault.
+            IsRefusal (refusal self.old.config (standing_in self.old) host directive.now) fault) }
+        ensures plan { IfOk result (λ q. (q.host ≡ host) × (q.items_done ≡ items_done)
+            × (q.directive ≡ directive.now)) }
         ensures stamp { IfOk result (λ q. q.stamp ≡ length self.new.history) }
         ensures fits { IfOk result (λ q. Fits self.new q × IsPlanOf self.new q) }
         ensures batch { IfOk result (λ q. q.batch ≡ q.label) }
@@ -139,11 +142,16 @@ impl Place {
     ) -> Result<Placed, Fault>
         ensures config { self.new.config ≡ self.old.config }
         ensures closes { self.new.closes ≡ self.old.closes }
-        ensures history { OnOk result (self.new.history ≡ Accepted host directive.now ∷ self.old.history) }
+        ensures history { OnOk result
+            (self.new.history ≡ Accepted host directive.now ∷ self.old.history) }
         ensures counts { OnOk result (self.new.counts ≡ items_done ∷ self.old.counts) }
-        ensures answer { IfOk result (λ placed. placed ≡ answer_of (standing_in self.old) directive.now (walk_of (standing_in self.old) host directive.now)) }
-        ensures refused { IfErr result (λ fault. IsRefusal (refusal self.old.config (standing_in self.old) host directive.now) fault) }
-        ensures unchanged { OnErr result ((self.new.history ≡ self.old.history) × (self.new.counts ≡ self.old.counts)) }
+        ensures answer { IfOk result (λ placed.
+            placed ≡ answer_of (standing_in self.old) directive.now
+            (walk_of (standing_in self.old) host directive.now)) }
+        ensures refused { IfErr result (λ fault.
+            IsRefusal (refusal self.old.config (standing_in self.old) host directive.now) fault) }
+        ensures unchanged { OnErr result ((self.new.history ≡ self.old.history)
+            × (self.new.counts ≡ self.old.counts)) }
     {
         let plan = self.make_plan(host, items_done, directive, false)?;
         Ok(self.accept(plan))
@@ -162,8 +170,10 @@ impl Place {
         ensures counts { self.new.counts ≡ self.old.counts }
         ensures closes { self.new.closes ≡ self.old.closes }
         ensures roomy { (at : QueueAt) → IsRoomy self.old at → IsRoomy self.new at }
-        ensures refused { IfErr result (λ fault. IsRefusal (refusal self.old.config (standing_in self.old) host directive.now) fault) }
-        ensures plan { IfOk result (λ q. (q.host ≡ host) × (q.items_done ≡ items_done) × (q.directive ≡ directive.now)) }
+        ensures refused { IfErr result (λ fault.
+            IsRefusal (refusal self.old.config (standing_in self.old) host directive.now) fault) }
+        ensures plan { IfOk result (λ q. (q.host ≡ host) × (q.items_done ≡ items_done)
+            × (q.directive ≡ directive.now)) }
         ensures stamp { IfOk result (λ q. q.stamp ≡ length self.new.history) }
         ensures fits { IfOk result (λ q. Fits self.new q × IsPlanOf self.new q) }
         ensures batch { IfOk result (λ q. q.batch ≡ (if with_batch then q.label else None)) }
@@ -192,8 +202,10 @@ impl Place {
         ensures counts { self.new.counts ≡ self.old.counts }
         ensures closes { self.new.closes ≡ self.old.closes }
         ensures roomy { (other : QueueAt) → IsRoomy self.old other → IsRoomy self.new other }
-        ensures refused { IfErr result (λ fault. IsRefusal (refusal self.old.config (standing_in self.old) host directive.now) fault) }
-        ensures plan { IfOk result (λ q. (q.host ≡ host) × (q.items_done ≡ items_done) × (q.directive ≡ directive.now)) }
+        ensures refused { IfErr result (λ fault.
+            IsRefusal (refusal self.old.config (standing_in self.old) host directive.now) fault) }
+        ensures plan { IfOk result (λ q. (q.host ≡ host) × (q.items_done ≡ items_done)
+            × (q.directive ≡ directive.now)) }
         ensures stamp { IfOk result (λ q. q.stamp ≡ length self.new.history) }
         ensures fits { IfOk result (λ q. Fits self.new q × IsPlanOf self.new q) }
         ensures batch { IfOk result (λ q. q.batch ≡ (if with_batch then q.label else None)) }
@@ -219,7 +231,8 @@ impl Place {
 
     // The queue of a host's directive, if closing hasn't begun and its device is there.
     fn queue_for(&self, host: HostId, directive: &Directive) -> Result<QueueAt, Fault>
-        ensures refused { IfErr result (λ fault. refusal self.now.config (standing_in self.now) host directive.now ≡ Some fault) }
+        ensures refused { IfErr result (λ fault.
+            refusal self.now.config (standing_in self.now) host directive.now ≡ Some fault) }
         ensures early { OnOk result ((standing_in self.now).closing ≡ false) }
         ensures device { OnOk result (directive.now.device < self.now.config.devices) }
         ensures at { IfOk result (λ at. at ≡ queue_for self.now host directive.now) }
@@ -278,7 +291,8 @@ impl Place {
     pub fn accept(&mut self, plan: Plan) -> Placed
         requires { Fits self.old plan }
         ensures place { self.new ≡ place_after self.old plan }
-        ensures answer { result ≡ answer_of (standing_in self.old) plan.directive (walk_of (standing_in self.old) plan.host plan.directive) }
+        ensures answer { result ≡ answer_of (standing_in self.old) plan.directive
+            (walk_of (standing_in self.old) plan.host plan.directive) }
     {
         let Plan {
             host,

@@ -84,12 +84,19 @@ pub(crate) fn plan_of(
     requires run { IfSome run HasItsCells }
     requires run_cells { All (λ u. 0 < u.1.len) (flat_map used_ranges (option_to_list run)) }
     requires cells { All (λ t. 0 < t.item.range.len) steps.now }
-    ensures host { IfOk result (λ q. (q.host ≡ host) × (q.items_done ≡ items_done) × (q.stamp ≡ known.now.accepted)) }
+    ensures host { IfOk result (λ q. (q.host ≡ host) × (q.items_done ≡ items_done)
+        × (q.stamp ≡ known.now.accepted)) }
     ensures directive { IfOk result (λ q. q.directive ≡ directive.now) }
-    ensures region { IfOk result (λ q. q.region ≡ opened_region host directive.now directive.now.kind (counted_steps steps.now)) }
-    ensures label { (notes : Range → ℕ → Note) → HasNotes notes known.now.table.now.notes → IfOk result (λ q. q.label ≡ label_for known.now.at (next_in known.now) host items_done (behind_noted known.now notes directive.now (marked_ops (option_to_list run) steps.now) steps.now)) }
+    ensures region { IfOk result (λ q.
+        q.region ≡ opened_region host directive.now directive.now.kind (counted_steps steps.now)) }
+    ensures label { (notes : Range → ℕ → Note) → HasNotes notes known.now.table.now.notes
+        → IfOk result (λ q.
+        q.label ≡ label_for known.now.at (next_in known.now) host items_done
+        (behind_noted known.now notes directive.now
+        (marked_ops (option_to_list run) steps.now) steps.now)) }
     ensures batch { IfOk result (λ q. q.batch ≡ (if with_batch then q.label else None)) }
-    ensures answer { IfOk result (λ q. q.answer ≡ placed_by known.now directive.now q.label present) }
+    ensures answer { IfOk result (λ q.
+        q.answer ≡ placed_by known.now directive.now q.label present) }
     ensures fault { OnlyMemory result }
 {
     let ops = batch_ops(alloc, known, directive, steps, run)?;
@@ -118,7 +125,8 @@ fn label_of(
     items_done: u64,
     ops: Few<OpLabel>,
 ) -> Result<Option<Label>, Fault>
-    ensures label { IfOk result (λ label. label ≡ label_for known.now.at (next_in known.now) host items_done ops) }
+    ensures label { IfOk result (λ label.
+        label ≡ label_for known.now.at (next_in known.now) host items_done ops) }
     ensures fault { OnlyMemory result }
 {
     if ops.as_slice().is_empty() {
@@ -164,7 +172,10 @@ fn batch_ops(
     requires run { IfSome run HasItsCells }
     requires run_cells { All (λ u. 0 < u.1.len) (flat_map used_ranges (option_to_list run)) }
     requires cells { All (λ t. 0 < t.item.range.len) steps.now }
-    ensures ops { (notes : Range → ℕ → Note) → HasNotes notes known.now.table.now.notes → IfOk result (λ ops. ops ≡ behind_noted known.now notes directive.now (marked_ops (option_to_list run) steps.now) steps.now) }
+    ensures ops { (notes : Range → ℕ → Note) → HasNotes notes known.now.table.now.notes
+        → IfOk result (λ ops.
+        ops ≡ behind_noted known.now notes directive.now
+        (marked_ops (option_to_list run) steps.now) steps.now) }
     ensures cells { IfOk result (λ ops. All HasItsCells ops) }
     ensures fault { OnlyMemory result }
 {
@@ -220,7 +231,9 @@ fn ops_of(
     steps: &[Marked],
     run: Option<OpLabel>,
 ) -> Result<Few<OpLabel>, Fault>
-    ensures ops { IfOk result (λ ops. ops ≡ with_awaits alone (awaits_from own 0 numbers.now) (marked_ops (option_to_list run) steps.now)) }
+    ensures ops { IfOk result (λ ops.
+        ops ≡ with_awaits alone (awaits_from own 0 numbers.now)
+        (marked_ops (option_to_list run) steps.now)) }
     ensures fault { OnlyMemory result }
 {
     let mut ops = Few::new(alloc);

@@ -46,7 +46,8 @@ impl Place {
     pub fn counters(&self, device: DeviceId, range: Range) -> Option<(u64, u64)>
         requires device { device < self.now.config.devices }
         requires cells { 0 < range.len }
-        ensures { result ≡ option_map (λ p. (p.s, p.d)) (holder (presences ((standing_in self.now).marks device)) range) }
+        ensures { result ≡ option_map (λ p. (p.s, p.d)) (holder
+            (presences ((standing_in self.now).marks device)) range) }
     {
         self.devices[usize::from(device.number())]
             .table
@@ -56,8 +57,10 @@ impl Place {
     /// The entry of the device's table with this index, from 0, by array, then by lower bound.
     pub fn nth(&self, device: DeviceId, index: usize) -> Option<&Entry>
         requires device { device < self.now.config.devices }
-        ensures entry { option_map (λ e. entry_presence e.now) result ≡ slice_get (presences ((standing_in self.now).marks device)) index }
-        ensures noted { IfSome result (λ e. entry_note e.now ≡ note_of device (standing_in self.now).labels e.now.block) }
+        ensures entry { option_map (λ e. entry_presence e.now) result
+            ≡ slice_get (presences ((standing_in self.now).marks device)) index }
+        ensures noted { IfSome result (λ e.
+            entry_note e.now ≡ note_of device (standing_in self.now).labels e.now.block) }
         ensures next { OnSome result (index + 1 < 2 ^ 64) }
     {
         self.devices[usize::from(device.number())].table.nth(index)
@@ -73,7 +76,8 @@ impl Place {
     /// The label of the batch with this number on a queue, from 1.
     #[tactic(auto, using(crate::proofs::StandingIn::nth_is))]
     pub fn placed(&self, at: QueueAt, number: u64) -> Option<&Label>
-        ensures { option_map (λ l. l.now) result ≡ nth_batch (on_queue at (standing_in self.now).labels) number }
+        ensures { option_map (λ l. l.now) result
+            ≡ nth_batch (on_queue at (standing_in self.now).labels) number }
     {
         if number == 0 {
             return None;
@@ -106,7 +110,8 @@ impl Place {
 
     /// What was answered to the accepted directives, in order: each goes with the directive and the count of the same index.
     pub fn answers(&self) -> &[Answer]
-        ensures answers { result.now ≡ reverse (answers_of self.now.config self.now.history self.now.counts) }
+        ensures answers { result.now
+            ≡ reverse (answers_of self.now.config self.now.history self.now.counts) }
         ensures together { GoTogether self.now.config self.now.history self.now.counts }
     {
         self.answers.as_slice()

@@ -66,7 +66,8 @@ pub(crate) fn opened_region(
     directive: &Directive,
     steps: &[Marked],
 ) -> Result<Option<Region>, Fault>
-    ensures region { IfOk result (λ region. region ≡ opened_region host directive.now directive.now.kind (counted_steps steps.now)) }
+    ensures region { IfOk result (λ region.
+        region ≡ opened_region host directive.now directive.now.kind (counted_steps steps.now)) }
     ensures fault { OnlyMemory result }
 {
     if !matches!(directive.kind(), Kind::Data) {
@@ -103,7 +104,10 @@ pub(crate) fn enter_or_leave(
     opened: Option<Region>,
 )
     requires room { vec_len regions.old < vec_capacity regions.old }
-    ensures regions { (counted : List DataItem) → opened ≡ opened_region host directive.now directive.now.kind counted → regions.new.items ≡ regions_after host directive.now directive.now.kind counted regions.old.items }
+    ensures regions { (counted : List DataItem)
+        → opened ≡ opened_region host directive.now directive.now.kind counted
+        → regions.new.items
+        ≡ regions_after host directive.now directive.now.kind counted regions.old.items }
     ensures room { vec_capacity regions.new ≡ vec_capacity regions.old }
 {
     if let Some(region) = opened {

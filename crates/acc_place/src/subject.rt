@@ -29,7 +29,10 @@ pub(crate) fn put_items(
     into: &mut Vec<DataItem>,
 )
     requires { MAX_ITEMS + 1 ≤ vec_capacity into.old }
-    ensures items { into.new.items ≡ take (MAX_ITEMS + 1) (subject_by (lengths_of config.now.arrays) regions.now host directive.now directive.now.kind).items }
+    ensures items { into.new.items
+        ≡ take (MAX_ITEMS + 1)
+        (subject_by
+        (lengths_of config.now.arrays) regions.now host directive.now directive.now.kind).items }
     ensures room { vec_capacity into.new ≡ vec_capacity into.old }
 {
     if let Kind::Loop { kernel } = directive.kind() {
@@ -86,7 +89,8 @@ pub(crate) fn run_in(
     requires cells { All (λ i. 0 < i.range.len) items.now }
     requires stays { StaysBy kind.now items.now }
     requires held { AllHeldFor kind.now (drafted table.now draft.now) items.now }
-    ensures run { IfOk result (λ run. option_to_list run ≡ run_in (loop_in kind.now) items.now (drafted table.now draft.now)) }
+    ensures run { IfOk result (λ run.
+        option_to_list run ≡ run_in (loop_in kind.now) items.now (drafted table.now draft.now)) }
     ensures cells { IfOk result (λ run. IfSome run HasItsCells) }
     ensures fault { OnlyMemory result }
 {

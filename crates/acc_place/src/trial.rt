@@ -79,7 +79,10 @@ impl Trial {
         host: HostId,
         directive: &Directive,
     )
-        ensures { self.new.items ≡ take (MAX_ITEMS + 1) (subject_by (lengths_of config.now.arrays) regions.now host directive.now directive.now.kind).items }
+        ensures { self.new.items
+            ≡ take (MAX_ITEMS + 1)
+            (subject_by
+            (lengths_of config.now.arrays) regions.now host directive.now directive.now.kind).items }
     {
         put_items(config, regions, host, directive, &mut self.items);
     }
@@ -93,7 +96,8 @@ impl Trial {
         directive: &Directive,
     ) -> Option<Fault>
         requires known { IsKnown known.now }
-        requires device { known.now.at.device ≡ device_by known.now.regions.now host directive.now directive.now.kind }
+        requires device { known.now.at.device
+            ≡ device_by known.now.regions.now host directive.now directive.now.kind }
         ensures fault { result ≡ fault_by known.now host directive.now }
         ensures tried { IfNone result (IsTried known.now host directive.now self.new) }
     {
@@ -142,12 +146,22 @@ impl Trial {
     ) -> Result<Plan, Fault>
         requires known { IsKnown known.now }
         requires tried { IsTried known.now host directive.now self.old }
-        ensures host { IfOk result (λ q. (q.host ≡ host) × (q.items_done ≡ items_done) × (q.stamp ≡ known.now.accepted)) }
+        ensures host { IfOk result (λ q. (q.host ≡ host) × (q.items_done ≡ items_done)
+            × (q.stamp ≡ known.now.accepted)) }
         ensures directive { IfOk result (λ q. q.directive ≡ directive.now) }
-        ensures region { IfOk result (λ q. q.region ≡ opened_region host directive.now directive.now.kind (counted_steps (steps_by known.now host directive.now))) }
-        ensures label { (notes : Range → ℕ → Note) → HasNotes notes known.now.table.now.notes → IfOk result (λ q. q.label ≡ label_for known.now.at (next_in known.now) host items_done (behind_noted known.now notes directive.now (ops_by known.now host directive.now) (steps_by known.now host directive.now))) }
+        ensures region { IfOk result (λ q.
+            q.region ≡ opened_region host directive.now directive.now.kind
+            (counted_steps (steps_by known.now host directive.now))) }
+        ensures label { (notes : Range → ℕ → Note) → HasNotes notes known.now.table.now.notes
+            → IfOk result (λ q.
+            q.label ≡ label_for known.now.at (next_in known.now) host items_done
+            (behind_noted known.now notes directive.now (ops_by known.now host directive.now)
+            (steps_by known.now host directive.now))) }
         ensures batch { IfOk result (λ q. q.batch ≡ (if with_batch then q.label else None)) }
-        ensures answer { IfOk result (λ q. q.answer ≡ placed_by known.now directive.now q.label (is_answered directive.now.kind known.now.table.now.presences (items_by known.now host directive.now))) }
+        ensures answer { IfOk result (λ q.
+            q.answer ≡ placed_by known.now directive.now q.label
+            (is_answered directive.now.kind known.now.table.now.presences
+            (items_by known.now host directive.now))) }
         ensures fault { OnlyMemory result }
     {
         let kind = directive.kind();

@@ -94,14 +94,18 @@ impl Draft {
         requires cells { 0 < range.len }
         requires found { IsFound (drafted table.now self.old) range found.now }
         requires whole { is_partly_present (drafted table.now self.old) range ≡ false }
-        requires low { IfSome (holder (drafted table.now self.old) range) (λ p. counter_of counter p < COUNTER_LIMIT) }
-        requires capacity { holder (drafted table.now self.old) range ≡ None → used_cells (drafted table.now self.old) + range.len ≤ table.now.capacity }
+        requires low { IfSome (holder (drafted table.now self.old) range) (λ p.
+            counter_of counter p < COUNTER_LIMIT) }
+        requires capacity { holder (drafted table.now self.old) range ≡ None
+            → used_cells (drafted table.now self.old) + range.len ≤ table.now.capacity }
         requires room { length self.old.changed < self.old.room }
         ensures draft { IsDraft table.now self.new }
-        ensures drafted { drafted table.now self.new ≡ presences_after (entry_mark counter range) block (drafted table.now self.old) }
+        ensures drafted { drafted table.now self.new
+            ≡ presences_after (entry_mark counter range) block (drafted table.now self.old) }
         ensures changed { length self.new.changed ≤ length self.old.changed + 1 }
         ensures room { self.new.room ≡ self.old.room }
-        ensures result { result ≡ (if is_present (drafted table.now self.old) range then Entered.Counted else Entered.Opened) }
+        ensures result { result ≡ (if is_present (drafted table.now self.old) range
+            then Entered.Counted else Entered.Opened) }
     {
         table.keeps();
         match index_for(&mut self.changed, table, range, found) {
@@ -123,13 +127,16 @@ impl Draft {
         requires draft { IsDraft table.now self.old }
         requires cells { 0 < range.len }
         requires found { IsFound (drafted table.now self.old) range found.now }
-        requires condition { MeetsCondition (exit_change counter) range (drafted table.now self.old) }
+        requires condition { MeetsCondition (exit_change counter) range
+            (drafted table.now self.old) }
         requires room { length self.old.changed < self.old.room }
         ensures draft { IsDraft table.now self.new }
-        ensures drafted { drafted table.now self.new ≡ kept_after (exit_mark counter range) (drafted table.now self.old) }
+        ensures drafted { drafted table.now self.new
+            ≡ kept_after (exit_mark counter range) (drafted table.now self.old) }
         ensures changed { length self.new.changed ≤ length self.old.changed + 1 }
         ensures room { self.new.room ≡ self.old.room }
-        ensures result { result ≡ left_of (holder (drafted table.now self.old) range) (exit_change counter) }
+        ensures result { result ≡ left_of (holder (drafted table.now self.old) range)
+            (exit_change counter) }
     {
         self.exit(table, range, found, exit_change(counter))
     }
@@ -142,7 +149,8 @@ impl Draft {
         requires found { IsFound (drafted table.now self.old) range found.now }
         requires room { length self.old.changed < self.old.room }
         ensures draft { IsDraft table.now self.new }
-        ensures drafted { drafted table.now self.new ≡ kept_after (finalize_mark range) (drafted table.now self.old) }
+        ensures drafted { drafted table.now self.new
+            ≡ kept_after (finalize_mark range) (drafted table.now self.old) }
         ensures changed { length self.new.changed ≤ length self.old.changed + 1 }
         ensures room { self.new.room ≡ self.old.room }
         ensures result { result ≡ left_of (holder (drafted table.now self.old) range) DynamicZero }
@@ -158,7 +166,8 @@ impl Draft {
         requires exit { can_open change ≡ false }
         requires room { length self.old.changed < self.old.room }
         ensures draft { IsDraft table.now self.new }
-        ensures drafted { drafted table.now self.new ≡ kept_after (record { change = change; range = range }) (drafted table.now self.old) }
+        ensures drafted { drafted table.now self.new
+            ≡ kept_after (record { change = change; range = range }) (drafted table.now self.old) }
         ensures changed { length self.new.changed ≤ length self.old.changed + 1 }
         ensures room { self.new.room ≡ self.old.room }
         ensures result { result ≡ left_of (holder (drafted table.now self.old) range) change }
@@ -179,10 +188,13 @@ impl Draft {
     fn put_or_end(&mut self, index: usize, after: Held) -> Left
         requires index { index < length self.old.changed }
         requires cells { has_count (held_presence after) ≡ false → after.range.len ≤ self.old.used }
-        ensures changed { self.new.changed ≡ slice_set self.old.changed index (held_presence after) }
-        ensures used { self.new.used + (if has_count (held_presence after) then 0 else after.range.len) ≡ self.old.used }
+        ensures changed { self.new.changed
+            ≡ slice_set self.old.changed index (held_presence after) }
+        ensures used { self.new.used +
+            (if has_count (held_presence after) then 0 else after.range.len) ≡ self.old.used }
         ensures room { self.new.room ≡ self.old.room }
-        ensures result { result ≡ (if has_count (held_presence after) then Left.Counted else Left.Ended after.block) }
+        ensures result { result ≡ (if has_count (held_presence after) then Left.Counted
+            else Left.Ended after.block) }
     {
         self.changed[index] = after;
         if has_count(&after) {
@@ -202,7 +214,8 @@ impl Draft {
 
 // The index of the changed entry that has a count and contains the range.
 fn counted_index(changed: &[Held], range: Range) -> Option<usize>
-    ensures held { option_and_then (slice_get (map held_presence changed.now)) result ≡ holder (filter has_count (map held_presence changed.now)) range }
+    ensures held { option_and_then (slice_get (map held_presence changed.now)) result
+        ≡ holder (filter has_count (map held_presence changed.now)) range }
     ensures within { IfSome result (λ i. i < length changed.now) }
 {
     changed
@@ -213,9 +226,11 @@ fn counted_index(changed: &[Held], range: Range) -> Option<usize>
 // What the table would have of a range that no changed entry with a count contains.
 fn look_beside(changed: &[Held], table: &Table, range: Range) -> Found
     requires cells { 0 < range.len }
-    requires after { is_table (with_changed (map held_presence changed.now) table.now.presences) ≡ true }
+    requires after { is_table (with_changed (map held_presence changed.now) table.now.presences)
+        ≡ true }
     requires none { holder (filter has_count (map held_presence changed.now)) range ≡ None }
-    ensures { IsFound (with_changed (map held_presence changed.now) table.now.presences) range result }
+    ensures { IsFound
+        (with_changed (map held_presence changed.now) table.now.presences) range result }
 {
     table.keeps();
     match table.look(range) {
@@ -253,7 +268,8 @@ fn overlaps_counted(changed: &[Held], range: Range) -> bool
 
 // Whether the range would overlap a present one.
 fn overlaps_drafted(changed: &[Held], table: &Table, range: Range) -> bool
-    ensures { result ≡ overlaps_any (with_changed (map held_presence changed.now) table.now.presences) range }
+    ensures { result
+        ≡ overlaps_any (with_changed (map held_presence changed.now) table.now.presences) range }
 {
     overlaps_counted(changed, range) || table.overlaps_beside(range, changed)
 }
@@ -262,11 +278,15 @@ fn overlaps_drafted(changed: &[Held], table: &Table, range: Range) -> bool
 // it, as was found.
 fn index_for(changed: &mut Vec<Held>, table: &Table, range: Range, found: &Found) -> Option<usize>
     requires cells { 0 < range.len }
-    requires found { IsFound (with_changed (map held_presence changed.old.items) table.now.presences) range found.now }
-    requires after { is_table (with_changed (map held_presence changed.old.items) table.now.presences) ≡ true }
+    requires found { IsFound
+        (with_changed (map held_presence changed.old.items) table.now.presences) range found.now }
+    requires after { is_table
+        (with_changed (map held_presence changed.old.items) table.now.presences) ≡ true }
     requires room { vec_len changed.old < vec_capacity changed.old }
-    ensures same { with_changed (map held_presence changed.new.items) table.now.presences ≡ with_changed (map held_presence changed.old.items) table.now.presences }
-    ensures held { option_and_then (slice_get (map held_presence changed.new.items)) result ≡ holder (with_changed (map held_presence changed.old.items) table.now.presences) range }
+    ensures same { with_changed (map held_presence changed.new.items) table.now.presences
+        ≡ with_changed (map held_presence changed.old.items) table.now.presences }
+    ensures held { option_and_then (slice_get (map held_presence changed.new.items)) result
+        ≡ holder (with_changed (map held_presence changed.old.items) table.now.presences) range }
     ensures within { IfSome result (λ i. i < vec_len changed.new) }
     ensures none { result ≡ None → changed.new ≡ changed.old }
     ensures longer { vec_len changed.new ≤ vec_len changed.old + 1 }

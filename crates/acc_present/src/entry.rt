@@ -44,7 +44,8 @@ pub(crate) fn new_entry(range: Range, counter: Counter, block: BlockId) -> Entry
 // Counts an entry to this one's range.
 pub(crate) fn count_up(entry: &mut Entry, counter: Counter)
     requires { counter_of counter (entry_presence entry.old) < COUNTER_LIMIT }
-    ensures presence { entry_presence entry.new ≡ stepped (entry_change counter) (entry_presence entry.old) }
+    ensures presence { entry_presence entry.new
+        ≡ stepped (entry_change counter) (entry_presence entry.old) }
     ensures note { entry_note entry.new ≡ entry_note entry.old }
 {
     match counter {

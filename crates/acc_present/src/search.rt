@@ -26,8 +26,12 @@ fn stands_before(first: Range, second: Range) -> bool
 fn begins_behind(entries: &Indexed<Entry>, at: usize, range: Range) -> bool
     requires table { is_table (map entry_presence entries.now.items) ≡ true }
     requires within { at < length entries.now.items }
-    ensures behind { result ≡ true → position_or_len (λ p. is_before range p.range) (map entry_presence entries.now.items) ≤ at }
-    ensures before { result ≡ false → at < position_or_len (λ p. is_before range p.range) (map entry_presence entries.now.items) }
+    ensures behind { result ≡ true
+        → position_or_len (λ p. is_before range p.range)
+        (map entry_presence entries.now.items) ≤ at }
+    ensures before { result ≡ false
+        → at < position_or_len (λ p. is_before range p.range)
+        (map entry_presence entries.now.items) }
 {
     stands_before(range, entries.get(at).range)
 }
@@ -35,7 +39,8 @@ fn begins_behind(entries: &Indexed<Entry>, at: usize, range: Range) -> bool
 // The index of the first entry that begins behind the range's first cell, or the end: looked for near a place, then by halves.
 pub(crate) fn index_behind(entries: &Indexed<Entry>, near: usize, range: Range) -> usize
     requires { is_table (map entry_presence entries.now.items) ≡ true }
-    ensures index { result ≡ position_or_len (λ p. is_before range p.range) (map entry_presence entries.now.items) }
+    ensures index { result ≡ position_or_len (λ p. is_before range p.range)
+        (map entry_presence entries.now.items) }
     ensures within { result ≤ length entries.now.items }
 {
     let (mut low, mut high) = bounds_by(entries, near, range);
@@ -53,8 +58,10 @@ pub(crate) fn index_behind(entries: &Indexed<Entry>, near: usize, range: Range) 
 // The bounds of that index, as the entries beside a place tell: both are the same where it is the place or the one behind.
 fn bounds_by(entries: &Indexed<Entry>, near: usize, range: Range) -> (usize, usize)
     requires { is_table (map entry_presence entries.now.items) ≡ true }
-    ensures from { result.0 ≤ position_or_len (λ p. is_before range p.range) (map entry_presence entries.now.items) }
-    ensures until { position_or_len (λ p. is_before range p.range) (map entry_presence entries.now.items) ≤ result.1 }
+    ensures from { result.0 ≤ position_or_len (λ p. is_before range p.range)
+        (map entry_presence entries.now.items) }
+    ensures until { position_or_len (λ p. is_before range p.range)
+        (map entry_presence entries.now.items) ≤ result.1 }
     ensures within { result.1 ≤ length entries.now.items }
 {
     let len = entries.len();
@@ -76,7 +83,8 @@ fn bounds_by(entries: &Indexed<Entry>, near: usize, range: Range) -> (usize, usi
 pub(crate) fn index_of(entries: &Indexed<Entry>, near: &mut usize, range: Range) -> Option<usize>
     requires table { is_table (map entry_presence entries.now.items) ≡ true }
     requires cells { 0 < range.len }
-    ensures held { holder (map entry_presence entries.now.items) range ≡ option_and_then (slice_get (map entry_presence entries.now.items)) result }
+    ensures held { holder (map entry_presence entries.now.items) range
+        ≡ option_and_then (slice_get (map entry_presence entries.now.items)) result }
     ensures within { IfSome result (λ i. i < length entries.now.items) }
 {
     *near = index_behind(entries, *near, range);
@@ -88,9 +96,11 @@ pub(crate) fn index_of(entries: &Indexed<Entry>, near: &mut usize, range: Range)
 pub(crate) fn held_before(entries: &Indexed<Entry>, behind: usize, range: Range) -> Option<usize>
     requires table { is_table (map entry_presence entries.now.items) ≡ true }
     requires cells { 0 < range.len }
-    requires index { behind ≡ position_or_len (λ p. is_before range p.range) (map entry_presence entries.now.items) }
+    requires index { behind ≡ position_or_len (λ p. is_before range p.range)
+        (map entry_presence entries.now.items) }
     requires within { behind ≤ length entries.now.items }
-    ensures held { holder (map entry_presence entries.now.items) range ≡ option_and_then (slice_get (map entry_presence entries.now.items)) result }
+    ensures held { holder (map entry_presence entries.now.items) range
+        ≡ option_and_then (slice_get (map entry_presence entries.now.items)) result }
     ensures within { IfSome result (λ i. i < length entries.now.items) }
 {
     if behind == 0 {
@@ -106,7 +116,8 @@ pub(crate) fn held_before(entries: &Indexed<Entry>, behind: usize, range: Range)
 // If any entry overlaps the range, one of the two on both sides of its first cell does.
 pub(crate) fn overlaps_around(entries: &Indexed<Entry>, behind: usize, range: Range) -> bool
     requires table { is_table (map entry_presence entries.now.items) ≡ true }
-    requires index { behind ≡ position_or_len (λ p. is_before range p.range) (map entry_presence entries.now.items) }
+    requires index { behind ≡ position_or_len (λ p. is_before range p.range)
+        (map entry_presence entries.now.items) }
     ensures { result ≡ overlaps_any (map entry_presence entries.now.items) range }
 {
     if behind == 0 {
@@ -117,7 +128,8 @@ pub(crate) fn overlaps_around(entries: &Indexed<Entry>, behind: usize, range: Ra
 
 // Whether there is an entry at this index, and it overlaps the range.
 fn overlaps_at(entries: &Indexed<Entry>, at: usize, range: Range) -> bool
-    ensures { result ≡ option_map_or (λ p. range_overlaps p.range range) (slice_get (map entry_presence entries.now.items) at) false }
+    ensures { result ≡ option_map_or (λ p. range_overlaps p.range range)
+        (slice_get (map entry_presence entries.now.items) at) false }
 {
     at < entries.len() && entries.get(at).range.overlaps(&range)
 }
@@ -131,8 +143,10 @@ pub(crate) fn overlaps_beside_in(
     changed: &[Held],
 ) -> bool
     requires table { is_table (map entry_presence entries.now.items) ≡ true }
-    requires index { behind ≡ position_or_len (λ p. is_before range p.range) (map entry_presence entries.now.items) }
-    ensures { result ≡ overlaps_any (beside (map held_presence changed.now) (map entry_presence entries.now.items)) range }
+    requires index { behind ≡ position_or_len (λ p. is_before range p.range)
+        (map entry_presence entries.now.items) }
+    ensures { result ≡ overlaps_any (beside (map held_presence changed.now)
+        (map entry_presence entries.now.items)) range }
 {
     let mut at = behind.saturating_sub(1);
     while at < entries.len() {

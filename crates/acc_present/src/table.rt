@@ -121,7 +121,8 @@ impl Table {
     pub fn look(&self, range: Range) -> Look
         requires { 0 < range.len }
         ensures look { IsLook self.now.presences range result }
-        ensures noted { (notes : Range → ℕ → Note) → HasNotes notes self.now.notes → IsNoted notes result }
+        ensures noted { (notes : Range → ℕ → Note) → HasNotes notes self.now.notes
+            → IsNoted notes result }
     {
         let entries = self.entries.listed();
         let behind = index_behind(entries, self.near, range);
@@ -144,14 +145,21 @@ impl Table {
     pub fn enter(&mut self, range: Range, counter: Counter, block: BlockId) -> Entered
         requires cells { 0 < range.len }
         requires whole { is_partly_present self.old.presences range ≡ false }
-        requires low { IfSome (holder self.old.presences range) (λ p. counter_of counter p < COUNTER_LIMIT) }
-        requires capacity { holder self.old.presences range ≡ None → used_cells self.old.presences + range.len ≤ self.old.capacity }
-        requires room { holder self.old.presences range ≡ None → length self.old.presences < self.old.room }
-        ensures presences { self.new.presences ≡ presences_after (entry_mark counter range) block self.old.presences }
-        ensures notes { (notes : Range → ℕ → Note) → HasNotes notes self.old.notes → (holder self.old.presences range ≡ None → notes range block ≡ no_note) → HasNotes notes self.new.notes }
+        requires low { IfSome (holder self.old.presences range) (λ p.
+            counter_of counter p < COUNTER_LIMIT) }
+        requires capacity { holder self.old.presences range ≡ None
+            → used_cells self.old.presences + range.len ≤ self.old.capacity }
+        requires room { holder self.old.presences range ≡ None
+            → length self.old.presences < self.old.room }
+        ensures presences { self.new.presences
+            ≡ presences_after (entry_mark counter range) block self.old.presences }
+        ensures notes { (notes : Range → ℕ → Note) → HasNotes notes self.old.notes
+            → (holder self.old.presences range ≡ None → notes range block ≡ no_note)
+            → HasNotes notes self.new.notes }
         ensures capacity { self.new.capacity ≡ self.old.capacity }
         ensures room { self.new.room ≡ self.old.room }
-        ensures result { result ≡ (if is_present self.old.presences range then Entered.Counted else Entered.Opened) }
+        ensures result { result ≡ (if is_present self.old.presences range then Entered.Counted
+            else Entered.Opened) }
     {
         let entries = self.entries.listed();
         let behind = index_behind(entries, self.near, range);
@@ -175,8 +183,10 @@ impl Table {
     pub fn leave(&mut self, range: Range, counter: Counter) -> Left
         requires cells { 0 < range.len }
         requires condition { MeetsCondition (exit_change counter) range self.old.presences }
-        ensures presences { self.new.presences ≡ kept_after (exit_mark counter range) self.old.presences }
-        ensures notes { (notes : Range → ℕ → Note) → HasNotes notes self.old.notes → HasNotes notes self.new.notes }
+        ensures presences { self.new.presences
+            ≡ kept_after (exit_mark counter range) self.old.presences }
+        ensures notes { (notes : Range → ℕ → Note) → HasNotes notes self.old.notes
+            → HasNotes notes self.new.notes }
         ensures capacity { self.new.capacity ≡ self.old.capacity }
         ensures room { self.new.room ≡ self.old.room }
         ensures result { result ≡ left_of (holder self.old.presences range) (exit_change counter) }
@@ -188,8 +198,10 @@ impl Table {
     /// zero too (OpenACC API 3.0, 2.6.6, Enter Data and Exit Data Directives: the `finalize` clause).
     pub fn finalize(&mut self, range: Range) -> Left
         requires { 0 < range.len }
-        ensures presences { self.new.presences ≡ kept_after (finalize_mark range) self.old.presences }
-        ensures notes { (notes : Range → ℕ → Note) → HasNotes notes self.old.notes → HasNotes notes self.new.notes }
+        ensures presences { self.new.presences
+            ≡ kept_after (finalize_mark range) self.old.presences }
+        ensures notes { (notes : Range → ℕ → Note) → HasNotes notes self.old.notes
+            → HasNotes notes self.new.notes }
         ensures capacity { self.new.capacity ≡ self.old.capacity }
         ensures room { self.new.room ≡ self.old.room }
         ensures result { result ≡ left_of (holder self.old.presences range) DynamicZero }
@@ -201,8 +213,10 @@ impl Table {
     fn exit(&mut self, range: Range, change: Change) -> Left
         requires cells { 0 < range.len }
         requires exit { can_open change ≡ false }
-        ensures presences { self.new.presences ≡ kept_after (record { change = change; range = range }) self.old.presences }
-        ensures notes { (notes : Range → ℕ → Note) → HasNotes notes self.old.notes → HasNotes notes self.new.notes }
+        ensures presences { self.new.presences
+            ≡ kept_after (record { change = change; range = range }) self.old.presences }
+        ensures notes { (notes : Range → ℕ → Note) → HasNotes notes self.old.notes
+            → HasNotes notes self.new.notes }
         ensures capacity { self.new.capacity ≡ self.old.capacity }
         ensures room { self.new.room ≡ self.old.room }
         ensures result { result ≡ left_of (holder self.old.presences range) change }
@@ -222,12 +236,17 @@ impl Table {
 
     // Puts what an exit makes of the entry at this index, or ends it where both counters are zero.
     fn put_or_end(&mut self, index: usize, after: Entry) -> Left
-        requires { option_map (λ p. p.range) (slice_get self.old.presences index) ≡ Some after.range }
-        ensures presences { self.new.presences ≡ (if has_count (entry_presence after) then slice_set self.old.presences index (entry_presence after) else remove self.old.presences index) }
-        ensures notes { (notes : Range → ℕ → Note) → HasNotes notes self.old.notes → entry_note after ≡ notes after.range after.block → HasNotes notes self.new.notes }
+        requires { option_map (λ p. p.range) (slice_get self.old.presences index)
+            ≡ Some after.range }
+        ensures presences { self.new.presences
+            ≡ (if has_count (entry_presence after) then slice_set self.old.presences index
+            (entry_presence after) else remove self.old.presences index) }
+        ensures notes { (notes : Range → ℕ → Note) → HasNotes notes self.old.notes
+            → entry_note after ≡ notes after.range after.block → HasNotes notes self.new.notes }
         ensures capacity { self.new.capacity ≡ self.old.capacity }
         ensures room { self.new.room ≡ self.old.room }
-        ensures result { result ≡ (if has_count (entry_presence after) then Left.Counted else Left.Ended after.block) }
+        ensures result { result ≡ (if has_count (entry_presence after) then Left.Counted
+            else Left.Ended after.block) }
     {
         if has_count(&after) {
             self.entries.set(index, after);
@@ -241,7 +260,8 @@ impl Table {
 
     // Whether the range overlaps a present one that none of these overlaps.
     pub(crate) fn overlaps_beside(&self, range: Range, changed: &[Held]) -> bool
-        ensures { result ≡ overlaps_any (beside (map held_presence changed.now) self.now.presences) range }
+        ensures { result
+            ≡ overlaps_any (beside (map held_presence changed.now) self.now.presences) range }
     {
         let entries = self.entries.listed();
         let behind = index_behind(entries, self.near, range);
@@ -253,7 +273,8 @@ impl Table {
         requires cells { 0 < range.len }
         requires queue { queue < QUEUES }
         ensures presences { self.new.presences ≡ self.old.presences }
-        ensures notes { (notes : Range → ℕ → Note) → HasNotes notes self.old.notes → HasNotes (changed_at range (used_by queue batch) notes) self.new.notes }
+        ensures notes { (notes : Range → ℕ → Note) → HasNotes notes self.old.notes
+            → HasNotes (changed_at range (used_by queue batch) notes) self.new.notes }
         ensures capacity { self.new.capacity ≡ self.old.capacity }
         ensures room { self.new.room ≡ self.old.room }
     {
@@ -270,7 +291,8 @@ impl Table {
         requires cells { 0 < range.len }
         requires queue { queue < QUEUES }
         ensures presences { self.new.presences ≡ self.old.presences }
-        ensures notes { (notes : Range → ℕ → Note) → HasNotes notes self.old.notes → HasNotes (changed_at range (made_by queue batch) notes) self.new.notes }
+        ensures notes { (notes : Range → ℕ → Note) → HasNotes notes self.old.notes
+            → HasNotes (changed_at range (made_by queue batch) notes) self.new.notes }
         ensures capacity { self.new.capacity ≡ self.old.capacity }
         ensures room { self.new.room ≡ self.old.room }
     {
@@ -285,8 +307,10 @@ impl Table {
     /// The entry of the present range that contains a range with a cell.
     pub fn find(&self, range: Range) -> Option<&Entry>
         requires { 0 < range.len }
-        ensures entry { option_map (λ e. entry_presence e.now) result ≡ holder self.now.presences range }
-        ensures noted { (notes : Range → ℕ → Note) → HasNotes notes self.now.notes → IfSome result (λ e. entry_note e.now ≡ notes e.now.range e.now.block) }
+        ensures entry { option_map (λ e. entry_presence e.now) result
+            ≡ holder self.now.presences range }
+        ensures noted { (notes : Range → ℕ → Note) → HasNotes notes self.now.notes
+            → IfSome result (λ e. entry_note e.now ≡ notes e.now.range e.now.block) }
     {
         let entries = self.entries.listed();
         let behind = index_behind(entries, self.near, range);
@@ -316,8 +340,10 @@ impl Table {
 
     /// The entry at this index, from 0, by array, then by lower bound.
     pub fn nth(&self, index: usize) -> Option<&Entry>
-        ensures entry { option_map (λ e. entry_presence e.now) result ≡ slice_get self.now.presences index }
-        ensures noted { option_map (λ e. entry_noted e.now) result ≡ slice_get self.now.notes index }
+        ensures entry { option_map (λ e. entry_presence e.now) result
+            ≡ slice_get self.now.presences index }
+        ensures noted { option_map (λ e. entry_noted e.now) result
+            ≡ slice_get self.now.notes index }
         ensures next { OnSome result (index + 1 < 2 ^ 64) }
     {
         self.entries.get(index)

@@ -127,9 +127,11 @@ impl Sender {
     /// The batch, whole, and `Full` where the queue held as many as it has room for.
     pub fn push<R: Wait>(&mut self, rt: &R, batch: Batch) -> Result<(), (Batch, Full)>
         requires { IsFor self.old.at batch }
-        ensures same { (self.new.queue ≡ self.old.queue) × (self.new.at ≡ self.old.at) × (self.new.room ≡ self.old.room) }
+        ensures same { (self.new.queue ≡ self.old.queue) × (self.new.at ≡ self.old.at)
+            × (self.new.room ≡ self.old.room) }
         ensures pushed { OnOk result (self.new.labels ≡ self.old.labels ++ batch ∷ []) }
-        ensures refused { IfErr result (λ r. (r.0 ≡ batch) × (self.new ≡ self.old) × MayBeFull self.old.room self.old.labels) }
+        ensures refused { IfErr result (λ r. (r.0 ≡ batch) × (self.new ≡ self.old)
+            × MayBeFull self.old.room self.old.labels) }
     {
         let Sender { queue, pass } = self;
         match send_last::<InOrder, Pushed, R>(rt, queue, pass, batch) {
@@ -142,7 +144,8 @@ impl Sender {
 impl Taker {
     /// Takes the first batch that the queue holds, if it holds one: it is one of this queue. It takes no memory, and is one step.
     pub fn pop<R: Wait>(&mut self, rt: &R) -> Option<Batch>
-        ensures same { (self.new.queue ≡ self.old.queue) × (self.new.at ≡ self.old.at) × (self.new.room ≡ self.old.room) }
+        ensures same { (self.new.queue ≡ self.old.queue) × (self.new.at ≡ self.old.at)
+            × (self.new.room ≡ self.old.room) }
         ensures some { IfSome result (λ batch. self.new.labels ≡ self.old.labels ++ batch ∷ []) }
         ensures for_it { IfSome result (IsFor self.old.at) }
         ensures none { IfNone result (self.new ≡ self.old) }
@@ -161,11 +164,13 @@ fn send_last<P: Protocol<Batch, End>, M: Outcome<Batch, End> + Lesson<Batch, End
     batch: Batch,
 ) -> Result<(), Batch>
     requires queue { IsPassOf queue.now pass.old }
-    requires pushes { Pushes P.holds (ruled_capacity queue.now) pass.old.id (view pass.old) batch (M.then (view pass.old) batch) }
+    requires pushes { Pushes P.holds (ruled_capacity queue.now) pass.old.id (view pass.old) batch
+        (M.then (view pass.old) batch) }
     requires learns { Learns P.holds pass.old.id (view pass.old) (M.fact (view pass.old)) }
     ensures queue { IsSamePass pass.old pass.new }
     ensures pushed { OnOk result (M.then (view pass.old) batch (view pass.new)) }
-    ensures refused { IfErr result (λ b. (b ≡ batch) × (view pass.new ≡ view pass.old) × Held (ruled_capacity queue.now) (M.fact (view pass.old))) }
+    ensures refused { IfErr result (λ b. (b ≡ batch) × (view pass.new ≡ view pass.old)
+        × Held (ruled_capacity queue.now) (M.fact (view pass.old))) }
 {
     queue.push_as::<M, R>(rt, pass, batch)
 }
@@ -182,7 +187,8 @@ fn take_first<P: Protocol<Batch, End>, M: Outcome<Batch, End> + Lesson<Batch, En
     requires learns { Learns P.holds pass.old.id (view pass.old) (M.fact (view pass.old)) }
     ensures queue { IsSamePass pass.old pass.new }
     ensures some { IfSome result (λ batch. M.then (view pass.old) batch (view pass.new)) }
-    ensures none { IfNone result ((view pass.new ≡ view pass.old) × Held 0 (M.fact (view pass.old))) }
+    ensures none { IfNone result ((view pass.new ≡ view pass.old)
+        × Held 0 (M.fact (view pass.old))) }
 {
     queue.pop_as::<M, R>(rt, pass)
 }

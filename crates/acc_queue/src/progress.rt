@@ -180,7 +180,8 @@ impl Reader {
     /// `Memory` where memory is refused.
     pub fn split(&mut self) -> Result<Reader, Fault>
         ensures same { self.new ≡ self.old }
-        ensures other { IfOk result (λ r. (r.table ≡ self.old.table) × (r.numbers ≡ self.old.numbers) × (r.reads ≡ 0)) }
+        ensures other { IfOk result (λ r. (r.table ≡ self.old.table)
+            × (r.numbers ≡ self.old.numbers) × (r.reads ≡ 0)) }
         ensures fault { OnlyMemory result }
     {
         let Reader { board, seat } = self;

@@ -68,7 +68,8 @@ impl Block {
     /// Writes a zero behind the cells that are written.
     pub(crate) fn push_zero(&mut self, start: Start, at: usize)
         requires { (start.ptr ≡ self.old.at) × (at ≡ length self.old.cells) × (at < self.old.len) }
-        ensures { (self.new.at ≡ self.old.at) × (self.new.len ≡ self.old.len) × (self.new.cells ≡ self.old.cells ++ pos 0 ∷ []) }
+        ensures { (self.new.at ≡ self.old.at) × (self.new.len ≡ self.old.len)
+            × (self.new.cells ≡ self.old.cells ++ pos 0 ∷ []) }
     {
         unsafe {
             start.ptr.add(at).write(0);
@@ -77,7 +78,8 @@ impl Block {
 
     /// The cells.
     pub(crate) fn slice(&self, start: Start, len: usize) -> &[i64]
-        requires { (start.ptr ≡ self.now.at) × (len ≡ length self.now.cells) × (len ≡ self.now.len) }
+        requires { (start.ptr ≡ self.now.at) × (len ≡ length self.now.cells)
+            × (len ≡ self.now.len) }
         ensures { result.now ≡ self.now.cells }
     {
         unsafe { from_raw_parts(start.ptr, len) }
@@ -85,7 +87,8 @@ impl Block {
 
     /// The cells, to be written.
     pub(crate) fn slice_mut(&mut self, start: Start, len: usize) -> &mut [i64]
-        requires { (start.ptr ≡ self.old.at) × (len ≡ length self.old.cells) × (len ≡ self.old.len) }
+        requires { (start.ptr ≡ self.old.at) × (len ≡ length self.old.cells)
+            × (len ≡ self.old.len) }
         ensures* writes_back { sem 𝓛 (lends_cells self.entry result) }
         ensures value { result.now ≡ self.old.cells }
     {

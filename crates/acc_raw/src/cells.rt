@@ -93,7 +93,8 @@ impl Cells {
     /// All values, in their order, to be written.
     pub fn as_mut_slice(&mut self) -> &mut [i64]
         ensures value { result.now ≡ self.old }
-        ensures* writes_back { sem 𝓛 (Lends the_row (Array cell 0) self.entry result (refill (length self.old) self.old)) }
+        ensures* writes_back { sem 𝓛 (Lends the_row (Array cell 0) self.entry result
+            (refill (length self.old) self.old)) }
     {
         self.block.slice_mut(self.start, self.len)
     }
@@ -117,7 +118,8 @@ impl Cells {
     /// Writes the source's values over as many cells, from `at` on, which end by `len`.
     pub fn copy_from(&mut self, at: usize, source: &[i64])
         requires { at + length source.now ≤ length self.old }
-        ensures { self.new ≡ take at self.old ++ source.now ++ drop (at + length source.now) self.old }
+        ensures { self.new ≡ take at self.old ++ source.now
+            ++ drop (at + length source.now) self.old }
     {
         self.as_mut_slice()[at..at + source.len()].copy_from_slice(source);
     }
@@ -148,7 +150,9 @@ impl Cells {
         ensures second { result.1.now ≡ cells_in second self.old }
 
         // Once both borrows end, the row has what was written to the windows, and its other cells are as before.
-        ensures* writes_back { sem 𝓛 (LendsBoth the_row (Array cell 0) (Array cell 0) self.entry result (with_windows self.old first second)) }
+        ensures* writes_back { sem 𝓛
+            (LendsBoth the_row (Array cell 0) (Array cell 0) self.entry result
+            (with_windows self.old first second)) }
     {
         windows(self.as_mut_slice(), first, second)
     }
@@ -161,7 +165,8 @@ fn windows(cells: &mut [i64], first: Window, second: Window) -> (&mut [i64], &mu
     requires apart { AreApart first second }
     ensures first { result.0.now ≡ cells_in first cells.old }
     ensures second { result.1.now ≡ cells_in second cells.old }
-    ensures* writes_back { sem 𝓛 (LendsBoth (Array cell 0) (Array cell 0) (Array cell 0) cells.entry result (with_both cells.old first second)) }
+    ensures* writes_back { sem 𝓛 (LendsBoth (Array cell 0) (Array cell 0)
+        (Array cell 0) cells.entry result (with_both cells.old first second)) }
 {
     if first.start + first.len <= second.start {
         return in_order(cells, first, second);
@@ -176,7 +181,9 @@ fn in_order(cells: &mut [i64], first: Window, second: Window) -> (&mut [i64], &m
     requires apart { first.start + first.len ≤ second.start }
     ensures first { result.0.now ≡ cells_in first cells.old }
     ensures second { result.1.now ≡ cells_in second cells.old }
-    ensures* writes_back { sem 𝓛 (LendsBoth (Array cell 0) (Array cell 0) (Array cell 0) cells.entry result (λ xs ys. with_window (with_window cells.old second ys) first xs)) }
+    ensures* writes_back { sem 𝓛 (LendsBoth (Array cell 0) (Array cell 0)
+        (Array cell 0) cells.entry result (λ xs ys.
+        with_window (with_window cells.old second ys) first xs)) }
 {
     let start = cells.as_mut_ptr();
     unsafe {
@@ -190,7 +197,8 @@ fn in_order(cells: &mut [i64], first: Window, second: Window) -> (&mut [i64], &m
 // Writes a zero into each cell of a block.
 fn fill(block: &mut Block, start: Start, len: usize)
     requires { (start.ptr ≡ block.old.at) × (block.old.len ≡ len) × (block.old.cells ≡ []) }
-    ensures { (block.new.at ≡ start.ptr) × (block.new.len ≡ len) × (block.new.cells ≡ replicate len (pos 0)) }
+    ensures { (block.new.at ≡ start.ptr) × (block.new.len ≡ len)
+        × (block.new.cells ≡ replicate len (pos 0)) }
 {
     for at in 0..len {
         block.push_zero(start, at);

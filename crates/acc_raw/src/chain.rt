@@ -143,7 +143,8 @@ impl<T: Keyed> Chain<T> {
     /// written last, and all else as before.
     pub fn find_mut(&mut self, key: u64) -> Option<&mut T>
         ensures value { option_copied_mut result ≡ find (λ x. T.key_of x == key) self.old }
-        ensures* writes_back { sem 𝓛 (LendsIf (the_row T.row) T.row self.entry result (slice_set self.old (position_or_len (λ x. T.key_of x == key) self.old)) self.old) }
+        ensures* writes_back { sem 𝓛 (LendsIf (the_row T.row) T.row self.entry result
+            (slice_set self.old (position_or_len (λ x. T.key_of x == key) self.old)) self.old) }
     {
         let sought = seek(&self.nodes, Aim::Equal(key));
         match sought.at {
@@ -159,7 +160,8 @@ impl<T: Keyed> Chain<T> {
 impl<T: Keyed + Drop> Chain<T> {
     /// Puts a node before the first one with a greater key, or behind all.
     pub fn insert_sorted(&mut self, node: Node<T>)
-        ensures { self.new ≡ insert self.old (position_or_len (λ x. nat_lt (T.key_of node) (T.key_of x)) self.old) node }
+        ensures { self.new ≡ insert self.old (position_or_len (λ x.
+            nat_lt (T.key_of node) (T.key_of x)) self.old) node }
     {
         let mut link = node.into_link();
         let sought = seek(&self.nodes, Aim::Above(link.value.key()));
@@ -171,7 +173,8 @@ impl<T: Keyed + Drop> Chain<T> {
     /// Takes out the first node with this key and no other, or none where no value has it.
     pub fn unlink_first_match(&mut self, key: u64) -> Option<Node<T>>
         ensures node { result ≡ find (λ x. T.key_of x == key) self.old }
-        ensures rest { self.new ≡ remove self.old (position_or_len (λ x. T.key_of x == key) self.old) }
+        ensures rest { self.new ≡ remove self.old (position_or_len (λ x.
+            T.key_of x == key) self.old) }
     {
         let sought = seek(&self.nodes, Aim::Equal(key));
         let at = match sought.at {

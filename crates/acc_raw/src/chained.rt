@@ -87,7 +87,8 @@ pub(crate) fn link_at<T: Drop>(nodes: &mut Chained<T>, link: Box<Link<T>>, index
     requires between { is_between nodes.old.store.links index.n link.value }
     requires within { index.n ≤ length nodes.old.store.links }
     ensures chained { IsChained nodes.new }
-    ensures links { nodes.new.store.links ≡ spliced nodes.old.store.links index.n (result.ptr, link.value) }
+    ensures links { nodes.new.store.links
+        ≡ spliced nodes.old.store.links index.n (result.ptr, link.value) }
 {
     let prev = link.prev;
     let next = link.next;

@@ -98,7 +98,8 @@ impl<T> Indexed<T> {
     pub fn get_mut(&mut self, at: usize) -> &mut T
         requires { at < length self.old.items }
         ensures value { slice_get self.old.items at ≡ Some result.now }
-        ensures* writes_back { sem 𝓛 (Lends (the_row T.row) T.row self.entry result (with_value self.old at)) }
+        ensures* writes_back { sem 𝓛 (Lends (the_row T.row) T.row self.entry result
+            (with_value self.old at)) }
     {
         let place = self.places.get(at);
         let link = self.nodes.store.get_mut(place, Nth::of(at));

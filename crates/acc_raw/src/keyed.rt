@@ -48,7 +48,8 @@ fn is_met(aim: Aim, key: u64) -> bool
 pub(crate) fn seek<T: Keyed>(nodes: &Chained<T>, aim: Aim) -> Sought
     requires { IsChained nodes.now }
     ensures place { IsSought nodes.now.store.links result }
-    ensures first { result.index.n ≡ position_or_len (λ x. meets aim (T.key_of x)) (values nodes.now.store.links) }
+    ensures first { result.index.n
+        ≡ position_or_len (λ x. meets aim (T.key_of x)) (values nodes.now.store.links) }
 {
     let mut at = nodes.head;
     let mut index = Nth::of(0);

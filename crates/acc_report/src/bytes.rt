@@ -41,7 +41,8 @@ fn write_all<W: Write>(out: &mut W, bytes: &[u8]) -> Result<(), ReportFault>
 
 /// Writes the bytes, unless a write has failed; `failed` tells afterwards whether one has.
 pub fn put<W: Write>(out: &mut W, failed: &mut bool, bytes: &[u8])
-    ensures { Puts (sink (W.contents out.old) failed.old) (sink (W.contents out.new) failed.new) bytes.now }
+    ensures { Puts (sink (W.contents out.old) failed.old)
+        (sink (W.contents out.new) failed.new) bytes.now }
 {
     if !*failed && write_all(out, bytes).is_err() {
         *failed = true;
@@ -50,7 +51,8 @@ pub fn put<W: Write>(out: &mut W, failed: &mut bool, bytes: &[u8])
 
 /// Puts a number without a sign.
 pub fn put_number<W: Write, I: Integer>(out: &mut W, failed: &mut bool, number: I)
-    ensures { Puts (sink (W.contents out.old) failed.old) (sink (W.contents out.new) failed.new) (I.text number) }
+    ensures { Puts (sink (W.contents out.old) failed.old) (sink (W.contents out.new) failed.new)
+        (I.text number) }
 {
     put(out, failed, Buffer::new().format(number).as_bytes());
 }

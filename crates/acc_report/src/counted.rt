@@ -42,7 +42,8 @@ pub(crate) fn count_run(alloc: Global, run: &Run) -> Result<Counted, Fault>
 // How many operations each queue has performed.
 #[tactic(auto, using(crate::proofs::CountedQueues::entry_counted))]
 fn count_performed(alloc: Global, config: &Config, works: &WorkLog) -> Result<Vec<u64>, Fault>
-    ensures counted { IfOk result (λ counts. AreCounted config.now.devices (λ at. performed at (reverse works.now.items)) counts.items) }
+    ensures counted { IfOk result (λ counts.
+        AreCounted config.now.devices (λ at. performed at (reverse works.now.items)) counts.items) }
     ensures fault { OnlyMemory result }
 {
     let mut counts = no_counts(alloc, config)?;
@@ -55,7 +56,8 @@ fn count_performed(alloc: Global, config: &Config, works: &WorkLog) -> Result<Ve
 // How many of the operations of each queue were discarded.
 #[tactic(auto, using(crate::proofs::CountedQueues::discard_counted))]
 fn count_discarded(alloc: Global, config: &Config, list: &[Discarded]) -> Result<Vec<u64>, Fault>
-    ensures counted { IfOk result (λ counts. AreCounted config.now.devices (λ at. discarded_on at list.now) counts.items) }
+    ensures counted { IfOk result (λ counts.
+        AreCounted config.now.devices (λ at. discarded_on at list.now) counts.items) }
     ensures fault { OnlyMemory result }
 {
     let mut counts = no_counts(alloc, config)?;
@@ -67,7 +69,8 @@ fn count_discarded(alloc: Global, config: &Config, list: &[Discarded]) -> Result
 
 // No operation of each queue.
 fn no_counts(alloc: Global, config: &Config) -> Result<Vec<u64>, Fault>
-    ensures counted { IfOk result (λ counts. AreCounted config.now.devices (λ at. []) counts.items) }
+    ensures counted { IfOk result (λ counts.
+        AreCounted config.now.devices (λ at. []) counts.items) }
     ensures fault { OnlyMemory result }
 {
     let mut counts = Vec::new(alloc);

@@ -16,7 +16,8 @@ use std::io::Write;
 
 /// A line of values, separated by one space.
 pub(crate) fn put_values<W: Write>(out: &mut W, failed: &mut bool, values: ValuesIter<'_>)
-    ensures { Puts (sink (W.contents out.old) failed.old) (sink (W.contents out.new) failed.new) (line_text values.entry) }
+    ensures { Puts (sink (W.contents out.old) failed.old) (sink (W.contents out.new) failed.new)
+        (line_text values.entry) }
 {
     let mut values = values;
     match values.next() {
@@ -27,7 +28,8 @@ pub(crate) fn put_values<W: Write>(out: &mut W, failed: &mut bool, values: Value
 
 // A line of a value and more of them. They wait on a page, which is handed on where it is full.
 fn put_from<W: Write>(out: &mut W, failed: &mut bool, first: i64, values: ValuesIter<'_>)
-    ensures { Puts (sink (W.contents out.old) failed.old) (sink (W.contents out.new) failed.new) (line_text (first ∷ values.entry)) }
+    ensures { Puts (sink (W.contents out.old) failed.old) (sink (W.contents out.new) failed.new)
+        (line_text (first ∷ values.entry)) }
 {
     let mut page = [0u8; PAGE];
     let mut waiting = add_number(&mut page, 0, first);
@@ -44,7 +46,8 @@ fn put_from<W: Write>(out: &mut W, failed: &mut bool, first: i64, values: Values
 /// Where a host stands.
 #[tactic(auto, unfolding(crate::specs::Lines::state_text))]
 pub(crate) fn put_state<W: Write>(out: &mut W, failed: &mut bool, state: HostState)
-    ensures { Puts (sink (W.contents out.old) failed.old) (sink (W.contents out.new) failed.new) (state_text state) }
+    ensures { Puts (sink (W.contents out.old) failed.old) (sink (W.contents out.new) failed.new)
+        (state_text state) }
 {
     match state {
         HostState::Running { ended: _ } => put(out, failed, b"unfinished\n"),
@@ -59,7 +62,8 @@ pub(crate) fn put_state<W: Write>(out: &mut W, failed: &mut bool, state: HostSta
 
 // The line of a refusal.
 fn put_refusal<W: Write>(out: &mut W, failed: &mut bool, line: u32, fault: Fault)
-    ensures { Puts (sink (W.contents out.old) failed.old) (sink (W.contents out.new) failed.new) (refusal_text line fault) }
+    ensures { Puts (sink (W.contents out.old) failed.old) (sink (W.contents out.new) failed.new)
+        (refusal_text line fault) }
 {
     put(out, failed, b"refused ");
     put_number(out, failed, line);
@@ -78,7 +82,8 @@ pub(crate) fn put_presence<W: Write>(
     device: DeviceId,
     entry: &Entry,
 )
-    ensures { Puts (sink (W.contents out.old) failed.old) (sink (W.contents out.new) failed.new) (presence_text (texts names.now) device (entry_presence entry.now)) }
+    ensures { Puts (sink (W.contents out.old) failed.old) (sink (W.contents out.new) failed.new)
+        (presence_text (texts names.now) device (entry_presence entry.now)) }
 {
     put(out, failed, b"present ");
     put_number(out, failed, device.number());
@@ -115,7 +120,8 @@ pub(crate) fn put_totals<W: Write>(
     operations: u128,
     discarded: u64,
 )
-    ensures { Puts (sink (W.contents out.old) failed.old) (sink (W.contents out.new) failed.new) (totals_text at.now batches performed operations discarded) }
+    ensures { Puts (sink (W.contents out.old) failed.old) (sink (W.contents out.new) failed.new)
+        (totals_text at.now batches performed operations discarded) }
 {
     if batches > 0 {
         put(out, failed, b"queue ");
@@ -135,7 +141,8 @@ pub(crate) fn put_totals<W: Write>(
 
 // How many operations were discarded, if there is one.
 fn put_discarded<W: Write>(out: &mut W, failed: &mut bool, count: u64)
-    ensures { Puts (sink (W.contents out.old) failed.old) (sink (W.contents out.new) failed.new) (discarded_text count) }
+    ensures { Puts (sink (W.contents out.old) failed.old) (sink (W.contents out.new) failed.new)
+        (discarded_text count) }
 {
     if count > 0 {
         put(out, failed, b" discarded ");
@@ -145,7 +152,8 @@ fn put_discarded<W: Write>(out: &mut W, failed: &mut bool, count: u64)
 
 /// Puts the name of a queue. That of an async value stands so far behind that value as the first of them.
 pub fn put_queue_name<W: Write>(out: &mut W, failed: &mut bool, queue: QueueId)
-    ensures { Puts (sink (W.contents out.old) failed.old) (sink (W.contents out.new) failed.new) (queue_name queue) }
+    ensures { Puts (sink (W.contents out.old) failed.old) (sink (W.contents out.new) failed.new)
+        (queue_name queue) }
 {
     match queue.number() {
         0 => put(out, failed, b"sync"),

@@ -34,7 +34,8 @@ pub(crate) fn add(page: &mut [u8], waiting: usize, bytes: &[u8]) -> usize
 /// Writes a space and a number behind the bytes that wait, and gives how many wait then.
 pub(crate) fn add_spaced(page: &mut [u8], waiting: usize, number: i64) -> usize
     requires { waiting + SPACED ≤ length page.old }
-    ensures text { take result page.new ≡ take waiting page.old ++ (codes " " ++ signed_decimal number) }
+    ensures text { take result page.new
+        ≡ take waiting page.old ++ (codes " " ++ signed_decimal number) }
     ensures within { result ≤ length page.new }
     ensures long { length page.new ≡ length page.old }
 {
@@ -85,7 +86,8 @@ pub(crate) fn hand_on<W: Write>(
 ) -> usize
     requires long { length page.now ≡ PAGE }
     requires within { waiting ≤ PAGE }
-    ensures puts { IsHandedOn (sink (W.contents out.old) failed.old) (sink (W.contents out.new) failed.new) (take waiting page.now) (take result page.now) }
+    ensures puts { IsHandedOn (sink (W.contents out.old) failed.old)
+        (sink (W.contents out.new) failed.new) (take waiting page.now) (take result page.now) }
     ensures room { result + SPACED ≤ PAGE }
 {
     if waiting + SPACED <= PAGE {

@@ -25,7 +25,8 @@ pub(crate) fn put_lines<W: Write>(
     statements: &[Statement],
     entries: &mut OwnEntries,
 )
-    ensures { Puts (sink (W.contents out.old) failed.old) (sink (W.contents out.new) failed.new) (flat_map line_text (printed_lines devices 0 statements.now entries.old)) }
+    ensures { Puts (sink (W.contents out.old) failed.old) (sink (W.contents out.new) failed.new)
+        (flat_map line_text (printed_lines devices 0 statements.now entries.old)) }
 {
     let mut device = 0u32;
     for statement in statements {
@@ -42,7 +43,9 @@ fn put_statement<W: Write>(
     act: &Act,
     entries: &mut OwnEntries,
 ) -> u32
-    ensures puts { Puts (sink (W.contents out.old) failed.old) (sink (W.contents out.new) failed.new) (flat_map line_text (statement_lines devices device act.now entries.old)) }
+    ensures puts { Puts (sink (W.contents out.old) failed.old)
+        (sink (W.contents out.new) failed.new)
+        (flat_map line_text (statement_lines devices device act.now entries.old)) }
     ensures device { result ≡ device_after act.now device }
     ensures left { entries.new ≡ drop (entries_taken act.now entries.old) entries.old }
 {
@@ -60,7 +63,8 @@ fn put_statement<W: Write>(
 
 // Puts a line with a number.
 fn put_line<W: Write>(out: &mut W, failed: &mut bool, number: u32)
-    ensures { Puts (sink (W.contents out.old) failed.old) (sink (W.contents out.new) failed.new) (flat_map line_text ((pos number ∷ []) ∷ [])) }
+    ensures { Puts (sink (W.contents out.old) failed.old) (sink (W.contents out.new) failed.new)
+        (flat_map line_text ((pos number ∷ []) ∷ [])) }
 {
     put_number(out, failed, number);
     put(out, failed, b"\n");
@@ -68,7 +72,8 @@ fn put_line<W: Write>(out: &mut W, failed: &mut bool, number: u32)
 
 // Puts the line of an answer.
 fn put_truth<W: Write>(out: &mut W, failed: &mut bool, answer: bool)
-    ensures { Puts (sink (W.contents out.old) failed.old) (sink (W.contents out.new) failed.new) (flat_map line_text ((truth answer ∷ []) ∷ [])) }
+    ensures { Puts (sink (W.contents out.old) failed.old) (sink (W.contents out.new) failed.new)
+        (flat_map line_text ((truth answer ∷ []) ∷ [])) }
 {
     put_line(out, failed, u32::from(answer));
 }
@@ -82,7 +87,8 @@ fn pass_one(entries: &mut OwnEntries)
 
 // Puts the values of a print that is next.
 fn put_shown<W: Write>(out: &mut W, failed: &mut bool, entries: &mut OwnEntries)
-    ensures puts { Puts (sink (W.contents out.old) failed.old) (sink (W.contents out.new) failed.new) (flat_map line_text (shown_line entries.old)) }
+    ensures puts { Puts (sink (W.contents out.old) failed.old)
+        (sink (W.contents out.new) failed.new) (flat_map line_text (shown_line entries.old)) }
     ensures left { entries.new ≡ drop 1 entries.old }
 {
     if let Some(OwnEntry::Had { what }) = entries.next() {
@@ -92,7 +98,8 @@ fn put_shown<W: Write>(out: &mut W, failed: &mut bool, entries: &mut OwnEntries)
 
 // Puts the values of an item, if it is a print.
 fn put_told<W: Write>(out: &mut W, failed: &mut bool, what: &Told)
-    ensures { Puts (sink (W.contents out.old) failed.old) (sink (W.contents out.new) failed.new) (flat_map line_text (shown_line (Had what.now ∷ []))) }
+    ensures { Puts (sink (W.contents out.old) failed.old) (sink (W.contents out.new) failed.new)
+        (flat_map line_text (shown_line (Had what.now ∷ []))) }
 {
     if let Told::Print { range: _, values } = what {
         put_values(out, failed, values.get().iter());
@@ -101,7 +108,8 @@ fn put_told<W: Write>(out: &mut W, failed: &mut bool, what: &Told)
 
 // Puts the answer of a directive that is next, if it is a question.
 fn put_placed<W: Write>(out: &mut W, failed: &mut bool, entries: &mut OwnEntries)
-    ensures puts { Puts (sink (W.contents out.old) failed.old) (sink (W.contents out.new) failed.new) (flat_map line_text (placed_line entries.old)) }
+    ensures puts { Puts (sink (W.contents out.old) failed.old)
+        (sink (W.contents out.new) failed.new) (flat_map line_text (placed_line entries.old)) }
     ensures left { entries.new ≡ drop (placed_size entries.old) entries.old }
 {
     if let Some(OwnEntry::Gave { own }) = entries.next() {
@@ -117,8 +125,11 @@ fn put_answer<W: Write>(
     answer: &Answer,
     entries: &mut OwnEntries,
 )
-    ensures puts { Puts (sink (W.contents out.old) failed.old) (sink (W.contents out.new) failed.new) (flat_map line_text (answer_line directive.now.kind directive.now answer.now entries.old)) }
-    ensures left { entries.new ≡ drop (entry_count (owed_by directive.now answer.now) - 1) entries.old }
+    ensures puts { Puts (sink (W.contents out.old) failed.old)
+        (sink (W.contents out.new) failed.new)
+        (flat_map line_text (answer_line directive.now.kind directive.now answer.now entries.old)) }
+    ensures left { entries.new
+        ≡ drop (entry_count (owed_by directive.now answer.now) - 1) entries.old }
 {
     let owed = is_owed(directive, answer);
     match directive.kind() {

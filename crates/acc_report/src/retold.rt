@@ -22,7 +22,8 @@ pub(crate) fn retell(
     counts: &[u64],
 ) -> Result<Place, Fault>
     requires accepted { AllAccepted config (reverse places.now) (reverse counts.now) }
-    requires counted { length counts.now ≡ (standing config (reverse places.now) (reverse counts.now)).accepted }
+    requires counted { length counts.now
+        ≡ (standing config (reverse places.now) (reverse counts.now)).accepted }
     ensures config { IfOk result (λ p. p.config ≡ config) }
     ensures history { IfOk result (λ p. p.history ≡ reverse places.now) }
     ensures counts { IfOk result (λ p. p.counts ≡ reverse counts.now) }
@@ -42,7 +43,8 @@ fn tell<'a>(place: &mut Place, entry: &PlaceEntry, counts: &'a [u64]) -> Result<
     requires counted { HasCount entry.now counts.now }
     ensures config { place.new.config ≡ place.old.config }
     ensures history { OnOk result (place.new.history ≡ entry.now ∷ place.old.history) }
-    ensures counts { OnOk result (place.new.counts ≡ counts_gone entry.now counts.now place.old.counts) }
+    ensures counts { OnOk result
+        (place.new.counts ≡ counts_gone entry.now counts.now place.old.counts) }
     ensures left { IfOk result (λ left. left.now ≡ counts_left entry.now counts.now) }
     ensures fault { OnlyMemory result }
 {

@@ -40,7 +40,8 @@ pub fn report<W: Write>(
     writer: &mut W,
 ) -> Result<(), ReportFault>
     requires { IsLeft (left_by outcome.now) }
-    ensures { ReportAnswers (W.contents writer.old) (W.contents writer.new) result (report (texts script.now.names.keys) script.now.programs.items (left_by outcome.now)) }
+    ensures { ReportAnswers (W.contents writer.old) (W.contents writer.new) result
+        (report (texts script.now.names.keys) script.now.programs.items (left_by outcome.now)) }
 {
     let config = match outcome.config.try_clone() {
         Ok(config) => config,
@@ -74,7 +75,8 @@ pub fn report_run<W: Write>(
     writer: &mut W,
 ) -> Result<(), ReportFault>
     requires { length run.now.hosts.now ≤ MAX_HOSTS }
-    ensures { ReportAnswers (W.contents writer.old) (W.contents writer.new) result (report (texts script.now.names.keys) script.now.programs.items (left_after run.now)) }
+    ensures { ReportAnswers (W.contents writer.old) (W.contents writer.new) result
+        (report (texts script.now.names.keys) script.now.programs.items (left_after run.now)) }
 {
     let counted = match count_run(alloc, run) {
         Ok(counted) => counted,
@@ -99,7 +101,8 @@ fn put_report<W: Write>(
 )
     requires few { length run.now.hosts.now ≤ MAX_HOSTS }
     requires counted { IsCounted (left_after run.now) counted.now }
-    ensures { Puts (sink (W.contents out.old) failed.old) (sink (W.contents out.new) failed.new) (report (texts script.now.names.keys) script.now.programs.items (left_after run.now)) }
+    ensures { Puts (sink (W.contents out.old) failed.old) (sink (W.contents out.new) failed.new)
+        (report (texts script.now.names.keys) script.now.programs.items (left_after run.now)) }
 {
     put_hosts(out, failed, run, script.programs.as_slice());
     put_presences(out, failed, script.names.as_slice(), run.place);
@@ -110,7 +113,8 @@ fn put_report<W: Write>(
 // The lines of each host.
 fn put_hosts<W: Write>(out: &mut W, failed: &mut bool, run: &Run, programs: &[HostProgram])
     requires few { length run.now.hosts.now ≤ MAX_HOSTS }
-    ensures { Puts (sink (W.contents out.old) failed.old) (sink (W.contents out.new) failed.new) (each_below (length run.now.hosts.now) (nth_host_text (left_after run.now) programs.now)) }
+    ensures { Puts (sink (W.contents out.old) failed.old) (sink (W.contents out.new) failed.new)
+        (each_below (length run.now.hosts.now) (nth_host_text (left_after run.now) programs.now)) }
 {
     let hosts = run.hosts.len() as u8;
     for host in 0..hosts {
@@ -126,7 +130,8 @@ fn put_nth_host<W: Write>(
     programs: &[HostProgram],
     host: u8,
 )
-    ensures { Puts (sink (W.contents out.old) failed.old) (sink (W.contents out.new) failed.new) (nth_host_text (left_after run.now) programs.now host) }
+    ensures { Puts (sink (W.contents out.old) failed.old) (sink (W.contents out.new) failed.new)
+        (nth_host_text (left_after run.now) programs.now host) }
 {
     if let Some(program) = programs.get(usize::from(host))
         && let Some(state) = run.hosts.get(usize::from(host))
@@ -144,7 +149,8 @@ fn put_host<W: Write>(
     program: &HostProgram,
     state: HostState,
 )
-    ensures { Puts (sink (W.contents out.old) failed.old) (sink (W.contents out.new) failed.new) (host_text (left_after run.now) host program.now state) }
+    ensures { Puts (sink (W.contents out.old) failed.old) (sink (W.contents out.new) failed.new)
+        (host_text (left_after run.now) host program.now state) }
 {
     put(out, failed, b"host ");
     put_number(out, failed, host);
@@ -181,7 +187,9 @@ fn first_of(statements: &[Statement], count: usize) -> &[Statement]
 
 // What is present on each device.
 fn put_presences<W: Write>(out: &mut W, failed: &mut bool, names: &[&[u8]], place: &Place)
-    ensures { Puts (sink (W.contents out.old) failed.old) (sink (W.contents out.new) failed.new) (each_below place.now.config.devices (present_text (texts names.now) (standing_in place.now))) }
+    ensures { Puts (sink (W.contents out.old) failed.old) (sink (W.contents out.new) failed.new)
+        (each_below place.now.config.devices
+        (present_text (texts names.now) (standing_in place.now))) }
 {
     for device in 0..place.config().devices() {
         put_device(out, failed, names, place, DeviceId::new(device));
@@ -197,7 +205,8 @@ fn put_device<W: Write>(
     device: DeviceId,
 )
     requires { device < place.now.config.devices }
-    ensures { Puts (sink (W.contents out.old) failed.old) (sink (W.contents out.new) failed.new) (present_text (texts names.now) (standing_in place.now) device) }
+    ensures { Puts (sink (W.contents out.old) failed.old) (sink (W.contents out.new) failed.new)
+        (present_text (texts names.now) (standing_in place.now) device) }
 {
     let mut index = 0;
     while let Some(entry) = place.nth(device, index) {
@@ -208,7 +217,8 @@ fn put_device<W: Write>(
 
 // What each queue has performed, and what of it was discarded, by these counts.
 fn put_queues<W: Write>(out: &mut W, failed: &mut bool, place: &Place, counted: &Counted)
-    ensures { Puts (sink (W.contents out.old) failed.old) (sink (W.contents out.new) failed.new) (each_below place.now.config.devices (counted_text (standing_in place.now) counted.now)) }
+    ensures { Puts (sink (W.contents out.old) failed.old) (sink (W.contents out.new) failed.new)
+        (each_below place.now.config.devices (counted_text (standing_in place.now) counted.now)) }
 {
     for device in 0..place.config().devices() {
         put_queues_of(out, failed, place, counted, DeviceId::new(device));
@@ -222,7 +232,8 @@ fn put_queues_of<W: Write>(
     counted: &Counted,
     device: DeviceId,
 )
-    ensures { Puts (sink (W.contents out.old) failed.old) (sink (W.contents out.new) failed.new) (counted_text (standing_in place.now) counted.now device) }
+    ensures { Puts (sink (W.contents out.old) failed.old) (sink (W.contents out.new) failed.new)
+        (counted_text (standing_in place.now) counted.now device) }
 {
     for queue in 0..QUEUES {
         let queue = QueueId::new(queue);
@@ -237,7 +248,8 @@ fn put_queue<W: Write>(
     counted: &Counted,
     at: QueueAt,
 )
-    ensures { Puts (sink (W.contents out.old) failed.old) (sink (W.contents out.new) failed.new) (counted_queue_text (standing_in place.now) counted.now at) }
+    ensures { Puts (sink (W.contents out.old) failed.old) (sink (W.contents out.new) failed.new)
+        (counted_queue_text (standing_in place.now) counted.now at) }
 {
     let QueueAt { device, queue } = at;
     let (batches, operations) = placed_on(place, QueueAt { device, queue });
@@ -258,8 +270,10 @@ fn count_at(counts: &[u64], at: &QueueAt) -> u64
 
 // How many batches of directives were placed on a queue, and how many operations they have.
 fn placed_on(place: &Place, at: QueueAt) -> (u64, u128)
-    ensures batches { result.0 ≡ length (plain_batches (on_queue at (standing_in place.now).labels)) }
-    ensures operations { result.1 ≡ length (plain_ops (ops_of (on_queue at (standing_in place.now).labels))) }
+    ensures batches { result.0 ≡ length (plain_batches (on_queue at
+        (standing_in place.now).labels)) }
+    ensures operations { result.1 ≡ length (plain_ops (ops_of (on_queue at
+        (standing_in place.now).labels))) }
 {
     let QueueAt { device, queue } = at;
     let mut batches = 0u64;

@@ -32,10 +32,12 @@ pub fn abandon_sides(
 ) -> Result<Outcome, SidesRefused>
     ensures config { IfOk result (λ o. o.config ≡ config.now) }
     ensures histories { IfOk result (λ o. histories_of o ≡ histories_in sides.place sides.work) }
-    ensures abandoned { IfOk result (λ o. Abandoned tokens.items (histories_of o) o.discarded.items) }
+    ensures abandoned { IfOk result (λ o.
+        Abandoned tokens.items (histories_of o) o.discarded.items) }
     ensures counted { IfOk result (λ o. HasCounts o) }
     ensures hosts { IfOk result (λ o. o.hosts.items ≡ []) }
-    ensures fault { IfErr result (λ r. CannotAbandon config.now sides.place sides.work tokens.items r.fault) }
+    ensures fault { IfErr result (λ r.
+        CannotAbandon config.now sides.place sides.work tokens.items r.fault) }
     ensures sides { IfErr result (λ r. r.sides ≡ sides) }
     ensures tokens { IfErr result (λ r. r.tokens ≡ tokens) }
 {
@@ -64,7 +66,8 @@ fn discard(
     tokens: &[HostToken],
 ) -> Result<Vec<Discarded>, Fault>
     ensures one { IfOk result (λ list. AreOfOneRun config.now place.now work.now tokens.now) }
-    ensures listed { IfOk result (λ list. list.items ≡ discards place.now work.now (queue_count config.now)) }
+    ensures listed { IfOk result (λ list.
+        list.items ≡ discards place.now work.now (queue_count config.now)) }
     ensures fault { IfErr result (λ f. CannotAbandon config.now place.now work.now tokens.now f) }
 {
     if !are_of_one_run(config, place, work, tokens) {
@@ -80,7 +83,8 @@ fn list_all(
     place: &PlaceSide,
     work: &WorkSide,
 ) -> Result<Vec<Discarded>, Fault>
-    ensures listed { IfOk result (λ list. list.items ≡ discards place.now work.now (queue_count config.now)) }
+    ensures listed { IfOk result (λ list.
+        list.items ≡ discards place.now work.now (queue_count config.now)) }
     ensures fault { OnlyMemory result }
 {
     let mut list = Vec::new(alloc);
@@ -97,7 +101,8 @@ fn list_queue(
     work: &WorkSide,
     at: QueueAt,
 ) -> Result<(), Fault>
-    ensures listed { OnOk result (list.new.items ≡ list.old.items ++ map (discarded at) (left_on place.now work.now at)) }
+    ensures listed { OnOk result (list.new.items ≡ list.old.items
+        ++ map (discarded at) (left_on place.now work.now at)) }
     ensures fault { OnlyMemory result }
 {
     let QueueAt { device, queue } = at;
@@ -135,7 +140,8 @@ fn held_on<'a>(place: &'a PlaceSide, work: &WorkSide, at: QueueAt) -> &'a [Label
 
 // Lists the operations of these batches.
 fn list_batches(list: &mut Vec<Discarded>, at: QueueAt, labels: &[Label]) -> Result<(), Fault>
-    ensures listed { OnOk result (list.new.items ≡ list.old.items ++ map (discarded at) (ops_of labels.now)) }
+    ensures listed { OnOk result (list.new.items ≡ list.old.items
+        ++ map (discarded at) (ops_of labels.now)) }
     ensures fault { OnlyMemory result }
 {
     let QueueAt { device, queue } = at;

@@ -44,7 +44,9 @@ impl<'a> Unread<'a> {
 
 // Whether a directive of a host is this one, with this answer, behind so many items.
 fn is_same(own: &OwnDirective, gone: u64, directive: &Directive, placed: &Placed) -> bool
-    ensures { IsTrue result ↔ own_by own.now ≡ record { items_before = gone; directive = directive.now; placed = placed.now } }
+    ensures { IsTrue result
+        ↔ own_by own.now
+        ≡ record { items_before = gone; directive = directive.now; placed = placed.now } }
 {
     own.items_before == gone
         && own.directive.is_same(directive)
@@ -53,7 +55,9 @@ fn is_same(own: &OwnDirective, gone: u64, directive: &Directive, placed: &Placed
 
 // Whether a token's list is that of its host in both histories.
 fn agrees(place: &Place, works: &WorkLog, token: &HostToken) -> bool
-    ensures { IsTrue result ↔ Agrees (histories_by place.now works.now.items) token.now.host (map listed_entry token.now.entries) }
+    ensures { IsTrue result
+        ↔ Agrees (histories_by place.now works.now.items) token.now.host
+        (map listed_entry token.now.entries) }
 {
     let mut unread = Unread {
         directives: OwnDirectives::new(place, token.host()),

@@ -82,7 +82,8 @@ fn place_again<R: Wait>(
     directive: &Directive,
 ) -> Result<Placed, Fault>
     ensures host { token.new.host ≡ token.old.host }
-    ensures noted { IfOk result (λ placed. token.new.entries ≡ token.old.entries ++ listed.Placed directive.now placed ∷ []) }
+    ensures noted { IfOk result (λ placed.
+        token.new.entries ≡ token.old.entries ++ listed.Placed directive.now placed ∷ []) }
     ensures refused { OnErr result (token.new.entries ≡ token.old.entries) }
     ensures again { IfErr result IsNotFull }
 {

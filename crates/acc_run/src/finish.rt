@@ -44,7 +44,8 @@ pub fn finish_sides(
     ensures counted { IfOk result (λ o. HasCounts o) }
     ensures hosts { IfOk result (λ o. o.hosts.items ≡ []) }
     ensures discarded { IfOk result (λ o. o.discarded.items ≡ []) }
-    ensures fault { IfErr result (λ r. CannotFinish config.now sides.place sides.work tokens.items r.fault) }
+    ensures fault { IfErr result (λ r.
+        CannotFinish config.now sides.place sides.work tokens.items r.fault) }
     ensures sides { IfErr result (λ r. r.sides ≡ sides) }
     ensures tokens { IfErr result (λ r. r.tokens ≡ tokens) }
 {

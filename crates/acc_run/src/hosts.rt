@@ -75,8 +75,10 @@ fn last_pair(hosts: &mut Vec<Host>, tokens: &mut Vec<HostToken>) -> Option<(Host
     ensures others { IfSome result (λ r. Paired hosts.new.items tokens.new.items) }
     ensures hosts { IfSome result (λ r. hosts.old.items ≡ hosts.new.items ++ r.0 ∷ []) }
     ensures tokens { IfSome result (λ r. tokens.old.items ≡ tokens.new.items ++ r.1 ∷ []) }
-    ensures none { IfNone result ((hosts.old.items ≡ []) × (tokens.old.items ≡ []) × (hosts.new.items ≡ []) × (tokens.new.items ≡ [])) }
-    ensures room { (vec_capacity hosts.new ≡ vec_capacity hosts.old) × (vec_capacity tokens.new ≡ vec_capacity tokens.old) }
+    ensures none { IfNone result ((hosts.old.items ≡ []) × (tokens.old.items ≡ [])
+        × (hosts.new.items ≡ []) × (tokens.new.items ≡ [])) }
+    ensures room { (vec_capacity hosts.new ≡ vec_capacity hosts.old)
+        × (vec_capacity tokens.new ≡ vec_capacity tokens.old) }
 {
     let host = hosts.pop()?;
     match tokens.pop() {
@@ -132,8 +134,10 @@ pub(crate) fn run_hosts<'s, E, R: Threads + Wait + Sync, G: Gate + Sync>(
 )
     requires { Paired hosts.old.items tokens.old.items }
     ensures went { WentEach runtime.now.config.devices hosts.old.items tokens.old.items hosts.new.items tokens.new.items }
-    ensures len { (vec_len hosts.new ≡ vec_len hosts.old) × (vec_len tokens.new ≡ vec_len tokens.old) }
-    ensures room { (vec_capacity hosts.new ≡ vec_capacity hosts.old) × (vec_capacity tokens.new ≡ vec_capacity tokens.old) }
+    ensures len { (vec_len hosts.new ≡ vec_len hosts.old)
+        × (vec_len tokens.new ≡ vec_len tokens.old) }
+    ensures room { (vec_capacity hosts.new ≡ vec_capacity hosts.old)
+        × (vec_capacity tokens.new ≡ vec_capacity tokens.old) }
 {
     let Some((host, token)) = last_pair(hosts, tokens) else {
         return;

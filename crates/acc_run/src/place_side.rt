@@ -49,7 +49,8 @@ impl PlaceSide {
     /// what was placed on it.
     pub fn keeps(&self)
         ensures accepted { AllAccepted self.now.place.config self.now.place.history self.now.place.counts }
-        ensures sent { (at : QueueAt) → IsQueue self.now.place.config at → IsSent self.now.place at (line_in self.now.lines at) }
+        ensures sent { (at : QueueAt) → IsQueue self.now.place.config at
+            → IsSent self.now.place at (line_in self.now.lines at) }
     {
         let _ = &self.senders;
         let _ = self.place.history();
@@ -115,8 +116,10 @@ impl PlaceSide {
         directive: &Directive,
     ) -> Result<Placed, Fault>
         requires host { host < MAX_HOSTS }
-        ensures placed { IfOk result (λ placed. HasPlaced self.old self.new host items_done directive.now placed) }
-        ensures refused { IfErr result (λ fault. HasRefused self.old self.new host items_done directive.now fault) }
+        ensures placed { IfOk result (λ placed.
+            HasPlaced self.old self.new host items_done directive.now placed) }
+        ensures refused { IfErr result (λ fault.
+            HasRefused self.old self.new host items_done directive.now fault) }
     {
         let _ = self.place.history();
         let plan = self.place.plan(host, items_done, directive)?;
@@ -128,7 +131,8 @@ impl PlaceSide {
     /// without Close then. It takes no memory.
     pub fn close<R: Wait>(&mut self, rt: &R) -> u32
         ensures closed { HasClosed self.old self.new }
-        ensures left { result ≡ left_open (standing_in self.new.place) (queue_count self.new.place.config) }
+        ensures left { result ≡ left_open (standing_in self.new.place)
+            (queue_count self.new.place.config) }
     {
         self.begin_closing();
         let mut remaining = 0u32;
@@ -193,7 +197,8 @@ fn send<R: Wait>(rt: &R, senders: &mut Vec<Sender>, plan: Plan) -> Result<Plan, 
     ensures plan { IfOk result (λ q. q ≡ without_batch plan) }
     ensures sent { OnOk result (senders.new.items ≡ lines_sent senders.old.items plan.batch) }
     ensures kept { OnErr result (senders.new.items ≡ senders.old.items) }
-    ensures refused { IfErr result (λ fault. (fault ≡ QueueFull) × IsHeld senders.old.items plan.batch) }
+    ensures refused { IfErr result (λ fault. (fault ≡ QueueFull)
+        × IsHeld senders.old.items plan.batch) }
 {
     let mut plan = plan;
     if let Some(batch) = plan.take_batch() {
@@ -207,7 +212,9 @@ fn push<R: Wait>(rt: &R, senders: &mut Vec<Sender>, batch: Batch) -> Result<(), 
     requires { CanSend senders.old.items batch }
     ensures sent { OnOk result (senders.new.items ≡ lines_with senders.old.items batch) }
     ensures kept { OnErr result (senders.new.items ≡ senders.old.items) }
-    ensures refused { IfErr result (λ fault. (fault ≡ QueueFull) × MayBeFull (line_in senders.old.items batch.at).room (line_in senders.old.items batch.at).labels) }
+    ensures refused { IfErr result (λ fault. (fault ≡ QueueFull)
+        × MayBeFull (line_in senders.old.items batch.at).room
+        (line_in senders.old.items batch.at).labels) }
 {
     match push_back(rt, senders, batch) {
         Err(_) => Err(Fault::QueueFull),
@@ -220,7 +227,9 @@ fn push_back<R: Wait>(rt: &R, senders: &mut Vec<Sender>, batch: Batch) -> Result
     requires { CanSend senders.old.items batch }
     ensures sent { OnOk result (senders.new.items ≡ lines_with senders.old.items batch) }
     ensures kept { OnErr result (senders.new.items ≡ senders.old.items) }
-    ensures refused { IfErr result (λ b. (b ≡ batch) × MayBeFull (line_in senders.old.items batch.at).room (line_in senders.old.items batch.at).labels) }
+    ensures refused { IfErr result (λ b. (b ≡ batch)
+        × MayBeFull (line_in senders.old.items batch.at).room
+        (line_in senders.old.items batch.at).labels) }
 {
     let seat = batch.label().at.seat();
     match senders[seat].push(rt, batch) {

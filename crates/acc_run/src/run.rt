@@ -35,7 +35,8 @@ impl Runtime {
         tokens: Vec<HostToken>,
     ) -> Result<(Vec<Host>, Vec<HostToken>), (Fault, Vec<Host>, Vec<HostToken>)>
         requires { Paired hosts.items tokens.items }
-        ensures ran { IfOk result (λ r. WentEach self.now.config.devices hosts.items tokens.items r.0.items r.1.items) }
+        ensures ran { IfOk result (λ r.
+            WentEach self.now.config.devices hosts.items tokens.items r.0.items r.1.items) }
         ensures kept { IfErr result (λ r. (r.0 ≡ Memory) × (r.1 ≡ hosts) × (r.2 ≡ tokens)) }
     {
         let all = Crew::new();
@@ -48,7 +49,9 @@ impl Runtime {
             rt,
             move |scope| -> Result<(Vec<Host>, Vec<HostToken>), (Fault, Vec<Host>, Vec<HostToken>)>
                 requires { IsSync R.row × IsSync G.row × Paired hosts.items tokens.items }
-                ensures { MatchResult result (λ r. WentEach runtime.entry.now.config.devices hosts.items tokens.items r.0.items r.1.items) (λ r. (r.0 ≡ Memory) × (r.1 ≡ hosts) × (r.2 ≡ tokens)) }
+                ensures { MatchResult result (λ r.
+                    WentEach runtime.entry.now.config.devices hosts.items tokens.items r.0.items r.1.items)
+                    (λ r. (r.0 ≡ Memory) × (r.1 ≡ hosts) × (r.2 ≡ tokens)) }
             { run_in(scope, alloc, rt, runtime, gate, crew, barred, hosts, tokens) },
         )
     }
@@ -67,7 +70,8 @@ fn run_in<'s, E, R: Threads + Wait + Sync, G: Gate + Sync>(
     tokens: Vec<HostToken>,
 ) -> Result<(Vec<Host>, Vec<HostToken>), (Fault, Vec<Host>, Vec<HostToken>)>
     requires { Paired hosts.items tokens.items }
-    ensures ran { IfOk result (λ r. WentEach runtime.now.config.devices hosts.items tokens.items r.0.items r.1.items) }
+    ensures ran { IfOk result (λ r.
+        WentEach runtime.now.config.devices hosts.items tokens.items r.0.items r.1.items) }
     ensures kept { IfErr result (λ r. (r.0 ≡ Memory) × (r.1 ≡ hosts) × (r.2 ≡ tokens)) }
 {
     if !start_workers(scope, rt, runtime, gate, crew) {

@@ -136,7 +136,8 @@ impl Runtime {
         directive: &Directive,
     ) -> Result<Placed, Fault>
         ensures host { token.new.host ≡ token.old.host }
-        ensures noted { IfOk result (λ placed. token.new.entries ≡ token.old.entries ++ listed.Placed directive.now placed ∷ []) }
+        ensures noted { IfOk result (λ placed.
+            token.new.entries ≡ token.old.entries ++ listed.Placed directive.now placed ∷ []) }
         ensures refused { OnErr result (token.new.entries ≡ token.old.entries) }
         ensures fault { IfErr result (λ fault. is_of_ending fault ≡ false) }
     {
@@ -170,7 +171,9 @@ impl Runtime {
         counts: QueueCounts,
     ) -> Result<(), Fault>
         ensures host { token.new.host ≡ token.old.host }
-        ensures noted { IfOk result (λ done. token.new.entries ≡ token.old.entries ++ listed.Item (to_record.Seen device counts) shown.Nothing ∷ []) }
+        ensures noted { IfOk result (λ done.
+            token.new.entries
+            ≡ token.old.entries ++ listed.Item (to_record.Seen device counts) shown.Nothing ∷ []) }
         ensures refused { OnErr result (token.new.entries ≡ token.old.entries) }
         ensures fault { IfErr result (λ fault. (fault ≡ Memory) ⊎ (fault ≡ TooMany)) }
     {
@@ -220,7 +223,8 @@ impl Runtime {
     ) -> Result<Shown, (Item, Fault)>
         requires item { MayRecord item }
         ensures host { token.new.host ≡ token.old.host }
-        ensures noted { IfOk result (λ answer. token.new.entries ≡ token.old.entries ++ listed.Item item answer ∷ []) }
+        ensures noted { IfOk result (λ answer.
+            token.new.entries ≡ token.old.entries ++ listed.Item item answer ∷ []) }
         ensures answer { IfOk result (λ answer. IsAnswerTo item answer) }
         ensures refused { OnErr result (token.new.entries ≡ token.old.entries) }
         ensures back { IfErr result (λ r. r.0 ≡ item) }
@@ -332,7 +336,8 @@ impl Runtime {
     /// else `Memory` where memory for the list is refused. The runtime and the tokens come back as they were.
     pub fn abandon(self, alloc: Global, tokens: Vec<HostToken>) -> Result<Outcome, FinishRefused>
         ensures config { IfOk result (λ o. o.config ≡ self.config) }
-        ensures abandoned { IfOk result (λ o. Abandoned tokens.items (histories_of o) o.discarded.items) }
+        ensures abandoned { IfOk result (λ o.
+            Abandoned tokens.items (histories_of o) o.discarded.items) }
         ensures counted { IfOk result (λ o. HasCounts o) }
         ensures hosts { IfOk result (λ o. o.hosts.items ≡ []) }
         ensures fault { IfErr result (λ r. (r.fault ≡ HostsDiffer) ⊎ (r.fault ≡ Memory)) }
@@ -379,7 +384,8 @@ impl Runtime {
 // The runtime that was refused, with both sides behind their locks again.
 fn runtime_of(frame: Frame, refused: SidesRefused) -> FinishRefused
     ensures fault { result.fault ≡ refused.fault }
-    ensures runtime { (result.runtime.config ≡ frame.config) × (result.runtime.has_reader ≡ is_some frame.reader) }
+    ensures runtime { (result.runtime.config ≡ frame.config)
+        × (result.runtime.has_reader ≡ is_some frame.reader) }
     ensures tokens { result.tokens ≡ refused.tokens }
 {
     let SidesRefused {

@@ -125,7 +125,8 @@ impl HostToken {
     pub(crate) fn note_directive(&mut self, directive: Directive, placed: &Placed)
         requires { has_room self.old }
         ensures host { self.new.host ≡ self.old.host }
-        ensures entries { self.new.entries ≡ self.old.entries ++ listed.Placed directive placed.now ∷ [] }
+        ensures entries { self.new.entries
+            ≡ self.old.entries ++ listed.Placed directive placed.now ∷ [] }
     {
         self.entries.push_reserved(TokenEntry::Placed {
             directive,

@@ -70,7 +70,9 @@ impl WorkSide {
         ensures memory { Remembers self.now.work.arrays self.now.work.work self.now.work.memory }
         ensures order { KeepsOrder self.now.work }
         ensures lines { (at : QueueAt) → IsLine self.now.work at (line_in self.now.lines at) }
-        ensures progress { (at : QueueAt) → queue_number self.now.progress.numbers at ≡ batches_done (taken_labels self.now.work) self.now.work.work at }
+        ensures progress { (at : QueueAt)
+            → queue_number self.now.progress.numbers at
+            ≡ batches_done (taken_labels self.now.work) self.now.work.work at }
     {
         self.work.keeps();
         let _ = &self.takers;
@@ -225,7 +227,9 @@ impl WorkSide {
     pub fn start_job(&mut self, at: QueueAt, room: &mut Option<Box<Job>>) -> Option<JobOut>
         requires queue { HasQueue self.old.work at }
         ensures started { IfSome result (λ job. HasGoneOut self.old self.new at job) }
-        ensures room { IfSome result (λ job. TakesRoom (option_map (λ b. b.value) room.old) (lane_at self.old.work at).left job.job) }
+        ensures room { IfSome result (λ job.
+            TakesRoom (option_map (λ b. b.value) room.old)
+            (lane_at self.old.work at).left job.job) }
         ensures none { IfNone result ((self.new ≡ self.old) × (StartsLoop self.old.work at → ⊥)) }
     {
         self.work.keeps();
@@ -260,7 +264,9 @@ impl WorkSide {
         ensures told { IfOk result (λ shown. HasLogged self.old self.new host item shown) }
         ensures back { IfErr result (λ r. r.0 ≡ item) }
         ensures kept { OnErr result (self.new ≡ self.old) }
-        ensures fault { IfErr result (λ r. (lacks : Bool) × (item_fault lacks self.old.work.work (has_cells self.old.work.arrays item) ≡ Some r.1)) }
+        ensures fault { IfErr result (λ r. (lacks : Bool)
+            × (item_fault lacks self.old.work.work (has_cells self.old.work.arrays item)
+            ≡ Some r.1)) }
     {
         if self.work.is_full_of_items() {
             return Err((item, Fault::TooMany));
@@ -284,10 +290,14 @@ impl WorkSide {
         counts: QueueCounts,
     ) -> Result<bool, Fault>
         requires host { host < MAX_HOSTS }
-        ensures seen { result ≡ Ok true → HasLogged self.old self.new host (to_record.Seen device counts) shown.Nothing }
-        ensures not_yet { result ≡ Ok false → (self.new ≡ self.old) × (all_done (taken_labels self.old.work) self.old.work.work device 0 counts ≡ false) }
+        ensures seen { result ≡ Ok true
+            → HasLogged self.old self.new host (to_record.Seen device counts) shown.Nothing }
+        ensures not_yet { result ≡ Ok false
+            → (self.new ≡ self.old)
+            × (all_done (taken_labels self.old.work) self.old.work.work device 0 counts ≡ false) }
         ensures kept { OnErr result (self.new ≡ self.old) }
-        ensures fault { IfErr result (λ f. (lacks : Bool) × (item_fault lacks self.old.work.work true ≡ Some f)) }
+        ensures fault { IfErr result (λ f. (lacks : Bool)
+            × (item_fault lacks self.old.work.work true ≡ Some f)) }
     {
         if !self.work.all_reached(device, &counts) {
             return Ok(false);
@@ -326,7 +336,8 @@ fn perform_and_publish(work: &mut Work, progress: &mut Publisher, at: QueueAt) -
     requires few { slice_index progress.old.numbers (seat at) < 2 ^ 62 }
     ensures performs { Performs work.old at result work.new }
     ensures order { KeepsOrder work.new }
-    ensures progress { progress.new ≡ published_by result (lane_at work.new at).left progress.old at }
+    ensures progress { progress.new
+        ≡ published_by result (lane_at work.new at).left progress.old at }
 {
     let QueueAt { device, queue } = at;
     let done = work.perform(QueueAt { device, queue });
@@ -346,8 +357,10 @@ fn commit_and_publish(
     requires there { HasWord progress.old.numbers job.at }
     requires few { slice_index progress.old.numbers (seat job.at) < 2 ^ 62 }
     ensures committed { OnOk result (IsOut work.old job × Commits work.old work.new job.at) }
-    ensures progress { OnOk result (progress.new ≡ raised_by (lane_at work.new job.at).left progress.old job.at) }
-    ensures back { IfErr result (λ back. (back ≡ job) × (work.new ≡ work.old) × (progress.new ≡ progress.old) × ¬ IsOut work.old job) }
+    ensures progress { OnOk result
+        (progress.new ≡ raised_by (lane_at work.new job.at).left progress.old job.at) }
+    ensures back { IfErr result (λ back. (back ≡ job) × (work.new ≡ work.old)
+        × (progress.new ≡ progress.old) × ¬ IsOut work.old job) }
     ensures order { KeepsOrder work.new }
 {
     let QueueAt { device, queue } = job.queue();

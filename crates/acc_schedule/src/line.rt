@@ -76,7 +76,8 @@ fn times_of(word: &[u8]) -> Result<u32, ReadKind>
 
 // A turn, if the words before the last one name what is there, so often as that says.
 fn asked_turn(formed: bool, turn: Option<Turn>, times: &[u8]) -> Result<ScheduleLine, ReadKind>
-    ensures { (round : List Event) → asked_turn formed (turn_read round turn) (Some times.now) ≡ line_read round result }
+    ensures { (round : List Event)
+        → asked_turn formed (turn_read round turn) (Some times.now) ≡ line_read round result }
 {
     if !formed || !is_number(times) {
         return Err(ReadKind::Form);
@@ -97,7 +98,8 @@ fn one_turn(event: Option<Event>) -> Option<Turn>
 
 // The word that says how often, where it is the last one or is missing.
 fn times_word(others: &[u8]) -> Option<&[u8]>
-    ensures { MatchOption result (times_word (words others.now) ≡ None) (λ word. times_word (words others.now) ≡ Some word.now) }
+    ensures { MatchOption result (times_word (words others.now) ≡ None) (λ word.
+        times_word (words others.now) ≡ Some word.now) }
 {
     let (word, behind) = next_word(others);
     if word.is_empty() {
@@ -125,7 +127,9 @@ fn host_line(others: &[u8], hosts: u8) -> Result<ScheduleLine, ReadKind>
 // The same of a `take` line, or a `do` line.
 #[tactic(auto, unfolding(crate::specs::Schedules::queue_events))]
 fn queue_line(others: &[u8], devices: u8, takes: bool) -> Result<ScheduleLine, ReadKind>
-    ensures { (round : List Event) → queue_events devices (λ q. if takes then Take q else Perform q) (words others.now) ≡ line_read round result }
+    ensures { (round : List Event)
+        → queue_events devices (λ q. if takes then Take q else Perform q) (words others.now)
+        ≡ line_read round result }
 {
     let (device, behind) = next_word(others);
     let (queue, behind) = next_word(behind);
@@ -155,7 +159,8 @@ fn close_line(others: &[u8]) -> Result<ScheduleLine, ReadKind>
 // The same of a `round` line.
 #[tactic(auto, unfolding(crate::specs::Schedules::round_events))]
 fn round_line(others: &[u8]) -> Result<ScheduleLine, ReadKind>
-    ensures { (hosts devices : ℕ) → round_events hosts devices (words others.now) ≡ line_read (turn_of hosts devices) result }
+    ensures { (hosts devices : ℕ)
+        → round_events hosts devices (words others.now) ≡ line_read (turn_of hosts devices) result }
 {
     let (times, behind) = next_word(others);
     let (more, _) = next_word(behind);
@@ -167,7 +172,8 @@ fn round_line(others: &[u8]) -> Result<ScheduleLine, ReadKind>
 
 // What the words of a line say, by the first of them.
 fn line_by(first: &[u8], others: &[u8], hosts: u8, devices: u8) -> Result<ScheduleLine, ReadKind>
-    ensures { events_by hosts devices first.now (words others.now) ≡ line_read (turn_of hosts devices) result }
+    ensures { events_by hosts devices first.now (words others.now)
+        ≡ line_read (turn_of hosts devices) result }
 {
     if is(first, b"host") {
         host_line(others, hosts)

@@ -70,8 +70,11 @@ fn keep_line(
 ) -> Result<u64, ReadError>
     requires counted { before ≡ length (all_events (turn_of hosts devices) kept.old.items) }
     requires few { before ≤ MAX_EVENTS }
-    ensures found { Gives (λ _. all_events (turn_of hosts devices) kept.new.items) result (joined_events number (all_events (turn_of hosts devices) kept.old.items) (Ok (kept_events (turn_of hosts devices) line.now))) }
-    ensures counted { IfOk result (λ count. count ≡ length (all_events (turn_of hosts devices) kept.new.items)) }
+    ensures found { Gives (λ _. all_events (turn_of hosts devices) kept.new.items) result
+        (joined_events number (all_events (turn_of hosts devices) kept.old.items)
+        (Ok (kept_events (turn_of hosts devices) line.now))) }
+    ensures counted { IfOk result (λ count.
+        count ≡ length (all_events (turn_of hosts devices) kept.new.items)) }
     ensures few { IfOk result (λ count. count ≤ MAX_EVENTS) }
 {
     let count = before + events_len(line, hosts, devices);
@@ -96,8 +99,11 @@ fn read_line(
 ) -> Result<u64, ReadError>
     requires counted { before ≡ length (all_events (turn_of hosts devices) kept.old.items) }
     requires few { before ≤ MAX_EVENTS }
-    ensures found { Gives (λ _. all_events (turn_of hosts devices) kept.new.items) result (events_behind hosts devices number (all_events (turn_of hosts devices) kept.old.items) line.now) }
-    ensures counted { IfOk result (λ count. count ≡ length (all_events (turn_of hosts devices) kept.new.items)) }
+    ensures found { Gives (λ _. all_events (turn_of hosts devices) kept.new.items) result
+        (events_behind hosts devices number
+        (all_events (turn_of hosts devices) kept.old.items) line.now) }
+    ensures counted { IfOk result (λ count.
+        count ≡ length (all_events (turn_of hosts devices) kept.new.items)) }
     ensures few { IfOk result (λ count. count ≤ MAX_EVENTS) }
 {
     if is_skipped(line) {
@@ -117,7 +123,8 @@ fn lines_of(
     hosts: u8,
     devices: u8,
 ) -> Result<Vec<ScheduleLine>, ReadError>
-    ensures found { Gives (λ kept. all_events (turn_of hosts devices) kept.items) result (schedule_of hosts devices text.now) }
+    ensures found { Gives (λ kept. all_events (turn_of hosts devices) kept.items) result
+        (schedule_of hosts devices text.now) }
     ensures long { IfErr result (λ error. error ≡ Memory → length text.now ≤ MAX_TEXT) }
 {
     if let Err(fault) = check_length(text) {

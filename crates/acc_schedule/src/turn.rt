@@ -45,7 +45,8 @@ pub struct ScheduleLine {
 }
 
 fn push_hosts(events: &mut Vec<Event>, hosts: u8) -> Result<(), ReadError>
-    ensures { Gives (λ _. events.new.items) result (Ok (events.old.items ++ map Host (range_with_len 0 hosts))) }
+    ensures { Gives (λ _. events.new.items) result
+        (Ok (events.old.items ++ map Host (range_with_len 0 hosts))) }
 {
     for host in 0..hosts {
         events.push(Event::Host(HostId::new(host)))?;
@@ -54,7 +55,8 @@ fn push_hosts(events: &mut Vec<Event>, hosts: u8) -> Result<(), ReadError>
 }
 
 fn push_queue(events: &mut Vec<Event>, device: u8, queue: u8) -> Result<(), ReadError>
-    ensures { Gives (λ _. events.new.items) result (Ok (events.old.items ++ queue_turn (record { device = device; queue = queue }))) }
+    ensures { Gives (λ _. events.new.items) result
+        (Ok (events.old.items ++ queue_turn (record { device = device; queue = queue }))) }
 {
     events.push(Event::Take(queue_at(device, queue)))?;
     events.push(Event::Perform(queue_at(device, queue)))?;
@@ -71,7 +73,8 @@ fn push_device(events: &mut Vec<Event>, device: u8) -> Result<(), ReadError>
 }
 
 fn push_devices(events: &mut Vec<Event>, devices: u8) -> Result<(), ReadError>
-    ensures { Gives (λ _. events.new.items) result (Ok (events.old.items ++ flat_map device_turn (range_with_len 0 devices))) }
+    ensures { Gives (λ _. events.new.items) result
+        (Ok (events.old.items ++ flat_map device_turn (range_with_len 0 devices))) }
 {
     for device in 0..devices {
         push_device(events, device)?;
@@ -81,7 +84,8 @@ fn push_devices(events: &mut Vec<Event>, devices: u8) -> Result<(), ReadError>
 
 // Puts one turn behind the events: first the hosts, then the queues.
 fn push_turn(events: &mut Vec<Event>, hosts: u8, devices: u8) -> Result<(), ReadError>
-    ensures { Gives (λ _. events.new.items) result (Ok (events.old.items ++ turn_of hosts devices)) }
+    ensures { Gives (λ _. events.new.items) result
+        (Ok (events.old.items ++ turn_of hosts devices)) }
 {
     push_hosts(events, hosts)?;
     push_devices(events, devices)
@@ -124,7 +128,8 @@ pub(crate) fn push_line(
     round: &[Event],
     line: ScheduleLine,
 ) -> Result<(), ReadError>
-    ensures { Gives (λ _. events.new.items) result (Ok (events.old.items ++ kept_events round.now line)) }
+    ensures { Gives (λ _. events.new.items) result
+        (Ok (events.old.items ++ kept_events round.now line)) }
 {
     let ScheduleLine { turn, times } = line;
     let turn = turn.events(round);

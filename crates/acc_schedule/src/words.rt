@@ -9,7 +9,8 @@ use acc_token::{line_len, value_of};
 
 // The first line, and what is left behind its line feed, if it has one.
 pub(crate) fn next_line(text: &[u8]) -> (&[u8], Option<&[u8]>)
-    ensures lines { MatchOption result.1 (lines text.now ≡ result.0.now ∷ []) (λ others. lines text.now ≡ result.0.now ∷ lines others.now) }
+    ensures lines { MatchOption result.1 (lines text.now ≡ result.0.now ∷ []) (λ others.
+        lines text.now ≡ result.0.now ∷ lines others.now) }
     ensures shorter { IfSome result.1 (λ others. length others.now < length text.now) }
 {
     let (line, behind) = text.split_at(line_len(text));

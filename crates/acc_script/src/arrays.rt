@@ -79,7 +79,11 @@ impl<'a> Arrays<'a> {
         requires fresh { list_any (bytes_eq name.now) self.old.names ≡ false }
         requires few { length self.old.names < MAX_ARRAYS }
         requires size { (1 ≤ length cells.items) × (length cells.items ≤ MAX_CELLS) }
-        ensures declared { OnOk result (self.new ≡ record { names = self.old.names ++ name.now ∷ []; cells = self.old.cells ++ cells.items ∷ [] }) }
+        ensures declared { OnOk result (self.new ≡ record {
+          names = self.old.names
+              ++ name.now ∷ [];
+          cells = self.old.cells ++ cells.items ∷ [];
+        }) }
         ensures refused { IfErr result (λ error. error ≡ ReadError.Memory) }
     {
         self.cells.reserve(1)?;

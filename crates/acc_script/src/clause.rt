@@ -134,7 +134,8 @@ fn ranges_at<'a>(
 ) -> Result<At<'a>, ReadError>
     requires clause { allows head clause ≡ true }
     requires kept { IsKept head clauses.old }
-    ensures found { Gives (λ a. (clauses.new, spot a)) result (ranges_at arrays.now clause clauses.old (spot at.entry)) }
+    ensures found { Gives (λ a. (clauses.new, spot a)) result
+        (ranges_at arrays.now clause clauses.old (spot at.entry)) }
     ensures kept { OnOk result (IsKept head clauses.new) }
     ensures shorter { IfOk result (λ a. length a.bytes.now ≤ length at.entry.bytes.now) }
 {
@@ -150,7 +151,8 @@ fn data_clause<'a>(
     t: Token<'a>,
 ) -> Result<At<'a>, ReadError>
     requires kept { IsKept head clauses.old }
-    ensures found { Gives (λ a. (clauses.new, spot a)) result (data_clause arrays.now head clauses.old (lexeme t.entry) (clause_named t.entry.text.now)) }
+    ensures found { Gives (λ a. (clauses.new, spot a)) result
+        (data_clause arrays.now head clauses.old (lexeme t.entry) (clause_named t.entry.text.now)) }
     ensures kept { OnOk result (IsKept head clauses.new) }
     ensures some { OnOk result (0 < length t.entry.text.now) }
     ensures shorter { IfOk result (λ a. length a.bytes.now ≤ length t.entry.after.bytes.now) }
@@ -177,7 +179,8 @@ fn clause_of<'a>(
     t: Token<'a>,
 ) -> Result<At<'a>, ReadError>
     requires kept { IsKept head clauses.old }
-    ensures found { Gives (λ a. (clauses.new, spot a)) result (clause_of arrays.now head clauses.old (lexeme t.entry)) }
+    ensures found { Gives (λ a. (clauses.new, spot a)) result
+        (clause_of arrays.now head clauses.old (lexeme t.entry)) }
     ensures kept { OnOk result (IsKept head clauses.new) }
     ensures some { OnOk result (0 < length t.entry.text.now) }
     ensures shorter { IfOk result (λ a. length a.bytes.now ≤ length t.entry.after.bytes.now) }
@@ -215,10 +218,12 @@ fn clause_turn<'a>(
     at: At<'a>,
 ) -> Result<(bool, At<'a>), ReadError>
     requires kept { IsKept head clauses.old }
-    ensures found { Gives (λ x. turn x.0 clauses.new (spot x.1)) result (clause_turn arrays.now head clauses.old (spot at.entry)) }
+    ensures found { Gives (λ x. turn x.0 clauses.new (spot x.1)) result
+        (clause_turn arrays.now head clauses.old (spot at.entry)) }
     ensures kept { OnOk result (IsKept head clauses.new) }
     ensures complete { IfOk result (λ x. x.0 ≡ false → is_complete head clauses.new ≡ true) }
-    ensures shorter { IfOk result (λ x. (if x.0 then 1 else 0) + length x.1.bytes.now ≤ length at.entry.bytes.now) }
+    ensures shorter { IfOk result (λ x.
+        (if x.0 then 1 else 0) + length x.1.bytes.now ≤ length at.entry.bytes.now) }
 {
     let t = sign_at(at, true)?;
     if ends_line(t.text) && clauses.is_complete(head) {
@@ -242,7 +247,8 @@ pub(crate) fn clauses_at<'a>(
     at: At<'a>,
 ) -> Result<At<'a>, ReadError>
     requires kept { IsKept head clauses.old }
-    ensures found { Gives (λ a. turn false clauses.new (spot a)) result (all_turns (clause_turn arrays.now head) clauses.old (spot at.entry)) }
+    ensures found { Gives (λ a. turn false clauses.new (spot a)) result
+        (all_turns (clause_turn arrays.now head) clauses.old (spot at.entry)) }
     ensures kept { OnOk result (IsKept head clauses.new) }
     ensures complete { OnOk result (is_complete head clauses.new ≡ true) }
     ensures shorter { IfOk result (λ a. length a.bytes.now ≤ length at.entry.bytes.now) }

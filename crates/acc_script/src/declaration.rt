@@ -52,7 +52,8 @@ pub(crate) fn begins_value(text: &[u8]) -> bool
 // A value, and the comma or the } behind it.
 #[tactic(auto, unfolding(crate::specs::Arrays::value_turn_behind))]
 fn value_turn_behind<'a>(cells: &mut Vec<i64>, t: Token<'a>) -> Result<(bool, At<'a>), ReadError>
-    ensures found { Gives (λ x. turn x.0 cells.new.items (spot x.1)) result (value_turn_behind cells.old.items (lexeme t.entry)) }
+    ensures found { Gives (λ x. turn x.0 cells.new.items (spot x.1)) result
+        (value_turn_behind cells.old.items (lexeme t.entry)) }
     ensures count { OnOk result (length cells.new.items ≡ length cells.old.items + 1) }
     ensures some { OnOk result (0 < length t.entry.text.now) }
     ensures shorter { IfOk result (λ x. length x.1.bytes.now ≤ length t.entry.after.bytes.now) }
@@ -75,10 +76,12 @@ fn value_turn<'a>(
     at: At<'a>,
 ) -> Result<(bool, At<'a>), ReadError>
     requires { length cells.old.items ≤ size }
-    ensures found { Gives (λ x. turn x.0 cells.new.items (spot x.1)) result (value_turn size cells.old.items (spot at.entry)) }
+    ensures found { Gives (λ x. turn x.0 cells.new.items (spot x.1)) result
+        (value_turn size cells.old.items (spot at.entry)) }
     ensures room { IfErr result (λ error. error ≡ Memory → length cells.old.items < size) }
     ensures few { OnOk result (length cells.new.items ≤ size) }
-    ensures shorter { IfOk result (λ x. (if x.0 then 1 else 0) + length x.1.bytes.now ≤ length at.entry.bytes.now) }
+    ensures shorter { IfOk result (λ x.
+        (if x.0 then 1 else 0) + length x.1.bytes.now ≤ length at.entry.bytes.now) }
 {
     let t = number_at(at, false)?;
     if is(t.text, b"}") && 0 < cells.len() {
@@ -96,7 +99,8 @@ fn value_turn<'a>(
 #[tactic(auto, using(acc_token::proofs::Turns::goes_on, acc_token::proofs::Turns::ends, acc_token::proofs::Turns::fails_too))]
 fn values_at<'a>(size: usize, cells: &mut Vec<i64>, at: At<'a>) -> Result<At<'a>, ReadError>
     requires { length cells.old.items ≤ size }
-    ensures found { Gives (λ a. turn false cells.new.items (spot a)) result (all_turns (value_turn size) cells.old.items (spot at.entry)) }
+    ensures found { Gives (λ a. turn false cells.new.items (spot a)) result
+        (all_turns (value_turn size) cells.old.items (spot at.entry)) }
     ensures few { OnOk result (length cells.new.items ≤ size) }
     ensures shorter { IfOk result (λ a. length a.bytes.now ≤ length at.entry.bytes.now) }
 {
@@ -135,7 +139,8 @@ fn initial_values_at<'a>(
     size: usize,
     at: At<'a>,
 ) -> Result<(Vec<i64>, At<'a>), ReadError>
-    ensures found { Gives (λ x. (x.0.items, spot x.1)) result (initial_values_at size (spot at.entry)) }
+    ensures found { Gives (λ x. (x.0.items, spot x.1)) result
+        (initial_values_at size (spot at.entry)) }
     ensures size { IfOk result (λ x. length x.0.items ≡ size) }
     ensures shorter { IfOk result (λ x. length x.1.bytes.now ≤ length at.entry.bytes.now) }
 {
@@ -155,7 +160,8 @@ fn initial_values_at<'a>(
 /// A name that isn't declared.
 #[tactic(auto, unfolding(crate::specs::Arrays::fresh_name))]
 pub(crate) fn fresh_name<'a>(arrays: &Arrays, t: Token<'a>) -> Result<&'a [u8], ReadFault>
-    ensures found { Reads (λ name. (name.now, spot t.entry.after)) result (fresh_name arrays.now.names (lexeme t.entry)) }
+    ensures found { Reads (λ name. (name.now, spot t.entry.after)) result
+        (fresh_name arrays.now.names (lexeme t.entry)) }
     ensures fresh { IfOk result (λ name. list_any (bytes_eq name.now) arrays.now.names ≡ false) }
 {
     let name = name_of(t)?;
@@ -190,9 +196,11 @@ fn array_turn<'a>(
     arrays: &mut Arrays<'a>,
     at: At<'a>,
 ) -> Result<(bool, At<'a>), ReadError>
-    ensures found { Gives (λ x. turn x.0 arrays.new (spot x.1)) result (array_turn arrays.old (spot at.entry)) }
+    ensures found { Gives (λ x. turn x.0 arrays.new (spot x.1)) result
+        (array_turn arrays.old (spot at.entry)) }
     ensures room { IfErr result (λ error. error ≡ Memory → length arrays.old.names < MAX_ARRAYS) }
-    ensures shorter { IfOk result (λ x. (if x.0 then 1 else 0) + length x.1.bytes.now ≤ length at.entry.bytes.now) }
+    ensures shorter { IfOk result (λ x.
+        (if x.0 then 1 else 0) + length x.1.bytes.now ≤ length at.entry.bytes.now) }
 {
     let t = token_at(at, false)?;
     if !is(t.text, b"long") {
@@ -212,7 +220,8 @@ pub(crate) fn arrays_at<'a>(
     arrays: &mut Arrays<'a>,
     at: At<'a>,
 ) -> Result<At<'a>, ReadError>
-    ensures found { Gives (λ a. turn false arrays.new (spot a)) result (all_turns array_turn arrays.old (spot at.entry)) }
+    ensures found { Gives (λ a. turn false arrays.new (spot a)) result
+        (all_turns array_turn arrays.old (spot at.entry)) }
 {
     let turns = at.bytes.len() + 1;
     let mut here = at;
@@ -230,7 +239,8 @@ pub(crate) fn arrays_at<'a>(
 #[inline(always)]
 #[tactic(auto, unfolding(crate::specs::Arrays::array_of))]
 pub(crate) fn array_of(arrays: &Arrays, t: Token) -> Result<u8, ReadFault>
-    ensures found { Reads (λ index. (index, spot t.entry.after)) result (array_of arrays.now (lexeme t.entry)) }
+    ensures found { Reads (λ index. (index, spot t.entry.after)) result
+        (array_of arrays.now (lexeme t.entry)) }
     ensures within { IfOk result (λ index. index < length arrays.now.cells) }
     ensures some { OnOk result (0 < length t.entry.text.now) }
 {

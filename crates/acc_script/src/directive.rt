@@ -93,7 +93,9 @@ fn placed_with<'a>(
     clauses: Clauses,
     at: At<'a>,
 ) -> Result<(Act, At<'a>), ReadError>
-    requires form { is_well_formed (record { kind = kind; items = clauses.items; target = clauses.target; waits = clauses.waits }) ≡ true }
+    requires form { is_well_formed
+        (record { kind = kind; items = clauses.items; target = clauses.target; waits = clauses.waits })
+        ≡ true }
     ensures act { IfOk result (λ x. x.0 ≡ placed_with kind clauses) }
     ensures end { IfOk result (λ x. spot x.1 ≡ spot at.entry) }
     ensures fault { IfErr result (λ error. error ≡ Memory) }
@@ -125,7 +127,8 @@ fn act_behind<'a>(
 ) -> Result<(Act, At<'a>), ReadError>
     requires kept { IsKept head clauses }
     requires complete { is_complete head clauses ≡ true }
-    ensures found { Gives (λ x. (x.0, spot x.1)) result (act_behind arrays.now head clauses (spot at.entry)) }
+    ensures found { Gives (λ x. (x.0, spot x.1)) result
+        (act_behind arrays.now head clauses (spot at.entry)) }
     ensures shorter { IfOk result (λ x. length x.1.bytes.now ≤ length at.entry.bytes.now) }
 {
     match head {
@@ -159,7 +162,8 @@ pub(crate) fn directive_at<'a>(
     depth: u32,
     at: At<'a>,
 ) -> Result<(Act, At<'a>), ReadError>
-    ensures found { Gives (λ x. (x.0, spot x.1)) result (directive_at arrays.now depth (spot at.entry)) }
+    ensures found { Gives (λ x. (x.0, spot x.1)) result
+        (directive_at arrays.now depth (spot at.entry)) }
     ensures shorter { IfOk result (λ x. length x.1.bytes.now ≤ length at.entry.bytes.now) }
 {
     let at = expect_word(at, true, b"pragma")?;

@@ -105,7 +105,8 @@ fn read_behind<'a>(
     array: u8,
     at: At<'a>,
 ) -> Result<(Expr, At<'a>), ReadError>
-    ensures found { Gives (λ x. (x.0, spot x.1)) result (read_behind (names_in scope.entry) line array (spot at.entry)) }
+    ensures found { Gives (λ x. (x.0, spot x.1)) result
+        (read_behind (names_in scope.entry) line array (spot at.entry)) }
     ensures shorter { IfOk result (λ x. length x.1.bytes.now ≤ length at.entry.bytes.now) }
 {
     let t = token_at(at, false)?;
@@ -124,7 +125,8 @@ fn read_behind<'a>(
 // A number, the loop's name, or a cell of an array.
 #[tactic(auto, unfolding(crate::specs::Expressions::leaf_of))]
 fn leaf_of<'a>(alloc: Global, scope: Scope, t: Token<'a>) -> Result<(Expr, At<'a>), ReadError>
-    ensures found { Gives (λ x. (x.0, spot x.1)) result (leaf_of (names_in scope.entry) (lexeme t.entry)) }
+    ensures found { Gives (λ x. (x.0, spot x.1)) result
+        (leaf_of (names_in scope.entry) (lexeme t.entry)) }
     ensures shorter { IfOk result (λ x. length x.1.bytes.now ≤ length t.entry.after.bytes.now) }
 {
     if is_digit(front(t.text)) {
@@ -144,7 +146,8 @@ fn leaf_of<'a>(alloc: Global, scope: Scope, t: Token<'a>) -> Result<(Expr, At<'a
 #[cycle(expression)]
 #[tactic(auto, unfolding(crate::specs::Expressions::group_of))]
 fn group_of<'a>(alloc: Global, scope: Scope, t: Token<'a>) -> Result<(Expr, At<'a>), ReadError>
-    ensures found { Gives (λ x. (x.0, spot x.1)) result (group_of (below scope.entry) (lexeme t.entry)) }
+    ensures found { Gives (λ x. (x.0, spot x.1)) result
+        (group_of (below scope.entry) (lexeme t.entry)) }
     ensures shorter { IfOk result (λ x. length x.1.bytes.now ≤ length t.entry.after.bytes.now) }
 {
     let inner = one_deeper(scope, t)?;
@@ -157,7 +160,8 @@ fn group_of<'a>(alloc: Global, scope: Scope, t: Token<'a>) -> Result<(Expr, At<'
 #[cycle(expression)]
 #[tactic(auto, unfolding(crate::specs::Expressions::negated_of))]
 fn negated_of<'a>(alloc: Global, scope: Scope, t: Token<'a>) -> Result<(Expr, At<'a>), ReadError>
-    ensures found { Gives (λ x. (x.0, spot x.1)) result (negated_of (below scope.entry) (lexeme t.entry)) }
+    ensures found { Gives (λ x. (x.0, spot x.1)) result
+        (negated_of (below scope.entry) (lexeme t.entry)) }
     ensures shorter { IfOk result (λ x. length x.1.bytes.now ≤ length t.entry.after.bytes.now) }
 {
     let inner = one_deeper(scope, t)?;
@@ -170,7 +174,8 @@ fn negated_of<'a>(alloc: Global, scope: Scope, t: Token<'a>) -> Result<(Expr, At
 #[cycle(expression)]
 #[tactic(auto, unfolding(crate::specs::Expressions::unary_at, crate::specs::Expressions::primary_of))]
 fn unary_at<'a>(alloc: Global, scope: Scope, at: At<'a>) -> Result<(Expr, At<'a>), ReadError>
-    ensures found { Gives (λ x. (x.0, spot x.1)) result (unary_at (names_in scope.entry) (below scope.entry) (spot at.entry)) }
+    ensures found { Gives (λ x. (x.0, spot x.1)) result
+        (unary_at (names_in scope.entry) (below scope.entry) (spot at.entry)) }
     ensures shorter { IfOk result (λ x. length x.1.bytes.now ≤ length at.entry.bytes.now) }
 {
     let t = token_at(at, false)?;
@@ -238,7 +243,8 @@ fn part_at<'a>(
     level: Level,
     at: At<'a>,
 ) -> Result<(Expr, At<'a>), ReadError>
-    ensures found { Gives (λ x. (x.0, spot x.1)) result (part_at level (unary_at (names_in scope.entry) (below scope.entry)) (spot at.entry)) }
+    ensures found { Gives (λ x. (x.0, spot x.1)) result
+        (part_at level (unary_at (names_in scope.entry) (below scope.entry)) (spot at.entry)) }
     ensures shorter { IfOk result (λ x. length x.1.bytes.now ≤ length at.entry.bytes.now) }
 {
     match level {
@@ -259,8 +265,12 @@ fn chain_turn<'a>(
     left: &mut Expr,
     at: At<'a>,
 ) -> Result<(bool, At<'a>), ReadError>
-    ensures found { Gives (λ x. turn x.0 left.new (spot x.1)) result (chain_turn level (part_at level (unary_at (names_in scope.entry) (below scope.entry))) left.old (spot at.entry)) }
-    ensures shorter { IfOk result (λ x. (if x.0 then 1 else 0) + length x.1.bytes.now ≤ length at.entry.bytes.now) }
+    ensures found { Gives (λ x. turn x.0 left.new (spot x.1)) result
+        (chain_turn level
+        (part_at level (unary_at (names_in scope.entry) (below scope.entry))) left.old
+        (spot at.entry)) }
+    ensures shorter { IfOk result (λ x.
+        (if x.0 then 1 else 0) + length x.1.bytes.now ≤ length at.entry.bytes.now) }
 {
     let t = token_at(at, false)?;
     match operator_of(level, t.text) {
@@ -283,7 +293,9 @@ fn parts_at<'a>(
     left: &mut Expr,
     at: At<'a>,
 ) -> Result<At<'a>, ReadError>
-    ensures found { Gives (λ a. turn false left.new (spot a)) result (all_turns (chain_turn level (part_at level (unary_at (names_in scope.entry) (below scope.entry)))) left.old (spot at.entry)) }
+    ensures found { Gives (λ a. turn false left.new (spot a)) result
+        (all_turns (chain_turn level (part_at level
+        (unary_at (names_in scope.entry) (below scope.entry)))) left.old (spot at.entry)) }
     ensures shorter { IfOk result (λ a. length a.bytes.now ≤ length at.entry.bytes.now) }
 {
     let turns = at.bytes.len() + 1;
@@ -307,7 +319,9 @@ fn chain_at<'a>(
     level: Level,
     at: At<'a>,
 ) -> Result<(Expr, At<'a>), ReadError>
-    ensures found { Gives (λ x. (x.0, spot x.1)) result (chain_at level (part_at level (unary_at (names_in scope.entry) (below scope.entry))) (spot at.entry)) }
+    ensures found { Gives (λ x. (x.0, spot x.1)) result
+        (chain_at level (part_at level (unary_at (names_in scope.entry) (below scope.entry)))
+        (spot at.entry)) }
     ensures shorter { IfOk result (λ x. length x.1.bytes.now ≤ length at.entry.bytes.now) }
 {
     let (mut left, at) = part_at(alloc, scope, level, at)?;
@@ -324,7 +338,8 @@ fn choice_of<'a>(
     mut test: Expr,
     t: Token<'a>,
 ) -> Result<(Expr, At<'a>), ReadError>
-    ensures found { Gives (λ x. (x.0, spot x.1)) result (choice_of (below scope.entry) test (lexeme t.entry)) }
+    ensures found { Gives (λ x. (x.0, spot x.1)) result
+        (choice_of (below scope.entry) test (lexeme t.entry)) }
     ensures shorter { IfOk result (λ x. length x.1.bytes.now ≤ length t.entry.after.bytes.now) }
 {
     let inner = one_deeper(scope, t)?;
@@ -338,7 +353,8 @@ fn choice_of<'a>(
 #[cycle(expression)]
 #[tactic(auto, unfolding(crate::specs::Expressions::expr_at))]
 fn expr_at<'a>(alloc: Global, scope: Scope, at: At<'a>) -> Result<(Expr, At<'a>), ReadError>
-    ensures found { Gives (λ x. (x.0, spot x.1)) result (expr_at (names_in scope.entry) (below scope.entry) (spot at.entry)) }
+    ensures found { Gives (λ x. (x.0, spot x.1)) result
+        (expr_at (names_in scope.entry) (below scope.entry) (spot at.entry)) }
     ensures shorter { IfOk result (λ x. length x.1.bytes.now ≤ length at.entry.bytes.now) }
 {
     let (test, after) = chain_at(alloc, scope, Level::Equality, at)?;
@@ -358,7 +374,8 @@ pub(crate) fn expression_at<'a>(
     index: &[u8],
     at: At<'a>,
 ) -> Result<(Expr, At<'a>), ReadError>
-    ensures found { Gives (λ x. (x.0, spot x.1)) result (expression_at (names arrays.now index.now) (spot at.entry)) }
+    ensures found { Gives (λ x. (x.0, spot x.1)) result
+        (expression_at (names arrays.now index.now) (spot at.entry)) }
     ensures shorter { IfOk result (λ x. length x.1.bytes.now ≤ length at.entry.bytes.now) }
 {
     let scope = Scope {

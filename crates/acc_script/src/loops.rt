@@ -42,7 +42,8 @@ fn type_at<'a>(at: At<'a>) -> Result<At<'a>, ReadFault>
 // The loop's name, and the first index.
 #[tactic(auto, unfolding(crate::specs::Loops::first_at))]
 fn first_at<'a>(arrays: &Arrays, at: At<'a>) -> Result<(&'a [u8], i64, At<'a>), ReadFault>
-    ensures found { Reads (λ x. ((x.0.now, x.1), spot x.2)) result (first_at arrays.now (spot at.entry)) }
+    ensures found { Reads (λ x. ((x.0.now, x.1), spot x.2)) result
+        (first_at arrays.now (spot at.entry)) }
     ensures shorter { IfOk result (λ x. length x.2.bytes.now ≤ length at.entry.bytes.now) }
 {
     let at = type_at(at)?;
@@ -70,7 +71,8 @@ fn bound_at<'a>(at: At<'a>, index: &[u8]) -> Result<(i64, At<'a>), ReadFault>
 // What a loop begins with, behind its `for`.
 #[tactic(auto, unfolding(crate::specs::Loops::header_at))]
 fn header_at<'a>(arrays: &Arrays, at: At<'a>) -> Result<(Header<'a>, At<'a>), ReadFault>
-    ensures found { Reads (λ x. (opening_of x.0, spot x.1)) result (header_at arrays.now (spot at.entry)) }
+    ensures found { Reads (λ x. (opening_of x.0, spot x.1)) result
+        (header_at arrays.now (spot at.entry)) }
     ensures shorter { IfOk result (λ x. length x.1.bytes.now ≤ length at.entry.bytes.now) }
 {
     let at = expect(at, false, b"(")?;
@@ -90,7 +92,8 @@ fn assign_of<'a>(
     index: &[u8],
     t: Token<'a>,
 ) -> Result<(Assign, At<'a>), ReadError>
-    ensures found { Gives (λ x. (x.0, spot x.1)) result (assign_of (names arrays.now index.now) (lexeme t.entry)) }
+    ensures found { Gives (λ x. (x.0, spot x.1)) result
+        (assign_of (names arrays.now index.now) (lexeme t.entry)) }
     ensures some { OnOk result (0 < length t.entry.text.now) }
     ensures shorter { IfOk result (λ x. length x.1.bytes.now ≤ length t.entry.after.bytes.now) }
 {
@@ -113,8 +116,10 @@ fn assign_turn<'a>(
     assigns: &mut Vec<Assign>,
     at: At<'a>,
 ) -> Result<(bool, At<'a>), ReadError>
-    ensures found { Gives (λ x. turn x.0 assigns.new.items (spot x.1)) result (assign_turn (names arrays.now index.now) assigns.old.items (spot at.entry)) }
-    ensures shorter { IfOk result (λ x. (if x.0 then 1 else 0) + length x.1.bytes.now ≤ length at.entry.bytes.now) }
+    ensures found { Gives (λ x. turn x.0 assigns.new.items (spot x.1)) result
+        (assign_turn (names arrays.now index.now) assigns.old.items (spot at.entry)) }
+    ensures shorter { IfOk result (λ x.
+        (if x.0 then 1 else 0) + length x.1.bytes.now ≤ length at.entry.bytes.now) }
 {
     let t = token_at(at, false)?;
     if is(t.text, b"}") && 0 < assigns.len() {
@@ -135,7 +140,8 @@ fn assigns_at<'a>(
     assigns: &mut Vec<Assign>,
     at: At<'a>,
 ) -> Result<At<'a>, ReadError>
-    ensures found { Gives (λ a. turn false assigns.new.items (spot a)) result (all_turns (assign_turn (names arrays.now index.now)) assigns.old.items (spot at.entry)) }
+    ensures found { Gives (λ a. turn false assigns.new.items (spot a)) result
+        (all_turns (assign_turn (names arrays.now index.now)) assigns.old.items (spot at.entry)) }
     ensures shorter { IfOk result (λ a. length a.bytes.now ≤ length at.entry.bytes.now) }
 {
     let turns = at.bytes.len() + 1;
@@ -158,7 +164,8 @@ fn body_at<'a>(
     index: &[u8],
     at: At<'a>,
 ) -> Result<(Vec<Assign>, At<'a>), ReadError>
-    ensures found { Gives (λ x. (x.0.items, spot x.1)) result (body_at (names arrays.now index.now) (spot at.entry)) }
+    ensures found { Gives (λ x. (x.0.items, spot x.1)) result
+        (body_at (names arrays.now index.now) (spot at.entry)) }
     ensures shorter { IfOk result (λ x. length x.1.bytes.now ≤ length at.entry.bytes.now) }
 {
     let mut assigns = Vec::new(alloc);
@@ -196,8 +203,10 @@ fn accepted_loop(
     header: Header,
     assigns: Vec<Assign>,
 ) -> Result<Kernel, ReadError>
-    ensures found { Gives (λ k. k) result (accepted_loop line (loop header.entry.lo header.entry.hi assigns.items)) }
-    ensures told { IfErr result (λ error. error ≡ Memory → loop_fault (loop header.entry.lo header.entry.hi assigns.items) ≡ None) }
+    ensures found { Gives (λ k. k) result
+        (accepted_loop line (loop header.entry.lo header.entry.hi assigns.items)) }
+    ensures told { IfErr result (λ error. error ≡ Memory
+        → loop_fault (loop header.entry.lo header.entry.hi assigns.items) ≡ None) }
 {
     match Kernel::new(alloc, header.lo, header.hi, assigns) {
         Ok(kernel) => Ok(kernel),

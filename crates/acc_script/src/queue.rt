@@ -48,7 +48,8 @@ fn begins_queue(text: &[u8]) -> bool
 // A queue of a list, and the comma or the ) behind it.
 #[tactic(auto, unfolding(crate::specs::Queues::queue_behind))]
 fn queue_behind<'a>(values: &mut Vec<i64>, t: Token<'a>) -> Result<(bool, At<'a>), ReadError>
-    ensures found { Gives (λ x. turn x.0 values.new.items (spot x.1)) result (queue_behind values.old.items (lexeme t.entry)) }
+    ensures found { Gives (λ x. turn x.0 values.new.items (spot x.1)) result
+        (queue_behind values.old.items (lexeme t.entry)) }
     ensures some { OnOk result (0 < length t.entry.text.now) }
     ensures shorter { IfOk result (λ x. length x.1.bytes.now ≤ length t.entry.after.bytes.now) }
 {
@@ -65,7 +66,8 @@ fn queue_behind<'a>(values: &mut Vec<i64>, t: Token<'a>) -> Result<(bool, At<'a>
 // A queue of a list.
 #[tactic(auto, unfolding(crate::specs::Queues::queues_turn))]
 fn queue_turn<'a>(values: &mut Vec<i64>, at: At<'a>) -> Result<(bool, At<'a>), ReadError>
-    ensures found { Gives (λ x. turn x.0 values.new.items (spot x.1)) result (queues_turn values.old.items (spot at.entry)) }
+    ensures found { Gives (λ x. turn x.0 values.new.items (spot x.1)) result
+        (queues_turn values.old.items (spot at.entry)) }
     ensures shorter { IfOk result (λ x. length x.1.bytes.now < length at.entry.bytes.now) }
 {
     let t = token_at(at, true)?;
@@ -79,7 +81,8 @@ fn queue_turn<'a>(values: &mut Vec<i64>, at: At<'a>) -> Result<(bool, At<'a>), R
 // The queues of a list up to the ).
 #[tactic(auto, using(acc_token::proofs::Turns::goes_on, acc_token::proofs::Turns::ends, acc_token::proofs::Turns::fails_too))]
 fn queues_at<'a>(values: &mut Vec<i64>, at: At<'a>) -> Result<At<'a>, ReadError>
-    ensures found { Gives (λ a. turn false values.new.items (spot a)) result (all_turns queues_turn values.old.items (spot at.entry)) }
+    ensures found { Gives (λ a. turn false values.new.items (spot a)) result
+        (all_turns queues_turn values.old.items (spot at.entry)) }
     ensures shorter { IfOk result (λ a. length a.bytes.now ≤ length at.entry.bytes.now) }
 {
     let turns = at.bytes.len() + 1;

@@ -59,7 +59,8 @@ fn bounds_at<'a>(
     at: At<'a>,
     in_directive: bool,
 ) -> Result<(Range, At<'a>), ReadFault>
-    ensures found { Reads (λ x. (x.0, spot x.1)) result (bounds_at in_directive array size (spot at.entry)) }
+    ensures found { Reads (λ x. (x.0, spot x.1)) result
+        (bounds_at in_directive array size (spot at.entry)) }
     ensures shorter { IfOk result (λ x. length x.1.bytes.now ≤ length at.entry.bytes.now) }
 {
     let (lo, at) = bound_at(at, in_directive)?;
@@ -77,7 +78,8 @@ fn range_behind<'a>(
     at: At<'a>,
     in_directive: bool,
 ) -> Result<(Range, At<'a>), ReadFault>
-    ensures found { Reads (λ x. (x.0, spot x.1)) result (range_behind in_directive array size (spot at.entry)) }
+    ensures found { Reads (λ x. (x.0, spot x.1)) result
+        (range_behind in_directive array size (spot at.entry)) }
     ensures shorter { IfOk result (λ x. length x.1.bytes.now ≤ length at.entry.bytes.now) }
 {
     let t = sign_at(at, in_directive)?;
@@ -95,7 +97,8 @@ pub(crate) fn range_of<'a>(
     t: Token<'a>,
     in_directive: bool,
 ) -> Result<(Range, At<'a>), ReadFault>
-    ensures found { Reads (λ x. (x.0, spot x.1)) result (range_of in_directive arrays.now (lexeme t.entry)) }
+    ensures found { Reads (λ x. (x.0, spot x.1)) result
+        (range_of in_directive arrays.now (lexeme t.entry)) }
     ensures shorter { IfOk result (λ x. length x.1.bytes.now ≤ length t.entry.after.bytes.now) }
 {
     let array = array_of(arrays, t)?;
@@ -109,7 +112,8 @@ pub(crate) fn range_at<'a>(
     at: At<'a>,
     in_directive: bool,
 ) -> Result<(Range, At<'a>), ReadFault>
-    ensures found { Reads (λ x. (x.0, spot x.1)) result (range_at in_directive arrays.now (spot at.entry)) }
+    ensures found { Reads (λ x. (x.0, spot x.1)) result
+        (range_at in_directive arrays.now (spot at.entry)) }
     ensures shorter { IfOk result (λ x. length x.1.bytes.now ≤ length at.entry.bytes.now) }
 {
     let t = token_at(at, in_directive)?;
@@ -128,7 +132,8 @@ fn item_behind<'a>(
 ) -> Result<(bool, At<'a>), ReadError>
     requires clause { allows head clause ≡ true }
     requires items { AreAllowed head items.old }
-    ensures found { Gives (λ x. turn x.0 items.new (spot x.1)) result (item_behind clause items.old array size (spot at.entry)) }
+    ensures found { Gives (λ x. turn x.0 items.new (spot x.1)) result
+        (item_behind clause items.old array size (spot at.entry)) }
     ensures allowed { OnOk result (AreAllowed head items.new) }
     ensures shorter { IfOk result (λ x. length x.1.bytes.now ≤ length at.entry.bytes.now) }
 {
@@ -153,7 +158,8 @@ fn item_turn<'a>(
 ) -> Result<(bool, At<'a>), ReadError>
     requires clause { allows head clause ≡ true }
     requires items { AreAllowed head items.old }
-    ensures found { Gives (λ x. turn x.0 items.new (spot x.1)) result (item_turn arrays.now clause items.old (spot at.entry)) }
+    ensures found { Gives (λ x. turn x.0 items.new (spot x.1)) result
+        (item_turn arrays.now clause items.old (spot at.entry)) }
     ensures room { IfErr result (λ error. error ≡ Memory → length items.old < MAX_RANGES) }
     ensures allowed { OnOk result (AreAllowed head items.new) }
     ensures shorter { IfOk result (λ x. length x.1.bytes.now < length at.entry.bytes.now) }
@@ -178,7 +184,8 @@ pub(crate) fn items_at<'a>(
 ) -> Result<At<'a>, ReadError>
     requires clause { allows head clause ≡ true }
     requires items { AreAllowed head items.old }
-    ensures found { Gives (λ a. turn false items.new (spot a)) result (items_at arrays.now clause items.old (spot at.entry)) }
+    ensures found { Gives (λ a. turn false items.new (spot a)) result
+        (items_at arrays.now clause items.old (spot at.entry)) }
     ensures allowed { OnOk result (AreAllowed head items.new) }
     ensures shorter { IfOk result (λ a. length a.bytes.now ≤ length at.entry.bytes.now) }
 {

@@ -63,7 +63,8 @@ fn routine_named(word: &[u8]) -> Option<DataRoutine>
 
 #[tactic(auto, unfolding(crate::specs::Routines::range_argument))]
 fn range_argument<'a>(arrays: &Arrays, at: At<'a>) -> Result<(Range, At<'a>), ReadFault>
-    ensures found { Reads (λ x. (x.0, spot x.1)) result (range_argument arrays.now (spot at.entry)) }
+    ensures found { Reads (λ x. (x.0, spot x.1)) result
+        (range_argument arrays.now (spot at.entry)) }
     ensures shorter { IfOk result (λ x. length x.1.bytes.now ≤ length at.entry.bytes.now) }
 {
     let at = expect(at, false, b"(")?;
@@ -137,7 +138,8 @@ fn with_range<'a>(
     at: At<'a>,
 ) -> Result<(Act, At<'a>), ReadError>
     requires { allows_clause kind clause ≡ true }
-    ensures act { IfOk result (λ x. x.0 ≡ directives.placed kind (item clause range ∷ []) target.Plain waits.Nothing) }
+    ensures act { IfOk result (λ x.
+        x.0 ≡ directives.placed kind (item clause range ∷ []) target.Plain waits.Nothing) }
     ensures end { IfOk result (λ x. spot x.1 ≡ spot at.entry) }
     ensures fault { IfErr result (λ error. error ≡ Memory) }
 {
@@ -160,7 +162,8 @@ fn about_queues<'a>(
     waits: Waits,
     at: At<'a>,
 ) -> Result<(Act, At<'a>), ReadError>
-    requires { is_well_formed (record { kind = kind; items = []; target = target; waits = waits }) ≡ true }
+    requires { is_well_formed (record { kind = kind; items = []; target = target; waits = waits })
+        ≡ true }
     ensures act { IfOk result (λ x. x.0 ≡ directives.placed kind [] target waits) }
     ensures end { IfOk result (λ x. spot x.1 ≡ spot at.entry) }
     ensures fault { IfErr result (λ error. error ≡ Memory) }
@@ -182,8 +185,11 @@ fn about_queue<'a>(
     queue: i64,
     at: At<'a>,
 ) -> Result<(Act, At<'a>), ReadError>
-    requires { is_well_formed (record { kind = kind; items = []; target = target; waits = waits.Listed (queue ∷ []) }) ≡ true }
-    ensures act { IfOk result (λ x. x.0 ≡ directives.placed kind [] target (waits.Listed (queue ∷ []))) }
+    requires { is_well_formed
+        (record { kind = kind; items = []; target = target; waits = waits.Listed (queue ∷ []) })
+        ≡ true }
+    ensures act { IfOk result (λ x.
+        x.0 ≡ directives.placed kind [] target (waits.Listed (queue ∷ []))) }
     ensures end { IfOk result (λ x. spot x.1 ≡ spot at.entry) }
     ensures fault { IfErr result (λ error. error ≡ Memory) }
 {
@@ -201,7 +207,8 @@ fn data_call<'a>(
     at: At<'a>,
 ) -> Result<(Act, At<'a>), ReadError>
     requires { allows_clause routine.kind routine.clause ≡ true }
-    ensures found { Gives (λ x. (x.0, spot x.1)) result (data_call arrays.now routine (spot at.entry)) }
+    ensures found { Gives (λ x. (x.0, spot x.1)) result
+        (data_call arrays.now routine (spot at.entry)) }
     ensures shorter { IfOk result (λ x. length x.1.bytes.now ≤ length at.entry.bytes.now) }
 {
     let (range, at) = range_argument(arrays, at)?;

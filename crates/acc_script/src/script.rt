@@ -62,11 +62,13 @@ fn host_turn<'a>(
 ) -> Result<(bool, At<'a>), ReadError>
     requires numbered { AreNumbered 0 programs.old.items }
     requires few { length programs.old.items ≤ MAX_HOSTS }
-    ensures found { Gives (λ x. turn x.0 programs.new.items (spot x.1)) result (host_turn arrays.now programs.old.items (spot at.entry)) }
+    ensures found { Gives (λ x. turn x.0 programs.new.items (spot x.1)) result
+        (host_turn arrays.now programs.old.items (spot at.entry)) }
     ensures numbered { OnOk result (AreNumbered 0 programs.new.items) }
     ensures few { OnOk result (length programs.new.items ≤ MAX_HOSTS) }
     ensures room { IfErr result (λ error. error ≡ Memory → length programs.old.items < MAX_HOSTS) }
-    ensures shorter { IfOk result (λ x. (if x.0 then 1 else 0) + length x.1.bytes.now ≤ length at.entry.bytes.now) }
+    ensures shorter { IfOk result (λ x.
+        (if x.0 then 1 else 0) + length x.1.bytes.now ≤ length at.entry.bytes.now) }
 {
     let t = token_at(at, false)?;
     if t.text.is_empty() {
@@ -92,7 +94,8 @@ fn hosts_at<'a>(
 ) -> Result<At<'a>, ReadError>
     requires numbered { AreNumbered 0 programs.old.items }
     requires few { length programs.old.items ≤ MAX_HOSTS }
-    ensures found { Gives (λ a. turn false programs.new.items (spot a)) result (all_turns (host_turn arrays.now) programs.old.items (spot at.entry)) }
+    ensures found { Gives (λ a. turn false programs.new.items (spot a)) result
+        (all_turns (host_turn arrays.now) programs.old.items (spot at.entry)) }
     ensures numbered { OnOk result (AreNumbered 0 programs.new.items) }
     ensures few { OnOk result (length programs.new.items ≤ MAX_HOSTS) }
 {
@@ -112,7 +115,8 @@ fn hosts_at<'a>(
 #[tactic(auto, unfolding(crate::specs::Scripts::script_at))]
 fn script_at<'a>(alloc: Global, at: At<'a>) -> Result<Script<'a>, ReadError>
     ensures found { Gives program_of result (script_at (spot at.entry)) }
-    ensures declared { IfOk result (λ s. IsDeclared (record { names = texts s.names.keys; cells = rows s.arrays.items })) }
+    ensures declared { IfOk result (λ s.
+        IsDeclared (record { names = texts s.names.keys; cells = rows s.arrays.items })) }
     ensures numbered { IfOk result (λ s. AreNumbered 0 s.programs.items) }
     ensures few { IfOk result (λ s. length s.programs.items ≤ MAX_HOSTS) }
 {
@@ -137,7 +141,8 @@ fn script_at<'a>(alloc: Global, at: At<'a>) -> Result<Script<'a>, ReadError>
 pub fn read<'a>(alloc: Global, text: &'a [u8]) -> Result<Script<'a>, ReadError>
     ensures found { Gives program_of result (script_of text.now) }
     ensures long { IfErr result (λ error. error ≡ Memory → length text.now ≤ MAX_TEXT) }
-    ensures declared { IfOk result (λ s. IsDeclared (record { names = texts s.names.keys; cells = rows s.arrays.items })) }
+    ensures declared { IfOk result (λ s.
+        IsDeclared (record { names = texts s.names.keys; cells = rows s.arrays.items })) }
     ensures numbered { IfOk result (λ s. AreNumbered 0 s.programs.items) }
     ensures few { IfOk result (λ s. length s.programs.items ≤ MAX_HOSTS) }
 {

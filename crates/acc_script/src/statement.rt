@@ -125,7 +125,8 @@ fn put(
     act: Act,
 ) -> Result<(), ReadError>
     requires { depth.old + 1 < 2 ^ 32 }
-    ensures { Gives (λ _. body statements.new.items depth.new) result (Ok (with_statement (body statements.old.items depth.old) line act)) }
+    ensures { Gives (λ _. body statements.new.items depth.new) result
+        (Ok (with_statement (body statements.old.items depth.old) line act)) }
 {
     *depth = depth_behind(*depth, &act);
     statements.push(Statement { line, act })?;
@@ -142,8 +143,10 @@ fn statement_turn<'a>(
     at: At<'a>,
 ) -> Result<(bool, At<'a>), ReadError>
     requires { depth.old + length at.bytes.now < 2 ^ 32 }
-    ensures found { Gives (λ x. turn x.0 (body statements.new.items depth.new) (spot x.1)) result (statement_turn arrays.now (body statements.old.items depth.old) (spot at.entry)) }
-    ensures shorter { IfOk result (λ x. (if x.0 then 1 else 0) + length x.1.bytes.now ≤ length at.entry.bytes.now) }
+    ensures found { Gives (λ x. turn x.0 (body statements.new.items depth.new) (spot x.1)) result
+        (statement_turn arrays.now (body statements.old.items depth.old) (spot at.entry)) }
+    ensures shorter { IfOk result (λ x.
+        (if x.0 then 1 else 0) + length x.1.bytes.now ≤ length at.entry.bytes.now) }
     ensures depth { OnOk result (depth.new ≤ depth.old + 1) }
     ensures closed { IfOk result (λ x. x.0 ≡ false → depth.new ≡ 0) }
 {
@@ -170,7 +173,8 @@ pub(crate) fn statements_at<'a>(
     statements: &mut Vec<Statement>,
     at: At<'a>,
 ) -> Result<At<'a>, ReadError>
-    ensures found { Gives (λ a. turn false (body statements.new.items 0) (spot a)) result (all_turns (statement_turn arrays.now) (body statements.old.items 0) (spot at.entry)) }
+    ensures found { Gives (λ a. turn false (body statements.new.items 0) (spot a)) result
+        (all_turns (statement_turn arrays.now) (body statements.old.items 0) (spot at.entry)) }
     ensures shorter { IfOk result (λ a. length a.bytes.now ≤ length at.entry.bytes.now) }
 {
     let turns = at.bytes.len() + 1;

@@ -46,7 +46,8 @@ pub enum Deed {
 ///
 /// `Memory` where the count of the owners of a loop is full; then nothing was done.
 pub fn take_step(world: &mut World, event: Event) -> Result<Deed, Fault>
-    ensures step { IfOk result (λ deed. (r : Reply) × Step world.old event r world.new × (deed ≡ deed_of world.old event r world.new)) }
+    ensures step { IfOk result (λ deed. (r : Reply) × Step world.old event r world.new
+        × (deed ≡ deed_of world.old event r world.new)) }
     ensures kept { OnErr result (world.new ≡ world.old) }
     ensures fault { OnlyMemory result }
 {

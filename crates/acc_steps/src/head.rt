@@ -19,7 +19,8 @@ pub(crate) fn put_head<W: Write>(
     line: u32,
     event: &Event,
 )
-    ensures { Puts (sink (W.contents out.old) failed.old) (sink (W.contents out.new) failed.new) (head_text number line event.now) }
+    ensures { Puts (sink (W.contents out.old) failed.old) (sink (W.contents out.new) failed.new)
+        (head_text number line event.now) }
 {
     put_spaces(out, failed, 5usize.saturating_sub(digits(number)));
     put_number(out, failed, number);
@@ -32,7 +33,8 @@ pub(crate) fn put_head<W: Write>(
 
 // So many spaces.
 fn put_spaces<W: Write>(out: &mut W, failed: &mut bool, count: usize)
-    ensures { Puts (sink (W.contents out.old) failed.old) (sink (W.contents out.new) failed.new) (spaces count) }
+    ensures { Puts (sink (W.contents out.old) failed.old) (sink (W.contents out.new) failed.new)
+        (spaces count) }
 {
     for _ in 0..count {
         put(out, failed, b" ");
@@ -50,7 +52,8 @@ fn digits(number: u64) -> usize
 // Who goes on.
 #[tactic(auto, unfolding(crate::specs::Lines::who_text))]
 fn put_who<W: Write>(out: &mut W, failed: &mut bool, event: &Event)
-    ensures { Puts (sink (W.contents out.old) failed.old) (sink (W.contents out.new) failed.new) (who_text event.now) }
+    ensures { Puts (sink (W.contents out.old) failed.old) (sink (W.contents out.new) failed.new)
+        (who_text event.now) }
 {
     match event {
         Event::Host(host) => {
@@ -65,7 +68,8 @@ fn put_who<W: Write>(out: &mut W, failed: &mut bool, event: &Event)
 /// A queue, by its device and its name.
 #[tactic(auto, unfolding(crate::specs::Lines::queue_at_text))]
 pub(crate) fn put_queue<W: Write>(out: &mut W, failed: &mut bool, at: QueueAt)
-    ensures { Puts (sink (W.contents out.old) failed.old) (sink (W.contents out.new) failed.new) (queue_at_text at) }
+    ensures { Puts (sink (W.contents out.old) failed.old) (sink (W.contents out.new) failed.new)
+        (queue_at_text at) }
 {
     put(out, failed, b"queue ");
     put_number(out, failed, at.device.number());

@@ -40,7 +40,8 @@ pub fn put_step<W: Write>(
     deed: &Deed,
     world: &World,
 )
-    ensures { Puts (sink (W.contents out.old) failed.old) (sink (W.contents out.new) failed.new) (step_text (words_told telling.now) number line event statement deed.now world.now) }
+    ensures { Puts (sink (W.contents out.old) failed.old) (sink (W.contents out.new) failed.new)
+        (step_text (words_told telling.now) number line event statement deed.now world.now) }
 {
     if is_nothing(deed) && !telling.idle {
         return;
@@ -72,7 +73,8 @@ fn put_deed<W: Write>(
     event: Event,
     deed: &Deed,
 )
-    ensures { Puts (sink (W.contents out.old) failed.old) (sink (W.contents out.new) failed.new) (deed_text (texts names.now) world.now event deed.now) }
+    ensures { Puts (sink (W.contents out.old) failed.old) (sink (W.contents out.new) failed.new)
+        (deed_text (texts names.now) world.now event deed.now) }
 {
     match deed {
         Deed::Nothing => put_nothing(out, failed, world, event),
@@ -106,7 +108,8 @@ fn put_deed<W: Write>(
 
 // What a question was answered.
 fn put_answer<W: Write>(out: &mut W, failed: &mut bool, answer: bool)
-    ensures { Puts (sink (W.contents out.old) failed.old) (sink (W.contents out.new) failed.new) (answer_text answer) }
+    ensures { Puts (sink (W.contents out.old) failed.old) (sink (W.contents out.new) failed.new)
+        (answer_text answer) }
 {
     if answer {
         put(out, failed, b" | prints 1");
@@ -118,7 +121,8 @@ fn put_answer<W: Write>(out: &mut W, failed: &mut bool, answer: bool)
 // An event that did nothing.
 #[tactic(auto, unfolding(crate::specs::Lines::nothing_text))]
 fn put_nothing<W: Write>(out: &mut W, failed: &mut bool, world: &World, event: Event)
-    ensures { Puts (sink (W.contents out.old) failed.old) (sink (W.contents out.new) failed.new) (nothing_text world.now event) }
+    ensures { Puts (sink (W.contents out.old) failed.old) (sink (W.contents out.new) failed.new)
+        (nothing_text world.now event) }
 {
     match event {
         Event::Host(_) => put(out, failed, b" | does nothing"),
@@ -149,7 +153,8 @@ fn device_in(event: Event) -> DeviceId
 
 // The host of a batch, or that it is the queue's close.
 fn put_host<W: Write>(out: &mut W, failed: &mut bool, label: Option<&Label>)
-    ensures { Puts (sink (W.contents out.old) failed.old) (sink (W.contents out.new) failed.new) (batch_host_text (option_map (λ l. l.now) label.entry)) }
+    ensures { Puts (sink (W.contents out.old) failed.old) (sink (W.contents out.new) failed.new)
+        (batch_host_text (option_map (λ l. l.now) label.entry)) }
 {
     if let Some(label) = label {
         if plain_ops(label.ops.get().as_slice()) > 0 {

@@ -34,8 +34,11 @@ pub fn draw_steps(
     events: &[Numbered],
     world: &mut World,
 ) -> Result<Option<Vec<u8>>, Fault>
-    ensures picture { IfOk result (λ drawn. IfSome drawn (λ picture. IsPicture (words_told telling.now) events.now world.old world.new picture.items)) }
-    ensures none { IfOk result (λ drawn. IfNone drawn (IsTooLarge (words_told telling.now) events.now world.old world.new)) }
+    ensures picture { IfOk result (λ drawn.
+        IfSome drawn (λ picture.
+        IsPicture (words_told telling.now) events.now world.old world.new picture.items)) }
+    ensures none { IfOk result (λ drawn.
+        IfNone drawn (IsTooLarge (words_told telling.now) events.now world.old world.new)) }
     ensures fault { OnlyMemory result }
 {
     let mut scene = Scene::new(alloc);
@@ -56,14 +59,16 @@ pub fn draw_steps(
 
 // Whether a scene has too many boxes, or their lines too many bytes.
 fn is_too_large(scene: &Scene) -> bool
-    ensures { result ≡ (nat_lt MAX_BOXES (length scene.now.boxes.items) || nat_lt MAX_PICTURE scene.now.bytes) }
+    ensures { result ≡ (nat_lt MAX_BOXES (length scene.now.boxes.items)
+        || nat_lt MAX_PICTURE scene.now.bytes) }
 {
     scene.boxes.len() > MAX_BOXES || scene.bytes > MAX_PICTURE
 }
 
 // The picture of a scene.
 fn picture_of(alloc: Global, names: &[&[u8]], scene: &Scene) -> Result<Vec<u8>, Fault>
-    ensures shows { IfOk result (λ picture. ShowsLines (lines_in scene.now.boxes.items) picture.items) }
+    ensures shows { IfOk result (λ picture.
+        ShowsLines (lines_in scene.now.boxes.items) picture.items) }
     ensures fault { OnlyMemory result }
 {
     let frame = Frame::new(alloc, names, scene)?;
@@ -81,7 +86,8 @@ fn push_boxes(
     frame: &Frame,
     boxes: &[Drawn],
 ) -> Result<(), Fault>
-    ensures boxes { OnOk result ((text : List ℕ) × AreBoxes (lines_in boxes.now) text × (picture.new.items ≡ picture.old.items ++ text)) }
+    ensures boxes { OnOk result ((text : List ℕ) × AreBoxes (lines_in boxes.now) text
+        × (picture.new.items ≡ picture.old.items ++ text)) }
     ensures fault { OnlyMemory result }
 {
     for (column, drawn) in boxes.iter().enumerate() {

@@ -28,7 +28,8 @@ pub(crate) fn put_refusal<W: Write>(
     event: Event,
     fault: Fault,
 )
-    ensures { Puts (sink (W.contents out.old) failed.old) (sink (W.contents out.new) failed.new) (refused_text (texts names.now) world.now event fault) }
+    ensures { Puts (sink (W.contents out.old) failed.old) (sink (W.contents out.new) failed.new)
+        (refused_text (texts names.now) world.now event fault) }
 {
     put(out, failed, b" | refused F");
     put_number(out, failed, fault.number());
@@ -56,7 +57,8 @@ fn put_reason<W: Write>(
     host: Option<&Host>,
     fault: Fault,
 )
-    ensures { Puts (sink (W.contents out.old) failed.old) (sink (W.contents out.new) failed.new) (reason_by (texts names.now) world.now fault (option_map (λ h. h.now) host.entry)) }
+    ensures { Puts (sink (W.contents out.old) failed.old) (sink (W.contents out.new) failed.new)
+        (reason_by (texts names.now) world.now fault (option_map (λ h. h.now) host.entry)) }
 {
     let Some(host) = host else {
         return;
@@ -85,7 +87,8 @@ fn put_act<W: Write>(
     fault: Fault,
     act: &Act,
 )
-    ensures { Puts (sink (W.contents out.old) failed.old) (sink (W.contents out.new) failed.new) (act_reason (texts names.now) world.now ids fault (bare_act act.now)) }
+    ensures { Puts (sink (W.contents out.old) failed.old) (sink (W.contents out.new) failed.new)
+        (act_reason (texts names.now) world.now ids fault (bare_act act.now)) }
 {
     match act {
         Act::Place { directive } => {
@@ -119,7 +122,8 @@ fn put_act<W: Write>(
 
 #[tactic(auto, unfolding(crate::specs::Lines::named_text))]
 fn put_named<W: Write>(out: &mut W, failed: &mut bool, names: &[&[u8]], range: Range)
-    ensures { Puts (sink (W.contents out.old) failed.old) (sink (W.contents out.new) failed.new) (named_text (texts names.now) range) }
+    ensures { Puts (sink (W.contents out.old) failed.old) (sink (W.contents out.new) failed.new)
+        (named_text (texts names.now) range) }
 {
     put(out, failed, b" | ");
     put_range(out, failed, names, range);
@@ -134,7 +138,8 @@ fn put_items<W: Write>(
     device: DeviceId,
     items: &[DataItem],
 )
-    ensures { Puts (sink (W.contents out.old) failed.old) (sink (W.contents out.new) failed.new) (flat_map (λ i. standing_text (texts names.now) world.now device i.range) items.now) }
+    ensures { Puts (sink (W.contents out.old) failed.old) (sink (W.contents out.new) failed.new)
+        (flat_map (λ i. standing_text (texts names.now) world.now device i.range) items.now) }
 {
     for item in items {
         put_stand(out, failed, names, world, device, item.range);
@@ -150,7 +155,8 @@ fn put_stand<W: Write>(
     device: DeviceId,
     range: Range,
 )
-    ensures { Puts (sink (W.contents out.old) failed.old) (sink (W.contents out.new) failed.new) (standing_text (texts names.now) world.now device range) }
+    ensures { Puts (sink (W.contents out.old) failed.old) (sink (W.contents out.new) failed.new)
+        (standing_text (texts names.now) world.now device range) }
 {
     put_named(out, failed, names, range);
     if is_partly_present(world, device, range) {
@@ -171,7 +177,8 @@ fn put_limit<W: Write>(
     directive: &Directive,
     fault: Fault,
 )
-    ensures { Puts (sink (W.contents out.old) failed.old) (sink (W.contents out.new) failed.new) (limit_text world.now ids fault directive.now) }
+    ensures { Puts (sink (W.contents out.old) failed.old) (sink (W.contents out.new) failed.new)
+        (limit_text world.now ids fault directive.now) }
 {
     if matches!(directive.kind(), Kind::EndData) {
         return;
@@ -185,7 +192,8 @@ fn put_limit<W: Write>(
 
 // The limit that a directive on this queue has met.
 fn put_limit_of<W: Write>(out: &mut W, failed: &mut bool, world: &World, at: QueueAt, fault: Fault)
-    ensures { Puts (sink (W.contents out.old) failed.old) (sink (W.contents out.new) failed.new) (limit_by world.now at fault) }
+    ensures { Puts (sink (W.contents out.old) failed.old) (sink (W.contents out.new) failed.new)
+        (limit_by world.now at fault) }
 {
     match fault {
         Fault::DeviceFull => put_cells(out, failed, world, at.device),
@@ -199,7 +207,8 @@ fn put_limit_of<W: Write>(out: &mut W, failed: &mut bool, world: &World, at: Que
 // How many cells of a device are in use, and how many it has.
 #[tactic(auto, unfolding(crate::specs::Lines::cells_text))]
 fn put_cells<W: Write>(out: &mut W, failed: &mut bool, world: &World, device: DeviceId)
-    ensures { Puts (sink (W.contents out.old) failed.old) (sink (W.contents out.new) failed.new) (cells_text world.now device) }
+    ensures { Puts (sink (W.contents out.old) failed.old) (sink (W.contents out.new) failed.new)
+        (cells_text world.now device) }
 {
     put(out, failed, b" | ");
     put_number(out, failed, used_cells(world, device));
@@ -211,7 +220,8 @@ fn put_cells<W: Write>(out: &mut W, failed: &mut bool, world: &World, device: De
 // The queue that holds its room.
 #[tactic(auto, unfolding(crate::specs::Lines::room_text))]
 fn put_room<W: Write>(out: &mut W, failed: &mut bool, world: &World, at: QueueAt)
-    ensures { Puts (sink (W.contents out.old) failed.old) (sink (W.contents out.new) failed.new) (room_text world.now at) }
+    ensures { Puts (sink (W.contents out.old) failed.old) (sink (W.contents out.new) failed.new)
+        (room_text world.now at) }
 {
     put(out, failed, b" | ");
     put_queue(out, failed, at);

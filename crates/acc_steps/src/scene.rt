@@ -78,8 +78,12 @@ impl Scene {
         next: &Numbered,
         world: &mut World,
     ) -> Result<(), Fault>
-        ensures drawn { OnOk result (DrawsOne (words_told telling.now) number next.now world.old world.new (lines_in self.old.boxes.items) (lines_in self.new.boxes.items)) }
-        ensures bytes { OnOk result (self.old.bytes ≤ length (joined (lines_in self.old.boxes.items)) → self.new.bytes ≤ length (joined (lines_in self.new.boxes.items))) }
+        ensures drawn { OnOk result
+            (DrawsOne (words_told telling.now) number next.now world.old world.new
+            (lines_in self.old.boxes.items) (lines_in self.new.boxes.items)) }
+        ensures bytes { OnOk result (self.old.bytes ≤ length (joined
+            (lines_in self.old.boxes.items))
+            → self.new.bytes ≤ length (joined (lines_in self.new.boxes.items))) }
         ensures fault { OnlyMemory result }
     {
         let statement = line_at(world, next.event);
@@ -115,7 +119,10 @@ fn step_line(
     deed: &Deed,
     world: &World,
 ) -> Result<Vec<u8>, Fault>
-    ensures line { IfOk result (λ line. line.items ≡ step_text (words_told telling.now) number next.now.line next.now.event statement deed.now world.now) }
+    ensures line { IfOk result (λ line.
+        line.items
+        ≡ step_text
+        (words_told telling.now) number next.now.line next.now.event statement deed.now world.now) }
     ensures fault { OnlyMemory result }
 {
     let mut line = Vec::new(alloc);

@@ -14,7 +14,8 @@ use std::io::Write;
 /// The line of a statement as it is written, without blanks at its ends, a comment at its end, and `#pragma acc`.
 #[tactic(auto, unfolding(crate::specs::Lines::statement_text))]
 pub(crate) fn put_statement<W: Write>(out: &mut W, failed: &mut bool, source: &[&[u8]], line: u32)
-    ensures { Puts (sink (W.contents out.old) failed.old) (sink (W.contents out.new) failed.new) (statement_text (texts source.now) line) }
+    ensures { Puts (sink (W.contents out.old) failed.old) (sink (W.contents out.new) failed.new)
+        (statement_text (texts source.now) line) }
 {
     if line == 0 {
         return;

@@ -64,7 +64,8 @@ pub fn numbered_events(
     hosts: u8,
     devices: u8,
 ) -> Result<Vec<Numbered>, Fault>
-    ensures events { IfOk result (λ list. list.items ≡ numbered_from hosts devices 1 (texts lines.now)) }
+    ensures events { IfOk result (λ list.
+        list.items ≡ numbered_from hosts devices 1 (texts lines.now)) }
     ensures fault { OnlyMemory result }
 {
     let mut list = Vec::new(alloc);
@@ -88,7 +89,8 @@ fn push_line(
     hosts: u8,
     devices: u8,
 ) -> Result<(), Fault>
-    ensures events { OnOk result (list.new.items ≡ list.old.items ++ on_line number (events_in_line hosts devices line.now)) }
+    ensures events { OnOk result (list.new.items ≡ list.old.items
+        ++ on_line number (events_in_line hosts devices line.now)) }
     ensures fault { OnlyMemory result }
 {
     let schedule = match Schedule::read(alloc, line, hosts, devices) {
@@ -110,7 +112,8 @@ fn push_turns(
     round: &[Event],
     turn: &ScheduleLine,
 ) -> Result<(), Fault>
-    ensures events { OnOk result (list.new.items ≡ list.old.items ++ on_line number (kept_events round.now turn.now)) }
+    ensures events { OnOk result (list.new.items ≡ list.old.items
+        ++ on_line number (kept_events round.now turn.now)) }
     ensures fault { OnlyMemory result }
 {
     let events = turn.turn.events(round);
@@ -145,8 +148,11 @@ pub fn tell_steps<W: Write>(
     events: &[Numbered],
     world: &mut World,
 ) -> Result<(), Fault>
-    ensures told { OnOk result (TellsSteps (words_told telling.now) events.now world.old world.new (sink (W.contents out.old) failed.old) (sink (W.contents out.new) failed.new)) }
-    ensures front { OnErr result ((n : ℕ) × TellsSteps (words_told telling.now) (take n events.now) world.old world.new (sink (W.contents out.old) failed.old) (sink (W.contents out.new) failed.new)) }
+    ensures told { OnOk result (TellsSteps (words_told telling.now) events.now world.old world.new
+        (sink (W.contents out.old) failed.old) (sink (W.contents out.new) failed.new)) }
+    ensures front { OnErr result ((n : ℕ)
+        × TellsSteps (words_told telling.now) (take n events.now) world.old world.new
+        (sink (W.contents out.old) failed.old) (sink (W.contents out.new) failed.new)) }
     ensures fault { OnlyMemory result }
 {
     let mut number = 0u64;
@@ -166,8 +172,11 @@ fn tell_step<W: Write>(
     next: &Numbered,
     world: &mut World,
 ) -> Result<(), Fault>
-    ensures told { OnOk result (TellsOne (words_told telling.now) number next.now world.old world.new (sink (W.contents out.old) failed.old) (sink (W.contents out.new) failed.new)) }
-    ensures kept { OnErr result ((world.new ≡ world.old) × (sink (W.contents out.new) failed.new ≡ sink (W.contents out.old) failed.old)) }
+    ensures told { OnOk result
+        (TellsOne (words_told telling.now) number next.now world.old world.new
+        (sink (W.contents out.old) failed.old) (sink (W.contents out.new) failed.new)) }
+    ensures kept { OnErr result ((world.new ≡ world.old)
+        × (sink (W.contents out.new) failed.new ≡ sink (W.contents out.old) failed.old)) }
     ensures fault { OnlyMemory result }
 {
     let statement = line_at(world, next.event);

@@ -21,7 +21,8 @@ use std::io::Write;
 /// A range, as it is written in a clause.
 #[tactic(auto, unfolding(crate::specs::Lines::range_text))]
 pub(crate) fn put_range<W: Write>(out: &mut W, failed: &mut bool, names: &[&[u8]], range: Range)
-    ensures { Puts (sink (W.contents out.old) failed.old) (sink (W.contents out.new) failed.new) (range_text (texts names.now) range) }
+    ensures { Puts (sink (W.contents out.old) failed.old) (sink (W.contents out.new) failed.new)
+        (range_text (texts names.now) range) }
 {
     put(out, failed, name_at(names, range.array));
     put(out, failed, b"[");
@@ -51,7 +52,8 @@ pub(crate) fn put_item<W: Write>(
     device: DeviceId,
     item: &DataItem,
 )
-    ensures { Puts (sink (W.contents out.old) failed.old) (sink (W.contents out.new) failed.new) (item_text (texts names.now) world.now device item.now) }
+    ensures { Puts (sink (W.contents out.old) failed.old) (sink (W.contents out.new) failed.new)
+        (item_text (texts names.now) world.now device item.now) }
 {
     put(out, failed, b" | ");
     put_range(out, failed, names, item.range);
@@ -60,7 +62,9 @@ pub(crate) fn put_item<W: Write>(
 
 /// The counters of what holds a range, or that nothing does.
 pub(crate) fn put_counters<W: Write>(out: &mut W, failed: &mut bool, counters: Option<(u64, u64)>)
-    ensures { (p : Option Presence) → counters ≡ option_map (λ p. (p.s, p.d)) p → Puts (sink (W.contents out.old) failed.old) (sink (W.contents out.new) failed.new) (counters_text p) }
+    ensures { (p : Option Presence) → counters ≡ option_map (λ p. (p.s, p.d)) p
+        → Puts (sink (W.contents out.old) failed.old) (sink (W.contents out.new) failed.new)
+        (counters_text p) }
 {
     match counters {
         None => put(out, failed, b" absent"),
@@ -76,7 +80,8 @@ pub(crate) fn put_counters<W: Write>(out: &mut W, failed: &mut bool, counters: O
 /// The directive that was accepted last: what holds each of its ranges now, and its batch.
 #[tactic(auto, unfolding(crate::specs::Lines::accepted_text))]
 pub(crate) fn put_accepted<W: Write>(out: &mut W, failed: &mut bool, names: &[&[u8]], world: &World)
-    ensures { Puts (sink (W.contents out.old) failed.old) (sink (W.contents out.new) failed.new) (accepted_text (texts names.now) world.now) }
+    ensures { Puts (sink (W.contents out.old) failed.old) (sink (W.contents out.new) failed.new)
+        (accepted_text (texts names.now) world.now) }
 {
     put_entry(out, failed, names, world, world.place().history().last());
     put_placed(out, failed, world, world.place().answers().last());
@@ -84,7 +89,8 @@ pub(crate) fn put_accepted<W: Write>(out: &mut W, failed: &mut bool, names: &[&[
 
 // The batch of a directive that was answered so, if it has one.
 fn put_placed<W: Write>(out: &mut W, failed: &mut bool, world: &World, answer: Option<&Answer>)
-    ensures { Puts (sink (W.contents out.old) failed.old) (sink (W.contents out.new) failed.new) (batch_by world.now (batch_in (option_map (λ a. a.now) answer.entry))) }
+    ensures { Puts (sink (W.contents out.old) failed.old) (sink (W.contents out.new) failed.new)
+        (batch_by world.now (batch_in (option_map (λ a. a.now) answer.entry))) }
 {
     let Some(answer) = answer else {
         return;
@@ -103,7 +109,8 @@ fn put_entry<W: Write>(
     world: &World,
     entry: Option<&PlaceEntry>,
 )
-    ensures { Puts (sink (W.contents out.old) failed.old) (sink (W.contents out.new) failed.new) (entry_text (texts names.now) world.now (option_map (λ e. e.now) entry.entry)) }
+    ensures { Puts (sink (W.contents out.old) failed.old) (sink (W.contents out.new) failed.new)
+        (entry_text (texts names.now) world.now (option_map (λ e. e.now) entry.entry)) }
 {
     if let Some(PlaceEntry::Accepted { host: _, directive }) = entry {
         for item in directive.items().as_slice() {
@@ -115,7 +122,8 @@ fn put_entry<W: Write>(
 // A batch by its number and its queue, and its operations.
 #[tactic(auto, unfolding(crate::specs::Lines::batch_text))]
 fn put_batch<W: Write>(out: &mut W, failed: &mut bool, world: &World, at: QueueAt, number: u64)
-    ensures { Puts (sink (W.contents out.old) failed.old) (sink (W.contents out.new) failed.new) (batch_text world.now at number) }
+    ensures { Puts (sink (W.contents out.old) failed.old) (sink (W.contents out.new) failed.new)
+        (batch_text world.now at number) }
 {
     let QueueAt { device, queue } = at;
     put(out, failed, b" | batch ");
@@ -130,7 +138,8 @@ fn put_batch<W: Write>(out: &mut W, failed: &mut bool, world: &World, at: QueueA
 
 // Operations, each by a word.
 fn put_op_words<W: Write>(out: &mut W, failed: &mut bool, ops: &[OpLabel])
-    ensures { Puts (sink (W.contents out.old) failed.old) (sink (W.contents out.new) failed.new) (op_words ops.now) }
+    ensures { Puts (sink (W.contents out.old) failed.old) (sink (W.contents out.new) failed.new)
+        (op_words ops.now) }
 {
     if let Some((first, others)) = ops.split_first() {
         put(out, failed, op_word(first));
@@ -164,7 +173,8 @@ pub(crate) fn put_op<W: Write>(
     device: DeviceId,
     op: &OpLabel,
 )
-    ensures { Puts (sink (W.contents out.old) failed.old) (sink (W.contents out.new) failed.new) (op_text (texts names.now) device op.now) }
+    ensures { Puts (sink (W.contents out.old) failed.old) (sink (W.contents out.new) failed.new)
+        (op_text (texts names.now) device op.now) }
 {
     match op {
         OpLabel::Make { range, block } => {
@@ -203,7 +213,8 @@ pub(crate) fn put_op<W: Write>(
 
 // The blocks that a loop uses, each with the range that it stands for.
 fn put_uses<W: Write>(out: &mut W, failed: &mut bool, names: &[&[u8]], uses: &[(BlockId, Range)])
-    ensures { Puts (sink (W.contents out.old) failed.old) (sink (W.contents out.new) failed.new) (flat_map (use_text (texts names.now)) uses.now) }
+    ensures { Puts (sink (W.contents out.old) failed.old) (sink (W.contents out.new) failed.new)
+        (flat_map (use_text (texts names.now)) uses.now) }
 {
     for used in uses {
         put_use(out, failed, names, used.0, used.1);
@@ -212,7 +223,8 @@ fn put_uses<W: Write>(out: &mut W, failed: &mut bool, names: &[&[u8]], uses: &[(
 
 #[tactic(auto, unfolding(crate::specs::Lines::use_text))]
 fn put_use<W: Write>(out: &mut W, failed: &mut bool, names: &[&[u8]], block: BlockId, range: Range)
-    ensures { Puts (sink (W.contents out.old) failed.old) (sink (W.contents out.new) failed.new) (use_text (texts names.now) (block, range)) }
+    ensures { Puts (sink (W.contents out.old) failed.old) (sink (W.contents out.new) failed.new)
+        (use_text (texts names.now) (block, range)) }
 {
     put(out, failed, b" ");
     put_range(out, failed, names, range);
@@ -228,7 +240,9 @@ fn put_batch_of<W: Write>(
     queue: QueueId,
     number: u64,
 )
-    ensures { Puts (sink (W.contents out.old) failed.old) (sink (W.contents out.new) failed.new) (decimal number ++ (codes " of " ++ queue_at_text (record { device = device; queue = queue }))) }
+    ensures { Puts (sink (W.contents out.old) failed.old) (sink (W.contents out.new) failed.new)
+        (decimal number
+        ++ (codes " of " ++ queue_at_text (record { device = device; queue = queue }))) }
 {
     put_number(out, failed, number);
     put(out, failed, b" of ");
@@ -242,7 +256,8 @@ pub(crate) fn put_waits<W: Write>(
     device: DeviceId,
     next: Option<&OpLabel>,
 )
-    ensures { Puts (sink (W.contents out.old) failed.old) (sink (W.contents out.new) failed.new) (waits_text device (option_map (λ op. op.now) next.entry)) }
+    ensures { Puts (sink (W.contents out.old) failed.old) (sink (W.contents out.new) failed.new)
+        (waits_text device (option_map (λ op. op.now) next.entry)) }
 {
     let Some(next) = next else {
         put(out, failed, b"performs nothing");
@@ -264,7 +279,8 @@ pub(crate) fn put_waits<W: Write>(
 
 /// The values of a range of a host array.
 pub(crate) fn put_cells<W: Write>(out: &mut W, failed: &mut bool, world: &World, range: Range)
-    ensures { Puts (sink (W.contents out.old) failed.old) (sink (W.contents out.new) failed.new) (each_below range.len (λ i. cell_text world.now range.array (range.lo + i))) }
+    ensures { Puts (sink (W.contents out.old) failed.old) (sink (W.contents out.new) failed.new)
+        (each_below range.len (λ i. cell_text world.now range.array (range.lo + i))) }
 {
     world.place().config().keeps();
     for index in 0..range.len {
@@ -277,7 +293,8 @@ pub(crate) fn put_cells<W: Write>(out: &mut W, failed: &mut bool, world: &World,
 // A cell of a host array, if it is there.
 #[tactic(auto, unfolding(crate::specs::Lines::cell_text))]
 fn put_cell<W: Write>(out: &mut W, failed: &mut bool, world: &World, array: u8, cell: u32)
-    ensures { Puts (sink (W.contents out.old) failed.old) (sink (W.contents out.new) failed.new) (cell_text world.now array cell) }
+    ensures { Puts (sink (W.contents out.old) failed.old) (sink (W.contents out.new) failed.new)
+        (cell_text world.now array cell) }
 {
     if let Some(value) = world.host_cell(array, cell) {
         put(out, failed, b" ");

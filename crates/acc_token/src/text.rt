@@ -16,7 +16,12 @@ pub const MAX_TEXT: usize = 1_048_576;
 /// `Limit` where it has more than `MAX_TEXT` bytes, in the line that the first `MAX_TEXT` of them end in.
 pub fn check_length(text: &[u8]) -> Result<(), ReadFault>
     ensures fits { OnOk result (length text.now ≤ MAX_TEXT) }
-    ensures long { IfErr result (λ fault. (MAX_TEXT < length text.now) × (fault ≡ record { line = 1 + line_feeds (take MAX_TEXT text.now); kind = ReadKind.Limit })) }
+    ensures long { IfErr result (λ fault. (MAX_TEXT < length text.now)
+        × (fault ≡ record {
+          line = 1 + line_feeds
+              (take MAX_TEXT text.now);
+          kind = ReadKind.Limit;
+        })) }
 {
     if text.len() <= MAX_TEXT {
         return Ok(());

@@ -218,7 +218,8 @@ fn ends_in<'a>(gap: Gap, line: u32) -> Result<At<'a>, ReadFault>
 #[tactic(auto, using(crate::proofs::GapAt::gap_skips, crate::proofs::GapAt::gap_stops, crate::proofs::GapAt::gap_fails), unfolding(crate::specs::Tokens::gap_at))]
 #[inline(never)]
 fn past_comments<'a>(at: At<'a>, in_directive: bool) -> Result<At<'a>, ReadFault>
-    ensures gap { Reads spot result (gap_at Gap.Plain in_directive at.entry.line at.entry.bytes.now) }
+    ensures gap { Reads spot result
+        (gap_at Gap.Plain in_directive at.entry.line at.entry.bytes.now) }
     ensures shorter { IfOk result (λ a. length a.bytes.now ≤ length at.entry.bytes.now) }
 {
     let mut gap = Gap::Plain;
@@ -270,7 +271,8 @@ fn word_len(bytes: &[u8]) -> usize
 #[inline(always)]
 #[tactic(auto, unfolding(crate::specs::Tokens::number_len))]
 fn number_len(first: u8, rest: &[u8]) -> usize
-    ensures len { (line : ℕ) → number_len line first rest.now ≡ (if result == 0 then fails line ReadKind.Form else Ok result) }
+    ensures len { (line : ℕ) → number_len line first rest.now
+        ≡ (if result == 0 then fails line ReadKind.Form else Ok result) }
     ensures within { result ≤ length rest.now + 1 }
 {
     let more = digits_len(rest);
@@ -285,7 +287,10 @@ fn number_len(first: u8, rest: &[u8]) -> usize
 // How many bytes the number has that stands here, or 0 where none does, or its form is wrong.
 #[inline(always)]
 fn number_here(bytes: &[u8]) -> usize
-    ensures token { (in_directive : Bool) (line : ℕ) → 0 < result → token_at in_directive (record { line = line; bytes = bytes.now }) ≡ Ok (record { text = take result bytes.now; line = line; after = record { line = line; bytes = drop result bytes.now } }) }
+    ensures token { (in_directive : Bool) (line : ℕ) → 0 < result
+        → token_at in_directive (record { line = line; bytes = bytes.now })
+        ≡ Ok
+        (record { text = take result bytes.now; line = line; after = record { line = line; bytes = drop result bytes.now } }) }
     ensures within { result ≤ length bytes.now }
 {
     match bytes {
@@ -298,7 +303,8 @@ fn number_here(bytes: &[u8]) -> usize
 #[inline(always)]
 #[tactic(auto, unfolding(crate::specs::Tokens::token_len))]
 fn plain_len(bytes: &[u8]) -> usize
-    ensures len { (line : ℕ) → token_len line bytes.now ≡ (if result == 0 then no_token line bytes.now else Ok result) }
+    ensures len { (line : ℕ) → token_len line bytes.now ≡ (if result == 0
+        then no_token line bytes.now else Ok result) }
     ensures within { result ≤ length bytes.now }
 {
     match bytes {
@@ -354,7 +360,9 @@ fn past_line_feed<'a>(at: At<'a>, in_directive: bool) -> At<'a>
 #[inline(never)]
 #[tactic(auto, using(crate::proofs::Span::span_token))]
 fn span_at(bytes: &[u8], in_directive: bool) -> (usize, usize)
-    ensures token { (line : ℕ) → 0 < result.1 → token_at in_directive (record { line = line; bytes = bytes.now }) ≡ Ok (spanned in_directive line result.0 result.1 bytes.now) }
+    ensures token { (line : ℕ) → 0 < result.1
+        → token_at in_directive (record { line = line; bytes = bytes.now })
+        ≡ Ok (spanned in_directive line result.0 result.1 bytes.now) }
     ensures within { result.0 + result.1 ≤ length bytes.now }
 {
     let gap = blanks_len(bytes);
@@ -371,7 +379,8 @@ fn span_at(bytes: &[u8], in_directive: bool) -> (usize, usize)
 #[tactic(auto, unfolding(crate::specs::Tokens::token_at))]
 fn token_behind<'a>(at: At<'a>, in_directive: bool) -> Result<Token<'a>, ReadFault>
     ensures token { Reads lexeme result (token_at in_directive (spot at.entry)) }
-    ensures shorter { IfOk result (λ t. length t.text.now + length t.after.bytes.now ≤ length at.entry.bytes.now) }
+    ensures shorter { IfOk result (λ t.
+        length t.text.now + length t.after.bytes.now ≤ length at.entry.bytes.now) }
 {
     let from = past_comments(at, in_directive)?;
     let count = token_len(from.line, from.bytes)?;
@@ -395,7 +404,8 @@ fn token_behind<'a>(at: At<'a>, in_directive: bool) -> Result<Token<'a>, ReadFau
 #[inline(always)]
 pub fn token_at<'a>(at: At<'a>, in_directive: bool) -> Result<Token<'a>, ReadFault>
     ensures token { Reads lexeme result (token_at in_directive (spot at.entry)) }
-    ensures shorter { IfOk result (λ t. length t.text.now + length t.after.bytes.now ≤ length at.entry.bytes.now) }
+    ensures shorter { IfOk result (λ t.
+        length t.text.now + length t.after.bytes.now ≤ length at.entry.bytes.now) }
 {
     let here = past_line_feed(at, in_directive);
     let (gap, count) = span_at(here.bytes, in_directive);
@@ -426,7 +436,8 @@ pub fn token_at<'a>(at: At<'a>, in_directive: bool) -> Result<Token<'a>, ReadFau
 #[tactic(auto, using(crate::proofs::TokenSpelling::single_token, crate::proofs::TokenSpelling::line_feed_token))]
 pub fn sign_at<'a>(at: At<'a>, in_directive: bool) -> Result<Token<'a>, ReadFault>
     ensures token { Reads lexeme result (token_at in_directive (spot at.entry)) }
-    ensures shorter { IfOk result (λ t. length t.text.now + length t.after.bytes.now ≤ length at.entry.bytes.now) }
+    ensures shorter { IfOk result (λ t.
+        length t.text.now + length t.after.bytes.now ≤ length at.entry.bytes.now) }
 {
     let line = at.line;
     match at.bytes {
@@ -451,7 +462,9 @@ pub fn sign_at<'a>(at: At<'a>, in_directive: bool) -> Result<Token<'a>, ReadFaul
 #[inline(always)]
 #[tactic(auto, unfolding(crate::specs::Tokens::token_at, crate::specs::Tokens::gap_at))]
 pub fn past_space(bytes: &[u8]) -> &[u8]
-    ensures token { (in_directive : Bool) (line : ℕ) → token_at in_directive (record { line = line; bytes = result.now }) ≡ token_at in_directive (record { line = line; bytes = bytes.now }) }
+    ensures token { (in_directive : Bool) (line : ℕ)
+        → token_at in_directive (record { line = line; bytes = result.now })
+        ≡ token_at in_directive (record { line = line; bytes = bytes.now }) }
     ensures shorter { length result.now ≤ length bytes.now }
 {
     match bytes {
@@ -468,7 +481,8 @@ pub fn past_space(bytes: &[u8]) -> &[u8]
 #[inline(always)]
 pub fn number_at<'a>(at: At<'a>, in_directive: bool) -> Result<Token<'a>, ReadFault>
     ensures token { Reads lexeme result (token_at in_directive (spot at.entry)) }
-    ensures shorter { IfOk result (λ t. length t.text.now + length t.after.bytes.now ≤ length at.entry.bytes.now) }
+    ensures shorter { IfOk result (λ t.
+        length t.text.now + length t.after.bytes.now ≤ length at.entry.bytes.now) }
 {
     let from = past_space(at.bytes);
     let count = number_here(from);

@@ -19,7 +19,12 @@ pub const MAX_NAME: usize = 32;
 #[cold]
 #[inline(never)]
 pub fn unwanted_token(t: Token) -> ReadFault
-    ensures { result ≡ record { line = t.entry.line; kind = if length t.entry.text.now == 0 then ReadKind.End else (if is_large t.entry.text.now then ReadKind.Limit else ReadKind.Form) } }
+    ensures { result ≡ record {
+      line = t.entry.line;
+      kind = if length t.entry.text.now == 0
+          then ReadKind.End
+          else (if is_large t.entry.text.now then ReadKind.Limit else ReadKind.Form);
+    } }
 {
     if t.text.is_empty() {
         fault(t.line, ReadKind::End)
@@ -52,7 +57,8 @@ pub fn exactly<'a>(t: Token<'a>, text: &[u8]) -> Result<At<'a>, ReadFault>
 // Whether a text is the sign that the first of two bytes is.
 #[inline(always)]
 fn is_sign_here(text: &[u8], first: u8, next: u8) -> bool
-    ensures { result ≡ (bytes_eq text.now (first ∷ []) && is_sign first && not (is_pair first next)) }
+    ensures { result ≡ (bytes_eq text.now (first ∷ []) && is_sign first
+        && not (is_pair first next)) }
 {
     is(text, &[first]) && is_sign(first) && !is_pair(first, next)
 }
@@ -66,7 +72,8 @@ fn is_sign_here(text: &[u8], first: u8, next: u8) -> bool
 #[tactic(auto, unfolding(crate::specs::Tokens::expect))]
 pub fn expect<'a>(at: At<'a>, in_directive: bool, text: &[u8]) -> Result<At<'a>, ReadFault>
     ensures found { Reads spot result (expect in_directive text.now (spot at.entry)) }
-    ensures shorter { IfOk result (λ a. length a.bytes.now + length text.now ≤ length at.entry.bytes.now) }
+    ensures shorter { IfOk result (λ a.
+        length a.bytes.now + length text.now ≤ length at.entry.bytes.now) }
 {
     match past_space(at.bytes) {
         [first, bytes @ ..] if is_sign_here(text, *first, front(bytes)) => Ok(At {
@@ -82,7 +89,8 @@ pub fn expect<'a>(at: At<'a>, in_directive: bool, text: &[u8]) -> Result<At<'a>,
 #[tactic(auto, unfolding(crate::specs::Tokens::expect))]
 fn expect_token<'a>(at: At<'a>, in_directive: bool, text: &[u8]) -> Result<At<'a>, ReadFault>
     ensures found { Reads spot result (expect in_directive text.now (spot at.entry)) }
-    ensures shorter { IfOk result (λ a. length a.bytes.now + length text.now ≤ length at.entry.bytes.now) }
+    ensures shorter { IfOk result (λ a.
+        length a.bytes.now + length text.now ≤ length at.entry.bytes.now) }
 {
     exactly(token_at(at, in_directive)?, text)
 }
@@ -96,7 +104,8 @@ fn expect_token<'a>(at: At<'a>, in_directive: bool, text: &[u8]) -> Result<At<'a
 pub fn expect_word<'a>(at: At<'a>, in_directive: bool, word: &[u8]) -> Result<At<'a>, ReadFault>
     requires word { is_word word.now ≡ true }
     ensures found { Reads spot result (expect in_directive word.now (spot at.entry)) }
-    ensures shorter { IfOk result (λ a. length a.bytes.now + length word.now ≤ length at.entry.bytes.now) }
+    ensures shorter { IfOk result (λ a.
+        length a.bytes.now + length word.now ≤ length at.entry.bytes.now) }
 {
     match past_space(at.bytes).strip_prefix(word) {
         Some(bytes) if !is_word_byte(front(bytes)) => Ok(At {
@@ -110,7 +119,8 @@ pub fn expect_word<'a>(at: At<'a>, in_directive: bool, word: &[u8]) -> Result<At
 /// The value of decimal digits, unless it passes the limit.
 #[tactic(auto, using(crate::proofs::ValueBehind::value_grows, crate::proofs::ValueBehind::value_steps, std::proofs::lemmas::Bool::Decides::nat_tests))]
 pub fn value_of(digits: &[u8], limit: u64) -> Option<u64>
-    ensures { result ≡ (if nat_lt limit (value_behind 0 digits.now) then None else Some (value_behind 0 digits.now)) }
+    ensures { result ≡ (if nat_lt limit (value_behind 0 digits.now) then None
+        else Some (value_behind 0 digits.now)) }
 {
     let mut value: u64 = 0;
     for digit in digits {
@@ -175,7 +185,8 @@ fn is_reserved(word: &[u8]) -> bool
 #[inline(always)]
 #[tactic(auto, unfolding(crate::specs::Tokens::name_of))]
 pub fn name_of<'a>(t: Token<'a>) -> Result<&'a [u8], ReadFault>
-    ensures found { Reads (λ name. (name.now, spot t.entry.after)) result (name_of (lexeme t.entry)) }
+    ensures found { Reads (λ name. (name.now, spot t.entry.after)) result
+        (name_of (lexeme t.entry)) }
     ensures name { IfOk result (λ name. name ≡ t.entry.text) }
     ensures some { OnOk result (0 < length t.entry.text.now) }
     ensures size { IfOk result (λ name. (0 < length name.now) × (length name.now ≤ MAX_NAME)) }

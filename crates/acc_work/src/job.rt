@@ -88,7 +88,8 @@ impl JobOut {
 }
 
 fn compute(job: &mut Option<Box<Job>>)
-    ensures job { option_map (λ b. b.value) job.new ≡ option_map with_outputs (option_map (λ b. b.value) job.old) }
+    ensures job { option_map (λ b. b.value) job.new
+        ≡ option_map with_outputs (option_map (λ b. b.value) job.old) }
     ensures outputs { IfSome job.new (λ b. b.value.outputs ≡ computed b.value) }
 {
     if let Some(job) = job {
@@ -106,8 +107,10 @@ pub(crate) fn start_on(
 ) -> Option<JobOut>
     requires device { device < length memory.now.devices }
     requires may { MayStart memory.now device lane.old.left }
-    ensures started { IfSome result (λ job. IsStarted memory.now lane.old lane.new (record { device = device; queue = queue }) job) }
-    ensures room { IfSome result (λ job. TakesRoom (option_map (λ b. b.value) room.old) lane.old.left job.job) }
+    ensures started { IfSome result (λ job.
+        IsStarted memory.now lane.old lane.new (record { device = device; queue = queue }) job) }
+    ensures room { IfSome result (λ job.
+        TakesRoom (option_map (λ b. b.value) room.old) lane.old.left job.job) }
     ensures none { IfNone result ((lane.new ≡ lane.old) × (last_of lane.old.taken ≡ None)) }
 {
     let number = lane.last()?.number;
@@ -134,7 +137,8 @@ fn take_loaded(
     ensures lane { lane.new ≡ lane_with_out lane.old true }
     ensures next { IsJobNext (option_map (λ b. b.value) result) lane.old.left }
     ensures loaded { IfSome result (λ b. IsLoaded memory.now device b.value) }
-    ensures room { TakesRoom (option_map (λ b. b.value) room.old) lane.old.left (option_map (λ b. b.value) result) }
+    ensures room { TakesRoom (option_map (λ b. b.value) room.old) lane.old.left
+        (option_map (λ b. b.value) result) }
 {
     lane.take_out();
     let mut job = room.take()?;

@@ -81,7 +81,8 @@ impl Lane {
 
     /// Whether the labels of those that were taken stand first among these, in this order.
     pub(crate) fn took_first(&self, labels: &[Label]) -> bool
-        ensures { IsTrue result ↔ labels.now ≡ self.now.taken ++ drop (length self.now.taken) labels.now }
+        ensures { IsTrue result
+            ↔ labels.now ≡ self.now.taken ++ drop (length self.now.taken) labels.now }
     {
         let mut behind = labels;
         for taken in self.taken.iter() {
@@ -141,7 +142,8 @@ impl Lane {
 
     /// Takes the next operation out, to be performed.
     pub(crate) fn next(&mut self) -> Option<Op>
-        ensures next { IfSome result (λ t. (ops : List OpLabel) × (self.old.left ≡ op_label t ∷ ops) × (self.new ≡ lane_with_left self.old ops)) }
+        ensures next { IfSome result (λ t. (ops : List OpLabel) × (self.old.left ≡ op_label t ∷ ops)
+            × (self.new ≡ lane_with_left self.old ops)) }
         ensures ready { IfSome result IsReady }
         ensures none { IfNone result ((self.old.left ≡ []) × (self.new ≡ self.old)) }
     {

@@ -135,7 +135,8 @@ impl Log {
     /// A queue performed an operation. It takes no memory.
     pub(crate) fn push_op(&mut self, at: QueueAt, what: OpLabel)
         requires { 0 < self.old.free }
-        ensures { self.new ≡ record { work = entry.Op at what ∷ self.old.work; free = self.old.free - 1; unclaimed = self.old.unclaimed } }
+        ensures { self.new
+            ≡ record { work = entry.Op at what ∷ self.old.work; free = self.old.free - 1; unclaimed = self.old.unclaimed } }
     {
         self.entries
             .push(WorkEntry::Op { at, what }, &mut self.blank);
@@ -146,7 +147,8 @@ impl Log {
         requires room { 0 < self.old.free }
         requires host { host < MAX_HOSTS }
         requires few { all_items self.old.work < 2 ^ 63 }
-        ensures { self.new ≡ record { work = entry.Item host what ∷ self.old.work; free = self.old.free - 1; unclaimed = self.old.unclaimed } }
+        ensures { self.new
+            ≡ record { work = entry.Item host what ∷ self.old.work; free = self.old.free - 1; unclaimed = self.old.unclaimed } }
     {
         let index = usize::from(host.number());
         self.items[index] += 1;

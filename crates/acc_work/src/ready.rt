@@ -20,7 +20,8 @@ impl Work {
     // Whether a job is the one that is out of its lane.
     pub(crate) fn is_out(&self, job: &JobOut) -> bool
         ensures out { IsTrue result ↔ IsOut self.now job.now }
-        ensures there { IsTrue result → (seat job.now.at < length self.now.lanes) × HasQueue self.now job.now.at }
+        ensures there { IsTrue result
+            → (seat job.now.at < length self.now.lanes) × HasQueue self.now job.now.at }
     {
         self.keeps();
         match self.lane(job.at) {
@@ -76,7 +77,8 @@ impl Work {
     // isn't.
     fn uses_live(&self, device: DeviceId, op: &Op) -> bool
         requires { device < length self.now.memory.devices }
-        ensures { result ≡ (finds_blocks (held_blocks self.now.memory device) (op_label op.now) && is_new self.now device (op_label op.now)) }
+        ensures { result ≡ (finds_blocks (held_blocks self.now.memory device) (op_label op.now)
+            && is_new self.now device (op_label op.now)) }
     {
         self.keeps();
         match op {
@@ -93,7 +95,8 @@ impl Work {
 
     // Whether what an operation awaits on its device is performed.
     fn await_allows(&self, device: DeviceId, op: &Op) -> bool
-        ensures { result ≡ await_allows (taken_labels self.now) self.now.work device (op_label op.now) }
+        ensures { result ≡ await_allows (taken_labels self.now) self.now.work device
+            (op_label op.now) }
     {
         match op {
             Op::Await { queue, number } => {

@@ -150,7 +150,8 @@ impl Work {
 
     /// The batch with this number, from 1, among those that a queue took, by its label.
     pub fn taken(&self, at: QueueAt, number: u64) -> Option<&Label>
-        ensures { option_map (λ l. l.now) result ≡ nth_taken (on_queue at (taken_labels self.now)) number }
+        ensures { option_map (λ l. l.now) result
+            ≡ nth_taken (on_queue at (taken_labels self.now)) number }
     {
         self.keeps();
         match self.lane(at) {
@@ -171,7 +172,10 @@ impl Work {
 
     /// Whether the labels of the batches that a queue took stand first among these, in this order. It takes no memory.
     pub fn took_first(&self, at: QueueAt, labels: &[Label]) -> bool
-        ensures { IsTrue result ↔ labels.now ≡ on_queue at (taken_labels self.now) ++ drop (length (on_queue at (taken_labels self.now))) labels.now }
+        ensures { IsTrue result
+            ↔ labels.now
+            ≡ on_queue at (taken_labels self.now)
+            ++ drop (length (on_queue at (taken_labels self.now))) labels.now }
     {
         self.keeps();
         match self.lane(at) {
@@ -244,8 +248,10 @@ impl Work {
 
     /// What a cell of a host array holds, if the array has it: what the log last wrote there, or its opening value.
     pub fn host_cell(&self, array: u8, cell: u32) -> Option<i64>
-        ensures there { is_some result ≡ has_range self.now.arrays (record { array = array; lo = cell; len = 1 }) }
-        ensures value { IfSome result (λ x. x ≡ value self.now.arrays self.now.work (Host_cell array cell)) }
+        ensures there { is_some result
+            ≡ has_range self.now.arrays (record { array = array; lo = cell; len = 1 }) }
+        ensures value { IfSome result (λ x.
+            x ≡ value self.now.arrays self.now.work (Host_cell array cell)) }
     {
         self.keeps();
         let range = Range {
@@ -263,8 +269,10 @@ impl Work {
     /// What a cell of a block holds, if the block is there on the device and has the cell: what the log last wrote there. It is named by
     /// its number in the host array.
     pub fn block_cell(&self, device: DeviceId, block: BlockId, cell: u32) -> Option<i64>
-        ensures there { is_some result ≡ has_cell (find_block (blocks_in device self.now.work) block) cell }
-        ensures value { IfSome result (λ x. x ≡ value self.now.arrays self.now.work (Block_cell device block cell)) }
+        ensures there { is_some result
+            ≡ has_cell (find_block (blocks_in device self.now.work) block) cell }
+        ensures value { IfSome result (λ x.
+            x ≡ value self.now.arrays self.now.work (Block_cell device block cell)) }
     {
         self.keeps();
         self.memory.block_cell(device, block, cell)
@@ -279,7 +287,10 @@ impl Work {
         requires host { batch.host < MAX_HOSTS }
         requires filled { 0 < length batch.ops }
         requires empty { length (lane_at self.old at).left ≤ 0 }
-        ensures { self.new ≡ record self.old { lanes = lanes_with self.old.lanes at (lane_with_batch (lane_at self.old at) batch) } }
+        ensures { self.new ≡ record self.old {
+          lanes = lanes_with self.old.lanes at
+              (lane_with_batch (lane_at self.old at) batch);
+        } }
     {
         let (label, ops, page) = batch.into_parts();
         self.log.claim(ops.len(), page);
@@ -329,7 +340,8 @@ impl Work {
     /// It takes no memory.
     pub fn start_job(&mut self, at: QueueAt, room: &mut Option<Box<Job>>) -> Option<JobOut>
         ensures started { IfSome result (λ job. HasStarted self.old self.new at job) }
-        ensures room { IfSome result (λ job. TakesRoom (option_map (λ b. b.value) room.old) (lane_at self.old at).left job.job) }
+        ensures room { IfSome result (λ job.
+            TakesRoom (option_map (λ b. b.value) room.old) (lane_at self.old at).left job.job) }
         ensures none { IfNone result ((self.new ≡ self.old) × ¬ StartsLoop self.old at) }
     {
         let QueueAt { device, queue } = at;
@@ -353,7 +365,8 @@ impl Work {
     /// The job, where it isn't the one that is out of its lane; then nothing changes.
     pub fn commit_job(&mut self, job: JobOut) -> Result<Option<Box<Job>>, JobOut>
         ensures committed { OnOk result (IsOut self.old job × Commits self.old self.new job.at) }
-        ensures back { IfErr result (λ back. (back ≡ job) × (self.new ≡ self.old) × ¬ IsOut self.old job) }
+        ensures back { IfErr result (λ back. (back ≡ job) × (self.new ≡ self.old)
+            × ¬ IsOut self.old job) }
     {
         if !self.is_out(&job) {
             return Err(job);

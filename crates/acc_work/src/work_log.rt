@@ -134,7 +134,8 @@ impl<'log> Model for Pages<'log> {
 impl<'log> Pages<'log> {
     /// The entries of the next page that has some, which is then read.
     pub fn next(&mut self) -> Option<&'log [WorkEntry]>
-        ensures page { MatchOption result ((self.old ≡ []) × (self.new ≡ [])) (λ page. self.old ≡ page.now ++ self.new) }
+        ensures page { MatchOption result ((self.old ≡ []) × (self.new ≡ [])) (λ page.
+            self.old ≡ page.now ++ self.new) }
         ensures some { IfSome result (λ page. 0 < length page.now) }
     {
         while let Some(page) = self.full.next() {

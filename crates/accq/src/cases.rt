@@ -19,7 +19,8 @@ pub fn test_folder<D: Folder + Drop, S: Folders<D>, W: Write>(
     files: &S,
     output: &mut W,
 ) -> Result<Tally, TestFault>
-    ensures { IfSome (S.files_in files.now asked.now.folder.now) (λ fs. (new : Option (List folders.File)) × FolderAnswers (test_by asked.now) fs new result) }
+    ensures { IfSome (S.files_in files.now asked.now.folder.now) (λ fs.
+        (new : Option (List folders.File)) × FolderAnswers (test_by asked.now) fs new result) }
 {
     let mut folder = match files.folder(asked.folder) {
         Ok(folder) => folder,

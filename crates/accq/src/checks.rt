@@ -19,9 +19,14 @@ pub fn check_files<'a, F: Read + Drop, S: Store<F>, W: Write>(
     files: &S,
     output: &mut W,
 ) -> Result<bool, CheckFault<'a>>
-    ensures answers { FilesCheck (S.holds files.now) (check_by asked.now).script (check_by asked.now).schedule asked.now.devices (W.contents output.old) (W.contents output.new) result }
-    ensures script { NeedsOpen (S.opens files.now asked.now.script.now) (W.contents output.old) (W.contents output.new) (status_checked result) }
-    ensures schedule { IfSome (check_by asked.now).schedule (λ name. NeedsOpen (S.opens files.now name) (W.contents output.old) (W.contents output.new) (status_checked result)) }
+    ensures answers { FilesCheck (S.holds files.now) (check_by asked.now).script
+        (check_by asked.now).schedule asked.now.devices (W.contents output.old)
+        (W.contents output.new) result }
+    ensures script { NeedsOpen (S.opens files.now asked.now.script.now) (W.contents output.old)
+        (W.contents output.new) (status_checked result) }
+    ensures schedule { IfSome (check_by asked.now).schedule (λ name.
+        NeedsOpen (S.opens files.now name) (W.contents output.old) (W.contents output.new)
+        (status_checked result)) }
 {
     match check_opened(alloc, asked, files, output) {
         Ok(whole) => sent(whole, output),
@@ -36,9 +41,14 @@ fn check_opened<'a, F: Read + Drop, S: Store<F>, W: Write>(
     files: &S,
     output: &mut W,
 ) -> Result<bool, CheckFault<'a>>
-    ensures answers { FilesCheck (S.holds files.now) (check_by asked.now).script (check_by asked.now).schedule asked.now.devices (W.contents output.old) (W.contents output.new) result }
-    ensures script { NeedsOpen (S.opens files.now asked.now.script.now) (W.contents output.old) (W.contents output.new) (status_checked result) }
-    ensures schedule { IfSome (check_by asked.now).schedule (λ name. NeedsOpen (S.opens files.now name) (W.contents output.old) (W.contents output.new) (status_checked result)) }
+    ensures answers { FilesCheck (S.holds files.now) (check_by asked.now).script
+        (check_by asked.now).schedule asked.now.devices (W.contents output.old)
+        (W.contents output.new) result }
+    ensures script { NeedsOpen (S.opens files.now asked.now.script.now) (W.contents output.old)
+        (W.contents output.new) (status_checked result) }
+    ensures schedule { IfSome (check_by asked.now).schedule (λ name.
+        NeedsOpen (S.opens files.now name) (W.contents output.old) (W.contents output.new)
+        (status_checked result)) }
 {
     let script = open(files, asked.script)?;
     match asked.schedule {
@@ -55,7 +65,8 @@ fn open<'a, F: Read + Drop, S: Store<F>>(
     files: &S,
     name: &'a str,
 ) -> Result<Named<'a, F>, CheckFault<'a>>
-    ensures bytes { IfOk result (λ file. IfSome (S.holds files.now name.now) (λ bytes. F.remaining file.reader ≡ Some bytes)) }
+    ensures bytes { IfOk result (λ file.
+        IfSome (S.holds files.now name.now) (λ bytes. F.remaining file.reader ≡ Some bytes)) }
     ensures opened { IfSome (S.opens files.now name.now) (λ can. is_ok result ≡ can) }
     ensures fault { IfErr result (λ fault. fault ≡ Input name.entry) }
 {

@@ -263,7 +263,8 @@ fn test_in<'a>(matches: &ArgMatches<'a>) -> Option<Test<'a>>
 
 // What the words behind the name of a subcommand ask for, unless a number isn't written in digits.
 fn asked_behind<'a>(name: &str, matches: &ArgMatches<'a>) -> Option<Task<'a>>
-    ensures value { option_map asked_by result ≡ asked_behind name.now (rows_of (found_of matches.now)) }
+    ensures value { option_map asked_by result
+        ≡ asked_behind name.now (rows_of (found_of matches.now)) }
     ensures usable { IfSome result IsUsable }
 {
     match name {
@@ -281,7 +282,8 @@ fn asked_behind<'a>(name: &str, matches: &ArgMatches<'a>) -> Option<Task<'a>>
 
 // What the words asked for, if they named a subcommand.
 fn asked_in_subcommand<'a>(matches: &ArgMatches<'a>) -> Option<Task<'a>>
-    ensures value { option_map asked_by result ≡ option_and_then (λ p. asked_behind p.0 p.1) (subcommand_rows_of matches.now) }
+    ensures value { option_map asked_by result
+        ≡ option_and_then (λ p. asked_behind p.0 p.1) (subcommand_rows_of matches.now) }
     ensures usable { IfSome result IsUsable }
 {
     match matches.subcommand() {
@@ -305,7 +307,8 @@ fn asked_of<'a, N: AsStr>(parser: &mut Command<'a>, words: &'a [N]) -> Result<Ta
     requires { app_of parser.old ≡ accq_app }
     ensures asked { IfOk result (λ t. asked_of (map N.text words.entry.now) ≡ Some (asked_by t)) }
     ensures usable { IfOk result IsUsable }
-    ensures refused { IfErr result (λ e. (kind_of e ≡ OutOfMemory) ⊎ (asked_of (map N.text words.entry.now) ≡ None)) }
+    ensures refused { IfErr result (λ e. (kind_of e ≡ OutOfMemory)
+        ⊎ (asked_of (map N.text words.entry.now) ≡ None)) }
 {
     match parser.try_get_matches_from_mut(words) {
         Ok(matches) => match asked_in_subcommand(&matches) {
@@ -325,7 +328,8 @@ fn asked_of<'a, N: AsStr>(parser: &mut Command<'a>, words: &'a [N]) -> Result<Ta
 pub fn task_of<'a, N: AsStr>(alloc: Global, words: &'a [N]) -> Result<Task<'a>, Error>
     ensures asked { IfOk result (λ t. asked_of (map N.text words.entry.now) ≡ Some (asked_by t)) }
     ensures usable { IfOk result IsUsable }
-    ensures refused { IfErr result (λ e. (kind_of e ≡ OutOfMemory) ⊎ (asked_of (map N.text words.entry.now) ≡ None)) }
+    ensures refused { IfErr result (λ e. (kind_of e ≡ OutOfMemory)
+        ⊎ (asked_of (map N.text words.entry.now) ≡ None)) }
 {
     let mut parser = accq_words(alloc)?;
     asked_of(&mut parser, words)

@@ -104,7 +104,8 @@ fn put<W: Write>(text: &str, output: &mut W) -> Result<()>
 
 /// Tells what the guide says of what a word names, and answers the status. Where it names nothing, the errors tell which words do.
 pub fn explain<W: Write, E: Write>(word: &str, output: &mut W, errors: &mut E) -> u8
-    ensures status { Explains (text_for word.now) (W.contents output.old) (W.contents output.new) result }
+    ensures status { Explains (text_for word.now) (W.contents output.old)
+        (W.contents output.new) result }
     ensures quiet { result < 2 → errors.new ≡ errors.old }
 {
     match text_for(word) {

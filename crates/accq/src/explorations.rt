@@ -23,9 +23,11 @@ pub fn explore_files<F: Read + Drop, S: Store<F>, W: Write, V: Watcher>(
     watcher: &V,
 ) -> Result<Explored, DriverFault>
     requires { AreUsable asked.now.options }
-    ensures answers { ExploreOfFiles (S.holds files.now) (explore_by asked.now) (explore_by asked.now).schedule (W.contents output.old) (W.contents output.new) result }
+    ensures answers { ExploreOfFiles (S.holds files.now) (explore_by asked.now)
+        (explore_by asked.now).schedule (W.contents output.old) (W.contents output.new) result }
     ensures script { AsksForOpen (S.opens files.now asked.now.script.now) result }
-    ensures schedule { IfSome (explore_by asked.now).schedule (λ name. AsksForOpen (S.opens files.now name) result) }
+    ensures schedule { IfSome (explore_by asked.now).schedule (λ name.
+        AsksForOpen (S.opens files.now name) result) }
 {
     match explore_opened(alloc, asked, files, output, watcher) {
         Ok(explored) => sent(explored, output),
@@ -42,9 +44,11 @@ fn explore_opened<F: Read + Drop, S: Store<F>, W: Write, V: Watcher>(
     watcher: &V,
 ) -> Result<Explored, DriverFault>
     requires { AreUsable asked.now.options }
-    ensures answers { ExploreOfFiles (S.holds files.now) (explore_by asked.now) (explore_by asked.now).schedule (W.contents output.old) (W.contents output.new) result }
+    ensures answers { ExploreOfFiles (S.holds files.now) (explore_by asked.now)
+        (explore_by asked.now).schedule (W.contents output.old) (W.contents output.new) result }
     ensures script { AsksForOpen (S.opens files.now asked.now.script.now) result }
-    ensures schedule { IfSome (explore_by asked.now).schedule (λ name. AsksForOpen (S.opens files.now name) result) }
+    ensures schedule { IfSome (explore_by asked.now).schedule (λ name.
+        AsksForOpen (S.opens files.now name) result) }
 {
     let options = asked.options;
     let exploring = asked.exploring;

@@ -26,7 +26,8 @@ pub fn replay_input<R: Read, W: Write>(
     output: &mut W,
     remains: &mut Remains,
 ) -> Result<Ended, DriverFault>
-    ensures answers { IfSome (R.remaining input.old) (λ text. Answers defaults (parts text) (W.contents output.old) (W.contents output.new) result) }
+    ensures answers { IfSome (R.remaining input.old) (λ text.
+        Answers defaults (parts text) (W.contents output.old) (W.contents output.new) result) }
     ensures run { IsRun result }
 {
     let ended = replay_one(alloc, input, Options::DEFAULT, output, remains)?;
@@ -42,7 +43,8 @@ pub fn replay_files<F: Read + Drop, S: Store<F>, W: Write>(
     remains: &mut Remains,
 ) -> Result<Ended, DriverFault>
     requires { AreUsable asked.now.options }
-    ensures answers { FilesAnswer (S.holds files.now) (replay_by asked.now) (W.contents output.old) (W.contents output.new) result }
+    ensures answers { FilesAnswer (S.holds files.now) (replay_by asked.now) (W.contents output.old)
+        (W.contents output.new) result }
     ensures script { AsksForOpen (S.opens files.now asked.now.script.now) result }
     ensures schedule { AsksForOpen (S.opens files.now asked.now.schedule.now) result }
     ensures run { IsRun result }
@@ -75,7 +77,9 @@ pub fn run_file<T: Threads + Wait + Sync, F: Read + Drop, S: Store<F>, W: Write,
     remains: &mut Remains,
 ) -> Result<Ended, DriverFault>
     requires { AreUsable asked.now.options }
-    ensures answers { IfSome (S.holds files.now asked.now.script.now) (λ script. ScriptAnswers asked.now.options script (W.contents output.old) (W.contents output.new) result) }
+    ensures answers { IfSome (S.holds files.now asked.now.script.now) (λ script.
+        ScriptAnswers asked.now.options script (W.contents output.old)
+        (W.contents output.new) result) }
     ensures script { AsksForOpen (S.opens files.now asked.now.script.now) result }
     ensures configured { IsConfigured result }
 {

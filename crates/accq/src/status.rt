@@ -57,8 +57,12 @@ pub fn status_of<
     meter: Option<&M>,
     remains: &mut Remains,
 ) -> u8
-    ensures input { length words.now ≤ 1 → InputReplayed (R.remaining input.old) (W.contents output.old) (W.contents output.new) result }
-    ensures words { 1 < length words.now → TellsWords (asked_of (map N.text words.now)) (S.holds files.now) (S.opens files.now) (S.files_in files.now) (W.contents output.old) (W.contents output.new) result }
+    ensures input { length words.now ≤ 1
+        → InputReplayed (R.remaining input.old) (W.contents output.old)
+        (W.contents output.new) result }
+    ensures words { 1 < length words.now
+        → TellsWords (asked_of (map N.text words.now)) (S.holds files.now) (S.opens files.now)
+        (S.files_in files.now) (W.contents output.old) (W.contents output.new) result }
     ensures unread { 1 < length words.now → input.new ≡ input.old }
     ensures quiet { result < 2 → errors.new ≡ errors.old }
 {

@@ -23,9 +23,11 @@ pub fn show_steps<F: Read + Drop, S: Store<F>, W: Write>(
     remains: &mut Remains,
 ) -> Result<Option<Ended>, DriverFault>
     requires { AreUsable asked.now.options }
-    ensures answers { StepsOfFiles (S.holds files.now) (steps_by asked.now) (steps_by asked.now).schedule (W.contents output.old) (W.contents output.new) result }
+    ensures answers { StepsOfFiles (S.holds files.now) (steps_by asked.now)
+        (steps_by asked.now).schedule (W.contents output.old) (W.contents output.new) result }
     ensures script { AsksForOpen (S.opens files.now asked.now.script.now) result }
-    ensures schedule { IfSome (steps_by asked.now).schedule (λ name. AsksForOpen (S.opens files.now name) result) }
+    ensures schedule { IfSome (steps_by asked.now).schedule (λ name.
+        AsksForOpen (S.opens files.now name) result) }
 {
     match steps_opened(alloc, asked, files, output, remains)? {
         Some(ended) => match sent(ended, output) {
@@ -45,9 +47,11 @@ fn steps_opened<F: Read + Drop, S: Store<F>, W: Write>(
     remains: &mut Remains,
 ) -> Result<Option<Ended>, DriverFault>
     requires { AreUsable asked.now.options }
-    ensures answers { StepsOfFiles (S.holds files.now) (steps_by asked.now) (steps_by asked.now).schedule (W.contents output.old) (W.contents output.new) result }
+    ensures answers { StepsOfFiles (S.holds files.now) (steps_by asked.now)
+        (steps_by asked.now).schedule (W.contents output.old) (W.contents output.new) result }
     ensures script { AsksForOpen (S.opens files.now asked.now.script.now) result }
-    ensures schedule { IfSome (steps_by asked.now).schedule (λ name. AsksForOpen (S.opens files.now name) result) }
+    ensures schedule { IfSome (steps_by asked.now).schedule (λ name.
+        AsksForOpen (S.opens files.now name) result) }
 {
     let mut script = open(files, asked.script)?;
     match asked.schedule {
@@ -76,7 +80,8 @@ fn steps_opened<F: Read + Drop, S: Store<F>, W: Write>(
 
 /// The file of a name, from its first byte on.
 pub(crate) fn open<F: Read + Drop, S: Store<F>>(files: &S, name: &str) -> Result<F, DriverFault>
-    ensures bytes { IfOk result (λ file. IfSome (S.holds files.now name.now) (λ bytes. F.remaining file ≡ Some bytes)) }
+    ensures bytes { IfOk result (λ file.
+        IfSome (S.holds files.now name.now) (λ bytes. F.remaining file ≡ Some bytes)) }
     ensures opened { AsksForOpen (S.opens files.now name.now) result }
     ensures fault { IfErr result (λ fault. fault ≡ Input) }
 {

@@ -18,7 +18,8 @@ pub trait Store<F: Read> {
 
     /// The file with this name, from its first byte on; `None` where it can't be opened.
     fn open(&self, name: &str) -> Option<F>
-        ensures bytes { IfSome result (λ file. IfSome (holds self.now name.now) (λ bytes. F.remaining file ≡ Some bytes)) }
+        ensures bytes { IfSome result (λ file.
+            IfSome (holds self.now name.now) (λ bytes. F.remaining file ≡ Some bytes)) }
         ensures opened { IfSome (opens self.now name.now) (λ can. is_some result ≡ can) };
 }
 
@@ -33,7 +34,8 @@ pub trait Folders<D: Folder> {
     ///
     /// `AllocError` for want of memory.
     fn folder(&self, name: &str) -> Result<D, AllocError>
-        ensures { IfOk result (λ folder. IfSome (files_in self.now name.now) (λ fs. D.files folder ≡ Some fs)) };
+        ensures { IfOk result (λ folder.
+            IfSome (files_in self.now name.now) (λ fs. D.files folder ≡ Some fs)) };
 }
 
 /// The files and the folders of the system. No contract knows what they hold.
