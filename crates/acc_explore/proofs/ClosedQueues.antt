@@ -104,12 +104,12 @@ no_closes w st (suc n) closed =
     ∙ no_closes w st n (λ k low. closed k (omega (arith, low)))
 
 -- Closing has begun, and each queue is closed.
-record IsOver (w : State) : Type 0 where
+record AllHaveClosed (w : State) : Type 0 where
   pub begun : (standing_of w).closing ≡ true
   pub closed : AreClosed (standing_of w) (queue_count w.config)
 
-is_over : (w : State) → is_all_closed w ≡ true → IsOver w
-is_over w e =
+all_have_closed : (w : State) → is_all_closed w ≡ true → AllHaveClosed w
+all_have_closed w e =
     let p : ℕ → Bool = λ n. is_closed (standing_of w) (at_seat n) in
     let parts = and_parts (standing_of w).closing (list_all p (numbers_from 0 (queue_count w.config))) e in
     record {
@@ -132,7 +132,7 @@ all_are_closed w l some closed =
     ])
     (all_of p 0 (queue_count w.config) (λ n low. (let same : 0 + n ≡ n = omega arith in ap p same ∙ closed n low)))
 
-closes_nothing : (w : State) → IsOver w → (step false w event.Close).state ≡ w
+closes_nothing : (w : State) → AllHaveClosed w → (step false w event.Close).state ≡ w
 closes_nothing w o =
     let st = standing_of w in
     let same : closes w st (queue_count w.config) ++ with_closing st w.history ≡ w.history =
@@ -152,7 +152,7 @@ record ComesUnclosed (w : State) (events : List Event) : Type 0 where
   pub same : after w rest ≡ after w events
 
 next_closed : (w : State) (e : Event) → MayCome false e → is_all_closed w ≡ true → is_all_closed (step false w e).state ≡ true
-next_closed w e may closed = still_closed w (step false w e).state (keeps w (is_over w closed).begun e may) closed
+next_closed w e may closed = still_closed w (step false w e).state (keeps w (all_have_closed w closed).begun e may) closed
 
 goes_on : (w : State) (e : Event) (events : List Event) → MayCome false e → ComesUnclosed (step false w e).state events → ComesUnclosed w (e ∷ events)
 goes_on w e events may r = record { rest = e ∷ r.rest; may = All-cons (MayCome false) e r.rest may r.may; few = omega (arith, r.few); same = r.same }
@@ -167,7 +167,7 @@ comes_unclosed (event.Perform at ∷ events) w closed =
     goes_on w (event.Perform at) events tt (comes_unclosed events (step false w (event.Perform at)).state (next_closed w (event.Perform at) tt closed))
 comes_unclosed (event.Close ∷ events) w closed =
     let r = comes_unclosed events w closed in
-    record { rest = r.rest; may = r.may; few = omega (arith, r.few); same = r.same ∙ ap (λ (v : State). after v events) (sym (closes_nothing w (is_over w closed))) }
+    record { rest = r.rest; may = r.may; few = omega (arith, r.few); same = r.same ∙ ap (λ (v : State). after v events) (sym (closes_nothing w (all_have_closed w closed))) }
 
 may_come : (e : Event) → MayCome false e → MayCome true e
 may_come (event.Host h) may = tt
