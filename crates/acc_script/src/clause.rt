@@ -2,7 +2,7 @@
 
 ghost use Rattle.std.specs.Prelude.{◌≡◌, ◌+◌, ◌≤◌, ◌<◌, true, false, not, [], ◌∷◌, length, IfOk, OnOk, IfSome, if◌then◌else◌};
 ghost use Rattle.acc_script.specs.Clauses.{is_one_of, clause_named, allows, no_clauses, is_plain, waits_for_nothing, is_bare, is_complete, may_have_comma, target_at, ranges_at, data_clause, clause_of, ends_line, clause_turn};
-ghost use Rattle.acc_token.specs.Faults.{Gives, Reads};
+ghost use Rattle.acc_token.specs.Faults.{Gives, Reads, Shortens};
 ghost use Rattle.acc_token.specs.Tokens.{spot, lexeme};
 ghost use Rattle.acc_token.specs.Turns.{turn, all_turns};
 ghost use Rattle.acc_script.specs.inner.Kept.{IsKept};
@@ -110,7 +110,7 @@ impl Clauses {
 #[tactic(auto, unfolding(crate::specs::Clauses::target_at))]
 fn target_at<'a>(at: At<'a>) -> Result<(Target, At<'a>), ReadFault>
     ensures found { Reads (λ x. (x.0, spot x.1)) result (target_at (spot at.entry)) }
-    ensures shorter { IfOk result (λ x. length x.1.bytes.now ≤ length at.entry.bytes.now) }
+    ensures shorter { Shortens at.entry result }
 {
     let t = sign_at(at, true)?;
     if is(t.text, b"(") {

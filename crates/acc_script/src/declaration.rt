@@ -5,7 +5,7 @@ ghost use Rattle.acc_base.specs.declared.config.TheConstants.{MAX_ARRAYS};
 ghost use Rattle.acc_token.specs.declared.read_fault.ReadError.TheVariants.{Memory};
 ghost use Rattle.std.specs.List.{list_any};
 ghost use Rattle.acc_script.specs.Arrays.{negative, value_of, begins_value, value_turn_behind, value_turn, size_at, initial_values_at, fresh_name, array_at, array_turn, array_of};
-ghost use Rattle.acc_token.specs.Faults.{Gives, Reads};
+ghost use Rattle.acc_token.specs.Faults.{Gives, Reads, Shortens};
 ghost use Rattle.acc_token.specs.Tokens.{spot, lexeme};
 ghost use Rattle.acc_token.specs.Turns.{turn, all_turns};
 
@@ -31,7 +31,7 @@ pub(crate) fn negative(n: u64) -> i64
 pub(crate) fn value_of<'a>(t: Token<'a>) -> Result<(i64, At<'a>), ReadFault>
     ensures found { Reads (λ x. (x.0, spot x.1)) result (value_of (lexeme t.entry)) }
     ensures some { OnOk result (0 < length t.entry.text.now) }
-    ensures shorter { IfOk result (λ x. length x.1.bytes.now ≤ length t.entry.after.bytes.now) }
+    ensures shorter { Shortens t.entry.after result }
 {
     if is(t.text, b"-") {
         let u = token_at(t.after, false)?;
@@ -56,7 +56,7 @@ fn value_turn_behind<'a>(cells: &mut Vec<i64>, t: Token<'a>) -> Result<(bool, At
         (value_turn_behind cells.old.items (lexeme t.entry)) }
     ensures count { OnOk result (length cells.new.items ≡ length cells.old.items + 1) }
     ensures some { OnOk result (0 < length t.entry.text.now) }
-    ensures shorter { IfOk result (λ x. length x.1.bytes.now ≤ length t.entry.after.bytes.now) }
+    ensures shorter { Shortens t.entry.after result }
 {
     let (value, at) = value_of(t)?;
     cells.push(value)?;
@@ -121,7 +121,7 @@ fn values_at<'a>(size: usize, cells: &mut Vec<i64>, at: At<'a>) -> Result<At<'a>
 fn size_at<'a>(at: At<'a>) -> Result<(usize, At<'a>), ReadFault>
     ensures found { Reads (λ x. (x.0, spot x.1)) result (size_at (spot at.entry)) }
     ensures within { IfOk result (λ x. (1 ≤ x.0) × (x.0 ≤ MAX_CELLS)) }
-    ensures shorter { IfOk result (λ x. length x.1.bytes.now ≤ length at.entry.bytes.now) }
+    ensures shorter { Shortens at.entry result }
 {
     let t = number_at(at, false)?;
     let n = number_of(t, MAX_CELLS as u64)?;
@@ -142,7 +142,7 @@ fn initial_values_at<'a>(
     ensures found { Gives (λ x. (x.0.items, spot x.1)) result
         (initial_values_at size (spot at.entry)) }
     ensures size { IfOk result (λ x. length x.0.items ≡ size) }
-    ensures shorter { IfOk result (λ x. length x.1.bytes.now ≤ length at.entry.bytes.now) }
+    ensures shorter { Shortens at.entry result }
 {
     let mut cells = Vec::new(alloc);
     let t = token_at(at, false)?;

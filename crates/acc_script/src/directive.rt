@@ -1,13 +1,13 @@
 //! Directives.
 
-ghost use Rattle.std.specs.Prelude.{◌≡◌, ◌≤◌, true, length, IfOk, IfErr};
+ghost use Rattle.std.specs.Prelude.{◌≡◌, true, IfOk, IfErr};
 ghost use Rattle.acc_place.specs.Clauses.{is_well_formed};
 ghost use Rattle.acc_place.specs.Directives.{written_first};
 ghost use Rattle.acc_host.specs.declared.program.Act.TheVariants.{Place};
 ghost use Rattle.acc_token.specs.declared.read_fault.ReadError.TheVariants.{Memory};
 ghost use Rattle.acc_script.specs.Clauses.{is_complete};
 ghost use Rattle.acc_script.specs.Directives.{head_of, opening_at, placed_with, act_behind, directive_at};
-ghost use Rattle.acc_token.specs.Faults.{Gives, Reads};
+ghost use Rattle.acc_token.specs.Faults.{Gives, Reads, Shortens};
 ghost use Rattle.acc_token.specs.Tokens.{spot, lexeme};
 ghost use Rattle.acc_script.specs.inner.Kept.{IsKept};
 
@@ -46,7 +46,7 @@ pub(crate) fn placed(alloc: Global, written: Written) -> Result<Act, ReadError>
 #[tactic(auto, unfolding(crate::specs::Directives::head_of))]
 fn head_of<'a>(depth: u32, t: Token<'a>) -> Result<(Head, At<'a>), ReadFault>
     ensures found { Reads (λ x. (x.0, spot x.1)) result (head_of depth (lexeme t.entry)) }
-    ensures shorter { IfOk result (λ x. length x.1.bytes.now ≤ length t.entry.after.bytes.now) }
+    ensures shorter { Shortens t.entry.after result }
 {
     if is(t.text, b"enter") {
         Ok((Head::EnterData, expect_word(t.after, true, b"data")?))
@@ -73,7 +73,7 @@ fn head_of<'a>(depth: u32, t: Token<'a>) -> Result<(Head, At<'a>), ReadFault>
 fn opening_at<'a>(alloc: Global, head: Head, at: At<'a>) -> Result<(Clauses, At<'a>), ReadError>
     ensures found { Gives (λ x. (x.0, spot x.1)) result (opening_at head (spot at.entry)) }
     ensures kept { IfOk result (λ x. IsKept head x.0) }
-    ensures shorter { IfOk result (λ x. length x.1.bytes.now ≤ length at.entry.bytes.now) }
+    ensures shorter { Shortens at.entry result }
 {
     match head {
         Head::Wait => {
@@ -129,7 +129,7 @@ fn act_behind<'a>(
     requires complete { is_complete head clauses ≡ true }
     ensures found { Gives (λ x. (x.0, spot x.1)) result
         (act_behind arrays.now head clauses (spot at.entry)) }
-    ensures shorter { IfOk result (λ x. length x.1.bytes.now ≤ length at.entry.bytes.now) }
+    ensures shorter { Shortens at.entry result }
 {
     match head {
         Head::EnterData => placed_with(alloc, Kind::EnterData, clauses, at),
@@ -164,7 +164,7 @@ pub(crate) fn directive_at<'a>(
 ) -> Result<(Act, At<'a>), ReadError>
     ensures found { Gives (λ x. (x.0, spot x.1)) result
         (directive_at arrays.now depth (spot at.entry)) }
-    ensures shorter { IfOk result (λ x. length x.1.bytes.now ≤ length at.entry.bytes.now) }
+    ensures shorter { Shortens at.entry result }
 {
     let at = expect_word(at, true, b"pragma")?;
     let at = expect_word(at, true, b"acc")?;

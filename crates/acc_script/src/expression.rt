@@ -2,7 +2,7 @@
 
 ghost use Rattle.std.specs.Prelude.{◌≡◌, ◌+◌, ◌≤◌, ◌<◌, false, length, IfOk, IfSome, if◌then◌else◌};
 ghost use Rattle.acc_script.specs.Expressions.{names, names_in, below, deeper_in, one_deeper, index_at, number_at, offset_at, read_behind, leaf_of, group_of, negated_of, unary_at, operator_of, part_at, chain_turn, chain_at, choice_of, expr_at, expression_at};
-ghost use Rattle.acc_token.specs.Faults.{Gives, Reads};
+ghost use Rattle.acc_token.specs.Faults.{Gives, Reads, Shortens};
 ghost use Rattle.acc_token.specs.Tokens.{spot, lexeme};
 ghost use Rattle.acc_token.specs.Turns.{turn, all_turns};
 
@@ -71,7 +71,7 @@ pub(crate) fn index_at<'a>(at: At<'a>, index: &[u8]) -> Result<At<'a>, ReadFault
 fn number_at<'a>(at: At<'a>) -> Result<(u64, At<'a>), ReadFault>
     ensures found { Reads (λ x. (x.0, spot x.1)) result (number_at (spot at.entry)) }
     ensures within { IfOk result (λ x. x.0 ≤ 9223372036854775807) }
-    ensures shorter { IfOk result (λ x. length x.1.bytes.now ≤ length at.entry.bytes.now) }
+    ensures shorter { Shortens at.entry result }
 {
     let t = token_at(at, false)?;
     let n = number_of(t, LARGEST)?;
@@ -82,7 +82,7 @@ fn number_at<'a>(at: At<'a>) -> Result<(u64, At<'a>), ReadFault>
 #[tactic(auto, unfolding(crate::specs::Expressions::offset_at))]
 fn offset_at<'a>(at: At<'a>) -> Result<(i64, At<'a>), ReadFault>
     ensures found { Reads (λ x. (x.0, spot x.1)) result (offset_at (spot at.entry)) }
-    ensures shorter { IfOk result (λ x. length x.1.bytes.now ≤ length at.entry.bytes.now) }
+    ensures shorter { Shortens at.entry result }
 {
     let t = token_at(at, false)?;
     if is(t.text, b"+") {
@@ -107,7 +107,7 @@ fn read_behind<'a>(
 ) -> Result<(Expr, At<'a>), ReadError>
     ensures found { Gives (λ x. (x.0, spot x.1)) result
         (read_behind (names_in scope.entry) line array (spot at.entry)) }
-    ensures shorter { IfOk result (λ x. length x.1.bytes.now ≤ length at.entry.bytes.now) }
+    ensures shorter { Shortens at.entry result }
 {
     let t = token_at(at, false)?;
     if is(t.text, b"[") {
@@ -127,7 +127,7 @@ fn read_behind<'a>(
 fn leaf_of<'a>(alloc: Global, scope: Scope, t: Token<'a>) -> Result<(Expr, At<'a>), ReadError>
     ensures found { Gives (λ x. (x.0, spot x.1)) result
         (leaf_of (names_in scope.entry) (lexeme t.entry)) }
-    ensures shorter { IfOk result (λ x. length x.1.bytes.now ≤ length t.entry.after.bytes.now) }
+    ensures shorter { Shortens t.entry.after result }
 {
     if is_digit(front(t.text)) {
         let n = number_of(t, LARGEST)?;
@@ -148,7 +148,7 @@ fn leaf_of<'a>(alloc: Global, scope: Scope, t: Token<'a>) -> Result<(Expr, At<'a
 fn group_of<'a>(alloc: Global, scope: Scope, t: Token<'a>) -> Result<(Expr, At<'a>), ReadError>
     ensures found { Gives (λ x. (x.0, spot x.1)) result
         (group_of (below scope.entry) (lexeme t.entry)) }
-    ensures shorter { IfOk result (λ x. length x.1.bytes.now ≤ length t.entry.after.bytes.now) }
+    ensures shorter { Shortens t.entry.after result }
 {
     let inner = one_deeper(scope, t)?;
     let (part, at) = expr_at(alloc, inner, t.after)?;
@@ -162,7 +162,7 @@ fn group_of<'a>(alloc: Global, scope: Scope, t: Token<'a>) -> Result<(Expr, At<'
 fn negated_of<'a>(alloc: Global, scope: Scope, t: Token<'a>) -> Result<(Expr, At<'a>), ReadError>
     ensures found { Gives (λ x. (x.0, spot x.1)) result
         (negated_of (below scope.entry) (lexeme t.entry)) }
-    ensures shorter { IfOk result (λ x. length x.1.bytes.now ≤ length t.entry.after.bytes.now) }
+    ensures shorter { Shortens t.entry.after result }
 {
     let inner = one_deeper(scope, t)?;
     let (mut part, at) = unary_at(alloc, inner, t.after)?;
@@ -176,7 +176,7 @@ fn negated_of<'a>(alloc: Global, scope: Scope, t: Token<'a>) -> Result<(Expr, At
 fn unary_at<'a>(alloc: Global, scope: Scope, at: At<'a>) -> Result<(Expr, At<'a>), ReadError>
     ensures found { Gives (λ x. (x.0, spot x.1)) result
         (unary_at (names_in scope.entry) (below scope.entry) (spot at.entry)) }
-    ensures shorter { IfOk result (λ x. length x.1.bytes.now ≤ length at.entry.bytes.now) }
+    ensures shorter { Shortens at.entry result }
 {
     let t = token_at(at, false)?;
     if is(t.text, b"-") {
@@ -245,7 +245,7 @@ fn part_at<'a>(
 ) -> Result<(Expr, At<'a>), ReadError>
     ensures found { Gives (λ x. (x.0, spot x.1)) result
         (part_at level (unary_at (names_in scope.entry) (below scope.entry)) (spot at.entry)) }
-    ensures shorter { IfOk result (λ x. length x.1.bytes.now ≤ length at.entry.bytes.now) }
+    ensures shorter { Shortens at.entry result }
 {
     match level {
         Level::Product => unary_at(alloc, scope, at),
@@ -322,7 +322,7 @@ fn chain_at<'a>(
     ensures found { Gives (λ x. (x.0, spot x.1)) result
         (chain_at level (part_at level (unary_at (names_in scope.entry) (below scope.entry)))
         (spot at.entry)) }
-    ensures shorter { IfOk result (λ x. length x.1.bytes.now ≤ length at.entry.bytes.now) }
+    ensures shorter { Shortens at.entry result }
 {
     let (mut left, at) = part_at(alloc, scope, level, at)?;
     let at = parts_at(alloc, scope, level, &mut left, at)?;
@@ -340,7 +340,7 @@ fn choice_of<'a>(
 ) -> Result<(Expr, At<'a>), ReadError>
     ensures found { Gives (λ x. (x.0, spot x.1)) result
         (choice_of (below scope.entry) test (lexeme t.entry)) }
-    ensures shorter { IfOk result (λ x. length x.1.bytes.now ≤ length t.entry.after.bytes.now) }
+    ensures shorter { Shortens t.entry.after result }
 {
     let inner = one_deeper(scope, t)?;
     let (first, at) = expr_at(alloc, inner, t.after)?;
@@ -355,7 +355,7 @@ fn choice_of<'a>(
 fn expr_at<'a>(alloc: Global, scope: Scope, at: At<'a>) -> Result<(Expr, At<'a>), ReadError>
     ensures found { Gives (λ x. (x.0, spot x.1)) result
         (expr_at (names_in scope.entry) (below scope.entry) (spot at.entry)) }
-    ensures shorter { IfOk result (λ x. length x.1.bytes.now ≤ length at.entry.bytes.now) }
+    ensures shorter { Shortens at.entry result }
 {
     let (test, after) = chain_at(alloc, scope, Level::Equality, at)?;
     let t = token_at(after, false)?;
@@ -376,7 +376,7 @@ pub(crate) fn expression_at<'a>(
 ) -> Result<(Expr, At<'a>), ReadError>
     ensures found { Gives (λ x. (x.0, spot x.1)) result
         (expression_at (names arrays.now index.now) (spot at.entry)) }
-    ensures shorter { IfOk result (λ x. length x.1.bytes.now ≤ length at.entry.bytes.now) }
+    ensures shorter { Shortens at.entry result }
 {
     let scope = Scope {
         arrays,

@@ -5,7 +5,7 @@ ghost use Rattle.acc_token.specs.declared.read_fault.ReadError.TheVariants.{Memo
 ghost use Rattle.acc_kernel.specs.Kernels.{loop};
 ghost use Rattle.acc_kernel.specs.Faults.{loop_fault};
 ghost use Rattle.acc_script.specs.Expressions.{names};
-ghost use Rattle.acc_token.specs.Faults.{Gives, Reads};
+ghost use Rattle.acc_token.specs.Faults.{Gives, Reads, Shortens};
 ghost use Rattle.acc_script.specs.Loops.{type_at, first_at, upper_bound_at, header_at, opening_of, assign_of, assign_turn, body_at, told_fault, accepted_loop, loop_at};
 ghost use Rattle.acc_token.specs.Tokens.{spot, lexeme};
 ghost use Rattle.acc_token.specs.Turns.{turn, all_turns};
@@ -59,7 +59,7 @@ fn first_at<'a>(arrays: &Arrays, at: At<'a>) -> Result<(&'a [u8], i64, At<'a>), 
 #[tactic(auto, unfolding(crate::specs::Loops::upper_bound_at))]
 fn bound_at<'a>(at: At<'a>, index: &[u8]) -> Result<(i64, At<'a>), ReadFault>
     ensures found { Reads (λ x. (x.0, spot x.1)) result (upper_bound_at index.now (spot at.entry)) }
-    ensures shorter { IfOk result (λ x. length x.1.bytes.now ≤ length at.entry.bytes.now) }
+    ensures shorter { Shortens at.entry result }
 {
     let at = index_at(at, index)?;
     let at = expect(at, false, b"<")?;
@@ -73,7 +73,7 @@ fn bound_at<'a>(at: At<'a>, index: &[u8]) -> Result<(i64, At<'a>), ReadFault>
 fn header_at<'a>(arrays: &Arrays, at: At<'a>) -> Result<(Header<'a>, At<'a>), ReadFault>
     ensures found { Reads (λ x. (opening_of x.0, spot x.1)) result
         (header_at arrays.now (spot at.entry)) }
-    ensures shorter { IfOk result (λ x. length x.1.bytes.now ≤ length at.entry.bytes.now) }
+    ensures shorter { Shortens at.entry result }
 {
     let at = expect(at, false, b"(")?;
     let (index, lo, at) = first_at(arrays, at)?;
@@ -95,7 +95,7 @@ fn assign_of<'a>(
     ensures found { Gives (λ x. (x.0, spot x.1)) result
         (assign_of (names arrays.now index.now) (lexeme t.entry)) }
     ensures some { OnOk result (0 < length t.entry.text.now) }
-    ensures shorter { IfOk result (λ x. length x.1.bytes.now ≤ length t.entry.after.bytes.now) }
+    ensures shorter { Shortens t.entry.after result }
 {
     let array = array_of(arrays, t)?;
     let at = expect(t.after, false, b"[")?;
@@ -166,7 +166,7 @@ fn body_at<'a>(
 ) -> Result<(Vec<Assign>, At<'a>), ReadError>
     ensures found { Gives (λ x. (x.0.items, spot x.1)) result
         (body_at (names arrays.now index.now) (spot at.entry)) }
-    ensures shorter { IfOk result (λ x. length x.1.bytes.now ≤ length at.entry.bytes.now) }
+    ensures shorter { Shortens at.entry result }
 {
     let mut assigns = Vec::new(alloc);
     let t = token_at(at, false)?;
@@ -227,7 +227,7 @@ pub(crate) fn loop_at<'a>(
     at: At<'a>,
 ) -> Result<(Kernel, At<'a>), ReadError>
     ensures found { Gives (λ x. (x.0, spot x.1)) result (loop_at arrays.now (spot at.entry)) }
-    ensures shorter { IfOk result (λ x. length x.1.bytes.now ≤ length at.entry.bytes.now) }
+    ensures shorter { Shortens at.entry result }
 {
     let t = token_at(at, false)?;
     let at = exactly(t, b"for")?;

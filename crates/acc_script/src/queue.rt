@@ -1,7 +1,7 @@
 //! Async values, and the queues of a wait.
 
 ghost use Rattle.std.specs.Prelude.{◌≡◌, ◌+◌, ◌≤◌, ◌<◌, [], false, length, IfOk, OnOk, if◌then◌else◌};
-ghost use Rattle.acc_token.specs.Faults.{Gives, Reads};
+ghost use Rattle.acc_token.specs.Faults.{Gives, Reads, Shortens};
 ghost use Rattle.acc_script.specs.Clauses.{waits_for_nothing};
 ghost use Rattle.acc_script.specs.Queues.{queue_of, begins_queue, queue_behind, queues_turn, waits_at};
 ghost use Rattle.acc_token.specs.Tokens.{spot, lexeme};
@@ -23,7 +23,7 @@ pub const MAX_QUEUES: usize = 64;
 pub(crate) fn queue_of<'a>(t: Token<'a>, in_directive: bool) -> Result<(i64, At<'a>), ReadFault>
     ensures found { Reads (λ x. (x.0, spot x.1)) result (queue_of in_directive (lexeme t.entry)) }
     ensures some { OnOk result (0 < length t.entry.text.now) }
-    ensures shorter { IfOk result (λ x. length x.1.bytes.now ≤ length t.entry.after.bytes.now) }
+    ensures shorter { Shortens t.entry.after result }
 {
     if is(t.text, b"-") {
         let u = token_at(t.after, in_directive)?;
@@ -51,7 +51,7 @@ fn queue_behind<'a>(values: &mut Vec<i64>, t: Token<'a>) -> Result<(bool, At<'a>
     ensures found { Gives (λ x. turn x.0 values.new.items (spot x.1)) result
         (queue_behind values.old.items (lexeme t.entry)) }
     ensures some { OnOk result (0 < length t.entry.text.now) }
-    ensures shorter { IfOk result (λ x. length x.1.bytes.now ≤ length t.entry.after.bytes.now) }
+    ensures shorter { Shortens t.entry.after result }
 {
     let (value, at) = queue_of(t, true)?;
     values.push(value)?;
@@ -102,7 +102,7 @@ fn queues_at<'a>(values: &mut Vec<i64>, at: At<'a>) -> Result<At<'a>, ReadError>
 pub(crate) fn waits_at<'a>(alloc: Global, at: At<'a>) -> Result<(Waits, At<'a>), ReadError>
     ensures found { Gives (λ x. (x.0, spot x.1)) result (waits_at (spot at.entry)) }
     ensures some { IfOk result (λ x. waits_for_nothing x.0 ≡ false) }
-    ensures shorter { IfOk result (λ x. length x.1.bytes.now ≤ length at.entry.bytes.now) }
+    ensures shorter { Shortens at.entry result }
 {
     let t = sign_at(at, true)?;
     if is(t.text, b"(") {

@@ -4,7 +4,7 @@ ghost use Rattle.std.specs.Prelude.{◌≡◌, ◌≤◌, ◌<◌, true, false, 
 ghost use Rattle.acc_script.specs.declared.range.TheConstants.{MAX_RANGES};
 ghost use Rattle.acc_token.specs.declared.read_fault.ReadError.TheVariants.{Memory};
 ghost use Rattle.acc_script.specs.Clauses.{allows};
-ghost use Rattle.acc_token.specs.Faults.{Gives, Reads};
+ghost use Rattle.acc_token.specs.Faults.{Gives, Reads, Shortens};
 ghost use Rattle.acc_script.specs.Ranges.{bound_at, range_in, bounds_at, range_behind, range_of, range_at, item_behind, item_turn, items_at};
 ghost use Rattle.acc_token.specs.Tokens.{spot, lexeme};
 ghost use Rattle.acc_token.specs.Turns.{turn};
@@ -31,7 +31,7 @@ pub const MAX_RANGES: usize = 64;
 #[tactic(auto, unfolding(crate::specs::Ranges::bound_at))]
 fn bound_at<'a>(at: At<'a>, in_directive: bool) -> Result<(Option<u32>, At<'a>), ReadFault>
     ensures found { Reads (λ x. (x.0, spot x.1)) result (bound_at in_directive (spot at.entry)) }
-    ensures shorter { IfOk result (λ x. length x.1.bytes.now ≤ length at.entry.bytes.now) }
+    ensures shorter { Shortens at.entry result }
 {
     let t = token_at(at, in_directive)?;
     if is_digit(front(t.text)) {
@@ -61,7 +61,7 @@ fn bounds_at<'a>(
 ) -> Result<(Range, At<'a>), ReadFault>
     ensures found { Reads (λ x. (x.0, spot x.1)) result
         (bounds_at in_directive array size (spot at.entry)) }
-    ensures shorter { IfOk result (λ x. length x.1.bytes.now ≤ length at.entry.bytes.now) }
+    ensures shorter { Shortens at.entry result }
 {
     let (lo, at) = bound_at(at, in_directive)?;
     let at = expect(at, in_directive, b":")?;
@@ -80,7 +80,7 @@ fn range_behind<'a>(
 ) -> Result<(Range, At<'a>), ReadFault>
     ensures found { Reads (λ x. (x.0, spot x.1)) result
         (range_behind in_directive array size (spot at.entry)) }
-    ensures shorter { IfOk result (λ x. length x.1.bytes.now ≤ length at.entry.bytes.now) }
+    ensures shorter { Shortens at.entry result }
 {
     let t = sign_at(at, in_directive)?;
     if is(t.text, b"[") {
@@ -99,7 +99,7 @@ pub(crate) fn range_of<'a>(
 ) -> Result<(Range, At<'a>), ReadFault>
     ensures found { Reads (λ x. (x.0, spot x.1)) result
         (range_of in_directive arrays.now (lexeme t.entry)) }
-    ensures shorter { IfOk result (λ x. length x.1.bytes.now ≤ length t.entry.after.bytes.now) }
+    ensures shorter { Shortens t.entry.after result }
 {
     let array = array_of(arrays, t)?;
     range_behind(array, arrays.size_of(array), t.after, in_directive)
@@ -114,7 +114,7 @@ pub(crate) fn range_at<'a>(
 ) -> Result<(Range, At<'a>), ReadFault>
     ensures found { Reads (λ x. (x.0, spot x.1)) result
         (range_at in_directive arrays.now (spot at.entry)) }
-    ensures shorter { IfOk result (λ x. length x.1.bytes.now ≤ length at.entry.bytes.now) }
+    ensures shorter { Shortens at.entry result }
 {
     let t = token_at(at, in_directive)?;
     range_of(arrays, t, in_directive)
@@ -135,7 +135,7 @@ fn item_behind<'a>(
     ensures found { Gives (λ x. turn x.0 items.new (spot x.1)) result
         (item_behind clause items.old array size (spot at.entry)) }
     ensures allowed { OnOk result (AreAllowed head items.new) }
-    ensures shorter { IfOk result (λ x. length x.1.bytes.now ≤ length at.entry.bytes.now) }
+    ensures shorter { Shortens at.entry result }
 {
     let (range, at) = range_behind(array, size, at, true)?;
     items.push(DataItem { clause, range })?;

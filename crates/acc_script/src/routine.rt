@@ -3,7 +3,7 @@
 ghost use Rattle.std.specs.Prelude.{◌≡◌, ◌+◌, ◌≤◌, ◌<◌, [], ◌∷◌, true, false, length, IfOk, IfErr, IfSome, OnOk};
 ghost use Rattle.acc_place.specs.Clauses.{allows_clause, is_well_formed};
 ghost use Rattle.acc_token.specs.declared.read_fault.ReadError.TheVariants.{Memory};
-ghost use Rattle.acc_token.specs.Faults.{Gives, Reads};
+ghost use Rattle.acc_token.specs.Faults.{Gives, Reads, Shortens};
 ghost use Rattle.acc_script.specs.Ranges.{item};
 ghost use Rattle.acc_script.specs.Routines.{routine, routine_named, range_argument, queue_argument, two_queues, number_argument, no_argument, is_routine, data_call, other_call, call_of, question_of, shown_of, print_at};
 ghost use Rattle.acc_script.specs.Directives as directives;
@@ -65,7 +65,7 @@ fn routine_named(word: &[u8]) -> Option<DataRoutine>
 fn range_argument<'a>(arrays: &Arrays, at: At<'a>) -> Result<(Range, At<'a>), ReadFault>
     ensures found { Reads (λ x. (x.0, spot x.1)) result
         (range_argument arrays.now (spot at.entry)) }
-    ensures shorter { IfOk result (λ x. length x.1.bytes.now ≤ length at.entry.bytes.now) }
+    ensures shorter { Shortens at.entry result }
 {
     let at = expect(at, false, b"(")?;
     let (range, at) = range_at(arrays, at, false)?;
@@ -76,7 +76,7 @@ fn range_argument<'a>(arrays: &Arrays, at: At<'a>) -> Result<(Range, At<'a>), Re
 #[tactic(auto, unfolding(crate::specs::Routines::queue_argument))]
 fn queue_argument<'a>(at: At<'a>) -> Result<(i64, At<'a>), ReadFault>
     ensures found { Reads (λ x. (x.0, spot x.1)) result (queue_argument (spot at.entry)) }
-    ensures shorter { IfOk result (λ x. length x.1.bytes.now ≤ length at.entry.bytes.now) }
+    ensures shorter { Shortens at.entry result }
 {
     let at = expect(at, false, b"(")?;
     let t = token_at(at, false)?;
@@ -88,7 +88,7 @@ fn queue_argument<'a>(at: At<'a>) -> Result<(i64, At<'a>), ReadFault>
 #[tactic(auto, unfolding(crate::specs::Routines::two_queues))]
 fn two_queues<'a>(at: At<'a>) -> Result<((i64, i64), At<'a>), ReadFault>
     ensures found { Reads (λ x. (x.0, spot x.1)) result (two_queues (spot at.entry)) }
-    ensures shorter { IfOk result (λ x. length x.1.bytes.now ≤ length at.entry.bytes.now) }
+    ensures shorter { Shortens at.entry result }
 {
     let at = expect(at, false, b"(")?;
     let t = token_at(at, false)?;
@@ -103,7 +103,7 @@ fn two_queues<'a>(at: At<'a>) -> Result<((i64, i64), At<'a>), ReadFault>
 #[tactic(auto, unfolding(crate::specs::Routines::number_argument))]
 fn number_argument<'a>(at: At<'a>) -> Result<(u32, At<'a>), ReadFault>
     ensures found { Reads (λ x. (x.0, spot x.1)) result (number_argument (spot at.entry)) }
-    ensures shorter { IfOk result (λ x. length x.1.bytes.now ≤ length at.entry.bytes.now) }
+    ensures shorter { Shortens at.entry result }
 {
     let at = expect(at, false, b"(")?;
     let t = token_at(at, false)?;
@@ -209,7 +209,7 @@ fn data_call<'a>(
     requires { allows_clause routine.kind routine.clause ≡ true }
     ensures found { Gives (λ x. (x.0, spot x.1)) result
         (data_call arrays.now routine (spot at.entry)) }
-    ensures shorter { IfOk result (λ x. length x.1.bytes.now ≤ length at.entry.bytes.now) }
+    ensures shorter { Shortens at.entry result }
 {
     let (range, at) = range_argument(arrays, at)?;
     let DataRoutine { kind, clause } = routine;
@@ -220,7 +220,7 @@ fn data_call<'a>(
 #[tactic(auto, unfolding(crate::specs::Routines::other_call))]
 fn other_call<'a>(alloc: Global, t: Token<'a>) -> Result<(Act, At<'a>), ReadError>
     ensures found { Gives (λ x. (x.0, spot x.1)) result (other_call (lexeme t.entry)) }
-    ensures shorter { IfOk result (λ x. length x.1.bytes.now ≤ length t.entry.after.bytes.now) }
+    ensures shorter { Shortens t.entry.after result }
 {
     if is(t.text, b"acc_wait") {
         let (queue, at) = queue_argument(t.after)?;
@@ -250,7 +250,7 @@ pub(crate) fn call_of<'a>(
     t: Token<'a>,
 ) -> Result<(Act, At<'a>), ReadError>
     ensures found { Gives (λ x. (x.0, spot x.1)) result (call_of arrays.now (lexeme t.entry)) }
-    ensures shorter { IfOk result (λ x. length x.1.bytes.now ≤ length t.entry.after.bytes.now) }
+    ensures shorter { Shortens t.entry.after result }
 {
     match routine_named(t.text) {
         Some(routine) => data_call(alloc, arrays, routine, t.after),
@@ -262,7 +262,7 @@ pub(crate) fn call_of<'a>(
 #[tactic(auto, unfolding(crate::specs::Routines::question_of))]
 fn question_of<'a>(alloc: Global, arrays: &Arrays, t: Token<'a>) -> Result<(Act, At<'a>), ReadError>
     ensures found { Gives (λ x. (x.0, spot x.1)) result (question_of arrays.now (lexeme t.entry)) }
-    ensures shorter { IfOk result (λ x. length x.1.bytes.now ≤ length t.entry.after.bytes.now) }
+    ensures shorter { Shortens t.entry.after result }
 {
     if is(t.text, b"acc_is_present") {
         let (range, at) = range_argument(arrays, t.after)?;
@@ -286,7 +286,7 @@ fn question_of<'a>(alloc: Global, arrays: &Arrays, t: Token<'a>) -> Result<(Act,
 #[tactic(auto, unfolding(crate::specs::Routines::shown_of))]
 fn shown_of<'a>(alloc: Global, arrays: &Arrays, t: Token<'a>) -> Result<(Act, At<'a>), ReadError>
     ensures found { Gives (λ x. (x.0, spot x.1)) result (shown_of arrays.now (lexeme t.entry)) }
-    ensures shorter { IfOk result (λ x. length x.1.bytes.now ≤ length t.entry.after.bytes.now) }
+    ensures shorter { Shortens t.entry.after result }
 {
     if is_routine(t.text) {
         question_of(alloc, arrays, t)
@@ -304,7 +304,7 @@ pub(crate) fn print_at<'a>(
     at: At<'a>,
 ) -> Result<(Act, At<'a>), ReadError>
     ensures found { Gives (λ x. (x.0, spot x.1)) result (print_at arrays.now (spot at.entry)) }
-    ensures shorter { IfOk result (λ x. length x.1.bytes.now ≤ length at.entry.bytes.now) }
+    ensures shorter { Shortens at.entry result }
 {
     let at = expect(at, false, b"(")?;
     let t = token_at(at, false)?;

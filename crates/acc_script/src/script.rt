@@ -7,7 +7,7 @@ ghost use Rattle.acc_base.specs.Configurations.{rows};
 ghost use Rattle.acc_base.specs.declared.config.TheConstants.{MAX_HOSTS};
 ghost use Rattle.acc_host.specs.Hosts.{AreNumbered};
 ghost use Rattle.acc_script.specs.Arrays.{texts, IsDeclared};
-ghost use Rattle.acc_token.specs.Faults.{Gives};
+ghost use Rattle.acc_token.specs.Faults.{Gives, Shortens};
 ghost use Rattle.acc_script.specs.Scripts.{program, host_at, host_turn, script_at, script_of, program_of};
 ghost use Rattle.acc_token.specs.Tokens.{spot};
 ghost use Rattle.acc_token.specs.Turns.{turn, all_turns};
@@ -40,7 +40,7 @@ fn host_at<'a>(
 ) -> Result<(HostProgram, At<'a>), ReadError>
     ensures found { Gives (λ x. (x.0, spot x.1)) result (host_at arrays.now host (spot at.entry)) }
     ensures number { IfOk result (λ x. x.0.host ≡ host) }
-    ensures shorter { IfOk result (λ x. length x.1.bytes.now ≤ length at.entry.bytes.now) }
+    ensures shorter { Shortens at.entry result }
 {
     let at = expect(at, false, b"{")?;
     let mut statements = Vec::new(alloc);

@@ -1,7 +1,7 @@
 //! The statements of a host.
 
 ghost use Rattle.std.specs.Prelude.{◌≡◌, ◌+◌, ◌≤◌, ◌<◌, ◌^◌, false, length, IfOk, OnOk, if◌then◌else◌};
-ghost use Rattle.acc_token.specs.Faults.{Gives, Reads};
+ghost use Rattle.acc_token.specs.Faults.{Gives, Reads, Shortens};
 ghost use Rattle.acc_script.specs.Directives as directives;
 ghost use Rattle.acc_script.specs.Statements.{signed_number_at, cell_at, write_at, simple_of, act_of, body, depth_behind, with_statement, end_of_construct, statement_turn};
 ghost use Rattle.acc_token.specs.Tokens.{spot, lexeme};
@@ -21,7 +21,7 @@ use std::alloc::Global;
 #[tactic(auto, unfolding(crate::specs::Statements::signed_number_at))]
 fn value_at<'a>(at: At<'a>) -> Result<(i64, At<'a>), ReadFault>
     ensures found { Reads (λ x. (x.0, spot x.1)) result (signed_number_at (spot at.entry)) }
-    ensures shorter { IfOk result (λ x. length x.1.bytes.now ≤ length at.entry.bytes.now) }
+    ensures shorter { Shortens at.entry result }
 {
     let t = number_at(at, false)?;
     value_of(t)
@@ -30,7 +30,7 @@ fn value_at<'a>(at: At<'a>) -> Result<(i64, At<'a>), ReadFault>
 #[tactic(auto, unfolding(crate::specs::Statements::cell_at))]
 fn cell_at<'a>(at: At<'a>) -> Result<(u32, At<'a>), ReadFault>
     ensures found { Reads (λ x. (x.0, spot x.1)) result (cell_at (spot at.entry)) }
-    ensures shorter { IfOk result (λ x. length x.1.bytes.now ≤ length at.entry.bytes.now) }
+    ensures shorter { Shortens at.entry result }
 {
     let t = number_at(at, false)?;
     let n = number_of(t, u64::from(MAX_INDEX))?;
@@ -41,7 +41,7 @@ fn cell_at<'a>(at: At<'a>) -> Result<(u32, At<'a>), ReadFault>
 #[tactic(auto, unfolding(crate::specs::Statements::write_at))]
 fn write_at<'a>(array: u8, at: At<'a>) -> Result<(Act, At<'a>), ReadFault>
     ensures found { Reads (λ x. (x.0, spot x.1)) result (write_at array (spot at.entry)) }
-    ensures shorter { IfOk result (λ x. length x.1.bytes.now ≤ length at.entry.bytes.now) }
+    ensures shorter { Shortens at.entry result }
 {
     let at = expect(at, false, b"[")?;
     let (cell, at) = cell_at(at)?;
@@ -56,7 +56,7 @@ fn write_at<'a>(array: u8, at: At<'a>) -> Result<(Act, At<'a>), ReadFault>
 fn simple_of<'a>(alloc: Global, arrays: &Arrays, t: Token<'a>) -> Result<(Act, At<'a>), ReadError>
     ensures found { Gives (λ x. (x.0, spot x.1)) result (simple_of arrays.now (lexeme t.entry)) }
     ensures some { OnOk result (0 < length t.entry.text.now) }
-    ensures shorter { IfOk result (λ x. length x.1.bytes.now ≤ length t.entry.after.bytes.now) }
+    ensures shorter { Shortens t.entry.after result }
 {
     if is(t.text, b"print") {
         print_at(alloc, arrays, t.after)
@@ -78,7 +78,7 @@ fn act_of<'a>(
 ) -> Result<(Act, At<'a>), ReadError>
     ensures found { Gives (λ x. (x.0, spot x.1)) result (act_of arrays.now depth (lexeme t.entry)) }
     ensures some { OnOk result (0 < length t.entry.text.now) }
-    ensures shorter { IfOk result (λ x. length x.1.bytes.now ≤ length t.entry.after.bytes.now) }
+    ensures shorter { Shortens t.entry.after result }
 {
     if is(t.text, b"#") {
         directive_at(alloc, arrays, depth, t.after)

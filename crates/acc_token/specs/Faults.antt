@@ -1,5 +1,6 @@
 -- What a reader answers: a value, or the first fault from the left.
-use Rattle.std.specs.Prelude.{◌≡◌, ℕ, Result, Ok, Err}
+use Rattle.std.specs.Prelude.{◌≡◌, ℕ, ◌≤◌, length, Result, Ok, Err, IfOk}
+use Rattle.acc_token.specs.declared.at.At.{At}
 use Rattle.acc_token.specs.declared.read_fault.ReadError.{ReadError}
 use Rattle.acc_token.specs.declared.read_fault.ReadError.TheVariants as error
 use Rattle.acc_token.specs.declared.read_fault.ReadFault.{ReadFault}
@@ -27,3 +28,7 @@ Fails (error.Fault fault) defined = defined ≡ Err fault
 abbrev pub Gives : {A B : Type 0} → (A → B) → Result A ReadError → Result B ReadFault → Type 0
 Gives view (Ok x) defined = defined ≡ Ok (view x)
 Gives view (Err error) defined = Fails error defined
+
+-- Behind what was read, no more bytes are left than there were.
+abbrev pub Shortens : {A E : Type 0} → At → Result (A × At) E → Type 0
+Shortens before result = IfOk result (λ read. length read.1.bytes.now ≤ length before.bytes.now)
