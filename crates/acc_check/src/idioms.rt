@@ -124,8 +124,8 @@ _ _ #|//|/* _ _ a comment is a line that begins with `#`\n\
 _ _ \r _ _ write plain line feeds\n\
 _ _ % _ _ one line `%%` parts a script and its schedule\n\
 round round @line|@end _ _ write how often: `round 20`\n\
-host host _ _ _ write the host's number, from 0: `host 0`\n\
-take|do take|do _ _ _ write the device's number, from 0, and the queue: `take 0 sync`\n\
+host host _ _ _ write the host's number, from 0 in the order of the script: with one host, `host 0`\n\
+take|do take|do _ _ _ write the device's number, from 0 (without `--devices` there is one), and the queue: `take 0 sync`\n\
 take|do @number _ _ sync write the queue: `sync`, `noval`, or `0` to `13`\n\
 _ _ @number _ @number write a number of decimal digits, without a leading zero, from 1 to 10000 for how often\n\
 _ _ @line|@end _ host a line is empty, or has words\n\

@@ -107,7 +107,7 @@ const SCHEDULES: &[(&[u8], &[u8])] = &[
     ),
     (
         b"close\n host 1",
-        b"s:8:7: Name: `1` cannot stand here\n   host 1\n        ^\ncould stand: a number\nhelp: write the host's number, from 0: `host 0`\n",
+        b"s:8:7: Name: `1` cannot stand here\n   host 1\n        ^\ncould stand: a number\nhelp: write the host's number, from 0 in the order of the script: with one host, `host 0`\n",
     ),
     (
         b"take 0 14",
