@@ -16,7 +16,7 @@ use Rattle.acc_driver.specs.Inputs.{Parts, parts}
 use Rattle.acc_driver.specs.Replays.{defaults}
 use Rattle.acc_driver.specs.inner.Checked.{IsNoScript, IsSchedule, IsScheduleFor, IsScriptOf, IsUnread, IsUntold}
 use Rattle.acc_schedule.specs.Schedules.{schedule_of}
-use Rattle.acc_script.specs.Scripts.{Program, script_of}
+use Rattle.acc_script.specs.Scripts.{ScriptView, script_of}
 use Rattle.acc_driver.proofs.ReplayAnswers.{capped_schedule, capped_script, same_schedule, same_script}
 
 pub appends_nothing : (old new : Option (List ℕ)) → new ≡ old → Appends old new []
@@ -52,14 +52,14 @@ quiet_where_whole old new whole IsTold result checks is is_true = quiet_by old n
 
 -- Two pairs of texts that say the same are sound together.
 sound_same : (devices : ℕ) (a b : Parts) → script_of a.script ≡ script_of b.script
-    → ((program : Program) → script_of b.script ≡ Ok program → schedule_of (length program.programs) devices a.schedule ≡ schedule_of (length program.programs) devices b.schedule)
+    → ((program : ScriptView) → script_of b.script ≡ Ok program → schedule_of (length program.programs) devices a.schedule ≡ schedule_of (length program.programs) devices b.schedule)
     → AreSound devices a → AreSound devices b
 sound_same devices a b scripts schedules sound =
     let script : script_of b.script ≡ Ok sound.program = sym scripts ∙ sound.script in
     record { program = sound.program; events = sound.events; script = script; schedule = sym (schedules sound.program script) ∙ sound.schedule }
 
 checks_same : (devices : ℕ) (a b : Parts) (old new : Option (List ℕ)) (result : Result Bool CheckFault) → script_of a.script ≡ script_of b.script
-    → ((program : Program) → script_of b.script ≡ Ok program → schedule_of (length program.programs) devices a.schedule ≡ schedule_of (length program.programs) devices b.schedule)
+    → ((program : ScriptView) → script_of b.script ≡ Ok program → schedule_of (length program.programs) devices a.schedule ≡ schedule_of (length program.programs) devices b.schedule)
     → ChecksTexts devices a old new result → ChecksTexts devices b old new result
 checks_same devices a b old new (Ok true) scripts schedules (sound, written) = (sound_same devices a b scripts schedules sound, written)
 checks_same devices a b old new (Ok false) scripts schedules wrong =

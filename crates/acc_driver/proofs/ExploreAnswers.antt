@@ -9,7 +9,7 @@ use Rattle.acc_explore.specs.Runs.{open_events}
 use Rattle.acc_host.specs.declared.event.Event.{Event}
 use Rattle.acc_report.specs.Puts.{Sink, sink}
 use Rattle.acc_report.proofs.JoinedPuts.{appends_nothing, puts_nothing}
-use Rattle.acc_script.specs.Scripts.{Program, script_of}
+use Rattle.acc_script.specs.Scripts.{ScriptView, script_of}
 use Rattle.acc_driver.specs.declared.explorations.Aim.{Aim}
 use Rattle.acc_driver.specs.declared.explorations.Aim.TheVariants as aim
 use Rattle.acc_driver.specs.declared.explorations.Explored.{Explored}
@@ -31,7 +31,7 @@ use Rattle.acc_driver.proofs.ReplayAnswers.{SameTexts, same_both, same_parts}
 -- ## From what is told
 
 -- what is told of runs behind the first events, which a schedule says
-pub was_told : EndingsAreSaid → PrefixesAreSaid → (asked : Aim) (options : Options) (exploring : Exploring) (schedule : List ℕ) (program : Program) (first : List Event) (old new : Option (List ℕ)) (failed : Bool) (told : Explored)
+pub was_told : EndingsAreSaid → PrefixesAreSaid → (asked : Aim) (options : Options) (exploring : Exploring) (schedule : List ℕ) (program : ScriptView) (first : List Event) (old new : Option (List ℕ)) (failed : Bool) (told : Explored)
     → length program.programs < 2 ^ 8 → options.devices < 2 ^ 8 → events_in options program schedule ≡ Ok first
     → TellsAllOf asked (setting_of options exploring program first) schedule (exploring.states - 1) (sink old false) (sink new failed) told
     → IsTold asked options exploring schedule program first old new failed told
@@ -59,7 +59,7 @@ nothing_told (aim.Reports form) x schedule written = record { endings = []; each
 nothing_told (aim.Prefixes depth) x schedule written = record { prefixes = []; events = λ k e low. absurd (omega (arith, low)); told = puts_nothing written }
 
 -- where there is no configuration
-pub refused_first : (options : Options) (exploring : Exploring) (schedule : List ℕ) (program : Program) (first : List Event) (written : Option (List ℕ)) (why : DriverFault)
+pub refused_first : (options : Options) (exploring : Exploring) (schedule : List ℕ) (program : ScriptView) (first : List Event) (written : Option (List ℕ)) (why : DriverFault)
     → IsWorldFault (configured options program) why → ExploresProgram options exploring schedule program first written written (Err why)
 refused_first options exploring schedule program first written (fault.Runtime f) is = (is, appends_nothing written)
 refused_first options exploring schedule program first written fault.Memory is =
@@ -72,7 +72,7 @@ refused_first options exploring schedule program first written (fault.Schedule f
 -- ## To the texts
 
 -- what is answered to a program and a schedule that says the first events
-pub first_explored : (options : Options) (exploring : Exploring) (schedule : List ℕ) (program : Program) (first : List Event) (old new : Option (List ℕ)) (result : Result Explored DriverFault)
+pub first_explored : (options : Options) (exploring : Exploring) (schedule : List ℕ) (program : ScriptView) (first : List Event) (old new : Option (List ℕ)) (result : Result Explored DriverFault)
     → events_in options program schedule ≡ Ok first → ExploresProgram options exploring schedule program first old new result → ExploresSchedule options exploring schedule program old new result
 first_explored options exploring schedule program first old new (Ok told) says answer = (first, says, answer)
 first_explored options exploring schedule program first old new (Err fault.Output) says answer = (first, says, answer)
@@ -83,7 +83,7 @@ first_explored options exploring schedule program first old new (Err (fault.Sche
 first_explored options exploring schedule program first old new (Err fault.Input) says answer = absurd answer
 
 -- what is answered to a program that the script says, and to the schedule
-pub texts_explored : (options : Options) (exploring : Exploring) (texts : Parts) (program : Program) (old new : Option (List ℕ)) (result : Result Explored DriverFault)
+pub texts_explored : (options : Options) (exploring : Exploring) (texts : Parts) (program : ScriptView) (old new : Option (List ℕ)) (result : Result Explored DriverFault)
     → script_of texts.script ≡ Ok program → ExploresSchedule options exploring texts.schedule program old new result → ExploreAnswer options exploring texts old new result
 texts_explored options exploring texts program old new (Ok told) is (first, says, answer) = record { program = program; script = is; first = first; schedule = says; answer = answer }
 texts_explored options exploring texts program old new (Err fault.Output) is (first, says, answer) = record { program = program; script = is; first = first; schedule = says; answer = answer }

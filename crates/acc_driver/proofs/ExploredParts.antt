@@ -7,7 +7,7 @@ use Rattle.acc_explore.specs.Endings.{MissesNone, Setting}
 use Rattle.acc_explore.specs.Prefixes.{TogetherMissNone, behind}
 use Rattle.acc_explore.specs.Runs.{after}
 use Rattle.acc_host.specs.declared.event.Event.{Event}
-use Rattle.acc_script.specs.Scripts.{Program}
+use Rattle.acc_script.specs.Scripts.{ScriptView}
 use Rattle.acc_driver.specs.declared.explorations.Exploring.{Exploring}
 use Rattle.acc_driver.specs.declared.options.Options.{Options}
 use Rattle.acc_driver.specs.Explorations.{PrefixesAreParts, setting_of}
@@ -17,10 +17,10 @@ after_both : (w : State) (first events : List Event) → after w (first ++ event
 after_both w [] events = refl
 after_both w (e ∷ first) events = after_both (step false w e).state first events
 
-abbrev setting : Options → Program → State → Bool → Setting
+abbrev setting : Options → ScriptView → State → Bool → Setting
 setting options program start closing = record { names = program.names; programs = program.programs; start = start; closing = closing }
 
-goes_behind : (options : Options) (whole part : Exploring) (program : Program) (first one : List Event) → part.closing ≡ whole.closing
+goes_behind : (options : Options) (whole part : Exploring) (program : ScriptView) (first one : List Event) → part.closing ≡ whole.closing
     → setting_of options part program (first ++ one) ≡ behind (setting_of options whole program first) one
 goes_behind options whole part program first one same =
     ap (λ start. setting options program start part.closing) (after_both (first_state (configured options program) program.programs) first one)

@@ -10,7 +10,7 @@ use Rattle.acc_core.specs.Machine.{State, Runs}
 use Rattle.acc_core.specs.Worlds.{ProgramsStay, first_state, statements_in}
 use Rattle.std.specs.Prelude.{Option, Result, Ok, Err}
 use Rattle.acc_core.specs.Legality.{AllFollow, IsLegalState}
-use Rattle.acc_script.specs.Scripts.{Program}
+use Rattle.acc_script.specs.Scripts.{ScriptView}
 use Rattle.acc_driver.specs.declared.fault.DriverFault.{DriverFault}
 use Rattle.acc_driver.specs.declared.fault.DriverFault.TheVariants as fault
 use Rattle.acc_driver.specs.declared.options.Ended.{Ended}
@@ -29,7 +29,7 @@ pub statements_stay : ProgramsStay → (config : Configuration) (programs : List
 statements_stay stay config programs events replies w runs = sym (stay events replies (first_state config programs) w runs ∙ ready_statements programs)
 
 -- What is answered to the world in which a run ends is answered to its program and events.
-pub run_reported : ProgramsStay → (options : Options) (program : Program) (events : List Event) (replies : List Reply) (w : State) (old new : Option (List ℕ)) (result : Result Ended DriverFault)
+pub run_reported : ProgramsStay → (options : Options) (program : ScriptView) (events : List Event) (replies : List Reply) (w : State) (old new : Option (List ℕ)) (result : Result Ended DriverFault)
     → Runs (first_state (configured options program) program.programs) events replies w → IsLegalState w → AllFollow w 0 w.hosts
     → ReportsWorld program.names w old new result → RunAnswers options program events old new result
 run_reported stay options program events replies w old new (Ok ended) runs legal follow answer = record {

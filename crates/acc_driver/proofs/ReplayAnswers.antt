@@ -25,7 +25,7 @@ use Rattle.acc_driver.specs.declared.fault.ReplayFault.{ReplayFault}
 use Rattle.acc_driver.specs.declared.fault.ReplayFault.TheVariants as replay
 use Rattle.std.specs.Io.KnownBytes.{Appends}
 use Rattle.acc_schedule.specs.Schedules.{events_from, lines, schedule_of}
-use Rattle.acc_script.specs.Scripts.{Program, script_at, script_of}
+use Rattle.acc_script.specs.Scripts.{ScriptView, script_at, script_of}
 use Rattle.acc_driver.proofs.SplitText.{capped, cut_is_enough, capped_is_enough}
 
 -- What is read of a text with a limit, up to a byte more, says what is read of it.
@@ -54,11 +54,11 @@ same_within limit a b same short =
       | inr within ↦ front ∙ take_all (limit + 1) b within
     ]
 
-script_within : (a b : List ℕ) (program : Program) → capped MAX_TEXT a ≡ capped MAX_TEXT b → script_of a ≡ Ok program → a ≡ b
+script_within : (a b : List ℕ) (program : ScriptView) → capped MAX_TEXT a ≡ capped MAX_TEXT b → script_of a ≡ Ok program → a ≡ b
 unfolding script_of
 script_within a b program same is = same_within MAX_TEXT a b same (within_reads MAX_TEXT (λ (text : List ℕ). script_at (record { line = 1; bytes = text })) a program is)
 
-schedule_within : (options : Options) (program : Program) (events : List Event) (a b : List ℕ) → capped MAX_TEXT a ≡ capped MAX_TEXT b → events_in options program a ≡ Ok events → a ≡ b
+schedule_within : (options : Options) (program : ScriptView) (events : List Event) (a b : List ℕ) → capped MAX_TEXT a ≡ capped MAX_TEXT b → events_in options program a ≡ Ok events → a ≡ b
 unfolding schedule_of
 schedule_within options program events a b same is =
     same_within MAX_TEXT a b same (within_reads MAX_TEXT (λ (text : List ℕ). events_from (length program.programs) options.devices 1 [] (lines text)) a events is)
@@ -71,7 +71,7 @@ pub same_script : (text : List ℕ) → script_of (parts (cut text)).script ≡ 
 unfolding script_of
 same_script text = within_capped MAX_TEXT (λ (text : List ℕ). script_at (record { line = 1; bytes = text })) (parts (cut text)).script (parts text).script (cut_is_enough MAX_TEXT text).script
 
-pub same_schedule : (options : Options) (program : Program) (text : List ℕ) → script_of (parts text).script ≡ Ok program
+pub same_schedule : (options : Options) (program : ScriptView) (text : List ℕ) → script_of (parts text).script ≡ Ok program
     → events_in options program (parts (cut text)).schedule ≡ events_in options program (parts text).schedule
 unfolding script_of schedule_of
 same_schedule options program text is =
@@ -90,14 +90,14 @@ script_answered options script schedule old new (replay.Runtime f) is written = 
 
 -- Two pairs of texts that say the same have the same answer.
 run_same : (options : Options) (a b : Parts) (old new : Option (List ℕ)) (result : Result Ended DriverFault) → script_of a.script ≡ script_of b.script
-    → ((program : Program) → script_of b.script ≡ Ok program → events_in options program a.schedule ≡ events_in options program b.schedule)
+    → ((program : ScriptView) → script_of b.script ≡ Ok program → events_in options program a.schedule ≡ events_in options program b.schedule)
     → AnswersRun options a old new result → AnswersRun options b old new result
 run_same options a b old new result scripts schedules (program, events, says, run) =
     let script : script_of b.script ≡ Ok program = sym scripts ∙ says.script in
     (program, events, record { script = script; schedule = sym (schedules program script) ∙ says.schedule }, run)
 
 answers_same : (options : Options) (a b : Parts) (old new : Option (List ℕ)) (result : Result Ended DriverFault) → script_of a.script ≡ script_of b.script
-    → ((program : Program) → script_of b.script ≡ Ok program → events_in options program a.schedule ≡ events_in options program b.schedule)
+    → ((program : ScriptView) → script_of b.script ≡ Ok program → events_in options program a.schedule ≡ events_in options program b.schedule)
     → Answers options a old new result → Answers options b old new result
 answers_same options a b old new (Ok ended) scripts schedules answers = run_same options a b old new (Ok ended) scripts schedules answers
 answers_same options a b old new (Err fault.Output) scripts schedules answers = run_same options a b old new (Err fault.Output) scripts schedules answers
@@ -127,7 +127,7 @@ capped_script text =
     ap (λ (limit : ℕ). script_of (take limit text)) text_limit
     ∙ capped_is_enough MAX_TEXT (λ (text : List ℕ). script_at (record { line = 1; bytes = text })) text
 
-pub capped_schedule : (options : Options) (program : Program) (text : List ℕ) → events_in options program (take TEXT_LIMIT text) ≡ events_in options program text
+pub capped_schedule : (options : Options) (program : ScriptView) (text : List ℕ) → events_in options program (take TEXT_LIMIT text) ≡ events_in options program text
 unfolding schedule_of
 capped_schedule options program text =
     ap (λ (limit : ℕ). events_in options program (take limit text)) text_limit
@@ -136,9 +136,9 @@ capped_schedule options program text =
 -- what two texts say that are read up to where each is cut, and what the whole ones say
 pub record SameTexts (options : Options) (a b : Parts) : Type 0 where
   pub script : script_of a.script ≡ script_of b.script
-  pub schedule : (program : Program) → script_of b.script ≡ Ok program → events_in options program a.schedule ≡ events_in options program b.schedule
-  pub same_script : (program : Program) → script_of a.script ≡ Ok program → a.script ≡ b.script
-  pub same_schedule : (program : Program) (events : List Event) → script_of a.script ≡ Ok program → events_in options program a.schedule ≡ Ok events → a.schedule ≡ b.schedule
+  pub schedule : (program : ScriptView) → script_of b.script ≡ Ok program → events_in options program a.schedule ≡ events_in options program b.schedule
+  pub same_script : (program : ScriptView) → script_of a.script ≡ Ok program → a.script ≡ b.script
+  pub same_schedule : (program : ScriptView) (events : List Event) → script_of a.script ≡ Ok program → events_in options program a.schedule ≡ Ok events → a.schedule ≡ b.schedule
 
 capped_limit : (text : List ℕ) → capped MAX_TEXT (take TEXT_LIMIT text) ≡ capped MAX_TEXT text
 capped_limit text = ap (λ (limit : ℕ). capped MAX_TEXT (take limit text)) text_limit ∙ take-take (MAX_TEXT + 1) (MAX_TEXT + 1) text (omega arith)
@@ -156,7 +156,7 @@ pub same_parts : (options : Options) (text : List ℕ) → SameTexts options (pa
 unfolding script_of
 same_parts options text =
     let cuts = cut_is_enough MAX_TEXT text in
-    let scripts : (program : Program) → script_of (parts (cut text)).script ≡ Ok program → (parts (cut text)).script ≡ (parts text).script =
+    let scripts : (program : ScriptView) → script_of (parts (cut text)).script ≡ Ok program → (parts (cut text)).script ≡ (parts text).script =
     λ program is. script_within (parts (cut text)).script (parts text).script program cuts.script is in
     record {
       script = same_script text;
@@ -184,7 +184,7 @@ whole_texts (Some s) (Some e) script schedule options old new result is_script i
     answers_both options s e old new result (rw (is_script, is_schedule) at answers)
 
 -- a script of which no more than that is read is understood
-pub understood_script : (X : Type 0) (remaining : Option (List ℕ)) (text : List ℕ) (program : Program) → IfSome remaining (λ bytes. text ≡ take TEXT_LIMIT bytes) → script_of text ≡ Ok program
+pub understood_script : (X : Type 0) (remaining : Option (List ℕ)) (text : List ℕ) (program : ScriptView) → IfSome remaining (λ bytes. text ≡ take TEXT_LIMIT bytes) → script_of text ≡ Ok program
     → IfSome remaining (λ bytes. IsScript bytes ⊎ X)
 understood_script X None text program is found = tt
 understood_script X (Some bytes) text program is found = inl (program, sym (capped_script bytes) ∙ (ap script_of (sym is) ∙ found))
@@ -216,7 +216,7 @@ none_is_empty arrays each = list_any_none (λ cells. length cells == 0) arrays (
 inside : (limit n : ℕ) → (1 ≤ n) × (n ≤ limit) → is_outside limit n ≡ false
 inside limit n h = let low = h.0 in let high = h.1 in grind (arith, nat_tests, low, high)
 
-usable_config : (options : Options) (program : Program) → AreUsable options → IsDeclared (record { names = program.names; cells = program.arrays })
+usable_config : (options : Options) (program : ScriptView) → AreUsable options → IsDeclared (record { names = program.names; cells = program.arrays })
     → length program.programs ≤ MAX_HOSTS → fault_of (configured options program) ≡ None
 usable_config options program usable declared few =
     let same = declared.one_each in
@@ -233,7 +233,7 @@ usable_config options program usable declared few =
     ) refl
 
 -- With usable options the one reason not to open a world is want of memory.
-pub usable_runs : (options : Options) (program : Program) (why : DriverFault) → IsDeclared (record { names = program.names; cells = program.arrays })
+pub usable_runs : (options : Options) (program : ScriptView) (why : DriverFault) → IsDeclared (record { names = program.names; cells = program.arrays })
     → length program.programs ≤ MAX_HOSTS → IsWorldFault (configured options program) why → AreUsable options → IsRun (Err why)
 usable_runs options program (fault.Runtime f) declared few opening usable =
     absurd (let off = sym (usable_config options program usable declared few) ∙ opening in cc)
@@ -244,7 +244,7 @@ usable_runs options program (fault.Script f) declared few opening usable = tt
 usable_runs options program (fault.Schedule f) declared few opening usable = tt
 
 -- what is answered to a program and events that the schedule says
-pub events_answered : (options : Options) (program : Program) (schedule : List ℕ) (events : List Event) (old new : Option (List ℕ)) (result : Result Ended DriverFault)
+pub events_answered : (options : Options) (program : ScriptView) (schedule : List ℕ) (events : List Event) (old new : Option (List ℕ)) (result : Result Ended DriverFault)
     → events_in options program schedule ≡ Ok events → RunAnswers options program events old new result → ScheduleAnswers options program schedule old new result
 events_answered options program schedule events old new (Ok ended) says run = (events, says, run)
 events_answered options program schedule events old new (Err fault.Output) says run = (events, says, run)
@@ -255,7 +255,7 @@ events_answered options program schedule events old new (Err fault.Input) says r
 events_answered options program schedule events old new (Err fault.Memory) says run = run
 
 -- what is answered to a program that the script says, and to the schedule
-pub schedule_answered : (options : Options) (script schedule : List ℕ) (program : Program) (old new : Option (List ℕ)) (result : Result Ended DriverFault)
+pub schedule_answered : (options : Options) (script schedule : List ℕ) (program : ScriptView) (old new : Option (List ℕ)) (result : Result Ended DriverFault)
     → script_of script ≡ Ok program → ScheduleAnswers options program schedule old new result
     → Answers options (record { script = script; schedule = schedule }) old new result
 schedule_answered options script schedule program old new (Ok ended) is (events, says, run) = (program, events, record { script = is; schedule = says }, run)

@@ -12,7 +12,7 @@ use Rattle.acc_host.specs.Hosts.{bare_statements}
 use Rattle.acc_report.specs.Puts.{AppendsFront, Puts, sink}
 use Rattle.acc_report.specs.Reports.{report}
 use Rattle.acc_report.proofs.JoinedPuts.{appends_nothing, appends_then, puts_then}
-use Rattle.acc_script.specs.Scripts.{Program, script_of}
+use Rattle.acc_script.specs.Scripts.{ScriptView, script_of}
 use Rattle.acc_steps.specs.Lines.{Words}
 use Rattle.acc_steps.specs.Walks.{AreTold, TellsSteps}
 use Rattle.acc_steps.specs.declared.walk.Numbered.{Numbered}
@@ -122,14 +122,14 @@ runs_told t n (e ∷ events) old new text (answer, mid, rest, step, told, is) =
     (answer ∷ others.0, (mid, step, others.1))
 
 -- the program has the statements of the world in which told steps of it end
-told_stay : ProgramsStay → (options : Options) (program : Program) (t : Words) (events : List Numbered) (final : State) (text : List ℕ)
+told_stay : ProgramsStay → (options : Options) (program : ScriptView) (t : Words) (events : List Numbered) (final : State) (text : List ℕ)
     → AreTold t 1 events (first_state (configured options program) program.programs) final text → map bare_statements program.programs ≡ statements_in final
 told_stay stay options program t events final text told =
     let run = runs_told t 1 events (first_state (configured options program) program.programs) final text told in
     statements_stay stay (configured options program) program.programs (map (λ (e : Numbered). e.event) events) run.0 final run.1
 
 -- What is answered to the world of a program and to the events of a schedule.
-pub program_told : ProgramsStay → (options : Options) (form : StepsAs) (texts : Parts) (program : Program) (old new : Option (List ℕ)) (result : Result (Option Ended) DriverFault)
+pub program_told : ProgramsStay → (options : Options) (form : StepsAs) (texts : Parts) (program : ScriptView) (old new : Option (List ℕ)) (result : Result (Option Ended) DriverFault)
     → StepsOfWorld form (words_for form texts.script program) (numbered_in options program texts.schedule) (first_state (configured options program) program.programs) old new result
     → StepsOfProgram options form texts program old new result
 program_told stay options form texts program old new (Ok (Some ended)) w =
@@ -159,7 +159,7 @@ program_told stay options form texts program old new (Err fault.Input) w = absur
 -- ## To the texts
 
 -- what is answered to a program and a schedule that says events
-pub events_told : (options : Options) (form : StepsAs) (texts : Parts) (program : Program) (events : List Event) (old new : Option (List ℕ)) (result : Result (Option Ended) DriverFault)
+pub events_told : (options : Options) (form : StepsAs) (texts : Parts) (program : ScriptView) (events : List Event) (old new : Option (List ℕ)) (result : Result (Option Ended) DriverFault)
     → events_in options program texts.schedule ≡ Ok events → StepsOfProgram options form texts program old new result → StepsOfSchedule options form texts program old new result
 events_told options form texts program events old new (Ok ended) says answer = (events, says, answer)
 events_told options form texts program events old new (Err fault.Output) says answer = (events, says, answer)
@@ -170,7 +170,7 @@ events_told options form texts program events old new (Err (fault.Schedule f)) s
 events_told options form texts program events old new (Err fault.Input) says answer = absurd answer
 
 -- what is answered to a program that the script says, and to the schedule
-pub schedule_told : (options : Options) (form : StepsAs) (texts : Parts) (program : Program) (old new : Option (List ℕ)) (result : Result (Option Ended) DriverFault)
+pub schedule_told : (options : Options) (form : StepsAs) (texts : Parts) (program : ScriptView) (old new : Option (List ℕ)) (result : Result (Option Ended) DriverFault)
     → script_of texts.script ≡ Ok program → StepsOfSchedule options form texts program old new result → StepsAnswer options form texts old new result
 schedule_told options form texts program old new (Ok ended) is (events, says, answer) = record { program = program; script = is; events = events; schedule = says; answer = answer }
 schedule_told options form texts program old new (Err fault.Output) is (events, says, answer) = record { program = program; script = is; events = events; schedule = says; answer = answer }

@@ -11,7 +11,7 @@ use Rattle.acc_host.specs.declared.state.HostState.{HostState}
 use Rattle.acc_run.specs.Agreement.{EachAgrees, TokensFollow}
 use Rattle.acc_run.specs.Running.{WentEach}
 use Rattle.acc_run.specs.Tokens.{AreTokens, TokenView, listed_entry}
-use Rattle.acc_script.specs.Scripts.{Program, script_of}
+use Rattle.acc_script.specs.Scripts.{ScriptView, script_of}
 use Rattle.acc_driver.specs.declared.fault.DriverFault.{DriverFault}
 use Rattle.acc_driver.specs.declared.fault.DriverFault.TheVariants as fault
 use Rattle.acc_driver.specs.declared.options.Ended.{Ended}
@@ -79,7 +79,7 @@ run_configured fault.Memory run = tt
 run_configured (fault.Runtime f) run = absurd run
 
 -- what is answered where the script says a program
-pub program_answered : (options : Options) (script : List ℕ) (program : Program) (old new : Option (List ℕ)) (result : Result Ended DriverFault)
+pub program_answered : (options : Options) (script : List ℕ) (program : ScriptView) (old new : Option (List ℕ)) (result : Result Ended DriverFault)
     → script_of script ≡ Ok program → ProgramAnswers options program old new result → ScriptAnswers options script old new result
 program_answered options script program old new (Ok ended) is answers = (program, is, answers)
 program_answered options script program old new (Err fault.Output) is answers = (program, is, answers)

@@ -6,11 +6,11 @@ use Rattle.acc_driver.specs.declared.checks.CheckFault.{CheckFault}
 use Rattle.acc_driver.specs.declared.checks.CheckFault.TheVariants as fault
 use Rattle.acc_driver.specs.Inputs.{Parts}
 use Rattle.acc_schedule.specs.Schedules.{schedule_of}
-use Rattle.acc_script.specs.Scripts.{Program, script_of}
+use Rattle.acc_script.specs.Scripts.{ScriptView, script_of}
 
 -- Nothing is wrong with two texts: the one is a script, and the other a schedule of its hosts, for so many devices.
 pub record AreSound (devices : ℕ) (texts : Parts) : Type 0 where
-  pub program : Program
+  pub program : ScriptView
   pub events : List Event
   pub script : script_of texts.script ≡ Ok program
   pub schedule : schedule_of (length program.programs) devices texts.schedule ≡ Ok events

@@ -15,7 +15,7 @@ use Rattle.acc_explore.specs.Spellings.{going_on}
 use Rattle.acc_host.specs.declared.event.Event.{Event}
 use Rattle.acc_report.specs.Puts.{Sink, sink}
 use Rattle.acc_schedule.specs.declared.schedule.TheConstants.{MAX_EVENTS}
-use Rattle.acc_script.specs.Scripts.{Program, script_of}
+use Rattle.acc_script.specs.Scripts.{ScriptView, script_of}
 use Rattle.acc_token.specs.declared.text.TheConstants.{MAX_TEXT}
 use Rattle.acc_driver.specs.declared.explorations.Aim.{Aim}
 use Rattle.acc_driver.specs.declared.explorations.Aim.TheVariants as aim
@@ -29,7 +29,7 @@ use Rattle.acc_driver.specs.Inputs.{Parts, parts}
 use Rattle.acc_driver.specs.Replays.{SaysNoEvents, configured, events_in}
 
 -- what is explored: runs of a program behind the first events
-abbrev pub setting_of : Options → Exploring → Program → List Event → Setting
+abbrev pub setting_of : Options → Exploring → ScriptView → List Event → Setting
 setting_of options exploring program first =
     record {
       names = program.names;
@@ -39,28 +39,28 @@ setting_of options exploring program first =
     }
 
 -- The schedule that goes on with these events says the first ones and them, as long as a schedule may be so long.
-abbrev pub SaysEvents : Options → Program → List ℕ → List Event → List Event → Type 0
+abbrev pub SaysEvents : Options → ScriptView → List ℕ → List Event → List Event → Type 0
 SaysEvents options program schedule first events =
     length (going_on schedule events) ≤ MAX_TEXT → length (first ++ events) ≤ MAX_EVENTS
     → events_in options program (going_on schedule events) ≡ Ok (first ++ events)
 
 -- So does the one that is told for an ending.
-abbrev pub SaysEnding : Options → Program → List ℕ → List Event → Ending → Type 0
+abbrev pub SaysEnding : Options → ScriptView → List ℕ → List Event → Ending → Type 0
 SaysEnding options program schedule first e = SaysEvents options program schedule first e.events
 
 -- Endings were told, one for each report, and it is counted how many they are. They are all, where the exploration is whole.
-pub record ReportsTold (form : Form) (options : Options) (exploring : Exploring) (schedule : List ℕ) (program : Program) (first : List Event) (old new : Option (List ℕ)) (failed : Bool) (counts : Counts) : Type 0 where
+pub record ReportsTold (form : Form) (options : Options) (exploring : Exploring) (schedule : List ℕ) (program : ScriptView) (first : List Event) (old new : Option (List ℕ)) (failed : Bool) (counts : Counts) : Type 0 where
   pub told : TellsAll (setting_of options exploring program first) form schedule (exploring.states - 1) (sink old false) (sink new failed) counts
   pub said : All (SaysEnding options program schedule first) told.endings
 
 -- Prefixes were told behind which no report is missed, and it is counted how many they are. They are as long as asked, or lead to an end, where the
 -- exploration is whole.
-pub record PrefixesTold (depth : ℕ) (options : Options) (exploring : Exploring) (schedule : List ℕ) (program : Program) (first : List Event) (old new : Option (List ℕ)) (failed : Bool) (count : PrefixCount) : Type 0 where
+pub record PrefixesTold (depth : ℕ) (options : Options) (exploring : Exploring) (schedule : List ℕ) (program : ScriptView) (first : List Event) (old new : Option (List ℕ)) (failed : Bool) (count : PrefixCount) : Type 0 where
   pub told : TellsPrefixes (setting_of options exploring program first) schedule depth (exploring.states - 1) (sink old false) (sink new failed) count
   pub said : All (SaysEvents options program schedule first) told.prefixes
 
 -- What the exploration is to tell was told.
-abbrev pub IsTold : Aim → Options → Exploring → List ℕ → Program → List Event → Option (List ℕ) → Option (List ℕ) → Bool → Explored → Type 0
+abbrev pub IsTold : Aim → Options → Exploring → List ℕ → ScriptView → List Event → Option (List ℕ) → Option (List ℕ) → Bool → Explored → Type 0
 IsTold (aim.Reports form) options exploring schedule program first old new failed (explored.Reports counts) =
     ReportsTold form options exploring schedule program first old new failed counts
 IsTold (aim.Prefixes depth) options exploring schedule program first old new failed (explored.Prefixes count) =
@@ -74,7 +74,7 @@ TellsSomeOf (aim.Reports form) x schedule old new = TellsSome x form schedule ol
 TellsSomeOf (aim.Prefixes depth) x schedule old new = TellsSomePrefixes x schedule old new
 
 -- What is answered to a program and the first events, and what the writer then holds.
-abbrev pub ExploresProgram : Options → Exploring → List ℕ → Program → List Event → Option (List ℕ) → Option (List ℕ) → Result Explored DriverFault → Type 0
+abbrev pub ExploresProgram : Options → Exploring → List ℕ → ScriptView → List Event → Option (List ℕ) → Option (List ℕ) → Result Explored DriverFault → Type 0
 ExploresProgram options exploring schedule program first old new (Ok told) = IsTold exploring.aim options exploring schedule program first old new false told
 ExploresProgram options exploring schedule program first old new (Err fault.Output) = (told : Explored) × IsTold exploring.aim options exploring schedule program first old new true told
 ExploresProgram options exploring schedule program first old new (Err fault.Memory) =
@@ -86,7 +86,7 @@ ExploresProgram options exploring schedule program first old new (Err fault.Inpu
 
 -- The texts say a program and the first events, and this is the answer to them.
 pub record ExploresTexts (options : Options) (exploring : Exploring) (texts : Parts) (old new : Option (List ℕ)) (result : Result Explored DriverFault) : Type 0 where
-  pub program : Program
+  pub program : ScriptView
   pub script : script_of texts.script ≡ Ok program
   pub first : List Event
   pub schedule : events_in options program texts.schedule ≡ Ok first
@@ -99,7 +99,7 @@ ExploreAnswer options exploring texts old new (Err fault.Output) = ExploresTexts
 ExploreAnswer options exploring texts old new (Err (fault.Runtime f)) = ExploresTexts options exploring texts old new (Err (fault.Runtime f))
 ExploreAnswer options exploring texts old new (Err fault.Memory) = Appends old new [] ⊎ ExploresTexts options exploring texts old new (Err fault.Memory)
 ExploreAnswer options exploring texts old new (Err (fault.Script f)) = (script_of texts.script ≡ Err f) × Appends old new []
-ExploreAnswer options exploring texts old new (Err (fault.Schedule f)) = ((program : Program) × SaysNoEvents options texts program f) × Appends old new []
+ExploreAnswer options exploring texts old new (Err (fault.Schedule f)) = ((program : ScriptView) × SaysNoEvents options texts program f) × Appends old new []
 ExploreAnswer options exploring texts old new (Err fault.Input) = Appends old new []
 
 -- the script of a text that may hold a schedule too, which is left aside
@@ -110,7 +110,7 @@ script_alone text = record { script = (parts text).script; schedule = [] }
 -- of them together miss none. Of these prefixes none is missed behind the first events, as of those that are told.
 abbrev pub PrefixesAreParts : Type 0
 PrefixesAreParts =
-    (options : Options) (whole part : Exploring) (program : Program) (first : List Event) (prefixes : List (List Event)) (endings : List Event → List Ending)
+    (options : Options) (whole part : Exploring) (program : ScriptView) (first : List Event) (prefixes : List (List Event)) (endings : List Event → List Ending)
     → part.closing ≡ whole.closing → PrefixesMissNone (setting_of options whole program first) prefixes
     → ((one : List Event) → Contains prefixes one → MissesNone (setting_of options part program (first ++ one)) (endings one))
     → (events : List Event) → All (MayCome whole.closing) events

@@ -21,7 +21,7 @@ use Rattle.acc_driver.specs.Inputs.{Parts}
 use Rattle.acc_report.specs.Puts.{AppendsFront}
 use Rattle.acc_report.specs.Reports.{Left, report}
 use Rattle.acc_schedule.specs.Schedules.{schedule_of}
-use Rattle.acc_script.specs.Scripts.{Program, script_of}
+use Rattle.acc_script.specs.Scripts.{ScriptView, script_of}
 
 -- a fault of two texts as one of the input that they were read from
 abbrev pub driver_fault : ReplayFault → DriverFault
@@ -36,10 +36,10 @@ of_input (Ok ended) = Ok ended
 of_input (Err f) = Err (driver_fault f)
 
 -- what the schedule says to a program
-abbrev pub events_in : Options → Program → List ℕ → Result (List Event) ReadFault
+abbrev pub events_in : Options → ScriptView → List ℕ → Result (List Event) ReadFault
 events_in options program schedule = schedule_of (length program.programs) options.devices schedule
 
-abbrev pub configured : Options → Program → Configuration
+abbrev pub configured : Options → ScriptView → Configuration
 configured options program =
     configuration options.devices (length program.programs) program.arrays options.cells options.room
 
@@ -54,7 +54,7 @@ IsReaderFault (fault.Runtime f) = ⊥
 
 -- the text is a script
 abbrev pub IsScript : List ℕ → Type 0
-IsScript text = (program : Program) × (script_of text ≡ Ok program)
+IsScript text = (program : ScriptView) × (script_of text ≡ Ok program)
 
 -- It is the script's own fault.
 abbrev pub IsOfScript : DriverFault → Type 0
@@ -75,17 +75,17 @@ IsWorldFault config (fault.Script f) = ⊥
 IsWorldFault config (fault.Schedule f) = ⊥
 
 -- What the two texts say: a program, and the events of the schedule.
-pub record Says (options : Options) (texts : Parts) (program : Program) (events : List Event) : Type 0 where
+pub record Says (options : Options) (texts : Parts) (program : ScriptView) (events : List Event) : Type 0 where
   pub script : script_of texts.script ≡ Ok program
   pub schedule : events_in options program texts.schedule ≡ Ok events
 
 -- The script is read, and this is the schedule's fault.
-pub record SaysNoEvents (options : Options) (texts : Parts) (program : Program) (f : ReadFault) : Type 0 where
+pub record SaysNoEvents (options : Options) (texts : Parts) (program : ScriptView) (f : ReadFault) : Type 0 where
   pub script : script_of texts.script ≡ Ok program
   pub schedule : events_in options program texts.schedule ≡ Err f
 
 -- A run of the machine on the program and the events ends in this state.
-pub record EndsIn (options : Options) (program : Program) (events : List Event) (final : State) : Type 0 where
+pub record EndsIn (options : Options) (program : ScriptView) (events : List Event) (final : State) : Type 0 where
   pub replies : List Reply
   pub runs : Runs (first_state (configured options program) program.programs) events replies final
 
@@ -94,7 +94,7 @@ abbrev pub left_in : State → Left
 left_in w = record { config = w.config; history = w.history; counts = w.counts; work = w.work; hosts = map state_of w.hosts; discarded = [] }
 
 -- the whole report of a run, and whether a host was refused
-pub record Reported (options : Options) (program : Program) (events : List Event) (old new : Option (List ℕ)) (refused : Bool) : Type 0 where
+pub record Reported (options : Options) (program : ScriptView) (events : List Event) (old new : Option (List ℕ)) (refused : Bool) : Type 0 where
   pub final : State
   pub ends : EndsIn options program events final
   pub legal : IsLegalState final
@@ -103,7 +103,7 @@ pub record Reported (options : Options) (program : Program) (events : List Event
   pub status : refused ≡ list_any is_refused (left_in final).hosts
 
 -- the report of a run, up to where the writer failed
-pub record CutOff (options : Options) (program : Program) (events : List Event) (old new : Option (List ℕ)) : Type 0 where
+pub record CutOff (options : Options) (program : ScriptView) (events : List Event) (old new : Option (List ℕ)) : Type 0 where
   pub final : State
   pub ends : EndsIn options program events final
   pub legal : IsLegalState final
@@ -111,7 +111,7 @@ pub record CutOff (options : Options) (program : Program) (events : List Event) 
   pub written : AppendsFront old new (report program.names program.programs (left_in final))
 
 -- What is answered to a program and events, and what the writer then holds.
-abbrev pub RunAnswers : Options → Program → List Event → Option (List ℕ) → Option (List ℕ) → Result Ended DriverFault → Type 0
+abbrev pub RunAnswers : Options → ScriptView → List Event → Option (List ℕ) → Option (List ℕ) → Result Ended DriverFault → Type 0
 RunAnswers options program events old new (Ok ended) = Reported options program events old new ended.refused
 RunAnswers options program events old new (Err fault.Output) = CutOff options program events old new
 RunAnswers options program events old new (Err fault.Memory) = Appends old new []
@@ -124,7 +124,7 @@ RunAnswers options program events old new (Err fault.Input) = ⊥
 -- The texts say a program and events, and this is the answer to them.
 abbrev pub AnswersRun : Options → Parts → Option (List ℕ) → Option (List ℕ) → Result Ended DriverFault → Type 0
 AnswersRun options texts old new result =
-    (program : Program) × (events : List Event) × Says options texts program events × RunAnswers options program events old new result
+    (program : ScriptView) × (events : List Event) × Says options texts program events × RunAnswers options program events old new result
 
 -- What is answered to the two texts, and what the writer then holds: for a fault of theirs nothing new.
 abbrev pub Answers : Options → Parts → Option (List ℕ) → Option (List ℕ) → Result Ended DriverFault → Type 0
@@ -133,7 +133,7 @@ Answers options texts old new (Err fault.Output) = AnswersRun options texts old 
 Answers options texts old new (Err (fault.Runtime f)) = AnswersRun options texts old new (Err (fault.Runtime f))
 Answers options texts old new (Err (fault.Script f)) = (script_of texts.script ≡ Err f) × Appends old new []
 Answers options texts old new (Err (fault.Schedule f)) =
-    ((program : Program) × SaysNoEvents options texts program f) × Appends old new []
+    ((program : ScriptView) × SaysNoEvents options texts program f) × Appends old new []
 Answers options texts old new (Err fault.Input) = Appends old new []
 Answers options texts old new (Err fault.Memory) = Appends old new []
 

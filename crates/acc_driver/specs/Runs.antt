@@ -17,7 +17,7 @@ use Rattle.acc_run.specs.Calling.{HasStopped}
 use Rattle.acc_run.specs.Finishing.{AllClosedLast, Leaves, PerformedAll}
 use Rattle.acc_report.specs.Puts.{AppendsFront}
 use Rattle.acc_report.specs.Reports.{Left, report}
-use Rattle.acc_script.specs.Scripts.{Program, script_of}
+use Rattle.acc_script.specs.Scripts.{ScriptView, script_of}
 use Rattle.acc_driver.specs.Replays.{configured}
 use Rattle.acc_driver.specs.declared.fault.DriverFault.{DriverFault}
 use Rattle.acc_driver.specs.declared.fault.DriverFault.TheVariants as fault
@@ -63,14 +63,14 @@ pub record LeftByThreads (config : Configuration) (programs : List HostProgram) 
 -- ## What is answered
 
 -- the whole report of a run, and whether a host was refused
-pub record RunReported (options : Options) (program : Program) (old new : Option (List ℕ)) (refused : Bool) : Type 0 where
+pub record RunReported (options : Options) (program : ScriptView) (old new : Option (List ℕ)) (refused : Bool) : Type 0 where
   pub left : Left
   pub ran : LeftByThreads (configured options program) program.programs left
   pub written : Appends old new (report program.names program.programs left)
   pub status : refused ≡ list_any is_refused left.hosts
 
 -- the report of a run, up to where the writer failed
-pub record RunCutOff (options : Options) (program : Program) (old new : Option (List ℕ)) : Type 0 where
+pub record RunCutOff (options : Options) (program : ScriptView) (old new : Option (List ℕ)) : Type 0 where
   pub left : Left
   pub ran : LeftByThreads (configured options program) program.programs left
   pub written : AppendsFront old new (report program.names program.programs left)
@@ -81,7 +81,7 @@ IsRunFault (Some fault) f = f ≡ fault
 IsRunFault None f = f ≡ HostsDiffer
 
 -- What is answered to a program, and what the writer then holds.
-abbrev pub ProgramAnswers : Options → Program → Option (List ℕ) → Option (List ℕ) → Result Ended DriverFault → Type 0
+abbrev pub ProgramAnswers : Options → ScriptView → Option (List ℕ) → Option (List ℕ) → Result Ended DriverFault → Type 0
 ProgramAnswers options program old new (Ok ended) = RunReported options program old new ended.refused
 ProgramAnswers options program old new (Err fault.Output) = RunCutOff options program old new
 ProgramAnswers options program old new (Err fault.Memory) = Appends old new []
@@ -93,7 +93,7 @@ ProgramAnswers options program old new (Err fault.Input) = ⊥
 -- The script says a program, and this is the answer to it.
 abbrev pub SaysAnswered : Options → List ℕ → Option (List ℕ) → Option (List ℕ) → Result Ended DriverFault → Type 0
 SaysAnswered options script old new result =
-    (program : Program) × (script_of script ≡ Ok program) × ProgramAnswers options program old new result
+    (program : ScriptView) × (script_of script ≡ Ok program) × ProgramAnswers options program old new result
 
 -- What is answered to a script, and what the writer then holds: for a fault of its own nothing new.
 abbrev pub ScriptAnswers : Options → List ℕ → Option (List ℕ) → Option (List ℕ) → Result Ended DriverFault → Type 0

@@ -11,7 +11,7 @@ use Rattle.acc_host.specs.Hosts.{is_refused}
 use Rattle.acc_report.specs.Puts.{AppendsFront}
 use Rattle.acc_report.specs.Reports.{report}
 use Rattle.acc_schedule.specs.Schedules.{lines}
-use Rattle.acc_script.specs.Scripts.{Program, script_of}
+use Rattle.acc_script.specs.Scripts.{ScriptView, script_of}
 use Rattle.acc_steps.specs.Lines.{Words}
 use Rattle.acc_steps.specs.Pictures.{IsTooLarge, ShowsLines, joined}
 use Rattle.acc_steps.specs.Walks.{AreTold, numbered_events}
@@ -32,11 +32,11 @@ tells_idle shown_as.AllLines = true
 tells_idle shown_as.Picture = false
 
 -- what the steps of a script are told with: the names of its arrays, its lines, and whether events that did nothing are told
-abbrev pub words_for : StepsAs → List ℕ → Program → Words
+abbrev pub words_for : StepsAs → List ℕ → ScriptView → Words
 words_for form script program = record { names = program.names; source = lines script; idle = tells_idle form }
 
 -- the events of a schedule for a program, each with the number of its line
-abbrev pub numbered_in : Options → Program → List ℕ → List Numbered
+abbrev pub numbered_in : Options → ScriptView → List ℕ → List Numbered
 numbered_in options program schedule = numbered_events (length program.programs) options.devices schedule
 
 -- What shows the text of all lines, and the report of what the steps left: the one and the other, or a picture that shows these lines.
@@ -46,18 +46,18 @@ ShowsSteps shown_as.AllLines told report shown = shown ≡ told ++ report
 ShowsSteps shown_as.Picture told report shown = (lines : List (List ℕ)) × (told ≡ joined lines) × ShowsLines lines shown
 
 -- Steps of the program from its start on, and the text of their lines.
-abbrev pub AreStepsOf : Options → StepsAs → List ℕ → Program → List Numbered → State → List ℕ → Type 0
+abbrev pub AreStepsOf : Options → StepsAs → List ℕ → ScriptView → List Numbered → State → List ℕ → Type 0
 AreStepsOf options form script program events final told =
     AreTold (words_for form script program) 1 events (first_state (configured options program) program.programs) final told
 
 -- all steps of a schedule, the state that they end in, and what shows them
-pub record AllSteps (options : Options) (form : StepsAs) (texts : Parts) (program : Program) (final : State) (shown : List ℕ) : Type 0 where
+pub record AllSteps (options : Options) (form : StepsAs) (texts : Parts) (program : ScriptView) (final : State) (shown : List ℕ) : Type 0 where
   pub told : List ℕ
   pub steps : AreStepsOf options form texts.script program (numbered_in options program texts.schedule) final told
   pub shows : ShowsSteps form told (report program.names program.programs (left_in final)) shown
 
 -- All steps were shown, and it is told whether a host was refused.
-pub record StepsShown (options : Options) (form : StepsAs) (texts : Parts) (program : Program) (old new : Option (List ℕ)) (refused : Bool) : Type 0 where
+pub record StepsShown (options : Options) (form : StepsAs) (texts : Parts) (program : ScriptView) (old new : Option (List ℕ)) (refused : Bool) : Type 0 where
   pub final : State
   pub shown : List ℕ
   pub steps : AllSteps options form texts program final shown
@@ -67,14 +67,14 @@ pub record StepsShown (options : Options) (form : StepsAs) (texts : Parts) (prog
   pub status : refused ≡ list_any is_refused (left_in final).hosts
 
 -- They were shown up to where the writer failed.
-pub record StepsCutOff (options : Options) (form : StepsAs) (texts : Parts) (program : Program) (old new : Option (List ℕ)) : Type 0 where
+pub record StepsCutOff (options : Options) (form : StepsAs) (texts : Parts) (program : ScriptView) (old new : Option (List ℕ)) : Type 0 where
   pub final : State
   pub shown : List ℕ
   pub steps : AllSteps options form texts program final shown
   pub written : AppendsFront old new shown
 
 -- The first steps were told, none perhaps, or a beginning of their lines was written, where the writer had failed.
-pub record StepsBegun (options : Options) (form : StepsAs) (texts : Parts) (program : Program) (old new : Option (List ℕ)) : Type 0 where
+pub record StepsBegun (options : Options) (form : StepsAs) (texts : Parts) (program : ScriptView) (old new : Option (List ℕ)) : Type 0 where
   pub count : ℕ
   pub final : State
   pub told : List ℕ
@@ -82,7 +82,7 @@ pub record StepsBegun (options : Options) (form : StepsAs) (texts : Parts) (prog
   pub written : AppendsFront old new told
 
 -- The first steps would have too large a picture, and nothing is written.
-pub record StepsTooMany (options : Options) (form : StepsAs) (texts : Parts) (program : Program) (old new : Option (List ℕ)) : Type 0 where
+pub record StepsTooMany (options : Options) (form : StepsAs) (texts : Parts) (program : ScriptView) (old new : Option (List ℕ)) : Type 0 where
   pub picture : form ≡ shown_as.Picture
   pub final : State
   pub passes : IsTooLarge (words_for form texts.script program) (numbered_in options program texts.schedule)
@@ -90,7 +90,7 @@ pub record StepsTooMany (options : Options) (form : StepsAs) (texts : Parts) (pr
   pub written : Appends old new []
 
 -- What is answered to a program and a schedule that says events, and what the writer then holds.
-abbrev pub StepsOfProgram : Options → StepsAs → Parts → Program → Option (List ℕ) → Option (List ℕ) → Result (Option Ended) DriverFault → Type 0
+abbrev pub StepsOfProgram : Options → StepsAs → Parts → ScriptView → Option (List ℕ) → Option (List ℕ) → Result (Option Ended) DriverFault → Type 0
 StepsOfProgram options form texts program old new (Ok (Some ended)) = StepsShown options form texts program old new ended.refused
 StepsOfProgram options form texts program old new (Ok None) = StepsTooMany options form texts program old new
 StepsOfProgram options form texts program old new (Err fault.Output) = StepsCutOff options form texts program old new
@@ -102,7 +102,7 @@ StepsOfProgram options form texts program old new (Err fault.Input) = ⊥
 
 -- The texts say a program and events, and this is the answer to them.
 pub record StepsOfTexts (options : Options) (form : StepsAs) (texts : Parts) (old new : Option (List ℕ)) (result : Result (Option Ended) DriverFault) : Type 0 where
-  pub program : Program
+  pub program : ScriptView
   pub script : script_of texts.script ≡ Ok program
   pub events : List Event
   pub schedule : events_in options program texts.schedule ≡ Ok events
@@ -115,5 +115,5 @@ StepsAnswer options form texts old new (Err fault.Output) = StepsOfTexts options
 StepsAnswer options form texts old new (Err (fault.Runtime f)) = StepsOfTexts options form texts old new (Err (fault.Runtime f))
 StepsAnswer options form texts old new (Err fault.Memory) = Appends old new [] ⊎ StepsOfTexts options form texts old new (Err fault.Memory)
 StepsAnswer options form texts old new (Err (fault.Script f)) = (script_of texts.script ≡ Err f) × Appends old new []
-StepsAnswer options form texts old new (Err (fault.Schedule f)) = ((program : Program) × SaysNoEvents options texts program f) × Appends old new []
+StepsAnswer options form texts old new (Err (fault.Schedule f)) = ((program : ScriptView) × SaysNoEvents options texts program f) × Appends old new []
 StepsAnswer options form texts old new (Err fault.Input) = Appends old new []

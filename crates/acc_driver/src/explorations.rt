@@ -10,7 +10,7 @@ ghost use Rattle.acc_host.specs.Hosts.{AreNumbered};
 ghost use Rattle.acc_report.specs.Puts.{sink};
 ghost use Rattle.acc_schedule.specs.Schedules.{schedule_of};
 ghost use Rattle.acc_script.specs.Arrays.{IsDeclared, texts};
-ghost use Rattle.acc_script.specs.Scripts.{program_of};
+ghost use Rattle.acc_script.specs.Scripts.{view_of_script};
 ghost use Rattle.acc_driver.specs.Explorations.{ExploreAnswer, ExploresProgram, TellsSomeOf, script_alone};
 ghost use Rattle.acc_driver.specs.Replays.{AreUsable, IsRun};
 ghost use Rattle.acc_driver.specs.inner.Explorations.{ExploresSchedule, TellsAllOf};
@@ -150,7 +150,7 @@ fn explore_behind<W: Write, V: Watcher>(
         (record { names = texts script.names.keys; cells = rows script.arrays.items }) }
     requires numbered { AreNumbered 0 script.programs.items }
     requires few { length script.programs.items ≤ MAX_HOSTS }
-    ensures answers { ExploresSchedule options exploring schedule.now (program_of script.entry)
+    ensures answers { ExploresSchedule options exploring schedule.now (view_of_script script.entry)
         (W.contents writer.old) (W.contents writer.new) result }
     ensures run { AreUsable options → IfErr result (λ f. IsRun (Err f)) }
 {
@@ -185,7 +185,7 @@ fn explore_events<W: Write, V: Watcher>(
     requires said { schedule_of (length script.programs.items) options.devices schedule.now
         ≡ Ok events.now }
     ensures answers { ExploresProgram options exploring schedule.now
-        (program_of script.entry) events.now (W.contents writer.old)
+        (view_of_script script.entry) events.now (W.contents writer.old)
         (W.contents writer.new) result }
     ensures run { AreUsable options → IfErr result (λ f. IsRun (Err f)) }
 {

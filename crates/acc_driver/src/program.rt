@@ -5,7 +5,7 @@ ghost use Rattle.acc_base.specs.Configurations.{rows, configuration, fault_of};
 ghost use Rattle.acc_base.specs.declared.config.TheConstants.{MAX_HOSTS};
 ghost use Rattle.acc_host.specs.Hosts.{AreNumbered};
 ghost use Rattle.acc_script.specs.Arrays.{IsDeclared, texts};
-ghost use Rattle.acc_script.specs.Scripts.{program_of, script_of};
+ghost use Rattle.acc_script.specs.Scripts.{view_of_script, script_of};
 ghost use Rattle.acc_driver.specs.Replays.{IsWorldFault, driver_fault};
 ghost use Rattle.acc_driver.specs.inner.Scripts.{IsScriptFault};
 
@@ -18,7 +18,7 @@ use std::alloc::Global;
 
 // What a script says.
 pub(crate) fn read_script<'a>(alloc: Global, text: &'a [u8]) -> Result<Script<'a>, ReplayFault>
-    ensures found { IfOk result (λ s. script_of text.now ≡ Ok (program_of s)) }
+    ensures found { IfOk result (λ s. script_of text.now ≡ Ok (view_of_script s)) }
     ensures declared { IfOk result (λ s.
         IsDeclared (record { names = texts s.names.keys; cells = rows s.arrays.items })) }
     ensures numbered { IfOk result (λ s. AreNumbered 0 s.programs.items) }

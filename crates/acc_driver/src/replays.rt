@@ -14,7 +14,7 @@ ghost use Rattle.acc_driver.specs.Replays.{Answers, RunAnswers, AreUsable, IsOfS
 ghost use Rattle.acc_driver.specs.inner.Scripts.{ReportsWorld, ScheduleAnswers};
 ghost use Rattle.acc_base.specs.declared.fault.Fault.TheVariants.{Memory};
 ghost use Rattle.acc_schedule.specs.Schedules.{kept_events};
-ghost use Rattle.acc_script.specs.Scripts.{program_of, script_of};
+ghost use Rattle.acc_script.specs.Scripts.{view_of_script, script_of};
 
 use crate::fault::{DriverFault, ReplayFault};
 use crate::input::{read_text, split};
@@ -161,7 +161,7 @@ fn replay_script<W: Write>(
         (record { names = texts script.names.keys; cells = rows script.arrays.items }) }
     requires numbered { AreNumbered 0 script.programs.items }
     requires few { length script.programs.items ≤ MAX_HOSTS }
-    ensures answers { ScheduleAnswers options (program_of script.entry) schedule.now
+    ensures answers { ScheduleAnswers options (view_of_script script.entry) schedule.now
         (W.contents writer.old) (W.contents writer.new) (of_input result) }
     ensures run { AreUsable options → IsRun (of_input result) }
 {
@@ -186,7 +186,7 @@ fn run<W: Write>(
         (record { names = texts script.names.keys; cells = rows script.arrays.items }) }
     requires numbered { AreNumbered 0 script.programs.items }
     requires few { length script.programs.items ≤ MAX_HOSTS }
-    ensures answers { RunAnswers options (program_of script.entry) schedule.now
+    ensures answers { RunAnswers options (view_of_script script.entry) schedule.now
         (W.contents writer.old) (W.contents writer.new) (of_input result) }
     ensures run { AreUsable options → IsRun (of_input result) }
 {

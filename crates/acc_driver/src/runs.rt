@@ -11,7 +11,7 @@ ghost use Rattle.acc_run.specs.Agreement.{Agree};
 ghost use Rattle.acc_run.specs.Finishing.{HasCounts, histories_of};
 ghost use Rattle.acc_report.specs.Reports.{left_by};
 ghost use Rattle.acc_script.specs.Arrays.{IsDeclared, texts};
-ghost use Rattle.acc_script.specs.Scripts.{program_of};
+ghost use Rattle.acc_script.specs.Scripts.{view_of_script};
 ghost use Rattle.acc_driver.specs.Replays.{AreUsable};
 ghost use Rattle.acc_driver.specs.Runs.{AreAbandoned, AreFinished, IsConfigured, LeftByThreads, ProgramAnswers, ScriptAnswers};
 
@@ -93,7 +93,7 @@ fn run<R: Threads + Wait + Sync, G: Gate + Sync, M: Monitor + Sync, W: Write>(
         (record { names = texts script.names.keys; cells = rows script.arrays.items }) }
     requires numbered { AreNumbered 0 script.programs.items }
     requires few { length script.programs.items ≤ MAX_HOSTS }
-    ensures answers { ProgramAnswers options (program_of script.entry) (W.contents writer.old)
+    ensures answers { ProgramAnswers options (view_of_script script.entry) (W.contents writer.old)
         (W.contents writer.new) result }
     ensures configured { AreUsable options → IsConfigured result }
 {

@@ -5,7 +5,7 @@ ghost use Rattle.acc_base.specs.Configurations.{rows};
 ghost use Rattle.acc_base.specs.declared.config.TheConstants.{MAX_HOSTS};
 ghost use Rattle.acc_host.specs.Hosts.{AreNumbered};
 ghost use Rattle.acc_script.specs.Arrays.{IsDeclared, texts};
-ghost use Rattle.acc_script.specs.Scripts.{program_of};
+ghost use Rattle.acc_script.specs.Scripts.{view_of_script};
 ghost use Rattle.acc_driver.specs.Inputs.{parts};
 ghost use Rattle.acc_driver.specs.Replays.{AreUsable, IsRun};
 ghost use Rattle.acc_driver.specs.declared.steps.StepsAs.{StepsAs};
@@ -144,7 +144,7 @@ fn steps_of<'t, W: Write>(
     requires numbered { AreNumbered 0 script.programs.items }
     requires few { length script.programs.items ≤ MAX_HOSTS }
     ensures answers { StepsOfSchedule options form
-        (record { script = text.now; schedule = schedule.now }) (program_of script.entry)
+        (record { script = text.now; schedule = schedule.now }) (view_of_script script.entry)
         (W.contents writer.old) (W.contents writer.new) result }
     ensures run { AreUsable options → IfErr result (λ f. IsRun (Err f)) }
 {

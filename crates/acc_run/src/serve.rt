@@ -1,9 +1,5 @@
 //! The worker of a queue.
 
-ghost use Rattle.acc_run.specs.declared.token.TokenEntry.TheVariants as listed;
-ghost use Rattle.acc_work.specs.declared.item.ItemLabel.TheVariants as to_record;
-ghost use Rattle.acc_work.specs.declared.item.Shown.TheVariants as shown;
-
 use crate::gate::Gate;
 use crate::pause::Pause;
 use crate::runtime::Runtime;

@@ -67,15 +67,15 @@ may_wait head.Wait = false
 may_wait h = true
 
 -- the word without an argument that it may have: `finalize` or `if_present`
-abbrev pub is_mark : Head → List ℕ → Bool
-is_mark head.ExitData word = bytes_eq word (codes "finalize")
-is_mark head.Update word = bytes_eq word (codes "if_present")
-is_mark h word = false
+abbrev pub is_flag : Head → List ℕ → Bool
+is_flag head.ExitData word = bytes_eq word (codes "finalize")
+is_flag head.Update word = bytes_eq word (codes "if_present")
+is_flag h word = false
 
 -- ## Clauses that have been read
 
 abbrev pub no_clauses : Waits → Clauses
-no_clauses waits = record { items = []; target = Plain; waits = waits; marked = false }
+no_clauses waits = record { items = []; target = Plain; waits = waits; flagged = false }
 
 abbrev pub is_plain : Target → Bool
 is_plain Plain = true
@@ -87,7 +87,7 @@ waits_for_nothing w = false
 
 -- Whether none has been read, in a directive that isn't `wait`.
 abbrev pub is_bare : Clauses → Bool
-is_bare c = (length c.items == 0 && is_plain c.target) && (waits_for_nothing c.waits && not c.marked)
+is_bare c = (length c.items == 0 && is_plain c.target) && (waits_for_nothing c.waits && not c.flagged)
 
 -- Whether the directive can end here.
 abbrev pub is_complete : Head → Clauses → Bool
@@ -130,8 +130,8 @@ clause_of arrays h clauses t =
     (target_at t.after >>= λ target. Ok (record clauses { target = target.0 }, target.1))
     else (if bytes_eq t.text (codes "wait") && (may_wait h && waits_for_nothing clauses.waits) then
     (waits_at t.after >>= λ waits. Ok (record clauses { waits = waits.0 }, waits.1))
-    else (if is_mark h t.text && not clauses.marked then
-    Ok (record clauses { marked = true }, t.after)
+    else (if is_flag h t.text && not clauses.flagged then
+    Ok (record clauses { flagged = true }, t.after)
     else data_clause arrays h clauses t (clause_named t.text)))
 
 -- A directive ends with its line, or with the text.

@@ -52,8 +52,8 @@ placed_with k c = placed k c.items c.target c.waits
 -- whole.
 unfoldable pub act_behind : Declared → Head → Clauses → Spot → Result (Act × Spot) ReadFault
 act_behind arrays head.EnterData c at = Ok (placed_with kind.EnterData c, at)
-act_behind arrays head.ExitData c at = Ok (placed_with (kind.ExitData c.marked) c, at)
-act_behind arrays head.Update c at = Ok (placed_with (kind.Update c.marked) c, at)
+act_behind arrays head.ExitData c at = Ok (placed_with (kind.ExitData c.flagged) c, at)
+act_behind arrays head.Update c at = Ok (placed_with (kind.Update c.flagged) c, at)
 act_behind arrays head.Wait c at = Ok (placed_with kind.Wait c, at)
 act_behind arrays head.Data c at = expect false (codes "{") at >>= λ at. Ok (placed_with kind.Data c, at)
 act_behind arrays head.Loop c at = loop_at arrays at >>= λ l. Ok (placed_with (kind.Loop l.0) c, l.1)

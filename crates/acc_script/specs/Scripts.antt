@@ -15,13 +15,13 @@ use Rattle.acc_script.specs.Arrays.{Declared, texts, none_declared, array_turn}
 use Rattle.acc_script.specs.Statements.{body, statement_turn}
 
 -- the names of the arrays, their initial values, and the programs of the hosts
-pub record Program : Type 0 where
+pub record ScriptView : Type 0 where
   pub names : List (List ℕ)
   pub arrays : List (List ℤ)
   pub programs : List HostProgram
 
-abbrev pub program : Declared → List HostProgram → Program
-program arrays programs = record { names = arrays.names; arrays = arrays.cells; programs = programs }
+abbrev pub script_view : Declared → List HostProgram → ScriptView
+script_view arrays programs = record { names = arrays.names; arrays = arrays.cells; programs = programs }
 
 -- hostpart = "host" "{" { statement } "}", behind the "host" of the host of this number
 unfoldable pub host_at : Declared → ℕ → Spot → Result (HostProgram × Spot) ReadFault
@@ -40,15 +40,15 @@ host_turn arrays programs at =
     else (host_at arrays (length programs) at >>= λ p. Ok (turn true (programs ++ p.0 ∷ []) p.1)))
 
 -- script = { array } { hostpart }
-unfoldable pub script_at : Spot → Result Program ReadFault
+unfoldable pub script_at : Spot → Result ScriptView ReadFault
 script_at at =
     all_turns array_turn none_declared at >>= λ arrays.
     all_turns (host_turn arrays.so_far) [] arrays.at >>= λ programs.
-    Ok (program arrays.so_far programs.so_far)
+    Ok (script_view arrays.so_far programs.so_far)
 
-unfoldable pub script_of : List ℕ → Result Program ReadFault
+unfoldable pub script_of : List ℕ → Result ScriptView ReadFault
 script_of text = within MAX_TEXT (λ (text : List ℕ). script_at (record { line = 1; bytes = text })) text
 
 -- a script as the reader gives it
-abbrev pub program_of : Script → Program
-program_of s = record { names = texts s.names.keys; arrays = rows s.arrays.items; programs = s.programs.items }
+abbrev pub view_of_script : Script → ScriptView
+view_of_script s = record { names = texts s.names.keys; arrays = rows s.arrays.items; programs = s.programs.items }

@@ -16,13 +16,13 @@ use acc_place::{Clause, DataItem, Target, Waits};
 use acc_token::{At, ReadError, ReadFault, Token, expect, is, sign_at, token_at, unwanted_token};
 use std::alloc::Global;
 
-/// The clauses that have been read of a directive; `marked` tells that `finalize` or `if_present` is one of them.
+/// The clauses that have been read of a directive; `flagged` tells that `finalize` or `if_present` is one of them.
 #[derive(Drop)]
 pub struct Clauses {
     pub items: Few<DataItem>,
     pub target: Target,
     pub waits: Waits,
-    pub marked: bool,
+    pub flagged: bool,
 }
 
 // Whether a word is one of the three names of a data clause.
@@ -70,7 +70,7 @@ impl Clauses {
             items: Few::new(alloc),
             target: Target::Plain,
             waits,
-            marked: false,
+            flagged: false,
         }
     }
 
@@ -89,7 +89,7 @@ impl Clauses {
     fn is_bare(&self) -> bool
         ensures { result ≡ is_bare self.now }
     {
-        self.items.as_slice().is_empty() && self.is_plain() && !self.is_waiting() && !self.marked
+        self.items.as_slice().is_empty() && self.is_plain() && !self.is_waiting() && !self.flagged
     }
 
     // Whether the directive can end behind them.
@@ -193,8 +193,8 @@ fn clause_of<'a>(
         let (waits, at) = waits_at(alloc, t.after)?;
         clauses.waits = waits;
         Ok(at)
-    } else if head.is_mark(t.text) && !clauses.marked {
-        clauses.marked = true;
+    } else if head.is_flag(t.text) && !clauses.flagged {
+        clauses.flagged = true;
         Ok(t.after)
     } else {
         data_clause(arrays, head, clauses, t)

@@ -104,7 +104,7 @@ fn placed_with<'a>(
         mut items,
         target,
         waits,
-        marked: _,
+        flagged: _,
     } = clauses;
     items.shrink_to_fit();
     let written = Written {
@@ -134,11 +134,11 @@ fn act_behind<'a>(
     match head {
         Head::EnterData => placed_with(alloc, Kind::EnterData, clauses, at),
         Head::ExitData => {
-            let finalize = clauses.marked;
+            let finalize = clauses.flagged;
             placed_with(alloc, Kind::ExitData { finalize }, clauses, at)
         }
         Head::Update => {
-            let if_present = clauses.marked;
+            let if_present = clauses.flagged;
             placed_with(alloc, Kind::Update { if_present }, clauses, at)
         }
         Head::Wait => placed_with(alloc, Kind::Wait, clauses, at),

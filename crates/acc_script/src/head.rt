@@ -1,7 +1,7 @@
 //! What a directive begins with, and the clauses that may follow.
 
 ghost use Rattle.std.specs.Prelude.{◌≡◌, ◌<◌, true, length};
-ghost use Rattle.acc_script.specs.Clauses.{allows, needs_item, may_have_async, may_wait, is_mark};
+ghost use Rattle.acc_script.specs.Clauses.{allows, needs_item, may_have_async, may_wait, is_flag};
 
 use acc_place::{Clause, Kind};
 use acc_token::is;
@@ -51,8 +51,8 @@ impl Head {
     }
 
     // Whether this is the word without an argument that the directive may have.
-    pub(crate) fn is_mark(self, word: &[u8]) -> bool
-        ensures mark { result ≡ is_mark self word.now }
+    pub(crate) fn is_flag(self, word: &[u8]) -> bool
+        ensures flag { result ≡ is_flag self word.now }
         ensures some { result ≡ true → 0 < length word.now }
     {
         match self {

@@ -8,7 +8,7 @@ ghost use Rattle.acc_base.specs.declared.config.TheConstants.{MAX_HOSTS};
 ghost use Rattle.acc_host.specs.Hosts.{AreNumbered};
 ghost use Rattle.acc_script.specs.Arrays.{texts, IsDeclared};
 ghost use Rattle.acc_token.specs.Faults.{Gives, Shortens};
-ghost use Rattle.acc_script.specs.Scripts.{program, host_at, host_turn, script_at, script_of, program_of};
+ghost use Rattle.acc_script.specs.Scripts.{script_view, host_at, host_turn, script_at, script_of, view_of_script};
 ghost use Rattle.acc_token.specs.Tokens.{spot};
 ghost use Rattle.acc_token.specs.Turns.{turn, all_turns};
 
@@ -114,7 +114,7 @@ fn hosts_at<'a>(
 // The arrays and the parts of the hosts, from here on.
 #[tactic(auto, unfolding(crate::specs::Scripts::script_at))]
 fn script_at<'a>(alloc: Global, at: At<'a>) -> Result<Script<'a>, ReadError>
-    ensures found { Gives program_of result (script_at (spot at.entry)) }
+    ensures found { Gives view_of_script result (script_at (spot at.entry)) }
     ensures declared { IfOk result (λ s.
         IsDeclared (record { names = texts s.names.keys; cells = rows s.arrays.items })) }
     ensures numbered { IfOk result (λ s. AreNumbered 0 s.programs.items) }
@@ -139,7 +139,7 @@ fn script_at<'a>(alloc: Global, at: At<'a>) -> Result<Script<'a>, ReadError>
 /// The first fault of the text; `Memory` for want of memory.
 #[tactic(auto, unfolding(crate::specs::Scripts::script_of))]
 pub fn read<'a>(alloc: Global, text: &'a [u8]) -> Result<Script<'a>, ReadError>
-    ensures found { Gives program_of result (script_of text.now) }
+    ensures found { Gives view_of_script result (script_of text.now) }
     ensures long { IfErr result (λ error. error ≡ Memory → length text.now ≤ MAX_TEXT) }
     ensures declared { IfOk result (λ s.
         IsDeclared (record { names = texts s.names.keys; cells = rows s.arrays.items })) }

@@ -4,7 +4,7 @@ use Rattle.std.specs.Io.KnownBytes.{Keeps}
 use Rattle.acc_explore.specs.Endings.{counts_text, endings_text}
 use Rattle.acc_explore.specs.Prefixes.{prefix_line, prefixes_text}
 use Rattle.acc_host.specs.declared.event.Event.{Event}
-use Rattle.acc_script.specs.Scripts.{Program}
+use Rattle.acc_script.specs.Scripts.{ScriptView}
 use Rattle.acc_driver.specs.declared.explorations.Aim.{Aim}
 use Rattle.acc_driver.specs.declared.explorations.Aim.TheVariants as aim
 use Rattle.acc_driver.specs.declared.explorations.Explored.{Explored}
@@ -19,7 +19,7 @@ use Rattle.accq.specs.Words.{AskedExplore}
 use Rattle.accq.proofs.StatusReplay.{IsSent, appends_front, appends_kept}
 
 -- what was told stays so where all of it was sent on
-kept : (asked : Aim) (options : Options) (exploring : Exploring) (schedule : List ℕ) (program : Program) (first : List Event) (old whole new : Option (List ℕ)) (told : Explored)
+kept : (asked : Aim) (options : Options) (exploring : Exploring) (schedule : List ℕ) (program : ScriptView) (first : List Event) (old whole new : Option (List ℕ)) (told : Explored)
     → Keeps whole new → IsTold asked options exploring schedule program first old whole false told → IsTold asked options exploring schedule program first old new false told
 kept (aim.Reports form) options exploring schedule program first old whole new (explored.Reports counts) same is =
     let x = is.told in
@@ -52,7 +52,7 @@ kept (aim.Reports form) options exploring schedule program first old whole new (
 kept (aim.Prefixes depth) options exploring schedule program first old whole new (explored.Reports counts) same is = absurd is
 
 -- or a beginning of it was written, where the writer fails
-cut : (asked : Aim) (options : Options) (exploring : Exploring) (schedule : List ℕ) (program : Program) (first : List Event) (old new : Option (List ℕ)) (told : Explored)
+cut : (asked : Aim) (options : Options) (exploring : Exploring) (schedule : List ℕ) (program : ScriptView) (first : List Event) (old new : Option (List ℕ)) (told : Explored)
     → IsTold asked options exploring schedule program first old new false told → IsTold asked options exploring schedule program first old new true told
 cut (aim.Reports form) options exploring schedule program first old new (explored.Reports counts) is =
     let x = is.told in

@@ -42,7 +42,7 @@ use Rattle.test_grammar.specs.ActSpellings.{signed, more_queues, spelled_queues,
 use Rattle.test_grammar.proofs.RangeSpelling.{array_named, range_is_read_again}
 use Rattle.test_grammar.proofs.LoopSpelling.{loop_is_read_again}
 use Rattle.acc_token.proofs.TokenSpelling.{IsNumber, is_number, digit_bounds, not_second, number_token, word_token, opening_bracket}
-use Rattle.test_grammar.proofs.ClauseSpelling.{at_line, lex, opens, closes, minus, closes_cell, behind_space, queue_here, waits_all, waits_listed, apart_line, apart_target, brackets, range_text, range_behind_here, can_mark, or_true, CanHave, clauses_here, async_here}
+use Rattle.test_grammar.proofs.ClauseSpelling.{at_line, lex, opens, closes, minus, closes_cell, behind_space, queue_here, waits_all, waits_listed, apart_line, apart_target, brackets, range_text, range_behind_here, can_flag, or_true, CanHave, clauses_here, async_here}
 
 -- an act, with its first token
 pub record IsReadHere (arrays : Declared) (depth line : ℕ) (text : List ℕ) (act : Act) (after : Spot) : Type 0 where
@@ -60,12 +60,12 @@ unfolding directive_at head_of act_behind token_at gap_at token_len expect exact
 enter_line arrays depth c line rest names can = rw (clauses_here arrays head.EnterData c line rest names can) refl
 
 exit_line : (arrays : Declared) (depth : ℕ) (c : Clauses) (line : ℕ) (rest : List ℕ) → AreNames arrays.names → CanHave arrays.names head.ExitData c
-    → directive_at arrays depth (at_line line (codes "pragma acc exit data " ++ spelled_clauses arrays.names head.ExitData c rest)) ≡ Ok (placed_with (kind.ExitData c.marked) c, at_line (line + 1) rest)
+    → directive_at arrays depth (at_line line (codes "pragma acc exit data " ++ spelled_clauses arrays.names head.ExitData c rest)) ≡ Ok (placed_with (kind.ExitData c.flagged) c, at_line (line + 1) rest)
 unfolding directive_at head_of act_behind token_at gap_at token_len expect exactly
 exit_line arrays depth c line rest names can = rw (clauses_here arrays head.ExitData c line rest names can) refl
 
 update_line : (arrays : Declared) (depth : ℕ) (c : Clauses) (line : ℕ) (rest : List ℕ) → AreNames arrays.names → CanHave arrays.names head.Update c
-    → directive_at arrays depth (at_line line (codes "pragma acc update " ++ spelled_clauses arrays.names head.Update c rest)) ≡ Ok (placed_with (kind.Update c.marked) c, at_line (line + 1) rest)
+    → directive_at arrays depth (at_line line (codes "pragma acc update " ++ spelled_clauses arrays.names head.Update c rest)) ≡ Ok (placed_with (kind.Update c.flagged) c, at_line (line + 1) rest)
 unfolding directive_at head_of act_behind token_at gap_at token_len expect exactly
 update_line arrays depth c line rest names can = rw (clauses_here arrays head.Update c line rest names can) refl
 
@@ -150,11 +150,11 @@ some_waits waits.Nothing may = absurd (false≢true may)
 some_waits waits.All may = refl
 some_waits (waits.Listed values) may = refl
 
-can_have : (n : Names) (h : Head) (k : Kind) (items : List DataItem) (target : Target) (w : Waits) (marked : Bool) → IsSayableWritten n (written k items target w)
+can_have : (n : Names) (h : Head) (k : Kind) (items : List DataItem) (target : Target) (w : Waits) (flagged : Bool) → IsSayableWritten n (written k items target w)
     → list_all (λ (i : DataItem). allows h i.clause) items ≡ true → (length items == 0) ≡ false
-    → (is_plain target || may_have_async h) ≡ true → (waits_for_nothing w || may_wait h) ≡ true → (not marked || can_mark h) ≡ true
-    → CanHave n.arrays.names h (clauses_of (written k items target w) marked)
-can_have n h k items target w marked said allowed some async wait mark = record {
+    → (is_plain target || may_have_async h) ≡ true → (waits_for_nothing w || may_wait h) ≡ true → (not flagged || can_flag h) ≡ true
+    → CanHave n.arrays.names h (clauses_of (written k items target w) flagged)
+can_have n h k items target w flagged said allowed some async wait flag = record {
   items = said.items;
   allowed = allowed;
   few = said.few;
@@ -163,7 +163,7 @@ can_have n h k items target w marked said allowed some async wait mark = record 
   target = said.target;
   wait = wait;
   queues = said.queues;
-  mark = mark;
+  flag = flag;
 }
 
 -- ## Directives
@@ -243,7 +243,7 @@ module _ (n : Names) (depth line : ℕ) (behind : List ℕ) (names : AreNames n.
         target = said.target;
         wait = or_true (waits_for_nothing w);
         queues = said.queues;
-        mark = refl;
+        flag = refl;
       } in
       directive_here n.arrays depth line (codes "parallel loop " ++ spelled_clauses n.arrays.names head.Loop c (spelled_loop n k behind)) (placed_with (kind.Loop k) c) (at_line (line + 1) behind)
       (loop_line n.arrays depth c line (spelled_loop n k behind) names can ∙ loop_behind k c apart said.kinds)

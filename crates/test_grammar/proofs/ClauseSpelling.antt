@@ -24,9 +24,9 @@ use Rattle.acc_token.specs.Turns.{Turn, turn, all_turns}
 use Rattle.acc_script.specs.Arrays.{Declared, size_of}
 use Rattle.acc_script.specs.Ranges.{item, range_behind, item_behind, item_turn}
 use Rattle.acc_script.specs.Queues.{queue_of, queue_behind, queues_turn, waits_at}
-use Rattle.acc_script.specs.Clauses.{allows, is_mark, may_have_async, may_wait, is_plain, waits_for_nothing, is_complete, data_clause, target_at, ranges_at, clause_of, ends_line, clause_turn, no_clauses}
+use Rattle.acc_script.specs.Clauses.{allows, is_flag, may_have_async, may_wait, is_plain, waits_for_nothing, is_complete, data_clause, target_at, ranges_at, clause_of, ends_line, clause_turn, no_clauses}
 use Rattle.test_grammar.specs.RangeSpellings.{AreNames, spelled}
-use Rattle.test_grammar.specs.ActSpellings.{signed, more_queues, spelled_queues, IsQueue, word_of, spelled_items, spelled_waits, spelled_target, spelled_mark, spelled_clauses, IsSayableRange, AreSayable, IsSayableTarget}
+use Rattle.test_grammar.specs.ActSpellings.{signed, more_queues, spelled_queues, IsQueue, word_of, spelled_items, spelled_waits, spelled_target, spelled_flag, spelled_clauses, IsSayableRange, AreSayable, IsSayableTarget}
 use Rattle.test_grammar.proofs.RangeSpelling.{array_named, bounds_here}
 use Rattle.acc_token.proofs.TokenSpelling.{IsNumber, is_number, digit_bounds, not_second, number_token, word_token, opening_bracket}
 use Rattle.test_grammar.proofs.ListSpelling.{one_turn, last_turn}
@@ -183,11 +183,11 @@ line_feed line rest = rw (not_second (front rest == 61)) refl
 pub apart_line : (rest : List ℕ) → IsApart (10 ∷ rest)
 apart_line rest = record { text = codes "\n"; after = λ line. at_line (line + 1) rest; token = λ line. line_feed line rest; other = refl }
 
-pub apart_mark : (h : Head) (marked : Bool) (rest : List ℕ) → IsApart (spelled_mark h marked (10 ∷ rest))
+pub apart_flag : (h : Head) (flagged : Bool) (rest : List ℕ) → IsApart (spelled_flag h flagged (10 ∷ rest))
 unfolding token_at gap_at token_len
-apart_mark head.ExitData true rest = record { text = codes "finalize"; after = λ line. at_line line (32 ∷ 10 ∷ rest); token = λ line. refl; other = refl }
-apart_mark head.Update true rest = record { text = codes "if_present"; after = λ line. at_line line (32 ∷ 10 ∷ rest); token = λ line. refl; other = refl }
-apart_mark h marked rest = apart_line rest
+apart_flag head.ExitData true rest = record { text = codes "finalize"; after = λ line. at_line line (32 ∷ 10 ∷ rest); token = λ line. refl; other = refl }
+apart_flag head.Update true rest = record { text = codes "if_present"; after = λ line. at_line line (32 ∷ 10 ∷ rest); token = λ line. refl; other = refl }
+apart_flag h flagged rest = apart_line rest
 
 pub apart_target : (target : Target) (rest : List ℕ) → IsApart rest → IsApart (spelled_target target rest)
 unfolding token_at gap_at token_len
@@ -246,7 +246,7 @@ ranges_here arrays clause c line r rest names said few =
 -- ## Clauses
 
 abbrev clauses : List DataItem → Target → Waits → Bool → Clauses
-clauses items target w marked = record { items = items; target = target; waits = w; marked = marked }
+clauses items target w flagged = record { items = items; target = target; waits = w; flagged = flagged }
 
 turn_of_clause : (arrays : Declared) (h : Head) (c more : Clauses) (at after : Spot) (t : Lexeme) → token_at true at ≡ Ok t
     → ends_line t.text ≡ false → bytes_eq t.text (codes ",") ≡ false → clause_of arrays h c t ≡ Ok (more, after)
@@ -311,27 +311,27 @@ no_if_present Delete = refl
 no_if_present UpdateSelf = refl
 no_if_present UpdateDevice = refl
 
-no_mark : (h : Head) (clause : Clause) → is_mark h (word_of clause) ≡ false
-no_mark head.EnterData clause = refl
-no_mark head.ExitData clause = no_finalize clause
-no_mark head.Update clause = no_if_present clause
-no_mark head.Wait clause = refl
-no_mark head.Data clause = refl
-no_mark head.Loop clause = refl
+no_flag : (h : Head) (clause : Clause) → is_flag h (word_of clause) ≡ false
+no_flag head.EnterData clause = refl
+no_flag head.ExitData clause = no_finalize clause
+no_flag head.Update clause = no_if_present clause
+no_flag head.Wait clause = refl
+no_flag head.Data clause = refl
+no_flag head.Loop clause = refl
 
 -- the word names its data clause
 named : (arrays : Declared) (h : Head) (c : Clauses) (line : ℕ) (after : Spot) (clause : Clause)
     → clause_of arrays h c (record { text = word_of clause; line = line; after = after }) ≡ data_clause arrays h c (record { text = word_of clause; line = line; after = after }) (Some clause)
 unfolding clause_of
-named arrays h c line after Copy = rw (no_mark h Copy) refl
-named arrays h c line after Copyin = rw (no_mark h Copyin) refl
-named arrays h c line after Copyout = rw (no_mark h Copyout) refl
-named arrays h c line after Create = rw (no_mark h Create) refl
-named arrays h c line after Present = rw (no_mark h Present) refl
-named arrays h c line after NoCreate = rw (no_mark h NoCreate) refl
-named arrays h c line after Delete = rw (no_mark h Delete) refl
-named arrays h c line after UpdateSelf = rw (no_mark h UpdateSelf) refl
-named arrays h c line after UpdateDevice = rw (no_mark h UpdateDevice) refl
+named arrays h c line after Copy = rw (no_flag h Copy) refl
+named arrays h c line after Copyin = rw (no_flag h Copyin) refl
+named arrays h c line after Copyout = rw (no_flag h Copyout) refl
+named arrays h c line after Create = rw (no_flag h Create) refl
+named arrays h c line after Present = rw (no_flag h Present) refl
+named arrays h c line after NoCreate = rw (no_flag h NoCreate) refl
+named arrays h c line after Delete = rw (no_flag h Delete) refl
+named arrays h c line after UpdateSelf = rw (no_flag h UpdateSelf) refl
+named arrays h c line after UpdateDevice = rw (no_flag h UpdateDevice) refl
 
 -- a data clause
 item_turn_here : (arrays : Declared) (h : Head) (c : Clauses) (line : ℕ) (i : DataItem) (rest : List ℕ)
@@ -345,21 +345,21 @@ item_turn_here arrays h c line i rest names said few allowed =
     (clause_token i.clause line text) (no_end i.clause) (no_comma i.clause) clause
 
 -- the data clauses that are left, and what is read behind them
-items_behind : (arrays : Declared) (h : Head) (items so_far : List DataItem) (target : Target) (w : Waits) (marked : Bool) (line : ℕ) (rest : List ℕ) (total : Turn Clauses)
+items_behind : (arrays : Declared) (h : Head) (items so_far : List DataItem) (target : Target) (w : Waits) (flagged : Bool) (line : ℕ) (rest : List ℕ) (total : Turn Clauses)
     → AreNames arrays.names → All (λ (i : DataItem). IsSayableRange arrays.names i.range) items → list_all (λ (i : DataItem). allows h i.clause) items ≡ true → length so_far + length items ≤ MAX_RANGES
-    → all_turns (clause_turn arrays h) (clauses (so_far ++ items) target w marked) (at_line line (32 ∷ rest)) ≡ Ok total
-    → all_turns (clause_turn arrays h) (clauses so_far target w marked) (at_line line (32 ∷ spelled_items arrays.names items rest)) ≡ Ok total
+    → all_turns (clause_turn arrays h) (clauses (so_far ++ items) target w flagged) (at_line line (32 ∷ rest)) ≡ Ok total
+    → all_turns (clause_turn arrays h) (clauses so_far target w flagged) (at_line line (32 ∷ spelled_items arrays.names items rest)) ≡ Ok total
 unfolding spelled_items
-items_behind arrays h [] so_far target w marked line rest total names said allowed few read = rw (append-nil so_far) at read
-items_behind arrays h (i ∷ items) so_far target w marked line rest total names said allowed few read =
+items_behind arrays h [] so_far target w flagged line rest total names said allowed few read = rw (append-nil so_far) at read
+items_behind arrays h (i ∷ items) so_far target w flagged line rest total names said allowed few read =
     let P : DataItem → Type 0 = λ (i : DataItem). IsSayableRange arrays.names i.range in
     let behind : List ℕ = 32 ∷ spelled_items arrays.names items rest in
     let allow = and_parts (allows h i.clause) (list_all (λ (i : DataItem). allows h i.clause) items) allowed in
-    let read' : all_turns (clause_turn arrays h) (clauses ((so_far ++ i ∷ []) ++ items) target w marked) (at_line line (32 ∷ rest)) ≡ Ok total = rw (append_assoc so_far (i ∷ []) items) read in
-    let more = items_behind arrays h items (so_far ++ i ∷ []) target w marked line rest total names (All-tail P i items said) allow.1 (omega (arith, length-append so_far (i ∷ []))) read' in
-    one_turn (clause_turn arrays h) (clauses so_far target w marked) (clauses (so_far ++ i ∷ []) target w marked)
+    let read' : all_turns (clause_turn arrays h) (clauses ((so_far ++ i ∷ []) ++ items) target w flagged) (at_line line (32 ∷ rest)) ≡ Ok total = rw (append_assoc so_far (i ∷ []) items) read in
+    let more = items_behind arrays h items (so_far ++ i ∷ []) target w flagged line rest total names (All-tail P i items said) allow.1 (omega (arith, length-append so_far (i ∷ []))) read' in
+    one_turn (clause_turn arrays h) (clauses so_far target w flagged) (clauses (so_far ++ i ∷ []) target w flagged)
     (at_line line (32 ∷ (word_of i.clause ++ 40 ∷ (spelled arrays.names i.range ++ 41 ∷ behind)))) (at_line line behind) total
-    (item_turn_here arrays h (clauses so_far target w marked) line i behind names (said 0 i (omega arith)) (omega arith) allow.0)
+    (item_turn_here arrays h (clauses so_far target w flagged) line i behind names (said 0 i (omega arith)) (omega arith) allow.0)
     (omega (arith, length-append (word_of i.clause) (40 ∷ (spelled arrays.names i.range ++ 41 ∷ behind)), length-append (spelled arrays.names i.range) (41 ∷ behind))) more
 
 -- ## The other clauses
@@ -401,24 +401,24 @@ target_valued line value rest is =
     let here = queue_here true line value (41 ∷ rest) is refl refl in
     rw (opens true line (signed value ++ 41 ∷ rest), here.first, here.queue, closes true line rest) refl
 
-module _ (arrays : Declared) (h : Head) (items : List DataItem) (marked : Bool) (line : ℕ) (total : Turn Clauses) where
+module _ (arrays : Declared) (h : Head) (items : List DataItem) (flagged : Bool) (line : ℕ) (total : Turn Clauses) where
   -- what is read from these clauses on
   abbrev Reads : Target → Waits → List ℕ → Type 0
-  Reads target w rest = all_turns (clause_turn arrays h) (clauses items target w marked) (at_line line rest) ≡ Ok total
+  Reads target w rest = all_turns (clause_turn arrays h) (clauses items target w flagged) (at_line line rest) ≡ Ok total
 
   waits_behind : (w : Waits) (rest : List ℕ) → (waits_for_nothing w || may_wait h) ≡ true → AreSayable w → IsApart rest
       → Reads Plain w (32 ∷ rest) → Reads Plain waits.Nothing (32 ∷ spelled_waits w rest)
   waits_behind waits.Nothing rest may said apart read = read
   waits_behind waits.All rest may said apart read =
-      let c : Clauses = clauses items Plain waits.Nothing marked in
-      let more : Clauses = clauses items Plain waits.All marked in
+      let c : Clauses = clauses items Plain waits.Nothing flagged in
+      let more : Clauses = clauses items Plain waits.All flagged in
       let text : List ℕ = 32 ∷ (codes "wait" ++ 32 ∷ rest) in
       one_turn (clause_turn arrays h) c more (at_line line text) (at_line line (32 ∷ rest)) total
       (turn_of_clause arrays h c more (at_line line text) (at_line line (32 ∷ rest)) (lex (codes "wait") line (32 ∷ rest)) (wait_token line rest) refl refl
       (wait_clause arrays h c line waits.All (at_line line (32 ∷ rest)) (at_line line (32 ∷ rest)) may refl (waits_all line rest apart))) (omega arith) read
   waits_behind (waits.Listed values) rest may said apart read =
-      let c : Clauses = clauses items Plain waits.Nothing marked in
-      let more : Clauses = clauses items Plain (waits.Listed values) marked in
+      let c : Clauses = clauses items Plain waits.Nothing flagged in
+      let more : Clauses = clauses items Plain (waits.Listed values) flagged in
       let list : List ℕ = spelled_queues values (41 ∷ 32 ∷ rest) in
       let text : List ℕ = 32 ∷ (codes "wait" ++ 40 ∷ list) in
       one_turn (clause_turn arrays h) c more (at_line line text) (at_line line (32 ∷ rest)) total
@@ -430,15 +430,15 @@ module _ (arrays : Declared) (h : Head) (items : List DataItem) (marked : Bool) 
       → Reads target w (32 ∷ rest) → Reads Plain w (32 ∷ spelled_target target rest)
   target_behind Plain w rest may said apart read = read
   target_behind Unvalued w rest may said apart read =
-      let c : Clauses = clauses items Plain w marked in
-      let more : Clauses = clauses items Unvalued w marked in
+      let c : Clauses = clauses items Plain w flagged in
+      let more : Clauses = clauses items Unvalued w flagged in
       let text : List ℕ = 32 ∷ (codes "async" ++ 32 ∷ rest) in
       one_turn (clause_turn arrays h) c more (at_line line text) (at_line line (32 ∷ rest)) total
       (turn_of_clause arrays h c more (at_line line text) (at_line line (32 ∷ rest)) (lex (codes "async") line (32 ∷ rest)) (async_token line rest) refl refl
       (async_clause arrays h c line Unvalued (at_line line (32 ∷ rest)) (at_line line (32 ∷ rest)) may refl (target_alone line rest apart))) (omega arith) read
   target_behind (Value value) w rest may said apart read =
-      let c : Clauses = clauses items Plain w marked in
-      let more : Clauses = clauses items (Value value) w marked in
+      let c : Clauses = clauses items Plain w flagged in
+      let more : Clauses = clauses items (Value value) w flagged in
       let queue : List ℕ = signed value ++ 41 ∷ 32 ∷ rest in
       let text : List ℕ = 32 ∷ (codes "async" ++ 40 ∷ queue) in
       one_turn (clause_turn arrays h) c more (at_line line text) (at_line line (32 ∷ rest)) total
@@ -446,11 +446,11 @@ module _ (arrays : Declared) (h : Head) (items : List DataItem) (marked : Bool) 
       (async_clause arrays h c line (Value value) (at_line line (40 ∷ queue)) (at_line line (32 ∷ rest)) may refl (target_valued line value (32 ∷ rest) said)))
       (omega (arith, length-append (signed value) (41 ∷ 32 ∷ rest))) read
 
--- the directives that can have a mark
-abbrev pub can_mark : Head → Bool
-can_mark head.ExitData = true
-can_mark head.Update = true
-can_mark h = false
+-- the directives that can have a flag
+abbrev pub can_flag : Head → Bool
+can_flag head.ExitData = true
+can_flag head.Update = true
+can_flag h = false
 
 finalize_here : (arrays : Declared) (items : List DataItem) (target : Target) (w : Waits) (line : ℕ) (rest : List ℕ)
     → clause_turn arrays head.ExitData (clauses items target w false) (at_line line (32 ∷ (codes "finalize" ++ 32 ∷ rest))) ≡ Ok (turn true (clauses items target w true) (at_line line (32 ∷ rest)))
@@ -462,25 +462,25 @@ if_present_here : (arrays : Declared) (items : List DataItem) (target : Target) 
 unfolding clause_turn clause_of token_at gap_at token_len
 if_present_here arrays items target w line rest = refl
 
-marked_behind : (arrays : Declared) (h : Head) (marked : Bool) (items : List DataItem) (target : Target) (w : Waits) (line : ℕ) (rest : List ℕ) (total : Turn Clauses) → (not marked || can_mark h) ≡ true
-    → all_turns (clause_turn arrays h) (clauses items target w marked) (at_line line (32 ∷ rest)) ≡ Ok total
-    → all_turns (clause_turn arrays h) (clauses items target w false) (at_line line (32 ∷ spelled_mark h marked rest)) ≡ Ok total
-marked_behind arrays head.ExitData true items target w line rest total may read =
+flagged_behind : (arrays : Declared) (h : Head) (flagged : Bool) (items : List DataItem) (target : Target) (w : Waits) (line : ℕ) (rest : List ℕ) (total : Turn Clauses) → (not flagged || can_flag h) ≡ true
+    → all_turns (clause_turn arrays h) (clauses items target w flagged) (at_line line (32 ∷ rest)) ≡ Ok total
+    → all_turns (clause_turn arrays h) (clauses items target w false) (at_line line (32 ∷ spelled_flag h flagged rest)) ≡ Ok total
+flagged_behind arrays head.ExitData true items target w line rest total may read =
     one_turn (clause_turn arrays head.ExitData) (clauses items target w false) (clauses items target w true)
     (at_line line (32 ∷ (codes "finalize" ++ 32 ∷ rest))) (at_line line (32 ∷ rest)) total (finalize_here arrays items target w line rest) (omega arith) read
-marked_behind arrays head.Update true items target w line rest total may read =
+flagged_behind arrays head.Update true items target w line rest total may read =
     one_turn (clause_turn arrays head.Update) (clauses items target w false) (clauses items target w true)
     (at_line line (32 ∷ (codes "if_present" ++ 32 ∷ rest))) (at_line line (32 ∷ rest)) total (if_present_here arrays items target w line rest) (omega arith) read
-marked_behind arrays head.ExitData false items target w line rest total may read = read
-marked_behind arrays head.Update false items target w line rest total may read = read
-marked_behind arrays head.EnterData false items target w line rest total may read = read
-marked_behind arrays head.Wait false items target w line rest total may read = read
-marked_behind arrays head.Data false items target w line rest total may read = read
-marked_behind arrays head.Loop false items target w line rest total may read = read
-marked_behind arrays head.EnterData true items target w line rest total may read = absurd (false≢true may)
-marked_behind arrays head.Wait true items target w line rest total may read = absurd (false≢true may)
-marked_behind arrays head.Data true items target w line rest total may read = absurd (false≢true may)
-marked_behind arrays head.Loop true items target w line rest total may read = absurd (false≢true may)
+flagged_behind arrays head.ExitData false items target w line rest total may read = read
+flagged_behind arrays head.Update false items target w line rest total may read = read
+flagged_behind arrays head.EnterData false items target w line rest total may read = read
+flagged_behind arrays head.Wait false items target w line rest total may read = read
+flagged_behind arrays head.Data false items target w line rest total may read = read
+flagged_behind arrays head.Loop false items target w line rest total may read = read
+flagged_behind arrays head.EnterData true items target w line rest total may read = absurd (false≢true may)
+flagged_behind arrays head.Wait true items target w line rest total may read = absurd (false≢true may)
+flagged_behind arrays head.Data true items target w line rest total may read = absurd (false≢true may)
+flagged_behind arrays head.Loop true items target w line rest total may read = absurd (false≢true may)
 
 -- the end of the line
 end_here : (arrays : Declared) (h : Head) (c : Clauses) (line : ℕ) (rest : List ℕ) → is_complete h c ≡ true
@@ -503,20 +503,20 @@ pub record CanHave (names : List (List ℕ)) (h : Head) (c : Clauses) : Type 0 w
   pub target : IsSayableTarget c.target
   pub wait : (waits_for_nothing c.waits || may_wait h) ≡ true
   pub queues : AreSayable c.waits
-  pub mark : (not c.marked || can_mark h) ≡ true
+  pub flag : (not c.flagged || can_flag h) ≡ true
 
 -- the clauses behind what a directive begins with
 pub clauses_here : (arrays : Declared) (h : Head) (c : Clauses) (line : ℕ) (rest : List ℕ) → AreNames arrays.names → CanHave arrays.names h c
     → all_turns (clause_turn arrays h) (no_clauses waits.Nothing) (at_line line (32 ∷ spelled_clauses arrays.names h c rest)) ≡ Ok (turn false c (at_line (line + 1) rest))
 unfolding spelled_clauses
 clauses_here arrays h c line rest names can =
-    let mark : List ℕ = spelled_mark h c.marked (10 ∷ rest) in
-    let target : List ℕ = spelled_target c.target mark in
+    let flag : List ℕ = spelled_flag h c.flagged (10 ∷ rest) in
+    let target : List ℕ = spelled_target c.target flag in
     let total : Turn Clauses = turn false c (at_line (line + 1) rest) in
     items_behind arrays h c.items [] Plain waits.Nothing false line (spelled_waits c.waits target) total names can.items can.allowed (omega (arith, can.few))
-    (waits_behind arrays h c.items false line total c.waits target can.wait can.queues (apart_target c.target mark (apart_mark h c.marked rest))
-    (target_behind arrays h c.items false line total c.target c.waits mark can.async can.target (apart_mark h c.marked rest)
-    (marked_behind arrays h c.marked c.items c.target c.waits line (10 ∷ rest) total can.mark (line_ends arrays h c line rest can.complete))))
+    (waits_behind arrays h c.items false line total c.waits target can.wait can.queues (apart_target c.target flag (apart_flag h c.flagged rest))
+    (target_behind arrays h c.items false line total c.target c.waits flag can.async can.target (apart_flag h c.flagged rest)
+    (flagged_behind arrays h c.flagged c.items c.target c.waits line (10 ∷ rest) total can.flag (line_ends arrays h c line rest can.complete))))
 
 pub or_true : (b : Bool) → (b || true) ≡ true
 or_true true = refl

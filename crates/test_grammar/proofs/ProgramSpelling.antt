@@ -18,7 +18,7 @@ use Rattle.acc_script.specs.declared.head.Head.TheVariants as head
 use Rattle.acc_script.specs.declared.clause.Clauses.{Clauses}
 use Rattle.acc_token.specs.declared.token.Gap.TheVariants as gap
 use Rattle.acc_token.specs.declared.token.Step.TheVariants.{Stop}
-use Rattle.test_grammar.specs.ActSpellings.{signed, word_of, spelled_items, spelled_waits, spelled_target, spelled_mark, spelled_clauses, words_of, spelled_line, spelled_test, spelled_asked, clauses_of, spelled_kind, written_of, spelled, IsSayableKind, IsSayable}
+use Rattle.test_grammar.specs.ActSpellings.{signed, word_of, spelled_items, spelled_waits, spelled_target, spelled_flag, spelled_clauses, words_of, spelled_line, spelled_test, spelled_asked, clauses_of, spelled_kind, written_of, spelled, IsSayableKind, IsSayable}
 use Rattle.test_grammar.specs.ExpressionSpellings.{AreApart}
 use Rattle.acc_script.specs.Expressions.{Names, names}
 use Rattle.test_grammar.specs.LoopSpellings.{spelled_loop}
@@ -82,19 +82,19 @@ target_long Plain behind = omega arith
 target_long Unvalued behind = omega arith
 target_long (Value value) behind = let long = joined_long (signed value) (41 ∷ 32 ∷ behind) (length behind) (omega arith) in omega arith
 
-mark_long : (h : Head) (marked : Bool) (behind : List ℕ) → length behind ≤ length (spelled_mark h marked behind)
-mark_long head.ExitData true behind = omega arith
-mark_long head.Update true behind = omega arith
-mark_long h marked behind = omega arith
+flag_long : (h : Head) (flagged : Bool) (behind : List ℕ) → length behind ≤ length (spelled_flag h flagged behind)
+flag_long head.ExitData true behind = omega arith
+flag_long head.Update true behind = omega arith
+flag_long h flagged behind = omega arith
 
 line_long : (names : List (List ℕ)) (h : Head) (c : Clauses) (behind : List ℕ) → length behind < length (spelled_line names h c behind)
 unfolding spelled_line spelled_clauses
 line_long names h c behind =
-    let mark : List ℕ = spelled_mark h c.marked (10 ∷ behind) in
-    let target : List ℕ = spelled_target c.target mark in
+    let flag : List ℕ = spelled_flag h c.flagged (10 ∷ behind) in
+    let target : List ℕ = spelled_target c.target flag in
     let w : List ℕ = spelled_waits c.waits target in
-    let first = mark_long h c.marked (10 ∷ behind) in
-    let second = target_long c.target mark in
+    let first = flag_long h c.flagged (10 ∷ behind) in
+    let second = target_long c.target flag in
     let third = waits_long c.waits target in
     let fourth = items_long names c.items w in
     let last = joined_long (words_of h) (spelled_items names c.items w) (length behind) (omega arith) in

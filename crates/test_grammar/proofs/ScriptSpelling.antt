@@ -16,7 +16,7 @@ use Rattle.acc_token.specs.declared.token.Step.TheVariants.{Stop}
 use Rattle.acc_script.specs.Arrays.{Declared, array_of}
 use Rattle.test_grammar.specs.ArraySpellings.{behind_lines}
 use Rattle.acc_token.specs.Faults.{fails, ◌>>=◌}
-use Rattle.acc_script.specs.Scripts.{Program, host_at, host_turn, script_at, script_of}
+use Rattle.acc_script.specs.Scripts.{ScriptView, host_at, host_turn, script_at, script_of}
 use Rattle.test_grammar.specs.ScriptSpellings.{ActSpelling, is_end, act_text, feeds_of, ends_line, line_end, lines_of, spelled_statements, line_behind, spelled_hosts, spelled_script, CanStandAs, ArePlaced, AreHosts, declared, IsSayableScript}
 use Rattle.acc_script.specs.Statements.{Body, body, depth_behind, with_statement, end_of_construct, simple_of, act_of, statement_turn}
 use Rattle.acc_token.specs.Tokens.{Spot, Lexeme, front, line_after, step_of, gap_at, token_len, token_at, exactly, expect, name_of}
@@ -299,7 +299,7 @@ module _ (acts : ActSpelling) where
         rw lines (past (host_turn arrays) [] (at_line (1 + n) (10 ∷ on)) (at_line (1 + n + 1) on) _
         (host_behind_feed [] (1 + n) on) (omega arith) (hosts_read programs [] (1 + n + 1) 0 are' refl (omega arith)))
 
-program_read : (acts : ActSpelling) (p : Program) → IsSayableScript (IsReadAgain acts (declared p)) acts p → script_at (at_line 1 (spelled_script acts p)) ≡ Ok p
+program_read : (acts : ActSpelling) (p : ScriptView) → IsSayableScript (IsReadAgain acts (declared p)) acts p → script_at (at_line 1 (spelled_script acts p)) ≡ Ok p
 unfolding script_at spelled_script
 program_read acts p said =
     let hosts_on : List ℕ = spelled_hosts acts p.programs [] in
@@ -309,7 +309,7 @@ program_read acts p said =
       all_give (host_turn (declared p)) [] (behind_lines 1 (length p.names) hosts_on) _ (hosts_behind acts (declared p) (length p.names) p.programs said.hosts said.few),
     ) refl
 
-script_is_read_again : (acts : ActSpelling) (p : Program) → IsSayableScript (IsReadAgain acts (declared p)) acts p → script_of (spelled_script acts p) ≡ Ok p
+script_is_read_again : (acts : ActSpelling) (p : ScriptView) → IsSayableScript (IsReadAgain acts (declared p)) acts p → script_of (spelled_script acts p) ≡ Ok p
 unfolding script_of
 script_is_read_again acts p said =
     rw (le-ltb MAX_TEXT (length (spelled_script acts p)) said.short) (program_read acts p said)
@@ -333,7 +333,7 @@ module _ (CanBe CanBe' : ℕ → Act → Type 0) (acts : ActSpelling) (weaker : 
       (are.0, placed_weaker p.statements (line + 1) 0 are.1, hosts_weaker left (line_behind acts (line + 1) p.statements + 1) (host + 1) are.2)
 
 -- A script is read again as it is spelled, if each act that can be said is.
-pub sayable_script_is_read_again : (CanBe : ℕ → Act → Type 0) (acts : ActSpelling) (p : Program)
+pub sayable_script_is_read_again : (CanBe : ℕ → Act → Type 0) (acts : ActSpelling) (p : ScriptView)
     → ((depth : ℕ) (act : Act) → CanBe depth act → IsReadAgain acts (declared p) depth act)
     → IsSayableScript CanBe acts p → script_of (spelled_script acts p) ≡ Ok p
 sayable_script_is_read_again CanBe acts p each said =

@@ -84,15 +84,15 @@ spelled_target Plain behind = behind
 spelled_target Unvalued behind = codes "async " ++ behind
 spelled_target (Value value) behind = codes "async(" ++ (signed value ++ (codes ") " ++ behind))
 
-abbrev pub spelled_mark : Head → Bool → List ℕ → List ℕ
-spelled_mark head.ExitData true behind = codes "finalize " ++ behind
-spelled_mark head.Update true behind = codes "if_present " ++ behind
-spelled_mark h marked behind = behind
+abbrev pub spelled_flag : Head → Bool → List ℕ → List ℕ
+spelled_flag head.ExitData true behind = codes "finalize " ++ behind
+spelled_flag head.Update true behind = codes "if_present " ++ behind
+spelled_flag h flagged behind = behind
 
 -- the clauses, and the end of the line
 unfoldable pub spelled_clauses : List (List ℕ) → Head → Clauses → List ℕ → List ℕ
 spelled_clauses names h c behind =
-    spelled_items names c.items (spelled_waits c.waits (spelled_target c.target (spelled_mark h c.marked (codes "\n" ++ behind))))
+    spelled_items names c.items (spelled_waits c.waits (spelled_target c.target (spelled_flag h c.flagged (codes "\n" ++ behind))))
 
 -- ## Acts
 
@@ -120,7 +120,7 @@ spelled_asked names [] behind = behind
 spelled_asked names (item ∷ items) behind = range.spelled names item.range ++ behind
 
 abbrev pub clauses_of : Written → Bool → Clauses
-clauses_of w marked = record { items = w.items; target = w.target; waits = w.waits; marked = marked }
+clauses_of w flagged = record { items = w.items; target = w.target; waits = w.waits; flagged = flagged }
 
 -- A data construct is entered; its end is no act of its own. A loop stands in the line behind its directive's.
 abbrev pub spelled_kind : Names → Kind → Written → List ℕ → List ℕ

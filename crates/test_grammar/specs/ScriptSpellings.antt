@@ -15,7 +15,7 @@ use Rattle.test_grammar.specs.ArraySpellings.{spelled_arrays}
 use Rattle.test_grammar.specs.ExpressionSpellings.{AreApart}
 use Rattle.acc_script.specs.Expressions.{Names, names}
 use Rattle.test_grammar.specs.RangeSpellings.{AreNames}
-use Rattle.acc_script.specs.Scripts.{Program, script_of}
+use Rattle.acc_script.specs.Scripts.{ScriptView, script_of}
 use Rattle.acc_script.specs.Statements.{depth_behind, end_of_construct}
 use Rattle.test_grammar.specs.ValueSpellings.{IsLong}
 
@@ -75,7 +75,7 @@ spelled_hosts acts [] behind = behind
 spelled_hosts acts (p ∷ more) behind =
     codes "host {\n" ++ spelled_statements acts p.statements (codes "}\n" ++ spelled_hosts acts more behind)
 
-unfoldable pub spelled_script : ActSpelling → Program → List ℕ
+unfoldable pub spelled_script : ActSpelling → ScriptView → List ℕ
 spelled_script acts p = spelled_arrays p.names p.arrays (spelled_hosts acts p.programs [])
 
 -- what can stand inside so many data constructs: the end of one, or an act that can be there
@@ -101,11 +101,11 @@ AreHosts CanBe acts line host (p ∷ more) =
     (p.host ≡ host) × ArePlaced CanBe acts (line + 1) 0 p.statements
     × AreHosts CanBe acts (line_behind acts (line + 1) p.statements + 1) (host + 1) more
 
-abbrev pub declared : Program → Declared
+abbrev pub declared : ScriptView → Declared
 declared p = record { names = p.names; cells = p.arrays }
 
 -- what can be said in a script, where acts can be so inside so many data constructs
-pub record IsSayableScript (CanBe : ℕ → Act → Type 0) (acts : ActSpelling) (p : Program) : Type 0 where
+pub record IsSayableScript (CanBe : ℕ → Act → Type 0) (acts : ActSpelling) (p : ScriptView) : Type 0 where
   pub arrays : IsDeclared (declared p)
   pub names : AreNames p.names
   pub cells : All (λ (cells : List ℤ). All IsLong cells) p.arrays
@@ -124,15 +124,15 @@ abbrev pub CanSay : Names → ℕ → Act → Type 0
 CanSay n depth act = spelling.IsSayable n act × (depth_behind depth act ≤ MAX_CONSTRUCTS)
 
 -- the text of a program, where every loop has this name
-unfoldable pub spelled_program : List ℕ → Program → List ℕ
+unfoldable pub spelled_program : List ℕ → ScriptView → List ℕ
 spelled_program index p = spelled_script (plain (names (declared p) index)) p
 
 -- a program that can be written, where no array has the loops' name
-pub record IsSayableProgram (index : List ℕ) (p : Program) : Type 0 where
+pub record IsSayableProgram (index : List ℕ) (p : ScriptView) : Type 0 where
   pub apart : AreApart (names (declared p) index)
   pub script : IsSayableScript (CanSay (names (declared p) index)) (plain (names (declared p) index)) p
 
 -- A program that can be written is read again as it is spelled.
 abbrev pub ProgramIsReadAgain : Type 0
 ProgramIsReadAgain =
-    (index : List ℕ) (p : Program) → IsSayableProgram index p → script_of (spelled_program index p) ≡ Ok p
+    (index : List ℕ) (p : ScriptView) → IsSayableProgram index p → script_of (spelled_program index p) ≡ Ok p

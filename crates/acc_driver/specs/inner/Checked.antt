@@ -5,11 +5,11 @@ use Rattle.acc_driver.specs.declared.checks.CheckFault.{CheckFault}
 use Rattle.acc_driver.specs.declared.checks.CheckFault.TheVariants as fault
 use Rattle.acc_driver.specs.Replays.{IsScript}
 use Rattle.acc_schedule.specs.Schedules.{schedule_of}
-use Rattle.acc_script.specs.Scripts.{Program, script_of}
+use Rattle.acc_script.specs.Scripts.{ScriptView, script_of}
 
 -- The text is a script of so many hosts.
 pub record IsScriptOf (hosts : ℕ) (text : List ℕ) : Type 0 where
-  pub program : Program
+  pub program : ScriptView
   pub script : script_of text ≡ Ok program
   pub hosts_are : hosts ≡ length program.programs
 

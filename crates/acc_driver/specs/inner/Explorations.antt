@@ -5,7 +5,7 @@ use Rattle.acc_explore.specs.Endings.{Setting, TellsAll}
 use Rattle.acc_explore.specs.Prefixes.{TellsPrefixes}
 use Rattle.acc_host.specs.declared.event.Event.{Event}
 use Rattle.acc_report.specs.Puts.{Sink}
-use Rattle.acc_script.specs.Scripts.{Program}
+use Rattle.acc_script.specs.Scripts.{ScriptView}
 use Rattle.acc_driver.specs.declared.explorations.Aim.{Aim}
 use Rattle.acc_driver.specs.declared.explorations.Aim.TheVariants as aim
 use Rattle.acc_driver.specs.declared.explorations.Explored.{Explored}
@@ -25,12 +25,12 @@ TellsAllOf (aim.Reports form) x schedule most old new (explored.Prefixes count) 
 TellsAllOf (aim.Prefixes depth) x schedule most old new (explored.Reports counts) = ⊥
 
 -- The schedule says the first events, and this is the answer to them.
-abbrev pub ExploresFirst : Options → Exploring → List ℕ → Program → Option (List ℕ) → Option (List ℕ) → Result Explored DriverFault → Type 0
+abbrev pub ExploresFirst : Options → Exploring → List ℕ → ScriptView → Option (List ℕ) → Option (List ℕ) → Result Explored DriverFault → Type 0
 ExploresFirst options exploring schedule program old new result =
     (first : List Event) × (events_in options program schedule ≡ Ok first) × ExploresProgram options exploring schedule program first old new result
 
 -- What is answered to a program and the text of a schedule.
-abbrev pub ExploresSchedule : Options → Exploring → List ℕ → Program → Option (List ℕ) → Option (List ℕ) → Result Explored DriverFault → Type 0
+abbrev pub ExploresSchedule : Options → Exploring → List ℕ → ScriptView → Option (List ℕ) → Option (List ℕ) → Result Explored DriverFault → Type 0
 ExploresSchedule options exploring schedule program old new (Ok told) = ExploresFirst options exploring schedule program old new (Ok told)
 ExploresSchedule options exploring schedule program old new (Err fault.Output) = ExploresFirst options exploring schedule program old new (Err fault.Output)
 ExploresSchedule options exploring schedule program old new (Err (fault.Runtime f)) = ExploresFirst options exploring schedule program old new (Err (fault.Runtime f))

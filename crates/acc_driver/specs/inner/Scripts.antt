@@ -9,7 +9,7 @@ use Rattle.acc_host.specs.declared.program.HostProgram.{HostProgram}
 use Rattle.acc_host.specs.Hosts.{bare_statements, is_refused}
 use Rattle.acc_report.specs.Puts.{AppendsFront}
 use Rattle.acc_report.specs.Reports.{report}
-use Rattle.acc_script.specs.Scripts.{Program, script_of}
+use Rattle.acc_script.specs.Scripts.{ScriptView, script_of}
 use Rattle.acc_driver.specs.declared.fault.DriverFault.{DriverFault}
 use Rattle.acc_driver.specs.declared.fault.DriverFault.TheVariants as fault
 use Rattle.acc_driver.specs.declared.fault.ReplayFault.{ReplayFault}
@@ -27,12 +27,12 @@ IsScriptFault text replay.Output = ⊥
 IsScriptFault text (replay.Runtime f) = ⊥
 
 -- The schedule says events, and this is the answer to them.
-abbrev pub AnswersEvents : Options → Program → List ℕ → Option (List ℕ) → Option (List ℕ) → Result Ended DriverFault → Type 0
+abbrev pub AnswersEvents : Options → ScriptView → List ℕ → Option (List ℕ) → Option (List ℕ) → Result Ended DriverFault → Type 0
 AnswersEvents options program schedule old new result =
     (events : List Event) × (events_in options program schedule ≡ Ok events) × RunAnswers options program events old new result
 
 -- What is answered to a program and the text of a schedule, and what the writer then holds.
-abbrev pub ScheduleAnswers : Options → Program → List ℕ → Option (List ℕ) → Option (List ℕ) → Result Ended DriverFault → Type 0
+abbrev pub ScheduleAnswers : Options → ScriptView → List ℕ → Option (List ℕ) → Option (List ℕ) → Result Ended DriverFault → Type 0
 ScheduleAnswers options program schedule old new (Ok ended) = AnswersEvents options program schedule old new (Ok ended)
 ScheduleAnswers options program schedule old new (Err fault.Output) = AnswersEvents options program schedule old new (Err fault.Output)
 ScheduleAnswers options program schedule old new (Err (fault.Runtime f)) = AnswersEvents options program schedule old new (Err (fault.Runtime f))

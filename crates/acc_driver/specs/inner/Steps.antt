@@ -11,7 +11,7 @@ use Rattle.acc_host.specs.Hosts.{bare_statements, is_refused}
 use Rattle.acc_report.specs.Puts.{AppendsFront}
 use Rattle.acc_report.specs.Reports.{report}
 use Rattle.acc_schedule.specs.Schedules.{schedule_of}
-use Rattle.acc_script.specs.Scripts.{Program}
+use Rattle.acc_script.specs.Scripts.{ScriptView}
 use Rattle.acc_steps.specs.Lines.{Words}
 use Rattle.acc_steps.specs.Pictures.{IsTooLarge}
 use Rattle.acc_steps.specs.Walks.{AreTold}
@@ -87,12 +87,12 @@ StepsOfWorld form words events begun old new (Err (fault.Schedule f)) = ⊥
 StepsOfWorld form words events begun old new (Err fault.Input) = ⊥
 
 -- The schedule says events, and this is the answer.
-abbrev pub StepsOfEvents : Options → StepsAs → Parts → Program → Option (List ℕ) → Option (List ℕ) → Result (Option Ended) DriverFault → Type 0
+abbrev pub StepsOfEvents : Options → StepsAs → Parts → ScriptView → Option (List ℕ) → Option (List ℕ) → Result (Option Ended) DriverFault → Type 0
 StepsOfEvents options form texts program old new result =
     (events : List Event) × (events_in options program texts.schedule ≡ Ok events) × StepsOfProgram options form texts program old new result
 
 -- What is answered to a program and the text of a schedule.
-abbrev pub StepsOfSchedule : Options → StepsAs → Parts → Program → Option (List ℕ) → Option (List ℕ) → Result (Option Ended) DriverFault → Type 0
+abbrev pub StepsOfSchedule : Options → StepsAs → Parts → ScriptView → Option (List ℕ) → Option (List ℕ) → Result (Option Ended) DriverFault → Type 0
 StepsOfSchedule options form texts program old new (Ok ended) = StepsOfEvents options form texts program old new (Ok ended)
 StepsOfSchedule options form texts program old new (Err fault.Output) = StepsOfEvents options form texts program old new (Err fault.Output)
 StepsOfSchedule options form texts program old new (Err (fault.Runtime f)) = StepsOfEvents options form texts program old new (Err (fault.Runtime f))

@@ -9,10 +9,10 @@ use Rattle.acc_token.specs.Faults.{◌>>=◌}
 use Rattle.acc_driver.specs.Inputs.{parts}
 use Rattle.acc_driver.specs.Replays.{configured, defaults, events_in, left_in}
 use Rattle.acc_report.specs.Reports.{report}
-use Rattle.acc_script.specs.Scripts.{Program, script_of}
+use Rattle.acc_script.specs.Scripts.{ScriptView, script_of}
 
 -- the state behind the events
-abbrev pub left_by : Program → List Event → State
+abbrev pub left_by : ScriptView → List Event → State
 left_by program events =
     (all_from events (record { replies = []; state = first_state (configured defaults program) program.programs })).state
 

@@ -142,7 +142,7 @@ pub record LoopFaults : Type 0 where
   pub bare_array : is_wrong (codes "a\n\n;") 2 Name
   pub bare_array_behind : is_wrong (codes "1 +\na\n+ 1;") 3 Name
   pub bare_array_at_the_end : is_wrong (codes "a\n\n") 4 End
-  pub bare_array_before_a_mark : is_wrong (codes "a\n\n!") 4 Text
+  pub bare_array_before_a_flag : is_wrong (codes "a\n\n!") 4 Text
   pub bare_array_before_a_zero : is_wrong (codes "a\n\n01") 4 Form
   pub index_with_a_bracket : is_wrong (codes "i\n[i];") 3 Form
   pub cell_by_a_number : is_wrong (codes "a[\n0];") 3 Form

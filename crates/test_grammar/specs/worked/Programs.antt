@@ -11,7 +11,7 @@ use Rattle.acc_place.specs.declared.directive.Waits.TheVariants.{Nothing, Listed
 use Rattle.acc_host.specs.declared.program.Act.TheVariants.{Write, Print}
 use Rattle.acc_host.specs.declared.program.Statement.{Statement}
 use Rattle.acc_script.specs.Directives.{placed}
-use Rattle.acc_script.specs.Scripts.{Program}
+use Rattle.acc_script.specs.Scripts.{ScriptView}
 use Rattle.test_grammar.specs.ScriptSpellings.{spelled_program, IsSayableProgram}
 use Rattle.acc_script.specs.Statements.{end_of_construct}
 use Rattle.test_grammar.specs.worked.Scripts.{of_host, of_clause, at_line}
@@ -33,7 +33,7 @@ small_statements =
     ∷ at_line 9 end_of_construct
     ∷ at_line 10 (Print both) ∷ []
 
-abbrev pub small : Program
+abbrev pub small : ScriptView
 small = record {
   names = codes "a" ∷ [];
   arrays = (pos 1 ∷ negsuc 1 ∷ []) ∷ [];

@@ -165,7 +165,7 @@ pub record ReadFaults : Type 0 where
   pub array_behind_a_host : is_refused (codes "host { }\nlong a[1];") 2 Form
   pub ninth_host : is_refused (codes "host{}host{}host{}host{}host{}host{}host{}host{}\nhost {") 2 Limit
   pub lone_slash : is_refused (codes "host {\n/ }") 2 Text
-  pub lone_mark : is_refused (codes "host { ! }") 1 Text
+  pub lone_flag : is_refused (codes "host { ! }") 1 Text
   pub undeclared : is_refused (codes "long a[1];\nhost {\nb[0] = 1;\n}") 3 Name
   pub declared_twice : is_refused (codes "long a[1];\nlong b[1], a[1];") 2 Form
   pub twice : is_refused (codes "long a[1]; long b[1];\nlong a[1];") 2 Name
@@ -189,11 +189,11 @@ pub record DirectiveFaults : Type 0 where
   pub foreign_clause : is_refused (one_cell (codes "#pragma acc enter data copyout(a)\n")) 3 Form
   pub no_create_of_an_entry : is_refused (one_cell (codes "#pragma acc enter data no_create(a)\n")) 3 Form
   pub no_create_of_a_loop : is_refused (one_cell (codes "#pragma acc parallel loop no_create(a)\nfor (i = 0; i < 1; i++) a[i] = i;\n")) 3 Form
-  pub foreign_mark : is_refused (one_cell (codes "#pragma acc enter data create(a) finalize\n")) 3 Form
+  pub foreign_flag : is_refused (one_cell (codes "#pragma acc enter data create(a) finalize\n")) 3 Form
   pub async_construct : is_refused (one_cell (codes "#pragma acc data create(a) async\n{ }\n")) 3 Form
   pub async_twice : is_refused (one_cell (codes "#pragma acc enter data create(a) async(1) async(2)\n")) 3 Form
   pub wait_twice : is_refused (one_cell (codes "#pragma acc enter data create(a) wait wait(2)\n")) 3 Form
-  pub mark_twice : is_refused (one_cell (codes "#pragma acc exit data delete(a) finalize, finalize\n")) 3 Form
+  pub flag_twice : is_refused (one_cell (codes "#pragma acc exit data delete(a) finalize, finalize\n")) 3 Form
   pub wait_with_a_wait : is_refused (one_cell (codes "#pragma acc wait wait(1)\n")) 3 Form
   pub comma_first : is_refused (one_cell (codes "#pragma acc enter data, create(a)\n")) 3 Form
   pub comma_last : is_refused (one_cell (codes "#pragma acc enter data create(a),\n")) 3 Form

@@ -1,5 +1,5 @@
 use Rattle.std.proofs.Common.{rules}
-use Rattle.acc_script.specs.Scripts.{program_of}
+use Rattle.acc_script.specs.Scripts.{view_of_script}
 use Rattle.acc_driver.proofs.ExploreAnswers.{nothing_explored, texts_explored, whole_explored}
 use Rattle.acc_driver.proofs.explorations.explore.Goals as goal
 
@@ -13,6 +13,6 @@ pub returns-clause-answers : goal.returns-clause-answers
 returns-clause-answers g c =
     let found = rw c.as_slice.ensures.value at c.in-Ok-read_script.ensures.found in
     let answers = rw c.as_slice-2.ensures.value at c.explore_behind.ensures.answers in
-    let both = texts_explored c.args.options c.args.exploring _ (program_of c.in-Ok-read_script.script) _ _ c.explore_behind.result found answers in
+    let both = texts_explored c.args.options c.args.exploring _ (view_of_script c.in-Ok-read_script.script) _ _ c.explore_behind.result found answers in
     whole_explored (g.R.Read.remaining c.args.script.now) (g.S.Read.remaining c.args.schedule.now) c.in-Ok.text.items c.in-Ok-read_text.schedule.items c.args.options c.args.exploring _ _ c.explore_behind.result
     c.in-Ok.ensures.bytes c.in-Ok-read_text.ensures.bytes both

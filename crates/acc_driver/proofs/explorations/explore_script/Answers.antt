@@ -1,6 +1,6 @@
 use Rattle.std.proofs.Common.{Err}
 use Rattle.acc_report.proofs.JoinedPuts.{appends_nothing}
-use Rattle.acc_script.specs.Scripts.{program_of}
+use Rattle.acc_script.specs.Scripts.{view_of_script}
 use Rattle.acc_driver.specs.Explorations.{script_alone}
 use Rattle.acc_driver.specs.Replays.{driver_fault}
 use Rattle.acc_driver.proofs.ExploreAnswers.{script_explored, texts_explored, whole_alone}
@@ -11,7 +11,7 @@ returns-in-Ok-read_script-clause-answers g c =
     let text = c.in-Ok.text.items in
     let found = rw (c.split.ensures.script, c.as_slice.ensures.value) at c.in-Ok-read_script.ensures.found in
     whole_alone (g.R.Read.remaining c.args.reader.now) text c.args.options c.args.exploring _ _ c.explore_behind.result c.in-Ok.ensures.bytes
-    (texts_explored c.args.options c.args.exploring (script_alone text) (program_of c.in-Ok-read_script.script) _ _ c.explore_behind.result found c.explore_behind.ensures.answers)
+    (texts_explored c.args.options c.args.exploring (script_alone text) (view_of_script c.in-Ok-read_script.script) _ _ c.explore_behind.result found c.explore_behind.ensures.answers)
 
 pub returns-clause-answers : goal.returns-clause-answers
 returns-clause-answers g c =

@@ -1,7 +1,7 @@
 use Rattle.std.proofs.Common.{◌∙◌}
 use Rattle.std.proofs.lemmas.List.{length-reverse}
 use Rattle.acc_report.specs.Reports.{left_by}
-use Rattle.acc_script.specs.Scripts.{program_of}
+use Rattle.acc_script.specs.Scripts.{view_of_script}
 use Rattle.acc_driver.specs.Replays.{driver_fault}
 use Rattle.acc_driver.specs.Runs.{histories_left}
 use Rattle.acc_driver.proofs.ReplayAnswers.{usable_runs}
@@ -12,7 +12,7 @@ pub returns-in-Err-config_of-clause-configured : goal.returns-in-Err-config_of-c
 returns-in-Err-config_of-clause-configured g c = λ usable.
     let why = driver_fault c.in-Err-config_of.fault in
     rw c.of_input.ensures
-    (run_configured why (usable_runs c.args.options (program_of c.args.script) why c.requires.declared c.requires.few c.in-Err-config_of.ensures.refused usable))
+    (run_configured why (usable_runs c.args.options (view_of_script c.args.script) why c.requires.declared c.requires.few c.in-Err-config_of.ensures.refused usable))
 
 pub report-requires : goal.report-requires
 report-requires g c =

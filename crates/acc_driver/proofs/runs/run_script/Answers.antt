@@ -1,6 +1,6 @@
 use Rattle.std.proofs.Common.{rules, Err}
 use Rattle.acc_driver.specs.Replays.{driver_fault}
-use Rattle.acc_script.specs.Scripts.{program_of}
+use Rattle.acc_script.specs.Scripts.{view_of_script}
 use Rattle.acc_driver.proofs.ThreadRuns.{no_program_answered, program_answered, whole_run}
 use Rattle.acc_driver.proofs.runs.run_script.Goals as goal
 
@@ -8,7 +8,7 @@ pub returns-in-Ok-read_script-clause-answers : goal.returns-in-Ok-read_script-cl
 returns-in-Ok-read_script-clause-answers g c =
     let found = rw c.as_slice.ensures.value at c.in-Ok-read_script.ensures.found in
     whole_run (g.S.Read.remaining c.args.script.now) c.in-Ok.text.items c.args.options _ _ _ c.in-Ok.ensures.bytes
-    (program_answered c.args.options c.in-Ok.text.items (program_of c.in-Ok-read_script.script) _ _ c.run.result found c.run.ensures.answers)
+    (program_answered c.args.options c.in-Ok.text.items (view_of_script c.in-Ok-read_script.script) _ _ c.run.result found c.run.ensures.answers)
 
 pub returns-clause-answers : goal.returns-clause-answers
 returns-clause-answers g c =

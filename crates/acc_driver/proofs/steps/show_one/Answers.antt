@@ -1,6 +1,6 @@
 use Rattle.std.proofs.Common.{Err}
 use Rattle.acc_report.proofs.JoinedPuts.{appends_nothing}
-use Rattle.acc_script.specs.Scripts.{program_of}
+use Rattle.acc_script.specs.Scripts.{view_of_script}
 use Rattle.acc_driver.specs.Inputs.{parts}
 use Rattle.acc_driver.specs.Replays.{driver_fault}
 use Rattle.acc_driver.proofs.StepsAnswers.{schedule_told, script_told, whole_input_steps}
@@ -12,7 +12,7 @@ returns-in-Ok-read_script-clause-answers g c =
     let found = rw (c.split.ensures.script, c.as_slice.ensures.value) at c.in-Ok-read_script.ensures.found in
     let answers = rw (c.split.ensures.script, c.split.ensures.schedule, c.as_slice.ensures.value) at c.steps_of.ensures.answers in
     whole_input_steps (g.R.Read.remaining c.args.reader.now) text c.args.options c.args.form _ _ c.steps_of.result c.in-Ok.ensures.bytes
-    (schedule_told c.args.options c.args.form (parts text) (program_of c.in-Ok-read_script.script) _ _ c.steps_of.result found answers)
+    (schedule_told c.args.options c.args.form (parts text) (view_of_script c.in-Ok-read_script.script) _ _ c.steps_of.result found answers)
 
 pub returns-clause-answers : goal.returns-clause-answers
 returns-clause-answers g c =

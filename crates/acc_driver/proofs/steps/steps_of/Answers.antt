@@ -1,5 +1,5 @@
 use Rattle.std.proofs.Common.{◌≡◌, Ok}
-use Rattle.acc_script.specs.Scripts.{program_of}
+use Rattle.acc_script.specs.Scripts.{view_of_script}
 use Rattle.acc_driver.specs.Inputs.{Parts}
 use Rattle.acc_driver.specs.Replays.{driver_fault, events_in}
 use Rattle.acc_driver.proofs.ReplayAnswers.{usable_runs}
@@ -8,11 +8,11 @@ use Rattle.acc_driver.proofs.steps.steps_of.Goals as goal
 
 pub returns-in-Err-clause-run : goal.returns-in-Err-clause-run
 returns-in-Err-clause-run g c =
-    rw c.of_input.ensures (usable_runs c.args.options (program_of c.args.script) (driver_fault c.in-Err.fault) c.requires.declared c.requires.few c.in-Err.ensures.refused)
+    rw c.of_input.ensures (usable_runs c.args.options (view_of_script c.args.script) (driver_fault c.in-Err.fault) c.requires.declared c.requires.few c.in-Err.ensures.refused)
 
 pub returns-clause-answers : goal.returns-clause-answers
 returns-clause-answers g c =
-    let program = program_of c.args.script in
+    let program = view_of_script c.args.script in
     let texts : Parts = record { script = c.args.text.now; schedule = c.args.schedule.now } in
     let said = c.in_ok-events.ensures.said in
     let says : events_in c.args.options program c.args.schedule.now ≡ Ok said.0 = rw c.hosts_of.ensures at said.1 in
