@@ -58,7 +58,6 @@ mod ReachedFirst
 mod ReachedSteps
 mod Reduced
 mod SaidEndings
-mod SameTaken
 mod SearchEvents
 mod SearchSteps
 mod ShownItems

@@ -112,12 +112,10 @@ fn write_queues(hasher: &mut FoldHasher, world: &World) {
 fn write_device(hasher: &mut FoldHasher, place: &Place, device: DeviceId)
     requires { device < place.now.config.devices }
 {
-    let mut index = 0;
-    while let Some(entry) = place.nth(device, index) {
+    for entry in place.entries(device) {
         hasher.write_u64(entry.block.number());
         hasher.write_u64(entry.s);
         hasher.write_u64(entry.d);
-        index += 1;
     }
 }
 

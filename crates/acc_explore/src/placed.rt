@@ -53,19 +53,16 @@ fn has_same_presences(device: DeviceId, old: &Place, new: &Place) -> bool
     requires new { device < new.now.config.devices }
     ensures { IsTrue result → HasSamePresences (standing_in old.now) (standing_in new.now) device }
 {
-    let mut index = 0;
-    while let Some(entry) = old.nth(device, index) {
-        match new.nth(device, index) {
-            None => return false,
-            Some(other) => {
-                if !is_same_presence(entry, other) {
-                    return false;
-                }
-            }
+    let mut others = new.entries(device);
+    for entry in old.entries(device) {
+        let Some(other) = others.next() else {
+            return false;
+        };
+        if !is_same_presence(entry, other) {
+            return false;
         }
-        index += 1;
     }
-    new.nth(device, index).is_none()
+    others.next().is_none()
 }
 
 /// Whether it is so on each device of two places of one configuration.

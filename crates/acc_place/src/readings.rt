@@ -1,10 +1,10 @@
 //! What a place answers about what it has accepted.
 
-ghost use Rattle.std.specs.Prelude.{reverse, ◌≡◌, ◌+◌, ◌<◌, length, IfSome, OnSome, slice_get, ◌^◌};
+ghost use Rattle.std.specs.Prelude.{reverse, map, ◌≡◌, ◌+◌, ◌<◌, length, IfSome, OnSome, slice_get, ◌^◌};
 ghost use Rattle.std.specs.Option.{option_map};
 ghost use Rattle.acc_batch.specs.Labels.{on_queue};
 ghost use Rattle.acc_present.specs.Notes.{entry_note};
-ghost use Rattle.acc_present.specs.Presences.{presences, holder, is_present};
+ghost use Rattle.acc_present.specs.Presences.{presences, holder, is_present, used_cells};
 ghost use Rattle.acc_present.specs.Tables.{entry_presence};
 ghost use Rattle.acc_place.specs.Answers.{answers_of, GoTogether};
 ghost use Rattle.acc_place.specs.BlockNotes.{note_of};
@@ -17,6 +17,7 @@ use crate::place::Place;
 use acc_base::{Config, DeviceId, QueueAt, Range};
 use acc_batch::Label;
 use acc_present::Entry;
+use acc_raw::Iter;
 
 impl Place {
     /// Whether a queue is closed: its last batch, which is its close, is placed.
@@ -54,7 +55,18 @@ impl Place {
             .counters(range)
     }
 
-    /// The entry of the device's table with this index, from 0, by array, then by lower bound.
+    /// How many cells the present ranges of a device have together.
+    pub fn used_cells(&self, device: DeviceId) -> u64
+        requires { device < self.now.config.devices }
+        ensures { result ≡ used_cells (presences ((standing_in self.now).marks device)) }
+    {
+        self.devices[usize::from(device.number())]
+            .table
+            .used_cells()
+    }
+
+    /// The entry of the device's table with this index, from 0, by array, then by lower bound. Who asks for one after the other takes
+    /// `entries`.
     pub fn nth(&self, device: DeviceId, index: usize) -> Option<&Entry>
         requires device { device < self.now.config.devices }
         ensures entry { option_map (λ e. entry_presence e.now) result
@@ -64,6 +76,15 @@ impl Place {
         ensures next { OnSome result (index + 1 < 2 ^ 64) }
     {
         self.devices[usize::from(device.number())].table.nth(index)
+    }
+
+    /// The entries of the device's table, by array, then by lower bound.
+    pub fn entries(&self, device: DeviceId) -> Iter<'_, Entry>
+        requires { device < self.now.config.devices }
+        ensures entries { map entry_presence result
+            ≡ presences ((standing_in self.now).marks device) }
+    {
+        self.devices[usize::from(device.number())].table.iter()
     }
 
     /// How many batches were placed on a queue.

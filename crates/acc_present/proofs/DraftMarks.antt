@@ -18,7 +18,8 @@ use Rattle.acc_present.specs.Drafts.{DraftView, IsDraft, beside, drafted, with_c
 use Rattle.acc_present.proofs.KeptAfter.{counted_at}
 use Rattle.acc_present.proofs.EnterAndExit.{no_overlap, stays}
 use Rattle.acc_present.proofs.PresencesAfter.{found_in, opens_at, counts_at, counted_once, is_table-after, used_cells-opened}
-use Rattle.acc_present.proofs.Holder.{behind, is_present-none, is_present-some, not_partly, slice_get-shown}
+use Rattle.acc_present.proofs.Holder.{is_present-none, is_present-some, not_partly, slice_get-shown}
+use Rattle.acc_present.specs.inner.Keys.{behind}
 use Rattle.acc_present.proofs.TableFilter.{kept_but_one, kept_apart, is_table-filter}
 use Rattle.acc_present.proofs.DraftShows.{drafted_sums, drafted_is, any_drafted}
 

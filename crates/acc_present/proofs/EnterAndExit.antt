@@ -1,11 +1,11 @@
 -- A table whose range is entered, left or finalized: one call is one mark.
 use Rattle.std.proofs.Common.{◌≡◌, ℕ, zero, suc, [], ◌+◌, ◌-◌, ◌<◌, ◌≤◌, true, false, cond, List, ◌∷◌, length, map, set, get_or, Some, None, refl, sym, ap, ◌∙◌, arith, inl, inr}
 use Rattle.std.specs.Prelude.{insert, remove, slice_get}
-use Rattle.std.specs.Option.{option_map}
 use Rattle.std.proofs.Math.Bool.{and-true}
 use Rattle.std.proofs.lemmas.Bool.{cases_Bool, lt-ltb, ne_eqb, eq-eqb}
 use Rattle.std.proofs.lemmas.List.{map-set, length-map, set-get_or, get_or-map}
 use Rattle.std.proofs.lemmas.List.Sums.{sum_by-insert, sum_by-remove, sum_by-set}
+use Rattle.acc_base.proofs.Lists.{map-insert, map-remove}
 use Rattle.acc_base.specs.declared.range.Range.{Range}
 use Rattle.acc_base.specs.Ranges.{range_contains}
 use Rattle.acc_present.specs.declared.change.Counter.{Counter}
@@ -21,7 +21,8 @@ use Rattle.acc_present.specs.Presences.{Presence, holder, is_present, is_partly_
 use Rattle.acc_present.specs.Tables.{entry_change, entry_mark, counter_of, changed_counter, stepped, opening, has_count, kept_after, presences_after, presence_inserted, entry_presence, left_of}
 use Rattle.acc_present.specs.inner.Invariants.{IsTable}
 use Rattle.acc_present.proofs.TableOrder.{is_table-set, is_table-remove}
-use Rattle.acc_present.proofs.Holder.{behind, slice_get-shown, is_present-some, is_present-none, holder-contains}
+use Rattle.acc_present.proofs.Holder.{slice_get-shown, is_present-some, is_present-none, holder-contains}
+use Rattle.acc_present.specs.inner.Keys.{behind}
 use Rattle.acc_present.proofs.KeptAfter.{kept_at, kept_none, counted_at}
 use Rattle.acc_present.proofs.PresenceInserted.{insert_is_placed, is_table-insert}
 
@@ -110,18 +111,6 @@ entered_again es r counter block i x y used capacity t cells f is =
       table = b.table;
     }
 
-map-insert : (es : List Entry) (i : ℕ) (e : Entry) → shown (insert es i e) ≡ insert (shown es) i (entry_presence e)
-map-insert [] zero e = refl
-map-insert [] (suc i) e = refl
-map-insert (x ∷ es) zero e = refl
-map-insert (x ∷ es) (suc i) e = ap (λ r. entry_presence x ∷ r) (map-insert es i e)
-
-map-remove : (es : List Entry) (i : ℕ) → shown (remove es i) ≡ remove (shown es) i
-map-remove [] zero = refl
-map-remove [] (suc i) = refl
-map-remove (x ∷ es) zero = refl
-map-remove (x ∷ es) (suc i) = ap (λ r. entry_presence x ∷ r) (map-remove es i)
-
 pub no_overlap : (ps : List Presence) (r : Range) → is_present ps r ≡ false → is_partly_present ps r ≡ false → overlaps_any ps r ≡ false
 no_overlap ps r absent whole = sym (and-true (overlaps_any ps r)) ∙ rw absent at whole
 
@@ -134,7 +123,7 @@ entered_new es r counter block e used capacity t cells none whole fits is =
     let p = opening (entry_mark counter r) block in
     let absent = is_present-none ps r none in
     let k = behind r ps in
-    let new : shown (insert es k e) ≡ insert ps k p = map-insert es k e ∙ ap (insert ps k) is in
+    let new : shown (insert es k e) ≡ insert ps k p = map-insert entry_presence es k e ∙ ap (insert ps k) is in
     let sum = sum_by-insert (λ (q : Presence). q.range.len) ps k p in
     record {
       same = new ∙ (insert_is_placed p ps t.table ∙ rw (absent, entry_opens counter) (ap (presence_inserted p) (sym (kept_none (entry_mark counter r) ps t.table absent))));
@@ -163,9 +152,6 @@ pub left_settled : (es : List Entry) (m : Mark) (i : ℕ) (x y : Entry) (ps : Li
 left_settled es m i x y ps used capacity t cells f is settled =
     settled ∙ (ap (λ q. cond (has_count q) (set (shown es) i q) (remove (shown es) i)) is ∙ sym (kept_at m (shown es) i (entry_presence x) t.table f.low f.is cells f.has))
 
-pub range_at : (es : List Entry) (r after : Range) (i : ℕ) (x : Entry) → FoundAt es r i x → x.range ≡ after → option_map (λ (p : Presence). p.range) (slice_get (shown es) i) ≡ Some after
-range_at es r after i x f same = ap (option_map (λ (p : Presence). p.range)) f.at ∙ ap Some same
-
 -- ## Settling
 
 -- the presence at a place, of which the range is known
@@ -174,13 +160,6 @@ pub record PlacedAt (ps : List Presence) (i : ℕ) (r : Range) : Type 0 where
   pub here : Presence
   pub is : here ≡ get_or ps i here
   pub same : here.range ≡ r
-
-pub placed_at : (ps : List Presence) (i : ℕ) (r : Range) → option_map (λ (p : Presence). p.range) (slice_get ps i) ≡ Some r → PlacedAt ps i r
-placed_at [] i r h = absurd cc
-placed_at (p ∷ ps) zero r h = record { low = omega arith; here = p; is = refl; same = cc }
-placed_at (p ∷ ps) (suc i) r h =
-    let f = placed_at ps i r h in
-    record { low = omega (arith, f.low); here = f.here; is = f.is; same = f.same }
 
 pub cells_at : (ps : List Presence) (i : ℕ) (r : Range) (used capacity : ℕ) → IsTable ps used capacity → PlacedAt ps i r → used_cells (remove ps i) + r.len ≡ used
 cells_at ps i r used capacity t f =
@@ -193,8 +172,8 @@ pub becomes_removed : (es : List Entry) (i : ℕ) (r : Range) (used capacity : �
 becomes_removed es i r used capacity t f =
     let sum = cells_at (shown es) i r used capacity t f in
     record {
-      same = map-remove es i;
-      table = rw (map-remove es i) (record { table = is_table-remove (shown es) i t.table; counted = omega (arith, sum); within = omega (arith, sum, t.counted, t.within) });
+      same = map-remove entry_presence es i;
+      table = rw (map-remove entry_presence es i) (record { table = is_table-remove (shown es) i t.table; counted = omega (arith, sum); within = omega (arith, sum, t.counted, t.within) });
     }
 
 -- ## What the answers of an exit say

@@ -2,7 +2,6 @@
 -- and only that one and the next can be the first to overlap it.
 use Rattle.std.proofs.Common.{◌≡◌, ℕ, zero, suc, ◌+◌, ◌-◌, ◌<◌, ◌≤◌, Bool, true, false, List, [], ◌∷◌, length, map, get_or, Option, Some, None, refl, sym, ap, ◌∙◌, arith, inl, inr}
 use Rattle.std.specs.Prelude.{◌||◌, nat_lt, slice_get, is_some}
-use Rattle.std.specs.List.{position_or_len}
 use Rattle.std.specs.Option.{option_map_or}
 use Rattle.std.proofs.Math.Bool.{and-false}
 use Rattle.std.proofs.lemmas.Bool.{cases_Bool, and_parts}
@@ -12,15 +11,9 @@ use Rattle.acc_base.specs.Ranges.{range_contains, range_overlaps}
 use Rattle.acc_present.specs.declared.entry.Entry.{Entry}
 use Rattle.acc_present.specs.Lifetimes.{is_before}
 use Rattle.acc_present.specs.Presences.{Presence, holder, is_present, is_partly_present, overlaps_any}
+use Rattle.acc_present.specs.inner.Keys.{behind}
 use Rattle.acc_present.specs.Tables.{is_table, ends_before, ends_before_all, entry_presence}
 use Rattle.acc_present.proofs.TableOrder.{table_parts, before_through}
-
-abbrev pub begins_behind : Range → Presence → Bool
-begins_behind r p = is_before r p.range
-
--- the first place behind a range's first cell
-abbrev pub behind : Range → List Presence → ℕ
-behind r ps = position_or_len (begins_behind r) ps
 
 pub behind-hit : (r : Range) (p : Presence) (ps : List Presence) → is_before r p.range ≡ true → behind r (p ∷ ps) ≡ 0
 behind-hit r p ps hit = rw hit refl
@@ -80,7 +73,7 @@ held_at ps r zero = None
 held_at ps r (suc i) = held_by r (slice_get ps i)
 
 -- what begins behind a range's first cell doesn't contain the range
-not_held : (r a : Range) → is_before r a ≡ true → 0 < r.len → range_contains a r ≡ false
+pub not_held : (r a : Range) → is_before r a ≡ true → 0 < r.len → range_contains a r ≡ false
 unfolding is_before range_contains
 not_held r a h cells = grind (arith, nat_tests, h, cells)
 

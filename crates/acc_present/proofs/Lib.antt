@@ -1,7 +1,9 @@
 pub mod DraftMarks
 pub mod DraftShows
 pub mod EnterAndExit
+pub mod EntryKeys
 pub mod EntryNotes
+pub mod FloorEntries
 pub mod Holder
 pub mod KeptAfter
 pub mod LegalMarks

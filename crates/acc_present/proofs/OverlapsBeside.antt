@@ -1,11 +1,10 @@
 -- What a search of a table finds beside changed entries: only those from the last that doesn't begin behind a range
 -- up to the first that does, and doesn't overlap it, are asked.
-use Rattle.std.proofs.Common.{◌≡◌, ℕ, zero, suc, Bool, true, false, List, [], ◌∷◌, map, refl, sym, ap, ap₂, subst, ◌∙◌, arith, inl, inr, ◌+◌, ◌-◌, drop}
-use Rattle.std.specs.Prelude.{◌||◌, ◌&&◌, not, filter, slice_get, Some}
+use Rattle.std.proofs.Common.{◌≡◌, ℕ, zero, suc, Bool, true, false, List, [], ◌∷◌, map, refl, sym, ap, ap₂, ◌∙◌, arith, inl, inr, ◌-◌, drop}
+use Rattle.std.specs.Prelude.{◌||◌, ◌&&◌, not, filter}
 use Rattle.std.specs.List.{list_any}
 use Rattle.std.proofs.lemmas.Bool.{cases_Bool, and_parts}
-use Rattle.std.proofs.lemmas.List.{drop-map, drop_more}
-use Rattle.std.proofs.lemmas.Option.{slice_get_within, get_or_from_slice_get}
+use Rattle.std.proofs.lemmas.List.{drop-map}
 use Rattle.acc_base.specs.declared.range.Range.{Range}
 use Rattle.acc_base.specs.Ranges.{range_overlaps}
 use Rattle.acc_present.specs.declared.entry.Entry.{Entry}
@@ -14,7 +13,8 @@ use Rattle.acc_present.specs.Presences.{Presence, overlaps_any}
 use Rattle.acc_present.specs.Tables.{entry_presence, is_table, ends_before, ends_before_all}
 use Rattle.acc_present.specs.Drafts.{beside}
 use Rattle.acc_present.proofs.TableOrder.{table_parts}
-use Rattle.acc_present.proofs.Holder.{behind, behind-hit, behind-miss, not_met_before, met_at, overlaps_is}
+use Rattle.acc_present.proofs.Holder.{behind-hit, behind-miss, not_met_before, met_at, overlaps_is}
+use Rattle.acc_present.specs.inner.Keys.{behind}
 use Rattle.acc_present.proofs.TableFilter.{overlaps_any-filter_none}
 
 pub list_any-map : {X Y : Type 0} (t : Y → Bool) (h : X → Y) (xs : List X) → list_any t (map h xs) ≡ list_any (λ x. t (h x)) xs
@@ -79,25 +79,20 @@ goes_on cs es r k t is =
       same = rw shown (from_last (λ (p : Presence). not (overlaps_any cs p.range)) ps r t);
     }
 
--- the n-th entry is x
-module _ (cs : List Presence) (es : List Entry) (n : ℕ) (r : Range) (on : GoesOn cs es (drop n es) r) (x : Entry) (at : slice_get es n ≡ Some x) where
-  from_here : GoesOn cs es (x ∷ drop (n + 1) es) r
-  from_here =
-      let here : drop n es ≡ x ∷ drop (n + 1) es = drop_more es n x (slice_get_within es n x at) ∙ ap (λ y. y ∷ drop (n + 1) es) (get_or_from_slice_get es n x x at) in
-      subst (λ l. GoesOn cs es l r) here on
-
-  asked : overlaps_any (beside cs (map entry_presence es)) r ≡ (not (overlaps_any cs x.range) && range_overlaps x.range r) || overlaps_any (beside cs (map entry_presence (drop (n + 1) es))) r
-  asked = sym from_here.same ∙ asks_first cs x (drop (n + 1) es) r
+-- x comes first
+module _ (cs : List Presence) (es rest : List Entry) (r : Range) (x : Entry) (on : GoesOn cs es (x ∷ rest) r) where
+  asked : overlaps_any (beside cs (map entry_presence es)) r ≡ (not (overlaps_any cs x.range) && range_overlaps x.range r) || overlaps_any (beside cs (map entry_presence rest)) r
+  asked = sym on.same ∙ asks_first cs x rest r
 
   -- the others are asked, where x doesn't count
-  pub goes_past : not (overlaps_any cs x.range) && range_overlaps x.range r ≡ false → GoesOn cs es (drop (n + 1) es) r
+  pub goes_past : not (overlaps_any cs x.range) && range_overlaps x.range r ≡ false → GoesOn cs es rest r
   goes_past none = record {
-    table = (table_parts (entry_presence x) (map entry_presence (drop (n + 1) es)) from_here.table).others;
-    same = sym (asked ∙ ap (λ b. b || overlaps_any (beside cs (map entry_presence (drop (n + 1) es))) r) none);
+    table = (table_parts (entry_presence x) (map entry_presence rest) on.table).others;
+    same = sym (asked ∙ ap (λ b. b || overlaps_any (beside cs (map entry_presence rest)) r) none);
   }
 
   pub meets_here : overlaps_any cs x.range ≡ false → range_overlaps x.range r ≡ true → overlaps_any (beside cs (map entry_presence es)) r ≡ true
-  meets_here alone meets = asked ∙ ap₂ (λ b c. (not b && c) || overlaps_any (beside cs (map entry_presence (drop (n + 1) es))) r) alone meets
+  meets_here alone meets = asked ∙ ap₂ (λ b c. (not b && c) || overlaps_any (beside cs (map entry_presence rest)) r) alone meets
 
   pub stops_here : range_overlaps x.range r ≡ false → is_before r x.range ≡ true → overlaps_any (beside cs (map entry_presence es)) r ≡ false
-  stops_here apart before = sym from_here.same ∙ beside_stops cs x (drop (n + 1) es) r from_here.table apart before
+  stops_here apart before = sym on.same ∙ beside_stops cs x rest r on.table apart before

@@ -9,7 +9,8 @@ use Rattle.acc_present.specs.Lifetimes.{is_before}
 use Rattle.acc_present.specs.Presences.{Presence, overlaps_any}
 use Rattle.acc_present.specs.Tables.{has_count, presence_inserted, is_table, ends_before, ends_before_all}
 use Rattle.acc_present.proofs.TableOrder.{table_parts, table_from, before_through, ends_through_all}
-use Rattle.acc_present.proofs.Holder.{behind, behind-hit, behind-miss}
+use Rattle.acc_present.proofs.Holder.{behind-hit, behind-miss}
+use Rattle.acc_present.specs.inner.Keys.{behind}
 
 abbrev pub inserted : Presence → List Presence → List Presence
 inserted p [] = p ∷ []

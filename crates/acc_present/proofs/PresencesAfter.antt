@@ -16,7 +16,8 @@ use Rattle.acc_present.proofs.EnterAndExit.{stays, no_overlap}
 use Rattle.acc_present.proofs.Presences.{opens_with_one}
 use Rattle.acc_present.proofs.PresenceInserted.{insert_is_placed, is_table-insert}
 use Rattle.acc_present.proofs.TableOrder.{is_table-set, is_table-remove}
-use Rattle.acc_present.proofs.Holder.{behind, is_present-none, is_present-some}
+use Rattle.acc_present.proofs.Holder.{is_present-none, is_present-some}
+use Rattle.acc_present.specs.inner.Keys.{behind}
 
 -- ## The presence that a range is part of, and its index
 

@@ -1,2 +1,3 @@
 pub mod Invariants
+pub mod Keys
 pub mod Lending

@@ -1,14 +1,15 @@
 //! Entries in linked nodes, and nodes for entries to come.
 
-ghost use Rattle.std.specs.Prelude.{◌≡◌, ◌+◌, ◌^◌, ◌<◌, ◌≤◌, [], length, slice_get, slice_set, insert, remove, IfOk, OnOk, OnErr, OnSome};
-ghost use Rattle.std.specs.Option.{option_map};
-ghost use Rattle.std.proofs.Common.{get_or};
-ghost use Rattle.std.specs.Borrow.{sem};
+ghost use Rattle.std.specs.Prelude.{◌≡◌, ◌+◌, ◌-◌, ◌^◌, ◌<◌, ◌≤◌, [], length, drop, slice_get, insert, remove, IfOk, OnOk, OnErr, OnSome};
+ghost use Rattle.std.specs.Option.{option_copied_mut, option_map};
+ghost use Rattle.std.specs.Borrow.{sem, LendsIf};
 ghost use Rattle.acc_base.specs.Faults.{OnlyMemory};
+ghost use Rattle.acc_raw.specs.Indices.{last_of, up_to};
+ghost use Rattle.acc_present.specs.inner.Keys.{key_of};
 
 use crate::entry::Entry;
 use acc_base::{BlockId, Fault, QUEUES, QueueId, Range};
-use acc_raw::{Chain, Indexed, Node};
+use acc_raw::{Chain, Indexed, Iter, Node};
 use std::alloc::Global;
 use std::marker::Model;
 
@@ -28,16 +29,19 @@ impl Model for Entries {
 
     ghost Value = { EntriesView };
 
-    ghost view = { λ e. record { items = e.listed.items; room = e.room } };
+    ghost view = { λ e. record { items = e.listed.items; keys = e.listed.keys; room = e.room } };
 
     ghost invariant = { λ e. HasNodes e.listed e.spare e.room };
 }
 
 impl Entries {
-    ghost use Rattle.acc_present.specs.inner.Lending.{LendsEntry};
+    ghost use Rattle.acc_present.specs.inner.Lending.{with_entry};
+    ghost use Rattle.acc_present.specs.contracts.entries.Entries.{the_row};
+    ghost use Rattle.acc_present.specs.contracts.entry.Entry.{the_row as entry_row};
 
     pub(crate) fn new(alloc: Global) -> Self
-        ensures { result.items ≡ [] }
+        ensures items { result.items ≡ [] }
+        ensures keys { result.keys ≡ [] }
     {
         Entries {
             alloc,
@@ -50,6 +54,7 @@ impl Entries {
     /// Makes room for this many new entries.
     pub(crate) fn spare(&mut self, count: usize) -> Result<(), Fault>
         ensures items { self.new.items ≡ self.old.items }
+        ensures keys { self.new.keys ≡ self.old.keys }
         ensures room { self.old.room ≤ self.new.room }
         ensures ok { OnOk result (length self.new.items + count ≤ self.new.room) }
         ensures fault { OnlyMemory result }
@@ -70,67 +75,79 @@ impl Entries {
         Ok(())
     }
 
-    pub(crate) fn listed(&self) -> &Indexed<Entry>
-        ensures { result.now.items ≡ self.now.items }
-    {
-        &self.listed
-    }
-
-    pub(crate) fn get(&self, index: usize) -> Option<&Entry>
+    /// The entry with this number, counted from 0.
+    pub(crate) fn nth(&self, index: usize) -> Option<&Entry>
         ensures entry { option_map (λ e. e.now) result ≡ slice_get self.now.items index }
         ensures next { OnSome result (index + 1 < 2 ^ 64) }
     {
         if index < self.listed.len() {
-            Some(self.listed.get(index))
+            self.listed.nth(index)
         } else {
             None
         }
     }
 
-    pub(crate) fn at(&self, index: usize) -> &Entry
-        requires { index < length self.now.items }
-        ensures { result.now ≡ get_or self.now.items index result.now }
+    /// All entries, in their order.
+    pub(crate) fn iter(&self) -> Iter<'_, Entry>
+        ensures { result ≡ self.now.items }
     {
-        self.listed.get(index)
+        self.listed.iter()
     }
 
-    /// Lends the entry at this index to be changed.
-    pub(crate) fn at_mut(&mut self, index: usize) -> &mut Entry
-        requires { index < length self.old.items }
-        ensures value { result.now ≡ get_or self.old.items index result.now }
-        ensures* writes_back { sem 𝓛 (LendsEntry self.entry index result) }
+    /// The entries from the last one on that doesn't begin behind the range's first cell, or all where there is none.
+    pub(crate) fn iter_from(&self, range: Range) -> Iter<'_, Entry>
+        ensures entries { result ≡ drop (up_to (key_of range) self.now.keys - 1) self.now.items }
+        ensures low { range.lo < 4294967296 }
     {
-        self.listed.get_mut(index)
+        self.listed.iter_from(key(range))
     }
 
-    pub(crate) fn set(&mut self, index: usize, entry: Entry)
-        requires { index < length self.old.items }
-        ensures items { self.new.items ≡ slice_set self.old.items index entry }
+    /// Goes to the last entry that doesn't begin behind the range's first cell.
+    pub(crate) fn seek(&mut self, range: Range)
+        ensures { self.new ≡ self.old }
+    {
+        self.listed.seek(key(range));
+    }
+
+    /// Lends the last entry that doesn't begin behind the range's first cell to be changed, or none.
+    pub(crate) fn floor_mut(&mut self, range: Range) -> Option<&mut Entry>
+        ensures low { range.lo < 4294967296 }
+        ensures value { option_copied_mut result
+            ≡ last_of self.old.items (up_to (key_of range) self.old.keys) }
+        ensures* writes_back { sem 𝓛 (LendsIf the_row entry_row self.entry result
+            (with_entry self.old (up_to (key_of range) self.old.keys - 1)) self.old) }
+    {
+        self.listed.floor_mut(key(range))
+    }
+
+    /// Puts an entry before the first one that begins behind its first cell, in a node that was spare.
+    pub(crate) fn insert(&mut self, entry: Entry)
+        requires { length self.old.items < self.old.room }
+        ensures items { self.new.items
+            ≡ insert self.old.items (up_to (key_of entry.range) self.old.keys) entry }
+        ensures keys { self.new.keys ≡ insert self.old.keys
+            (up_to (key_of entry.range) self.old.keys) (key_of entry.range) }
+        ensures low { entry.range.lo < 4294967296 }
         ensures room { self.new.room ≡ self.old.room }
     {
-        *self.listed.get_mut(index) = entry;
-    }
-
-    /// Puts an entry before the one at this index, in a node that was spare.
-    pub(crate) fn insert(&mut self, index: usize, entry: Entry)
-        requires within { index ≤ length self.old.items }
-        requires room { length self.old.items < self.old.room }
-        ensures items { self.new.items ≡ insert self.old.items index entry }
-        ensures room { self.new.room ≡ self.old.room }
-    {
+        let at = key(entry.range);
         if let Some(mut node) = self.spare.pop_front() {
             *node.value_mut() = entry;
-            self.listed.insert(index, node);
+            self.listed.insert(at, node);
         }
     }
 
-    /// Takes an entry out. Its node is spare from then on.
-    pub(crate) fn remove(&mut self, index: usize)
-        requires { index < length self.old.items }
-        ensures items { self.new.items ≡ remove self.old.items index }
+    /// Takes the last entry out that doesn't begin behind the range's first cell. Its node is spare from then on.
+    pub(crate) fn remove(&mut self, range: Range)
+        requires { 0 < up_to (key_of range) self.old.keys }
+        ensures items { self.new.items
+            ≡ remove self.old.items (up_to (key_of range) self.old.keys - 1) }
+        ensures keys { self.new.keys
+            ≡ remove self.old.keys (up_to (key_of range) self.old.keys - 1) }
+        ensures low { range.lo < 4294967296 }
         ensures room { self.new.room ≡ self.old.room }
     {
-        let node = self.listed.remove(index);
+        let node = self.listed.remove(key(range));
         self.spare.push_back(node);
     }
 
@@ -188,4 +205,12 @@ fn no_entry() -> Entry {
         maker: (QueueId::SYNC, 0),
         uses: [0; QUEUES as usize],
     }
+}
+
+// A number for the range's first cell, greater than that of each before it.
+fn key(range: Range) -> u64
+    ensures key { result ≡ key_of range }
+    ensures low { range.lo < 4294967296 }
+{
+    u64::from(range.array) * 4_294_967_296 + u64::from(range.lo)
 }

@@ -1,6 +1,6 @@
-//! The table: entries in their order, searched by halves.
+//! The table: entries in their order, found by the keys of their first cells.
 
-ghost use Rattle.std.specs.Prelude.{◌≡◌, ℕ, ◌+◌, ◌^◌, ◌<◌, ◌≤◌, [], length, map, slice_get, slice_set, remove, true, false, Some, None, if◌then◌else◌, IfSome, OnOk, OnErr, OnSome};
+ghost use Rattle.std.specs.Prelude.{◌≡◌, ℕ, ◌+◌, ◌-◌, ◌^◌, ◌<◌, ◌≤◌, [], length, map, slice_get, slice_set, remove, true, false, Some, None, if◌then◌else◌, IfSome, OnOk, OnErr, OnSome};
 ghost use Rattle.std.specs.Option.{option_map};
 ghost use Rattle.acc_base.specs.Faults.{OnlyMemory};
 ghost use Rattle.acc_base.specs.declared.ids.TheConstants.{QUEUES};
@@ -20,9 +20,9 @@ use crate::entry::{
     Entry, count_of, count_up, counted_down, has_count, make_by, new_entry, use_by,
 };
 use crate::held::Held;
-use crate::search::{held_before, index_behind, index_of, overlaps_around, overlaps_beside_in};
+use crate::search::overlaps_beside_in;
 use acc_base::{BlockId, Fault, QueueId, Range};
-use acc_raw::Chain;
+use acc_raw::{Chain, Iter};
 use std::alloc::Global;
 use std::marker::Model;
 
@@ -60,8 +60,6 @@ pub struct Table {
     entries: Entries,
     capacity: u64,
     used: u64,
-    // where the last call went, near which the next one looks first, whatever stands there by then
-    near: usize,
 }
 
 impl Model for Table {
@@ -69,12 +67,13 @@ impl Model for Table {
     ghost use Rattle.acc_present.specs.Tables.{TableView, entry_presence};
     ghost use Rattle.acc_present.specs.Notes.{entry_noted};
     ghost use Rattle.acc_present.specs.inner.Invariants.{IsTable};
+    ghost use Rattle.acc_present.specs.inner.Keys.{AreKeyed};
 
     ghost Value = { TableView };
 
     ghost view = { λ t. record { presences = map entry_presence t.entries.items; notes = map entry_noted t.entries.items; capacity = t.capacity; room = t.entries.room } };
 
-    ghost invariant = { λ t. IsTable (map entry_presence t.entries.items) t.used t.capacity };
+    ghost invariant = { λ t. IsTable (map entry_presence t.entries.items) t.used t.capacity × AreKeyed t.entries.items t.entries.keys };
 }
 
 impl Table {
@@ -88,7 +87,6 @@ impl Table {
             entries: Entries::new(alloc),
             capacity,
             used: 0,
-            near: 0,
         }
     }
 
@@ -110,11 +108,11 @@ impl Table {
         self.entries.spare(count)
     }
 
-    /// Goes to where a range stands, so that what is asked of it next is found at once.
+    /// Goes to where a range stands, so that the calls that ask for it next find it at once.
     pub fn seek(&mut self, range: Range)
         ensures { self.new ≡ self.old }
     {
-        self.near = index_behind(self.entries.listed(), self.near, range);
+        self.entries.seek(range);
     }
 
     /// What the table has of a range with a cell.
@@ -124,17 +122,26 @@ impl Table {
         ensures noted { (notes : Range → ℕ → Note) → HasNotes notes self.now.notes
             → IsNoted notes result }
     {
-        let entries = self.entries.listed();
-        let behind = index_behind(entries, self.near, range);
-        match held_before(entries, behind, range) {
-            Some(i) => Look::Present(*self.entries.at(i)),
-            None => {
-                if overlaps_around(entries, behind, range) {
+        let mut around = self.entries.iter_from(range);
+        let first = match around.next() {
+            Some(first) => first,
+            None => return Look::Absent,
+        };
+        if first.range.contains(&range) {
+            return Look::Present(*first);
+        }
+        if first.range.overlaps(&range) {
+            return Look::Partly;
+        }
+        match around.next() {
+            Some(second) => {
+                if second.range.overlaps(&range) {
                     Look::Partly
                 } else {
                     Look::Absent
                 }
             }
+            None => Look::Absent,
         }
     }
 
@@ -161,21 +168,34 @@ impl Table {
         ensures result { result ≡ (if is_present self.old.presences range then Entered.Counted
             else Entered.Opened) }
     {
-        let entries = self.entries.listed();
-        let behind = index_behind(entries, self.near, range);
-        self.near = behind;
-        match held_before(entries, behind, range) {
-            Some(i) => {
-                count_up(self.entries.at_mut(i), counter);
-                Entered::Counted
-            }
-            None => {
-                self.entries
-                    .insert(behind, new_entry(range, counter, block));
-                self.used += u64::from(range.len);
-                Entered::Opened
-            }
+        let Some(entry) = self.entries.floor_mut(range) else {
+            return self.open(range, counter, block);
+        };
+        if !entry.range.contains(&range) {
+            return self.open(range, counter, block);
         }
+        count_up(entry, counter);
+        Entered::Counted
+    }
+
+    // Opens the data lifetime of a range that overlaps no present one.
+    fn open(&mut self, range: Range, counter: Counter, block: BlockId) -> Entered
+        requires cells { 0 < range.len }
+        requires absent { holder self.old.presences range ≡ None }
+        requires whole { is_partly_present self.old.presences range ≡ false }
+        requires capacity { used_cells self.old.presences + range.len ≤ self.old.capacity }
+        requires room { length self.old.presences < self.old.room }
+        ensures presences { self.new.presences
+            ≡ presences_after (entry_mark counter range) block self.old.presences }
+        ensures notes { (notes : Range → ℕ → Note) → HasNotes notes self.old.notes
+            → notes range block ≡ no_note → HasNotes notes self.new.notes }
+        ensures capacity { self.new.capacity ≡ self.old.capacity }
+        ensures room { self.new.room ≡ self.old.room }
+        ensures result { result ≡ Entered.Opened }
+    {
+        self.entries.insert(new_entry(range, counter, block));
+        self.used += u64::from(range.len);
+        Entered::Opened
     }
 
     /// Counts an exit from a range with a cell, and ends its data lifetime where both counters are zero. A region leaves
@@ -221,39 +241,21 @@ impl Table {
         ensures room { self.new.room ≡ self.old.room }
         ensures result { result ≡ left_of (holder self.old.presences range) change }
     {
-        match index_of(self.entries.listed(), &mut self.near, range) {
-            None => Left::Nothing,
-            Some(i) => {
-                let entry = self.entries.at(i);
-                if count_of(entry, change) == 0 {
-                    return Left::Nothing;
-                }
-                let after = counted_down(entry, change);
-                self.put_or_end(i, after)
-            }
+        let Some(entry) = self.entries.floor_mut(range) else {
+            return Left::Nothing;
+        };
+        if !entry.range.contains(&range) {
+            return Left::Nothing;
         }
-    }
-
-    // Puts what an exit makes of the entry at this index, or ends it where both counters are zero.
-    fn put_or_end(&mut self, index: usize, after: Entry) -> Left
-        requires { option_map (λ p. p.range) (slice_get self.old.presences index)
-            ≡ Some after.range }
-        ensures presences { self.new.presences
-            ≡ (if has_count (entry_presence after) then slice_set self.old.presences index
-            (entry_presence after) else remove self.old.presences index) }
-        ensures notes { (notes : Range → ℕ → Note) → HasNotes notes self.old.notes
-            → entry_note after ≡ notes after.range after.block → HasNotes notes self.new.notes }
-        ensures capacity { self.new.capacity ≡ self.old.capacity }
-        ensures room { self.new.room ≡ self.old.room }
-        ensures result { result ≡ (if has_count (entry_presence after) then Left.Counted
-            else Left.Ended after.block) }
-    {
+        if count_of(entry, change) == 0 {
+            return Left::Nothing;
+        }
+        let after = counted_down(entry, change);
         if has_count(&after) {
-            self.entries.set(index, after);
+            *entry = after;
             return Left::Counted;
         }
-        self.entries.remove(index);
-        self.near = index;
+        self.entries.remove(range);
         self.used -= u64::from(after.range.len);
         Left::Ended(after.block)
     }
@@ -263,9 +265,7 @@ impl Table {
         ensures { result
             ≡ overlaps_any (beside (map held_presence changed.now) self.now.presences) range }
     {
-        let entries = self.entries.listed();
-        let behind = index_behind(entries, self.near, range);
-        overlaps_beside_in(entries, behind, range, changed)
+        overlaps_beside_in(self.entries.iter_from(range), range, changed)
     }
 
     /// Notes that this batch of a queue used what a range with a cell is part of, if it is present.
@@ -278,12 +278,13 @@ impl Table {
         ensures capacity { self.new.capacity ≡ self.old.capacity }
         ensures room { self.new.room ≡ self.old.room }
     {
-        match index_of(self.entries.listed(), &mut self.near, range) {
-            None => {}
-            Some(i) => {
-                use_by(self.entries.at_mut(i), queue, batch);
-            }
+        let Some(entry) = self.entries.floor_mut(range) else {
+            return;
+        };
+        if !entry.range.contains(&range) {
+            return;
         }
+        use_by(entry, queue, batch);
     }
 
     /// Notes that this batch of a queue made what a range with a cell is part of, if it is present.
@@ -296,12 +297,13 @@ impl Table {
         ensures capacity { self.new.capacity ≡ self.old.capacity }
         ensures room { self.new.room ≡ self.old.room }
     {
-        match index_of(self.entries.listed(), &mut self.near, range) {
-            None => {}
-            Some(i) => {
-                make_by(self.entries.at_mut(i), queue, batch);
-            }
+        let Some(entry) = self.entries.floor_mut(range) else {
+            return;
+        };
+        if !entry.range.contains(&range) {
+            return;
         }
+        make_by(entry, queue, batch);
     }
 
     /// The entry of the present range that contains a range with a cell.
@@ -312,11 +314,11 @@ impl Table {
         ensures noted { (notes : Range → ℕ → Note) → HasNotes notes self.now.notes
             → IfSome result (λ e. entry_note e.now ≡ notes e.now.range e.now.block) }
     {
-        let entries = self.entries.listed();
-        let behind = index_behind(entries, self.near, range);
-        match held_before(entries, behind, range) {
-            Some(i) => Some(self.entries.at(i)),
-            None => None,
+        let first = self.entries.iter_from(range).next()?;
+        if first.range.contains(&range) {
+            Some(first)
+        } else {
+            None
         }
     }
 
@@ -338,7 +340,7 @@ impl Table {
         self.used
     }
 
-    /// The entry at this index, from 0, by array, then by lower bound.
+    /// The entry at this index, from 0, by array, then by lower bound. Who asks for one after the other takes `iter`.
     pub fn nth(&self, index: usize) -> Option<&Entry>
         ensures entry { option_map (λ e. entry_presence e.now) result
             ≡ slice_get self.now.presences index }
@@ -346,7 +348,15 @@ impl Table {
             ≡ slice_get self.now.notes index }
         ensures next { OnSome result (index + 1 < 2 ^ 64) }
     {
-        self.entries.get(index)
+        self.entries.nth(index)
+    }
+
+    /// The entries, by array, then by lower bound.
+    pub fn iter(&self) -> Iter<'_, Entry>
+        ensures entries { map entry_presence result ≡ self.now.presences }
+        ensures noted { map entry_noted result ≡ self.now.notes }
+    {
+        self.entries.iter()
     }
 
     /// The chain of the present entries, in the order of `nth`, and that of the nodes which no entry has. Takes no memory.
@@ -359,7 +369,6 @@ impl Table {
             entries,
             capacity: _,
             used: _,
-            near: _,
         } = self;
         entries.into_chains()
     }

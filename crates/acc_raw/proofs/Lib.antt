@@ -1,8 +1,10 @@
+pub mod Ascending
 pub mod BlockCrosses
 pub mod BlockSharing
 pub mod Boxes
 pub mod Changing
 pub mod Crosses
+pub mod Crowding
 pub mod Filling
 pub mod Heap
 pub mod Indexing
@@ -11,10 +13,11 @@ pub mod Linking
 pub mod Making
 pub mod Naming
 pub mod Owned
-pub mod Packing
 pub mod Places
 pub mod Reaching
+pub mod Searching
 pub mod Seeking
+pub mod Segmenting
 pub mod Sharing
 pub mod Showing
 pub mod TwoParts

@@ -3,5 +3,5 @@ pub mod Keys
 pub mod Lends
 pub mod Links
 pub mod Ownership
-pub mod Rings
+pub mod Segments
 pub mod Wired

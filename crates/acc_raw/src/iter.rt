@@ -1,8 +1,8 @@
 //! The values of a chain, one after the other.
-ghost use Rattle.std.specs.Prelude.{◌≡◌};
+ghost use Rattle.std.specs.Prelude.{◌≡◌, drop};
 ghost use Rattle.std.specs.Iterator.{YieldsFirstRef, item_count};
 ghost use Rattle.acc_raw.specs.inner.Wired.{values};
-ghost use Rattle.acc_raw.specs.inner.Chained.{IsChained};
+ghost use Rattle.acc_raw.specs.inner.Chained.{IsChained, IsCursor};
 
 use crate::chained::Chained;
 use crate::link::Place;
@@ -60,5 +60,13 @@ impl<'chain, T> Iter<'chain, T> {
             at: nodes.head,
             index: Nth::of(0),
         }
+    }
+
+    /// The values from the one at `at` on, which is the `index`-th, or none.
+    pub(crate) fn at(nodes: &'chain Chained<T>, at: Option<Place>, index: Nth) -> Self
+        requires { IsCursor nodes.now at index.n }
+        ensures { result ≡ drop index.n (values nodes.now.store.links) }
+    {
+        Iter { nodes, at, index }
     }
 }

@@ -1,4 +1,4 @@
-//! Rows of numbers, and chains of linked nodes, with an index of their places or without.
+//! Rows of numbers, and chains of linked nodes, with an index of their keys or without.
 #![tactic(auto)]
 
 mod block;
@@ -10,9 +10,9 @@ mod iter;
 mod keyed;
 mod link;
 mod nth;
-mod ring;
+mod segment;
+mod segments;
 mod store;
-mod tiered;
 
 pub use cells::{Cells, Window};
 pub use chain::Chain;

@@ -1,11 +1,8 @@
 -- Puts one after the other are a put of the joined text.
-use Rattle.std.proofs.Common.{inl, inr, ◌≡◌, ◌≤◌, ℕ, ◌+◌, Bool, true, false, List, [], ◌∷◌, ◌++◌, length, take, drop, slice_get, Option, Some, None, Result, Ok, Err, refl, sym, ap, ◌∙◌, subst}
+use Rattle.std.proofs.Common.{◌≡◌, ℕ, ◌+◌, Bool, true, false, List, [], ◌∷◌, ◌++◌, length, take, drop, Option, Some, None, Result, Ok, Err, refl, sym, ap, ◌∙◌, subst}
 use Rattle.std.proofs.Math.Seq.{take-append-add, take-append_seam}
 use Rattle.std.proofs.Math.Numerals.{add-one}
-use Rattle.std.proofs.lemmas.Grind.{flat_map-append}
-use Rattle.std.proofs.lemmas.List.{append_assoc, append-nil, take-append-drop, take_all, take_more}
-use Rattle.std.proofs.lemmas.Option.{slice_get_cases, slice_get_within, get_or_from_slice_get}
-use Rattle.std.specs.List.{flat_map}
+use Rattle.std.proofs.lemmas.List.{append_assoc, append-nil, take-append-drop}
 use Rattle.std.specs.Io.KnownBytes.{Appends, Keeps}
 use Rattle.acc_report.specs.Puts.{AppendsFront, Writes, Sink, sink, PutsBy, Puts}
 use Rattle.acc_report.specs.Lines.{each_below}
@@ -77,27 +74,6 @@ nothing_by a false = appends_nothing a
 
 pub puts_nothing : (a : Sink) → Puts a a []
 puts_nothing a = record { bytes = nothing_by a.held a.failed }
-
-past_end : {A : Type 0} (xs : List A) (i : ℕ) → slice_get xs i ≡ None → length xs ≤ i
-past_end xs i is = elim (slice_get_cases xs i).1 [
-  | inl within ↦ absurd (let e : slice_get xs i ≡ Some within.0 = within.2 in cc)
-  | inr past ↦ past.0
-]
-
--- one more text of a list, and of those of the numbers from 0
-pub puts_next : {a b c : Sink} {A : Type 0} (f : A → List ℕ) (xs : List A) (i : ℕ) (x : A) → slice_get xs i ≡ Some x
-    → Puts a b (flat_map f (take i xs)) → Puts b c (f x) → Puts a c (flat_map f (take (i + 1) xs))
-puts_next f xs i x is first second =
-    let longer : take (i + 1) xs ≡ take i xs ++ x ∷ [] =
-    take_more xs i x (slice_get_within xs i x is) ∙ ap (λ e. take i xs ++ e ∷ []) (get_or_from_slice_get xs i x x is) in
-    let text : flat_map f (take (i + 1) xs) ≡ flat_map f (take i xs) ++ f x =
-    ap (flat_map f) longer ∙ flat_map-append f (take i xs) (x ∷ []) ∙ ap (λ t. flat_map f (take i xs) ++ t) (append-nil (f x)) in
-    rw text (puts_then first second)
-
--- behind the last element all of them are put
-pub puts_all : {a b : Sink} {A : Type 0} (f : A → List ℕ) (xs : List A) (i : ℕ) → slice_get xs i ≡ None
-    → Puts a b (flat_map f (take i xs)) → Puts a b (flat_map f xs)
-puts_all {a} {b} f xs i is puts = subst (λ ys. Puts a b (flat_map f ys)) (take_all i xs (past_end xs i is)) puts
 
 pub puts_below : {a b c : Sink} (text : ℕ → List ℕ) (n : ℕ) → Puts a b (each_below n text) → Puts b c (text n)
     → Puts a c (each_below (n + 1) text)

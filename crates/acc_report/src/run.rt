@@ -208,10 +208,8 @@ fn put_device<W: Write>(
     ensures { Puts (sink (W.contents out.old) failed.old) (sink (W.contents out.new) failed.new)
         (present_text (texts names.now) (standing_in place.now) device) }
 {
-    let mut index = 0;
-    while let Some(entry) = place.nth(device, index) {
+    for entry in place.entries(device) {
         put_presence(out, failed, names, device, entry);
-        index += 1;
     }
 }
 

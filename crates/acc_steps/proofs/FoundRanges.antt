@@ -1,59 +1,28 @@
 -- What is found among the ranges that are present, one after another.
-use Rattle.std.proofs.Common.{inl, inr, ◌≡◌, ℕ, zero, suc, ◌+◌, ◌≤◌, Bool, true, false, List, [], ◌∷◌, length, take, slice_get, Some, None, refl, ap, ◌∙◌, arith}
+use Rattle.std.proofs.Common.{◌≡◌, ◌+◌, Bool, true, false, List, [], ◌∷◌, refl, ap, ◌∙◌, arith}
 use Rattle.std.specs.Prelude.{◌||◌, ◌&&◌, not, nat_lt, ◌==◌, min, max}
-use Rattle.std.specs.List.{list_any}
 use Rattle.std.proofs.lemmas.Bool.Decides.{nat_tests}
-use Rattle.std.proofs.lemmas.List.{take_all}
-use Rattle.std.proofs.lemmas.List.Folds.{list_any_more}
-use Rattle.std.proofs.lemmas.List.Sums.{sum_by_more}
-use Rattle.std.proofs.lemmas.Option.{same_Some, slice_get_cases, slice_get_within, get_or_from_slice_get}
 use Rattle.acc_base.specs.declared.range.Range.{Range}
 use Rattle.acc_base.specs.Ranges.{range_overlaps}
-use Rattle.acc_present.specs.Presences.{Presence, is_partly_present, is_present, overlaps_any, used_cells}
+use Rattle.acc_present.specs.Presences.{Presence, is_partly_present, is_present, overlaps_any}
 
--- ## Without an end
+-- ## The first of the ranges, and the others
 
-past_end : (ps : List Presence) (i : ℕ) → slice_get ps i ≡ None → length ps ≤ i
-past_end ps i is = elim (slice_get_cases ps i).1 [
-  | inl within ↦ absurd (let e : slice_get ps i ≡ Some within.0 = within.2 in cc)
-  | inr past ↦ past.0
-]
-
-pub all_of : (ps : List Presence) (i : ℕ) → slice_get ps i ≡ None → take i ps ≡ ps
-all_of ps i is = take_all i ps (past_end ps i is)
-
--- ## One more
-next_test : (f : Presence → Bool) (ps : List Presence) (i : ℕ) (p : Presence) → slice_get ps i ≡ Some p
-    → list_any f (take (i + 1) ps) ≡ (list_any f (take i ps) || f p)
-next_test f ps i p is =
-    list_any_more f ps i p (slice_get_within ps i p is) ∙ ap (λ x. list_any f (take i ps) || f x) (get_or_from_slice_get ps i p p is)
-
-pub next_sum : (ps : List Presence) (i : ℕ) (p : Presence) → slice_get ps i ≡ Some p
-    → used_cells (take (i + 1) ps) ≡ used_cells (take i ps) + p.range.len
-next_sum ps i p is =
-    sum_by_more (λ (x : Presence). x.range.len) ps i p (slice_get_within ps i p is)
-    ∙ ap (λ x. used_cells (take i ps) + x.range.len) (get_or_from_slice_get ps i p p is)
-
-either : (b c : Bool) → c ≡ true → (b || c) ≡ true
+either : (b c : Bool) → b ≡ true → (b || c) ≡ true
 either true c is = refl
-either false c is = is
+either false c is = cc
+
+pub found_here : (p : Presence) (ps rest : List Presence) (r : Range) → ps ≡ p ∷ rest → range_overlaps p.range r ≡ true → overlaps_any ps r ≡ true
+found_here p ps rest r is holds = ap (λ l. overlaps_any l r) is ∙ either (range_overlaps p.range r) (overlaps_any rest r) holds
+
+pub none_here : (p : Presence) (ps rest : List Presence) (r : Range) → ps ≡ p ∷ rest → range_overlaps p.range r ≡ false → overlaps_any ps r ≡ overlaps_any rest r
+none_here p ps rest r is misses = ap (λ l. overlaps_any l r) is ∙ ap (λ b. b || overlaps_any rest r) misses
+
+-- ## A range without a cell
 
 neither : (b c : Bool) → b ≡ false → c ≡ false → (b || c) ≡ false
 neither true c first second = first
 neither false c first second = second
-
-pub none_else : (f : Presence → Bool) (ps : List Presence) (i : ℕ) (p : Presence) → slice_get ps i ≡ Some p
-    → list_any f (take i ps) ≡ false → f p ≡ false → list_any f (take (i + 1) ps) ≡ false
-none_else f ps i p is before here = next_test f ps i p is ∙ neither (list_any f (take i ps)) (f p) before here
-
-pub found_at : (f : Presence → Bool) (ps : List Presence) (i : ℕ) (p : Presence) → slice_get ps i ≡ Some p → f p ≡ true → list_any f ps ≡ true
-found_at f [] i p is holds = absurd cc
-found_at f (x ∷ ps) zero p is holds =
-    let same : f x ≡ true = ap f (same_Some x p is) ∙ holds in
-    ap (λ b. b || list_any f ps) same
-found_at f (x ∷ ps) (suc i) p is holds = either (f x) (list_any f ps) (found_at f ps i p is holds)
-
--- ## A range without a cell
 
 both : (b c : Bool) → c ≡ false → (b && c) ≡ false
 both true c is = is

@@ -38,43 +38,21 @@ fn overlaps_any(world: &World, device: DeviceId, range: Range) -> bool
     requires { device < world.now.config.devices }
     ensures { result ≡ overlaps_any (presences ((standing_of world.now).marks device)) range }
 {
-    let mut index = 0;
-    while let Some(entry) = world.nth(device, index) {
+    for entry in world.place().entries(device) {
         if entry.range.overlaps(&range) {
             return true;
         }
-        index += 1;
     }
     false
 }
 
 /// How many cells of a device are in use.
-pub(crate) fn used_cells(world: &World, device: DeviceId) -> u128
+pub(crate) fn used_cells(world: &World, device: DeviceId) -> u64
     ensures { result ≡ used_cells (present_on world.now device) }
 {
-    if world.devices() <= device.number() {
-        return 0;
+    if device.number() < world.devices() {
+        world.place().used_cells(device)
+    } else {
+        0
     }
-    sum_cells(world, device)
-}
-
-fn sum_cells(world: &World, device: DeviceId) -> u128
-    requires { device < world.now.config.devices }
-    ensures { result ≡ used_cells (presences ((standing_of world.now).marks device)) }
-{
-    let mut used = 0u128;
-    let mut index = 0;
-    while let Some(entry) = world.nth(device, index) {
-        used += cells_of(entry.range);
-        index += 1;
-    }
-    used
-}
-
-// How many cells a range has, as a number that many of them add up to.
-fn cells_of(range: Range) -> u128
-    ensures cells { result ≡ range.len }
-    ensures few { result < 2 ^ 32 }
-{
-    u128::from(range.len)
 }

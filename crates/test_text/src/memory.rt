@@ -293,10 +293,10 @@ fn memory_is_refused_at_each_amount(rt: HostRuntime) -> Result<(), Fail> {
 /// The block of the first host takes more memory than reading the texts leaves free, so that it can be wanting at the directive
 /// alone.
 const LARGE_AND_SMALL: &[u8] =
-    b"long a[3000];\nlong b[2];\nhost {\n#pragma acc enter data copyin(a) async(1)\n}\nhost {\n#pragma acc enter data copyin(b) async(2)\n}\n%%\nround 20\n";
+    b"long a[2400];\nlong b[2];\nhost {\n#pragma acc enter data copyin(a) async(1)\n}\nhost {\n#pragma acc enter data copyin(b) async(2)\n}\n%%\nround 20\n";
 
 const LARGE_AND_SMALL_REPORT: &[u8] =
-    b"host 0\ndone\nhost 1\ndone\npresent 0 a[0:3000] s 0 d 1\npresent 0 b[0:2] s 0 d 1\nqueue 0 1 batches 1 operations 2 of 2\nqueue 0 2 batches 1 operations 2 of 2\nend\n";
+    b"host 0\ndone\nhost 1\ndone\npresent 0 a[0:2400] s 0 d 1\npresent 0 b[0:2] s 0 d 1\nqueue 0 1 batches 1 operations 2 of 2\nqueue 0 2 batches 1 operations 2 of 2\nend\n";
 
 const SMALL_ALONE: &[u8] =
     b"host 0\nrefused 4 F11 Memory\nhost 1\ndone\npresent 0 b[0:2] s 0 d 1\nqueue 0 2 batches 1 operations 2 of 2\nend\n";

@@ -10,9 +10,10 @@ pub record IsTable (ps : List Presence) (used capacity : ℕ) : Type 0 where
   pub counted : used ≡ used_cells ps
   pub within : used_cells ps ≤ capacity
 
--- entries in their order, and how many there is room for
+-- entries in their order, the key of each, and how many there is room for
 pub record EntriesView : Type 0 where
   pub items : List Entry
+  pub keys : List ℕ
   pub room : ℕ
 
 -- The nodes are those of the entries and the spare ones, and there is room to name each.

@@ -1,87 +1,143 @@
-use Rattle.std.proofs.Common.{◌≡◌, refl, None}
-use Rattle.acc_present.specs.Presences.{holder}
-use Rattle.acc_present.proofs.EnterAndExit.{shown, found_at, entered_again, entered_new}
-use Rattle.acc_present.proofs.Holder.{is_present-none}
-use Rattle.acc_present.proofs.EntryNotes.{noted_set, noted_insert, noted_at}
+use Rattle.std.proofs.Common.{◌≡◌, ◌-◌, sym, ap, subst, ◌∙◌, refl, Some}
+use Rattle.std.specs.Option.{option_copied_mut}
+use Rattle.acc_raw.specs.Indices.{last_of, up_to}
 use Rattle.acc_present.specs.Presences.{Presence}
-use Rattle.std.proofs.Common.{ap, sym, ◌∙◌}
+use Rattle.acc_present.specs.inner.Invariants.{IsTable}
+use Rattle.acc_present.specs.inner.Keys.{AreKeyed, key_of}
+use Rattle.acc_present.proofs.EnterAndExit.{shown, entered_again}
+use Rattle.acc_present.proofs.EntryNotes.{noted_at, noted_set}
+use Rattle.acc_present.proofs.FloorEntries.{floor_kept, keyed_found, keyed_missed, keyed_none, last_at}
+use Rattle.acc_present.proofs.Holder.{is_present-none}
+use Rattle.acc_present.proofs.EntryKeys.{keyed_set}
 use Rattle.acc_present.proofs.table.Table.enter.Goals as goal
 
-pub invariant_of-self : goal.invariant_of-self
-invariant_of-self c =
-    let es = c.self.inside.entries.items in
-    let held = rw c.listed-entries.ensures at c.in-Some.ensures.held in
-    let low = rw c.listed-entries.ensures at c.in-Some.ensures.within in
-    let f = found_at es c.args.range c.in-Some.i c.at_mut.result.now held low c.at_mut.ensures.value in
-    (entered_again es c.args.range c.args.counter c.args.block c.in-Some.i c.at_mut.result.now c.count_up.new.entry c.self.inside.used c.self.inside.capacity
-    c.self.invariant c.requires.cells f c.count_up.ensures.presence).table
+pub open-requires-clause-absent : goal.open-requires-clause-absent
+open-requires-clause-absent c =
+    let es = c.self.inside.entries.items in let ks = c.self.inside.entries.keys in let r = c.args.range in
+    let none = keyed_none es ks r c.floor_mut.ensures.low c.self.invariant.1 c.self.invariant.0.table c.requires.cells (sym c.floor_mut.ensures.value ∙ ap option_copied_mut c.in_default.is) in
+    none
 
-pub returns-in-Some-clause-presences : goal.returns-in-Some-clause-presences
-returns-in-Some-clause-presences c =
-    let es = c.self.inside.entries.items in
-    let held = rw c.listed-entries.ensures at c.in-Some.ensures.held in
-    let low = rw c.listed-entries.ensures at c.in-Some.ensures.within in
-    let f = found_at es c.args.range c.in-Some.i c.at_mut.result.now held low c.at_mut.ensures.value in
-    rw (← c.self.view_is)
-    (entered_again es c.args.range c.args.counter c.args.block c.in-Some.i c.at_mut.result.now c.count_up.new.entry c.self.inside.used c.self.inside.capacity
-    c.self.invariant c.requires.cells f c.count_up.ensures.presence).same
+pub open-requires-clause-capacity : goal.open-requires-clause-capacity
+open-requires-clause-capacity c =
+    let es = c.self.inside.entries.items in let ks = c.self.inside.entries.keys in let r = c.args.range in
+    let none = keyed_none es ks r c.floor_mut.ensures.low c.self.invariant.1 c.self.invariant.0.table c.requires.cells (sym c.floor_mut.ensures.value ∙ ap option_copied_mut c.in_default.is) in
+    (rw (← c.self.view_is) at c.requires.capacity) none
 
-pub returns-in-Some-clause-result : goal.returns-in-Some-clause-result
-returns-in-Some-clause-result c =
-    let es = c.self.inside.entries.items in
-    let held = rw c.listed-entries.ensures at c.in-Some.ensures.held in
-    let low = rw c.listed-entries.ensures at c.in-Some.ensures.within in
-    let f = found_at es c.args.range c.in-Some.i c.at_mut.result.now held low c.at_mut.ensures.value in
+pub open-requires-clause-room : goal.open-requires-clause-room
+open-requires-clause-room c =
+    let es = c.self.inside.entries.items in let ks = c.self.inside.entries.keys in let r = c.args.range in
+    let none = keyed_none es ks r c.floor_mut.ensures.low c.self.invariant.1 c.self.invariant.0.table c.requires.cells (sym c.floor_mut.ensures.value ∙ ap option_copied_mut c.in_default.is) in
+    (rw (← c.self.view_is) at c.requires.room) none
+
+pub returns-in_default-clause-presences : goal.returns-in_default-clause-presences
+returns-in_default-clause-presences c =
+    rw (← c.self.view_is) c.open.ensures.presences
+
+pub returns-in_default-clause-notes : goal.returns-in_default-clause-notes
+returns-in_default-clause-notes c =
+    let es = c.self.inside.entries.items in let ks = c.self.inside.entries.keys in let r = c.args.range in
+    let none = keyed_none es ks r c.floor_mut.ensures.low c.self.invariant.1 c.self.invariant.0.table c.requires.cells (sym c.floor_mut.ensures.value ∙ ap option_copied_mut c.in_default.is) in
+    rw (← c.self.view_is) (λ notes h fresh. c.open.ensures.notes notes h (fresh none))
+
+pub returns-in_default-clause-result : goal.returns-in_default-clause-result
+returns-in_default-clause-result c =
+    let es = c.self.inside.entries.items in let ks = c.self.inside.entries.keys in let r = c.args.range in
+    let none = keyed_none es ks r c.floor_mut.ensures.low c.self.invariant.1 c.self.invariant.0.table c.requires.cells (sym c.floor_mut.ensures.value ∙ ap option_copied_mut c.in_default.is) in
+    rw (← c.self.view_is) (c.open.ensures.result ∙ rw (is_present-none (shown es) r none) refl)
+
+pub invariant_of-self-then-not-contains : goal.invariant_of-self-then-not-contains
+invariant_of-self-then-not-contains c =
+    let es = c.self.inside.entries.items in let ks = c.self.inside.entries.keys in let r = c.args.range in let x = c.in-Some.entry.now in let i = up_to (key_of r) ks - 1 in
+    let e : last_of es (up_to (key_of r) ks) ≡ Some x = sym c.floor_mut.ensures.value ∙ ap option_copied_mut c.in-Some.is in
+    subst (λ l. IsTable (shown l) c.self.inside.used c.self.inside.capacity × AreKeyed l ks) (sym (floor_kept es (up_to (key_of r) ks) x e)) c.self.invariant
+
+pub open-requires-then-not-contains-clause-absent : goal.open-requires-then-not-contains-clause-absent
+open-requires-then-not-contains-clause-absent c =
+    let es = c.self.inside.entries.items in let ks = c.self.inside.entries.keys in let r = c.args.range in let x = c.in-Some.entry.now in let i = up_to (key_of r) ks - 1 in
+    let e : last_of es (up_to (key_of r) ks) ≡ Some x = sym c.floor_mut.ensures.value ∙ ap option_copied_mut c.in-Some.is in
+    let none = keyed_missed es ks r c.floor_mut.ensures.low c.self.invariant.1 c.self.invariant.0.table c.requires.cells x e (sym c.contains.ensures.bounds ∙ c.if-not-contains.true) in
+    let kept = floor_kept es (up_to (key_of r) ks) x e in
+    rw kept none
+
+pub open-requires-then-not-contains-clause-whole : goal.open-requires-then-not-contains-clause-whole
+open-requires-then-not-contains-clause-whole c =
+    let es = c.self.inside.entries.items in let ks = c.self.inside.entries.keys in let r = c.args.range in let x = c.in-Some.entry.now in let i = up_to (key_of r) ks - 1 in
+    let e : last_of es (up_to (key_of r) ks) ≡ Some x = sym c.floor_mut.ensures.value ∙ ap option_copied_mut c.in-Some.is in
+    let kept = floor_kept es (up_to (key_of r) ks) x e in
+    rw kept (rw (← c.self.view_is) at c.requires.whole)
+
+pub open-requires-then-not-contains-clause-capacity : goal.open-requires-then-not-contains-clause-capacity
+open-requires-then-not-contains-clause-capacity c =
+    let es = c.self.inside.entries.items in let ks = c.self.inside.entries.keys in let r = c.args.range in let x = c.in-Some.entry.now in let i = up_to (key_of r) ks - 1 in
+    let e : last_of es (up_to (key_of r) ks) ≡ Some x = sym c.floor_mut.ensures.value ∙ ap option_copied_mut c.in-Some.is in
+    let none = keyed_missed es ks r c.floor_mut.ensures.low c.self.invariant.1 c.self.invariant.0.table c.requires.cells x e (sym c.contains.ensures.bounds ∙ c.if-not-contains.true) in
+    let kept = floor_kept es (up_to (key_of r) ks) x e in
+    rw kept ((rw (← c.self.view_is) at c.requires.capacity) none)
+
+pub open-requires-then-not-contains-clause-room : goal.open-requires-then-not-contains-clause-room
+open-requires-then-not-contains-clause-room c =
+    let es = c.self.inside.entries.items in let ks = c.self.inside.entries.keys in let r = c.args.range in let x = c.in-Some.entry.now in let i = up_to (key_of r) ks - 1 in
+    let e : last_of es (up_to (key_of r) ks) ≡ Some x = sym c.floor_mut.ensures.value ∙ ap option_copied_mut c.in-Some.is in
+    let none = keyed_missed es ks r c.floor_mut.ensures.low c.self.invariant.1 c.self.invariant.0.table c.requires.cells x e (sym c.contains.ensures.bounds ∙ c.if-not-contains.true) in
+    let kept = floor_kept es (up_to (key_of r) ks) x e in
+    rw kept ((rw (← c.self.view_is) at c.requires.room) none)
+
+pub returns-then-not-contains-clause-presences : goal.returns-then-not-contains-clause-presences
+returns-then-not-contains-clause-presences c =
+    let es = c.self.inside.entries.items in let ks = c.self.inside.entries.keys in let r = c.args.range in let x = c.in-Some.entry.now in let i = up_to (key_of r) ks - 1 in
+    let e : last_of es (up_to (key_of r) ks) ≡ Some x = sym c.floor_mut.ensures.value ∙ ap option_copied_mut c.in-Some.is in
+    let kept = floor_kept es (up_to (key_of r) ks) x e in
+    rw (← c.self.view_is) (rw kept at c.open-then-not-contains.ensures.presences)
+
+pub returns-then-not-contains-clause-notes : goal.returns-then-not-contains-clause-notes
+returns-then-not-contains-clause-notes c =
+    let es = c.self.inside.entries.items in let ks = c.self.inside.entries.keys in let r = c.args.range in let x = c.in-Some.entry.now in let i = up_to (key_of r) ks - 1 in
+    let e : last_of es (up_to (key_of r) ks) ≡ Some x = sym c.floor_mut.ensures.value ∙ ap option_copied_mut c.in-Some.is in
+    let none = keyed_missed es ks r c.floor_mut.ensures.low c.self.invariant.1 c.self.invariant.0.table c.requires.cells x e (sym c.contains.ensures.bounds ∙ c.if-not-contains.true) in
+    let kept = floor_kept es (up_to (key_of r) ks) x e in
+    rw (← c.self.view_is) (λ notes h fresh. (rw kept at c.open-then-not-contains.ensures.notes) notes h (fresh none))
+
+pub returns-then-not-contains-clause-result : goal.returns-then-not-contains-clause-result
+returns-then-not-contains-clause-result c =
+    let es = c.self.inside.entries.items in let ks = c.self.inside.entries.keys in let r = c.args.range in let x = c.in-Some.entry.now in let i = up_to (key_of r) ks - 1 in
+    let e : last_of es (up_to (key_of r) ks) ≡ Some x = sym c.floor_mut.ensures.value ∙ ap option_copied_mut c.in-Some.is in
+    let none = keyed_missed es ks r c.floor_mut.ensures.low c.self.invariant.1 c.self.invariant.0.table c.requires.cells x e (sym c.contains.ensures.bounds ∙ c.if-not-contains.true) in
+    rw (← c.self.view_is) (c.open-then-not-contains.ensures.result ∙ rw (is_present-none (shown es) r none) refl)
+
+pub count_up-requires : goal.count_up-requires
+count_up-requires c =
+    let es = c.self.inside.entries.items in let ks = c.self.inside.entries.keys in let r = c.args.range in let x = c.in-Some.entry.now in let i = up_to (key_of r) ks - 1 in
+    let e : last_of es (up_to (key_of r) ks) ≡ Some x = sym c.floor_mut.ensures.value ∙ ap option_copied_mut c.in-Some.is in
+    let f = keyed_found es ks r c.floor_mut.ensures.low c.self.invariant.1 c.self.invariant.0.table c.requires.cells x e (sym c.contains.ensures.bounds ∙ c.if-not-contains.false) in
+    rw f.seen at (rw (← c.self.view_is) at c.requires.low)
+
+pub invariant_of-self-2 : goal.invariant_of-self-2
+invariant_of-self-2 c =
+    let es = c.self.inside.entries.items in let ks = c.self.inside.entries.keys in let r = c.args.range in let x = c.in-Some.entry.now in let i = up_to (key_of r) ks - 1 in
+    let e : last_of es (up_to (key_of r) ks) ≡ Some x = sym c.floor_mut.ensures.value ∙ ap option_copied_mut c.in-Some.is in
+    let f = keyed_found es ks r c.floor_mut.ensures.low c.self.invariant.1 c.self.invariant.0.table c.requires.cells x e (sym c.contains.ensures.bounds ∙ c.if-not-contains.false) in
+    let y = c.count_up.new.entry in let l = last_at es (up_to (key_of r) ks) x e in
+    ((entered_again es r c.args.counter c.args.block i x y c.self.inside.used c.self.inside.capacity c.self.invariant.0 c.requires.cells f c.count_up.ensures.presence).table, keyed_set es ks i x y l.low l.is (ap (λ (p : Presence). p.range) c.count_up.ensures.presence) c.self.invariant.1)
+
+pub returns-clause-presences : goal.returns-clause-presences
+returns-clause-presences c =
+    let es = c.self.inside.entries.items in let ks = c.self.inside.entries.keys in let r = c.args.range in let x = c.in-Some.entry.now in let i = up_to (key_of r) ks - 1 in
+    let e : last_of es (up_to (key_of r) ks) ≡ Some x = sym c.floor_mut.ensures.value ∙ ap option_copied_mut c.in-Some.is in
+    let f = keyed_found es ks r c.floor_mut.ensures.low c.self.invariant.1 c.self.invariant.0.table c.requires.cells x e (sym c.contains.ensures.bounds ∙ c.if-not-contains.false) in
+    let y = c.count_up.new.entry in let l = last_at es (up_to (key_of r) ks) x e in
+    rw (← c.self.view_is) (entered_again es r c.args.counter c.args.block i x y c.self.inside.used c.self.inside.capacity c.self.invariant.0 c.requires.cells f c.count_up.ensures.presence).same
+
+pub returns-clause-notes : goal.returns-clause-notes
+returns-clause-notes c =
+    let es = c.self.inside.entries.items in let ks = c.self.inside.entries.keys in let r = c.args.range in let x = c.in-Some.entry.now in let i = up_to (key_of r) ks - 1 in
+    let e : last_of es (up_to (key_of r) ks) ≡ Some x = sym c.floor_mut.ensures.value ∙ ap option_copied_mut c.in-Some.is in
+    let y = c.count_up.new.entry in let l = last_at es (up_to (key_of r) ks) x e in
+    let range : y.range ≡ x.range = ap (λ (p : Presence). p.range) c.count_up.ensures.presence in let block : y.block ≡ x.block = ap (λ (p : Presence). p.block) c.count_up.ensures.presence in
+    rw (← c.self.view_is) (λ notes h fresh. noted_set notes es i y h (c.count_up.ensures.note ∙ (noted_at notes es i x h l.low l.is ∙ (ap (λ q. notes q x.block) (sym range) ∙ ap (λ b. notes y.range b) (sym block)))))
+
+pub returns-clause-result : goal.returns-clause-result
+returns-clause-result c =
+    let es = c.self.inside.entries.items in let ks = c.self.inside.entries.keys in let r = c.args.range in let x = c.in-Some.entry.now in let i = up_to (key_of r) ks - 1 in
+    let e : last_of es (up_to (key_of r) ks) ≡ Some x = sym c.floor_mut.ensures.value ∙ ap option_copied_mut c.in-Some.is in
+    let f = keyed_found es ks r c.floor_mut.ensures.low c.self.invariant.1 c.self.invariant.0.table c.requires.cells x e (sym c.contains.ensures.bounds ∙ c.if-not-contains.false) in
     rw (← c.self.view_is) (rw f.held refl)
-
-pub invariant_of-self-in-None : goal.invariant_of-self-in-None
-invariant_of-self-in-None c =
-    let es = c.self.inside.entries.items in
-    let none : holder (shown es) c.args.range ≡ None = rw c.listed-entries.ensures at c.in-None.ensures.held in
-    let whole = rw (← c.self.view_is) at c.requires.whole in
-    let capacity = rw (← c.self.view_is) at c.requires.capacity in
-    let room = rw (← c.self.view_is) at c.requires.room in
-    let at = rw c.listed-entries.ensures at c.index_behind-behind.ensures.index in
-    let b = entered_new es c.args.range c.args.counter c.args.block c.new_entry.result c.self.inside.used c.self.inside.capacity
-    c.self.invariant c.requires.cells none whole (capacity none) c.new_entry.ensures.presence in
-    rw (c.insert.ensures.items, at, c.from.ensures) b.table
-
-pub returns-in-None-clause-presences : goal.returns-in-None-clause-presences
-returns-in-None-clause-presences c =
-    let es = c.self.inside.entries.items in
-    let none : holder (shown es) c.args.range ≡ None = rw c.listed-entries.ensures at c.in-None.ensures.held in
-    let whole = rw (← c.self.view_is) at c.requires.whole in
-    let capacity = rw (← c.self.view_is) at c.requires.capacity in
-    let room = rw (← c.self.view_is) at c.requires.room in
-    let at = rw c.listed-entries.ensures at c.index_behind-behind.ensures.index in
-    let b = entered_new es c.args.range c.args.counter c.args.block c.new_entry.result c.self.inside.used c.self.inside.capacity
-    c.self.invariant c.requires.cells none whole (capacity none) c.new_entry.ensures.presence in
-    rw (← c.self.view_is, c.insert.ensures.items, at) b.same
-
-pub returns-in-None-clause-result : goal.returns-in-None-clause-result
-returns-in-None-clause-result c =
-    let es = c.self.inside.entries.items in
-    let none : holder (shown es) c.args.range ≡ None = rw c.listed-entries.ensures at c.in-None.ensures.held in
-    rw (← c.self.view_is) (rw (is_present-none (shown es) c.args.range none) refl)
-
-pub returns-in-Some-clause-notes : goal.returns-in-Some-clause-notes
-returns-in-Some-clause-notes c =
-    let es = c.self.inside.entries.items in
-    let low = rw c.listed-entries.ensures at c.in-Some.ensures.within in
-    let x = c.at_mut.result.now in
-    let y = c.count_up.new.entry in
-    let range : y.range ≡ x.range = ap (λ (p : Presence). p.range) c.count_up.ensures.presence in
-    let block : y.block ≡ x.block = ap (λ (p : Presence). p.block) c.count_up.ensures.presence in
-    rw (← c.self.view_is) (λ notes h fresh. noted_set notes es c.in-Some.i y h
-    (c.count_up.ensures.note ∙ (noted_at notes es c.in-Some.i x h low c.at_mut.ensures.value ∙ (ap (λ r. notes r x.block) (sym range) ∙ ap (λ b. notes y.range b) (sym block)))))
-
-pub returns-in-None-clause-notes : goal.returns-in-None-clause-notes
-returns-in-None-clause-notes c =
-    let es = c.self.inside.entries.items in
-    let room = rw (← c.self.view_is) at c.requires.room in
-    let none : holder (shown es) c.args.range ≡ None = rw c.listed-entries.ensures at c.in-None.ensures.held in
-    let e = c.new_entry.result in
-    let range : e.range ≡ c.args.range = ap (λ (p : Presence). p.range) c.new_entry.ensures.presence in
-    let block : e.block ≡ c.args.block = ap (λ (p : Presence). p.block) c.new_entry.ensures.presence in
-    rw (← c.self.view_is, c.insert.ensures.items) (λ notes h fresh. noted_insert notes es _ e h
-    (c.new_entry.ensures.note ∙ (sym (fresh none) ∙ (ap (λ r. notes r c.args.block) (sym range) ∙ ap (λ b. notes e.range b) (sym block)))))

@@ -1,36 +1,60 @@
-use Rattle.std.proofs.Common.{◌≡◌, ap, None}
-use Rattle.acc_present.specs.Notes.{made_by}
-use Rattle.acc_present.specs.Presences.{Presence, holder}
-use Rattle.acc_present.proofs.EnterAndExit.{shown, found_at}
+use Rattle.std.proofs.Common.{◌≡◌, ◌-◌, true, sym, ap, subst, ◌∙◌, Some}
+use Rattle.std.specs.Option.{option_copied_mut}
+use Rattle.acc_base.specs.Ranges.{range_contains}
+use Rattle.acc_raw.specs.Indices.{last_of, up_to}
+use Rattle.acc_present.specs.Notes.{HasNotes, changed_at, made_by}
+use Rattle.acc_present.specs.Presences.{Presence}
+use Rattle.acc_present.specs.inner.Invariants.{IsTable}
+use Rattle.acc_present.specs.inner.Keys.{AreKeyed, key_of}
+use Rattle.acc_present.proofs.EntryNotes.{noted, none_contains, noted_change, noted_none, shown_kept}
+use Rattle.acc_present.proofs.FloorEntries.{floor_kept, keyed_missed, keyed_none, last_at}
 use Rattle.acc_present.proofs.Holder.{is_present-none}
-use Rattle.acc_present.proofs.EntryNotes.{noted_change, noted_none, none_contains, shown_kept}
+use Rattle.acc_present.proofs.EntryKeys.{keyed_set}
+use Rattle.acc_present.proofs.EnterAndExit.{shown}
 use Rattle.acc_present.proofs.table.Table.note_make.Goals as goal
 
-pub invariant_of-self-in-Some : goal.invariant_of-self-in-Some
-invariant_of-self-in-Some c =
-    let es = c.self.inside.entries.items in
-    let low = rw c.listed.ensures at c.in-Some.ensures.within in
-    rw (shown_kept es c.in-Some.i c.at_mut.result.now c.make_by.new.entry low c.at_mut.ensures.value c.make_by.ensures.presence) c.self.invariant
+pub returns-in_default-clause-notes : goal.returns-in_default-clause-notes
+returns-in_default-clause-notes c =
+    let es = c.self.inside.entries.items in let r = c.args.range in let t = c.self.invariant.0.table in
+    let none = keyed_none es c.self.inside.entries.keys r c.floor_mut.ensures.low c.self.invariant.1 t c.requires.cells (sym c.floor_mut.ensures.value ∙ ap option_copied_mut c.in_default.is) in
+    rw (← c.self.view_is) (λ notes h. noted_none notes r (made_by c.args.queue c.args.batch) es (none_contains (shown es) r (is_present-none (shown es) r none)) h)
 
-pub returns-in-Some-clause-presences : goal.returns-in-Some-clause-presences
-returns-in-Some-clause-presences c =
-    let es = c.self.inside.entries.items in
-    let low = rw c.listed.ensures at c.in-Some.ensures.within in
-    rw (← c.self.view_is) (shown_kept es c.in-Some.i c.at_mut.result.now c.make_by.new.entry low c.at_mut.ensures.value c.make_by.ensures.presence)
+pub invariant_of-self-then-not-contains : goal.invariant_of-self-then-not-contains
+invariant_of-self-then-not-contains c =
+    let t = c.self.inside in let x = c.in-Some.entry.now in let k = up_to (key_of c.args.range) t.entries.keys in
+    let same = floor_kept t.entries.items k x (sym c.floor_mut.ensures.value ∙ ap option_copied_mut c.in-Some.is) in
+    subst (λ es. IsTable (shown es) t.used t.capacity × AreKeyed es t.entries.keys) (sym same) c.self.invariant
 
-pub returns-in-Some-clause-notes : goal.returns-in-Some-clause-notes
-returns-in-Some-clause-notes c =
-    let es = c.self.inside.entries.items in
-    let held = rw c.listed.ensures at c.in-Some.ensures.held in
-    let low = rw c.listed.ensures at c.in-Some.ensures.within in
-    let x = c.at_mut.result.now in
-    let y = c.make_by.new.entry in
-    let found = found_at es c.args.range c.in-Some.i x held low c.at_mut.ensures.value in
-    rw (← c.self.view_is) (λ notes h. noted_change notes c.args.range (made_by c.args.queue c.args.batch) es c.in-Some.i x y c.self.invariant.table low c.at_mut.ensures.value c.requires.cells found.has
+pub returns-then-not-contains-clause-presences : goal.returns-then-not-contains-clause-presences
+returns-then-not-contains-clause-presences c =
+    let t = c.self.inside in let k = up_to (key_of c.args.range) t.entries.keys in
+    rw (← c.self.view_is) (ap shown (floor_kept t.entries.items k c.in-Some.entry.now (sym c.floor_mut.ensures.value ∙ ap option_copied_mut c.in-Some.is)))
+
+pub returns-then-not-contains-clause-notes : goal.returns-then-not-contains-clause-notes
+returns-then-not-contains-clause-notes c =
+    let es = c.self.inside.entries.items in let ks = c.self.inside.entries.keys in let r = c.args.range in let x = c.in-Some.entry.now in let t = c.self.invariant.0.table in
+    let e : last_of es (up_to (key_of r) ks) ≡ Some x = sym c.floor_mut.ensures.value ∙ ap option_copied_mut c.in-Some.is in
+    let none = keyed_missed es ks r c.floor_mut.ensures.low c.self.invariant.1 t c.requires.cells x e (sym c.contains.ensures.bounds ∙ c.if-not-contains.true) in
+    rw (← c.self.view_is) (λ notes h. subst (λ l. HasNotes (changed_at r (made_by c.args.queue c.args.batch) notes) (noted l)) (sym (floor_kept es (up_to (key_of r) ks) x e))
+    (noted_none notes r (made_by c.args.queue c.args.batch) es (none_contains (shown es) r (is_present-none (shown es) r none)) h))
+
+pub invariant_of-self-2 : goal.invariant_of-self-2
+invariant_of-self-2 c =
+    let t = c.self.inside in let es = t.entries.items in let ks = t.entries.keys in let x = c.in-Some.entry.now in let y = c.make_by.new.entry in let k = up_to (key_of c.args.range) ks in
+    let l = last_at es k x (sym c.floor_mut.ensures.value ∙ ap option_copied_mut c.in-Some.is) in
+    let kept = shown_kept es (k - 1) x y l.low l.is c.make_by.ensures.presence in
+    (subst (λ ps. IsTable ps t.used t.capacity) (sym kept) c.self.invariant.0, keyed_set es ks (k - 1) x y l.low l.is (ap (λ (p : Presence). p.range) c.make_by.ensures.presence) c.self.invariant.1)
+
+pub returns-clause-presences : goal.returns-clause-presences
+returns-clause-presences c =
+    let es = c.self.inside.entries.items in let x = c.in-Some.entry.now in let k = up_to (key_of c.args.range) c.self.inside.entries.keys in
+    let l = last_at es k x (sym c.floor_mut.ensures.value ∙ ap option_copied_mut c.in-Some.is) in
+    rw (← c.self.view_is) (shown_kept es (k - 1) x c.make_by.new.entry l.low l.is c.make_by.ensures.presence)
+
+pub returns-clause-notes : goal.returns-clause-notes
+returns-clause-notes c =
+    let es = c.self.inside.entries.items in let r = c.args.range in let x = c.in-Some.entry.now in let y = c.make_by.new.entry in let k = up_to (key_of r) c.self.inside.entries.keys in
+    let l = last_at es k x (sym c.floor_mut.ensures.value ∙ ap option_copied_mut c.in-Some.is) in
+    let has : range_contains x.range r ≡ true = sym c.contains.ensures.bounds ∙ c.if-not-contains.false in
+    rw (← c.self.view_is) (λ notes h. noted_change notes r (made_by c.args.queue c.args.batch) es (k - 1) x y c.self.invariant.0.table l.low l.is c.requires.cells has
     (ap (λ (p : Presence). p.range) c.make_by.ensures.presence) (ap (λ (p : Presence). p.block) c.make_by.ensures.presence) c.make_by.ensures.note h)
-
-pub returns-in-None-clause-notes : goal.returns-in-None-clause-notes
-returns-in-None-clause-notes c =
-    let es = c.self.inside.entries.items in
-    let none : holder (shown es) c.args.range ≡ None = rw c.listed.ensures at c.in-None.ensures.held in
-    rw (← c.self.view_is) (λ notes h. noted_none notes c.args.range (made_by c.args.queue c.args.batch) es (none_contains (shown es) c.args.range (is_present-none (shown es) c.args.range none)) h)
