@@ -126,17 +126,17 @@ const SPANS: [(i64, i64); 16] = [
     (5, 7),
     (1, 8),
     (60, 9),
-    (1, 31),
-    (7, 32),
-    (1, 33),
-    (40, 63),
-    (1, 64),
-    (2, 65),
-    (3, 100),
+    (1, 127),
+    (7, 128),
+    (1, 129),
+    (40, 255),
+    (1, 256),
+    (2, 257),
+    (3, 400),
 ];
 
 /// How many cells each array has.
-const CELLS: u32 = 110;
+const CELLS: u32 = 410;
 
 // What the cells hold before the loop: of x some are below zero.
 fn before(array: u8, cell: i64) -> i64 {
