@@ -83,16 +83,15 @@ impl Host {
         if self.ended >= self.statements.len() {
             return Reply::Idle;
         }
-        let goes = turn_at(
+        turn_at(
             engine,
             alloc,
             self.host,
             self.statements.as_mut_slice(),
-            self.ended,
-            &self.ids,
-            &self.phase,
-        );
-        move_on(&mut self.ended, &mut self.ids, &mut self.phase, goes)
+            &mut self.ended,
+            &mut self.ids,
+            &mut self.phase,
+        )
     }
 
     /// A running host is refused at its next statement; any other host stays as it is.
@@ -186,50 +185,6 @@ fn line_at(statements: &[Statement], at: usize) -> u32
     match statements.get(at) {
         Some(statement) => statement.line,
         None => 0,
-    }
-}
-
-// A host goes on.
-fn move_on(ended: &mut usize, ids: &mut Ids, phase: &mut Phase, goes: Result<After, Fault>) -> Reply
-    requires { ended.old + 1 < 2 ^ 64 }
-    ensures ended { ended.new ≡ ended_after goes ended.old }
-    ensures ids { ids.new ≡ ids_gone goes ids.old }
-    ensures phase { phase.new ≡ phase_after goes phase.old }
-    ensures reply { result ≡ reply_to goes }
-{
-    match goes {
-        Ok(After::Idle) => Reply::Idle,
-        Ok(After::Ended) => {
-            *ended += 1;
-            *phase = Phase::Ready;
-            Reply::Did
-        }
-        Ok(After::Set { ids: set }) => {
-            *ended += 1;
-            *ids = set;
-            *phase = Phase::Ready;
-            Reply::Did
-        }
-        Ok(After::Waits { what }) => {
-            let counts = what.counts;
-            *phase = Phase::Waits {
-                device: what.device,
-                counts,
-            };
-            Reply::Did
-        }
-        Ok(After::Asks { what }) => {
-            let counts = what.counts;
-            *phase = Phase::Asks {
-                device: what.device,
-                counts,
-            };
-            Reply::Did
-        }
-        Err(fault) => {
-            *phase = Phase::Refused { fault };
-            Reply::Refused(fault)
-        }
     }
 }
 

@@ -1,17 +1,18 @@
 //! One step of a statement.
 
-ghost use Rattle.std.specs.Prelude.{◌≡◌, ◌<◌, length, map, slice_get, Some, Result, true};
+ghost use Rattle.std.specs.Prelude.{◌≡◌, ◌+◌, ◌<◌, ◌^◌, length, map, slice_get, Some, Result, true};
 ghost use Rattle.acc_base.specs.declared.fault.Fault.{Fault};
 ghost use Rattle.acc_base.specs.declared.fault.Fault.TheVariants.{BadAsync};
 ghost use Rattle.acc_host.specs.Engines.{Record, Keeps, MayRecord};
 ghost use Rattle.acc_host.specs.Hosts.{bare, wants_at, Asks, Adds, bare_act, IsSet, owing, after_answer};
+ghost use Rattle.acc_host.specs.inner.Moves.{GoesOn, Moves};
 ghost use Rattle.acc_host.specs.declared.program.Act.TheVariants.{SetDevice, SetAsync};
 ghost use Rattle.acc_host.specs.Steps.{wanted, set_by, set_or_refuse, ids_after, owed_batch, owed_by, is_async, set_default, records, awaits};
 ghost use Rattle.acc_work.specs.declared.item.Shown.{Shown};
 
 use crate::engine::Engine;
 use crate::program::{Act, Statement};
-use crate::state::{After, Awaited, Ids, Phase};
+use crate::state::{After, Awaited, Ids, Phase, Reply};
 use acc_base::{DeviceId, Fault, HostId, QUEUES, QueueCounts, QueueId, is_nothing};
 use acc_place::{ASYNC_NOVAL, Directive, Kind, Placed};
 use acc_work::Item;
@@ -153,43 +154,94 @@ fn wait<E: Engine>(
     }
 }
 
+// A host goes on. Asked for where the form is known, and inlined, so that no counts are moved but to where they stay.
+#[inline(always)]
+fn move_on(ended: &mut usize, ids: &mut Ids, phase: &mut Phase, goes: Result<After, Fault>) -> Reply
+    requires { ended.old + 1 < 2 ^ 64 }
+    ensures { GoesOn goes ended.old ids.old phase.old result ended.new ids.new phase.new }
+{
+    match goes {
+        Ok(After::Idle) => Reply::Idle,
+        Ok(After::Ended) => {
+            *ended += 1;
+            *phase = Phase::Ready;
+            Reply::Did
+        }
+        Ok(After::Set { ids: set }) => {
+            *ended += 1;
+            *ids = set;
+            *phase = Phase::Ready;
+            Reply::Did
+        }
+        Ok(After::Waits { what }) => {
+            let counts = what.counts;
+            *phase = Phase::Waits {
+                device: what.device,
+                counts,
+            };
+            Reply::Did
+        }
+        Ok(After::Asks { what }) => {
+            let counts = what.counts;
+            *phase = Phase::Asks {
+                device: what.device,
+                counts,
+            };
+            Reply::Did
+        }
+        Err(fault) => {
+            *phase = Phase::Refused { fault };
+            Reply::Refused(fault)
+        }
+    }
+}
+
 // The first step of a statement.
 fn act<E: Engine>(
     engine: &mut E,
     alloc: Global,
     host: HostId,
-    ids: Ids,
     act: &Act,
-) -> Result<After, Fault>
+    ended: &mut usize,
+    ids: &mut Ids,
+    phase: &mut Phase,
+) -> Reply
     requires host { E.serves engine.old host }
-    requires set { IsSet ids act.now }
-    ensures asks { Asks E.makes engine.old host
-        (wanted (E.devices engine.old) ids act.now) result engine.new }
-    ensures adds { Adds (wanted (E.devices engine.old) ids act.now) result
-        (E.entries engine.old host) (E.entries engine.new host) }
+    requires set { IsSet ids.old act.now }
+    requires few { ended.old + 1 < 2 ^ 64 }
+    ensures moves { Moves E.makes E.entries engine.old host
+        (wanted (E.devices engine.old) ids.old act.now) ended.old ids.old phase.old
+        result engine.new ended.new ids.new phase.new }
     ensures keeps { Keeps E.devices E.serves E.entries host engine.old engine.new }
 {
     match act {
         Act::Place { directive } => match engine.place(host, directive) {
-            Ok(placed) => Ok(owed_by(directive, placed)),
-            Err(fault) => Err(fault),
+            Ok(placed) => move_on(ended, ids, phase, Ok(owed_by(directive, placed))),
+            Err(fault) => move_on(ended, ids, phase, Err(fault)),
         },
         Act::Write { array, cell, value } => {
-            record_item(engine, host, Item::write(*array, *cell, *value))
+            let goes = record_item(engine, host, Item::write(*array, *cell, *value));
+            move_on(ended, ids, phase, goes)
         }
         Act::Print { range } => match Item::print(alloc, *range) {
-            Ok(item) => record_item(engine, host, item),
-            Err(fault) => Err(fault),
+            Ok(item) => {
+                let goes = record_item(engine, host, item);
+                move_on(ended, ids, phase, goes)
+            }
+            Err(fault) => move_on(ended, ids, phase, Err(fault)),
         },
-        Act::SetDevice { device } => match with_device(ids, *device, engine.ask()) {
-            Ok(ids) => Ok(After::Set { ids }),
-            Err(fault) => Err(fault),
+        Act::SetDevice { device } => match with_device(*ids, *device, engine.ask()) {
+            Ok(set) => move_on(ended, ids, phase, Ok(After::Set { ids: set })),
+            Err(fault) => move_on(ended, ids, phase, Err(fault)),
         },
-        Act::SetAsync { value } => match with_default(ids, *value) {
-            Ok(ids) => Ok(After::Set { ids }),
-            Err(fault) => Err(fault),
+        Act::SetAsync { value } => match with_default(*ids, *value) {
+            Ok(set) => move_on(ended, ids, phase, Ok(After::Set { ids: set })),
+            Err(fault) => move_on(ended, ids, phase, Err(fault)),
         },
-        Act::ShowDevice | Act::ShowDevices => Ok(After::Set { ids }),
+        Act::ShowDevice | Act::ShowDevices => {
+            let goes = Ok(After::Set { ids: *ids });
+            move_on(ended, ids, phase, goes)
+        }
     }
 }
 
@@ -199,30 +251,35 @@ fn turn<E: Engine>(
     alloc: Global,
     host: HostId,
     statement: &mut Statement,
-    ids: &Ids,
-    phase: &Phase,
-) -> Result<After, Fault>
+    ended: &mut usize,
+    ids: &mut Ids,
+    phase: &mut Phase,
+) -> Reply
     requires host { E.serves engine.old host }
+    requires few { ended.old + 1 < 2 ^ 64 }
     ensures bare { bare statement.new ≡ bare statement.old }
-    ensures asks { Asks E.makes engine.old host
-        (wants_at (E.devices engine.old) ids.now phase.now
-        (Some (bare statement.old))) result engine.new }
-    ensures adds { Adds (wants_at (E.devices engine.old) ids.now phase.now
-        (Some (bare statement.old))) result (E.entries engine.old host)
-        (E.entries engine.new host) }
+    ensures moves { Moves E.makes E.entries engine.old host
+        (wants_at (E.devices engine.old) ids.old phase.old (Some (bare statement.old)))
+        ended.old ids.old phase.old result engine.new ended.new ids.new phase.new }
     ensures keeps { Keeps E.devices E.serves E.entries host engine.old engine.new }
 {
-    match phase {
+    match &*phase {
         Phase::Ready => {
             set_in(&mut statement.act, *ids);
-            act(engine, alloc, host, *ids, &statement.act)
+            act(engine, alloc, host, &statement.act, ended, ids, phase)
         }
-        Phase::Waits { device, counts } => wait(engine, host, *device, *counts),
+        Phase::Waits { device, counts } => {
+            let goes = wait(engine, host, *device, *counts);
+            move_on(ended, ids, phase, goes)
+        }
         Phase::Asks { device, counts } => match Item::test(alloc, *device, *counts) {
-            Ok(item) => record_item(engine, host, item),
-            Err(fault) => Err(fault),
+            Ok(item) => {
+                let goes = record_item(engine, host, item);
+                move_on(ended, ids, phase, goes)
+            }
+            Err(fault) => move_on(ended, ids, phase, Err(fault)),
         },
-        Phase::Refused { .. } => Ok(After::Idle),
+        Phase::Refused { .. } => Reply::Idle,
     }
 }
 
@@ -232,20 +289,20 @@ pub(crate) fn turn_at<E: Engine>(
     alloc: Global,
     host: HostId,
     statements: &mut [Statement],
-    ended: usize,
-    ids: &Ids,
-    phase: &Phase,
-) -> Result<After, Fault>
+    ended: &mut usize,
+    ids: &mut Ids,
+    phase: &mut Phase,
+) -> Reply
     requires host { E.serves engine.old host }
-    requires within { ended < length statements.old }
+    requires within { ended.old < length statements.old }
+    requires few { ended.old + 1 < 2 ^ 64 }
     ensures bare { map bare statements.new ≡ map bare statements.old }
-    ensures asks { Asks E.makes engine.old host
-        (wants_at (E.devices engine.old) ids.now phase.now
-        (slice_get (map bare statements.old) ended)) result engine.new }
-    ensures adds { Adds (wants_at (E.devices engine.old) ids.now phase.now
-        (slice_get (map bare statements.old) ended)) result (E.entries engine.old host)
-        (E.entries engine.new host) }
+    ensures moves { Moves E.makes E.entries engine.old host
+        (wants_at (E.devices engine.old) ids.old phase.old
+        (slice_get (map bare statements.old) ended.old))
+        ended.old ids.old phase.old result engine.new ended.new ids.new phase.new }
     ensures keeps { Keeps E.devices E.serves E.entries host engine.old engine.new }
 {
-    turn(engine, alloc, host, &mut statements[ended], ids, phase)
+    let at = *ended;
+    turn(engine, alloc, host, &mut statements[at], ended, ids, phase)
 }

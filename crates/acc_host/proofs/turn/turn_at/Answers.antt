@@ -15,12 +15,8 @@ read xs k s within is =
 
 pub returns-clause-bare : goal.returns-clause-bare
 returns-clause-bare g c =
-    map-set_same bare c.args.statements.now c.args.ended c.turn.new.statement c.index-statements-ended.result c.turn.ensures.bare
+    map-set_same bare c.args.statements.now c.args.ended.now c.turn.new.statement c.index-statements-at.result c.turn.ensures.bare
 
-pub returns-clause-asks : goal.returns-clause-asks
-returns-clause-asks g c =
-    rw (read c.args.statements.now c.args.ended c.index-statements-ended.result c.requires.within c.index-statements-ended.is) c.turn.ensures.asks
-
-pub returns-clause-adds : goal.returns-clause-adds
-returns-clause-adds g c =
-    rw (read c.args.statements.now c.args.ended c.index-statements-ended.result c.requires.within c.index-statements-ended.is) c.turn.ensures.adds
+pub returns-clause-moves : goal.returns-clause-moves
+returns-clause-moves g c =
+    rw (read c.args.statements.now c.args.ended.now c.index-statements-at.result c.requires.within c.index-statements-at.is) c.turn.ensures.moves
