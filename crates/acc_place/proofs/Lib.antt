@@ -37,6 +37,7 @@ mod PlanOf
 mod QueuesAfter
 mod ReachJudged
 mod RegionsOn
+mod RoomMade
 mod SliceSet
 mod StandingIn
 mod TrialPlan

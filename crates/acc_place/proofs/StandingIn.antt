@@ -508,11 +508,6 @@ placed_there p devices regions queues at_queue tied there = sym (tied.labelled a
 
 -- ## A plan
 
--- a place that shows the same but for its room
-pub same_place : (p : PlaceView) (config : Configuration) (history : List PlaceEntry) (counts : List ℕ) (closes : List Bool) → p.config ≡ config → p.history ≡ history → p.counts ≡ counts → p.closes ≡ closes
-    → p ≡ record { config = config; history = history; counts = counts; closes = closes; room = p.room }
-same_place p config history counts closes a b c d = rw (← a, ← b, ← c, ← d) refl
-
 -- one for what the place knows
 -- what is planned to stand behind its awaits is the definition's batch
 batch_known : (p : PlaceView) (host : ℕ) (d : Directive) (k : Known) → IsKnownOf p host d k → AllAccepted p.config p.history p.counts → refusal p.config (standing_in p) host d ≡ None

@@ -184,7 +184,7 @@ impl Place {
         self.plan_on(at, host, items_done, directive, with_batch)
     }
 
-    // The same for a directive that acts on this queue.
+    // The same for a directive that acts on this queue. Room is made first, so that the plan is handed up as it was made.
     fn plan_on(
         &mut self,
         at: QueueAt,
@@ -211,6 +211,7 @@ impl Place {
         ensures batch { IfOk result (λ q. q.batch ≡ (if with_batch then q.label else None)) }
     {
         let QueueAt { device, queue } = at;
+        let room = self.make_room(QueueAt { device, queue });
         let there = &self.devices[usize::from(device.number())];
         let known = Known {
             config: &self.config,
@@ -224,9 +225,8 @@ impl Place {
         if let Some(fault) = self.trial.judge(&known, host, directive) {
             return Err(fault);
         }
-        let plan = self.trial.plan(self.alloc, &known, host, items_done, directive, with_batch)?;
-        self.make_room(QueueAt { device, queue })?;
-        Ok(plan)
+        room?;
+        self.trial.plan(self.alloc, &known, host, items_done, directive, with_batch)
     }
 
     // The queue of a host's directive, if closing hasn't begun and its device is there.
