@@ -1,0 +1,4 @@
+use Rattle.tool_scarce.proofs.+deepen.Given as goal
+
+abbrev pub decreases-deepen : goal.decreases-deepen
+decreases-deepen l = l.levels
