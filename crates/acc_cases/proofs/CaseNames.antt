@@ -1,12 +1,11 @@
 -- Which case a file is of, and the names of all cases.
-use Rattle.std.proofs.Common.{◌≡◌, ◌<◌, ◌+◌, ◌||◌, ℕ, Bool, true, false, true≢false, cond, List, [], ◌∷◌, ◌++◌, length, map, reverse, take, drop, get_or, subst, Bor, nat_cmp, refl, sym, ap, ◌∙◌, inl, inr}
+use Rattle.std.proofs.Common.{◌≡◌, ◌+◌, ◌||◌, ℕ, Bool, true, false, true≢false, cond, List, [], ◌∷◌, ◌++◌, map, reverse, drop, get_or, subst, Bor, nat_cmp, refl, sym, ap, ◌∙◌, inl, inr}
 use Rattle.std.specs.Prelude.{◌≢◌, ◌⊎◌, ◌==◌, bytes_eq}
 use Rattle.std.specs.Cmp.Lexicographic.{slice_cmp}
 use Rattle.std.specs.List.{AllByRecursion, dedup, dedup_from, list_any}
 use Rattle.std.specs.List.Sorted.{IsStrictlySortedBy}
 use Rattle.std.specs.declared.cmp.Ordering.TheVariants.{Less}
 use Rattle.std.proofs.lemmas.List.{reverse-append, reverse-reverse}
-use Rattle.std.proofs.lemmas.List.Folds.{list_any-append, list_any_more}
 use Rattle.std.proofs.lemmas.Slice.Eq.{bytes_eq-Decides}
 use Rattle.acc_cases.specs.Cases.{ending_of}
 use Rattle.acc_cases.specs.Names.{AreCases, has_ending, is_of}
@@ -94,32 +93,6 @@ no_case file script schedule line report name = by_truth (is_of name file) false
     none (Report, e) = report name e
 
 -- ## The names of all
-
-pub case_put : {S : Type 0} (bytes : S → List ℕ) (files : List S) (at : ℕ) (d : S) (names : List (Bor (List ℕ))) (own : Bor (List ℕ)) (name : List ℕ) → at < length files
-    → list_any (λ n. bytes_eq name n.now) names ≡ list_any (λ f. is_of name (bytes f)) (take at files)
-    → is_of name (bytes (get_or files at d)) ≡ bytes_eq name own.now
-    → list_any (λ n. bytes_eq name n.now) (names ++ own ∷ []) ≡ list_any (λ f. is_of name (bytes f)) (take (at + 1) files)
-case_put bytes files at d names own name there so_far is =
-    list_any-append (λ (n : Bor (List ℕ)). bytes_eq name n.now) names (own ∷ [])
-    ∙ ap (λ (b : Bool). b || list_any (λ (n : Bor (List ℕ)). bytes_eq name n.now) (own ∷ [])) so_far
-    ∙ ap (λ (b : Bool). list_any (λ f. is_of name (bytes f)) (take at files) || b) (or_false (bytes_eq name own.now) ∙ sym is)
-    ∙ sym (list_any_more (λ f. is_of name (bytes f)) files at d there)
-  where
-    or_false : (b : Bool) → (b || false) ≡ b
-    or_false true = refl
-    or_false false = refl
-
-pub case_past : {S : Type 0} (bytes : S → List ℕ) (files : List S) (at : ℕ) (d : S) (had : Bool) (name : List ℕ) → at < length files
-    → had ≡ list_any (λ f. is_of name (bytes f)) (take at files) → is_of name (bytes (get_or files at d)) ≡ false
-    → had ≡ list_any (λ f. is_of name (bytes f)) (take (at + 1) files)
-case_past bytes files at d had name there so_far is =
-    so_far ∙ or_false (list_any (λ f. is_of name (bytes f)) (take at files))
-    ∙ ap (λ (b : Bool). list_any (λ f. is_of name (bytes f)) (take at files) || b) (sym is)
-    ∙ sym (list_any_more (λ f. is_of name (bytes f)) files at d there)
-  where
-    or_false : (b : Bool) → b ≡ (b || false)
-    or_false true = refl
-    or_false false = refl
 
 pub any-map : {A B : Type 0} (p : B → Bool) (f : A → B) (xs : List A) → list_any p (map f xs) ≡ list_any (λ x. p (f x)) xs
 any-map p f [] = refl

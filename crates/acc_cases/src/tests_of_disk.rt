@@ -31,6 +31,8 @@ fn check_folder(
 
 #[test]
 fn folders_of_the_system_are_read_and_written(rt: HostRuntime) -> Result<(), Fail> {
+    // what a run of this test that was cut off may have left
+    let _ = fs::remove_dir_all(&rt, PATH);
     fs::create_dir_all(&rt, PATH)?;
     fs::write(
         &rt,

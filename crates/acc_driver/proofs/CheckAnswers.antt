@@ -115,18 +115,6 @@ script_checked (Some s) None script devices old new is none = tt
 script_checked (Some s) (Some e) script devices old new is none =
     script_wrong devices (record { script = s; schedule = e }) old new (λ said. none (said.0, ap script_of is ∙ capped_script s ∙ said.1))
 
-pub both_untold : (of_script of_schedule : Option (List ℕ)) (devices : ℕ) (old new : Option (List ℕ)) (f : CheckFault) → IsUntold f
-    → IfSome of_script (λ script. IfSome of_schedule (λ schedule. ChecksTexts devices (record { script = script; schedule = schedule }) old new (Err f)))
-both_untold None of_schedule devices old new f is = tt
-both_untold (Some s) None devices old new f is = tt
-both_untold (Some s) (Some e) devices old new f is = untold devices (record { script = s; schedule = e }) old new f is
-
-pub both_unread : (of_script of_schedule : Option (List ℕ)) (devices : ℕ) (old new : Option (List ℕ)) (f : CheckFault) → IsUnread f → new ≡ old
-    → IfSome of_script (λ script. IfSome of_schedule (λ schedule. ChecksTexts devices (record { script = script; schedule = schedule }) old new (Err f)))
-both_unread None of_schedule devices old new f is same = tt
-both_unread (Some s) None devices old new f is same = tt
-both_unread (Some s) (Some e) devices old new f is same = unread devices (record { script = s; schedule = e }) old new f is same
-
 -- ## One reader
 
 pub one_checked : (remaining : Option (List ℕ)) (read : List ℕ) (devices : ℕ) (old new : Option (List ℕ)) (result : Result Bool CheckFault)
@@ -136,8 +124,3 @@ one_checked None read devices old new result is answers = tt
 one_checked (Some text) read devices old new result is answers =
     checks_same devices (parts (take INPUT_LIMIT text)) (parts text) old new result (same_script text)
     (λ program said. same_schedule (record defaults { devices = devices }) program text said) (rw is at answers)
-
-pub one_unread : (remaining : Option (List ℕ)) (devices : ℕ) (old new : Option (List ℕ)) (f : CheckFault) → IsUnread f → new ≡ old
-    → IfSome remaining (λ text. ChecksTexts devices (parts text) old new (Err f))
-one_unread None devices old new f is same = tt
-one_unread (Some text) devices old new f is same = unread devices (parts text) old new f is same

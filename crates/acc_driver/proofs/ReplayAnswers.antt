@@ -19,7 +19,7 @@ use Rattle.acc_driver.specs.declared.replays.TheConstants.{INPUT_LIMIT, TEXT_LIM
 use Rattle.acc_host.specs.declared.event.Event.{Event}
 use Rattle.acc_token.specs.Texts.{within}
 use Rattle.acc_driver.specs.Inputs.{Parts, parts}
-use Rattle.acc_driver.specs.Replays.{driver_fault, events_in, configured, IsWorldFault, RunAnswers, AnswersRun, Answers, AreUsable, IsRun, IsScript}
+use Rattle.acc_driver.specs.Replays.{driver_fault, events_in, configured, IsWorldFault, AnswersRun, Answers, AreUsable, IsRun, IsScript}
 use Rattle.acc_driver.specs.inner.Scripts.{IsScriptFault, ScheduleAnswers}
 use Rattle.acc_driver.specs.declared.fault.ReplayFault.{ReplayFault}
 use Rattle.acc_driver.specs.declared.fault.ReplayFault.TheVariants as replay
@@ -242,17 +242,6 @@ usable_runs options program fault.Input declared few opening usable = tt
 usable_runs options program fault.Output declared few opening usable = tt
 usable_runs options program (fault.Script f) declared few opening usable = tt
 usable_runs options program (fault.Schedule f) declared few opening usable = tt
-
--- what is answered to a program and events that the schedule says
-pub events_answered : (options : Options) (program : ScriptView) (schedule : List ℕ) (events : List Event) (old new : Option (List ℕ)) (result : Result Ended DriverFault)
-    → events_in options program schedule ≡ Ok events → RunAnswers options program events old new result → ScheduleAnswers options program schedule old new result
-events_answered options program schedule events old new (Ok ended) says run = (events, says, run)
-events_answered options program schedule events old new (Err fault.Output) says run = (events, says, run)
-events_answered options program schedule events old new (Err (fault.Runtime f)) says run = (events, says, run)
-events_answered options program schedule events old new (Err (fault.Script f)) says run = absurd run
-events_answered options program schedule events old new (Err (fault.Schedule f)) says run = absurd run
-events_answered options program schedule events old new (Err fault.Input) says run = absurd run
-events_answered options program schedule events old new (Err fault.Memory) says run = run
 
 -- what is answered to a program that the script says, and to the schedule
 pub schedule_answered : (options : Options) (script schedule : List ℕ) (program : ScriptView) (old new : Option (List ℕ)) (result : Result Ended DriverFault)

@@ -1,9 +1,7 @@
 -- Hosts that threads ran have stopped, and what is answered to a script of which no more is read than a run takes.
-use Rattle.std.proofs.Common.{◌≡◌, ℕ, suc, ◌+◌, List, [], ◌∷◌, length, map, take, Option, Some, None, Result, Ok, Err, refl, sym, ap, subst, ◌∙◌}
+use Rattle.std.proofs.Common.{◌≡◌, ℕ, suc, ◌+◌, List, [], ◌∷◌, length, map, take, Option, Some, None, Result, Ok, Err, refl, sym, ap, ◌∙◌}
 use Rattle.std.specs.Prelude.{IfSome}
 use Rattle.std.specs.Io.KnownBytes.{Appends}
-use Rattle.acc_base.specs.Configurations.{Configuration, fault_of}
-use Rattle.acc_base.specs.declared.fault.Fault.{Fault}
 use Rattle.acc_host.specs.Hosts.{HostView, ready, state_of}
 use Rattle.acc_host.specs.Legality.{Histories}
 use Rattle.acc_host.specs.declared.program.HostProgram.{HostProgram}
@@ -18,7 +16,7 @@ use Rattle.acc_driver.specs.declared.options.Ended.{Ended}
 use Rattle.acc_driver.specs.declared.options.Options.{Options}
 use Rattle.acc_driver.specs.declared.replays.TheConstants.{TEXT_LIMIT}
 use Rattle.acc_driver.specs.Replays.{IsRun, driver_fault}
-use Rattle.acc_driver.specs.Runs.{AllStopped, IsConfigured, IsRunFault, ProgramAnswers, SaysAnswered, ScriptAnswers, StoppedIn}
+use Rattle.acc_driver.specs.Runs.{AllStopped, IsConfigured, ProgramAnswers, SaysAnswered, ScriptAnswers, StoppedIn}
 use Rattle.acc_driver.specs.inner.Scripts.{IsScriptFault}
 use Rattle.acc_driver.specs.declared.fault.ReplayFault.{ReplayFault}
 use Rattle.acc_driver.specs.declared.fault.ReplayFault.TheVariants as replay
@@ -64,10 +62,6 @@ as_many h n (p ∷ ps) [] stopped = absurd stopped
 as_many h n (p ∷ ps) (s ∷ ss) stopped = ap suc (as_many h (n + 1) ps ss stopped.1)
 
 -- ## Answers
-
--- the fault of a configuration
-pub config_fault : (config : Configuration) (f : Fault) → fault_of config ≡ Some f → IsRunFault (fault_of config) f
-config_fault config f is = subst (λ o. IsRunFault o f) (sym is) refl
 
 -- what isn't refused for its configuration
 pub run_configured : (f : DriverFault) → IsRun (Err f) → IsConfigured (Err f)

@@ -121,9 +121,6 @@ untouched d op (Block_cell e block cell) none = by (e == d) none
 only : (b : Bool) → (b || false) ≡ false → b ≡ false
 only b e = (or_parts b false e).0
 
-any_only : (b : Bool) → b ≡ true → (b || false) ≡ true
-any_only b e = ap (λ (c : Bool). c || false) e
-
 -- a loop leaves the arrays that it doesn't assign
 loop_unassigned : (k : Loop) (f : ℕ → ℤ → ℤ) (array : ℕ) (cell : ℤ) → is_assigned k.statements array ≡ false → value_after k f array cell ≡ f array cell
 loop_unassigned k f array cell un = by (int_le k.lo cell && int_lt cell k.hi)

@@ -1,5 +1,5 @@
 -- What tells that an event may go first.
-use Rattle.std.proofs.Common.{◌≡◌, ℕ, Bool, true, false, not, List, [], ◌∷◌, sym, ap, ◌∙◌, subst, Some, Option, slice_get}
+use Rattle.std.proofs.Common.{◌≡◌, ℕ, Bool, false, not, List, [], ◌∷◌, sym, subst}
 use Rattle.std.specs.Prelude.{IsTrue}
 use Rattle.std.specs.List.{list_all}
 use Rattle.std.proofs.lemmas.List.Folds.{list_all-map}
@@ -12,14 +12,11 @@ use Rattle.acc_host.specs.declared.event.Event.{Event}
 use Rattle.acc_host.specs.declared.event.Event.TheVariants as event
 use Rattle.acc_host.specs.declared.program.HostProgram.{HostProgram}
 use Rattle.acc_host.specs.declared.program.Statement.{Statement}
-use Rattle.acc_host.specs.declared.state.Phase.{Phase}
-use Rattle.acc_host.specs.declared.state.Phase.TheVariants as phase
-use Rattle.acc_host.specs.Hosts.{HostView, bare, ready, wants, wants_at}
-use Rattle.acc_host.specs.Steps.{wanted}
+use Rattle.acc_host.specs.Hosts.{bare, ready}
 use Rattle.acc_explore.specs.ApartOperations.{is_at_apart}
 use Rattle.acc_explore.specs.Arrivals.{events_to, found_at}
 use Rattle.acc_explore.specs.declared.arrival.Arrival.{Arrival}
-use Rattle.acc_explore.specs.OwnStatements.{is_at_own, is_own, stands_at_own}
+use Rattle.acc_explore.specs.OwnStatements.{is_at_own}
 use Rattle.acc_explore.specs.Placements.{may_place}
 use Rattle.acc_explore.specs.ReachedWaits.{is_at_reached}
 use Rattle.acc_explore.specs.Reductions.{MayGoFirst}
@@ -54,13 +51,6 @@ nobody_found start arrivals n nobody =
     subst (λ (w : State). IsTrue (nobody_asks w)) (events_lead start arrivals n).0 (nobody_after (events_to arrivals n) start nobody)
 
 -- ## An own statement
-
-pub at_own : (w : State) (h : ℕ) (host : HostView) (s : Statement) → slice_get w.hosts h ≡ Some host → slice_get host.statements host.ended ≡ Some s → host.phase ≡ phase.Ready
-    → is_own (wanted w.config.devices host.ids s.act) ≡ true → IsTrue (is_at_own h w)
-at_own w h host s there at now own =
-    ap (stands_at_own w.config.devices) there
-    ∙ (ap (λ (p : Phase). is_own (wants w.config.devices (record host { phase = p }))) now
-    ∙ (ap (λ (o : Option Statement). is_own (wants_at w.config.devices host.ids phase.Ready o)) at ∙ own))
 
 -- ## It may go first
 

@@ -1,5 +1,5 @@
 -- How a search goes on.
-use Rattle.std.proofs.Common.{inl, inr, ◌≡◌, ◌≤◌, ◌<◌, ◌+◌, ℕ, zero, suc, Bool, false, List, [], ◌∷◌, ◌++◌, length, drop, refl, sym, ap, subst, ◌∙◌, arith}
+use Rattle.std.proofs.Common.{inl, inr, ◌≡◌, ◌≤◌, ◌<◌, ◌+◌, ℕ, zero, suc, Bool, false, List, [], ◌∷◌, ◌++◌, length, drop, sym, ap, subst, ◌∙◌, arith}
 use Rattle.std.specs.Prelude.{All, Contains, IsTrue, slice_index_or}
 use Rattle.std.proofs.lemmas.Bool.{cases_eq, cases_lt}
 use Rattle.std.proofs.lemmas.List.Elements.{All-cons, All-from_get_or, All-head, All-nil, All-push, All-tail, All-weaker, Contains-append_left, Contains-get_or, Contains-push}
@@ -42,24 +42,6 @@ come start arrivals (x ∷ numbers) deep rise low =
     )
 
 -- ## The first step
-
-nothing_deep : (start : State) (n : ℕ) → depth_at start [] n ≡ 0
-nothing_deep start zero = refl
-nothing_deep start (suc n) = refl
-
-pub begins : (closing : Bool) (most : ℕ) (start : State) → IsFollowed closing most start [] [] 0 []
-begins closing most start = record {
-  events = All-nil (λ (a : Arrival). Contains (open_events closing start) a.by);
-  few = omega arith;
-  there = omega arith;
-  by_depth = λ i j low within. omega (arith, nothing_deep start i, nothing_deep start j);
-  near = λ n next within. omega (arith, nothing_deep start n, nothing_deep start 0);
-  before = λ n low. absurd (omega (arith, low));
-  these = All-nil (λ (e : Event). HoldsAlike (depth_at start [] 0 + 1) (found_by start []) (step false (found_at start [] 0).state e).state);
-  ends = All-nil (λ (n : ℕ). (n < 0) × IsEnd (found_at start [] n).state);
-  every_end = λ n low ends. absurd (omega (arith, low));
-  rising = tt;
-}
 
 -- ## One event more
 

@@ -1,10 +1,10 @@
 -- Lines that are put one after another.
-use Rattle.std.proofs.Common.{◌≡◌, ℕ, ◌+◌, ◌<◌, ◌≤◌, true, false, List, [], ◌∷◌, ◌++◌, length, drop, get_or, append_assoc, refl, sym, ap, subst, ◌∙◌, arith}
+use Rattle.std.proofs.Common.{◌≡◌, ℕ, ◌+◌, ◌<◌, ◌≤◌, true, false, List, ◌∷◌, ◌++◌, length, drop, get_or, append_assoc, sym, ap, subst, ◌∙◌, arith}
 use Rattle.std.specs.Prelude.{nat_lt}
 use Rattle.std.proofs.lemmas.Bool.{and_parts, ltb-true}
 use Rattle.std.proofs.lemmas.List.{at_drop_all, at_drop_more}
 use Rattle.acc_host.specs.declared.event.Event.{Event}
-use Rattle.acc_report.proofs.JoinedPuts.{puts_nothing, puts_then}
+use Rattle.acc_report.proofs.JoinedPuts.{puts_then}
 use Rattle.acc_report.specs.Puts.{Puts, Sink}
 use Rattle.acc_schedule.specs.declared.turn.TheConstants.{MAX_TIMES}
 use Rattle.acc_explore.specs.Spellings.{goes_on_alike, joins, event_line, lines_from}
@@ -14,9 +14,6 @@ pub record IsPutUpTo (old new : Sink) (text rest : List ℕ) : Type 0 where
   pub done : List ℕ
   pub puts : Puts old new done
   pub whole : text ≡ done ++ rest
-
-pub nothing_put : (a : Sink) (text : List ℕ) → IsPutUpTo a a text text
-nothing_put a text = record { done = []; puts = puts_nothing a; whole = refl }
 
 pub more_put : {a b c : Sink} (text more rest : List ℕ) → IsPutUpTo a b text (more ++ rest) → Puts b c more → IsPutUpTo a c text rest
 more_put text more rest so_far next = record {

@@ -24,9 +24,6 @@ item_not_full f why = elim why [
   | inr other ↦ elim other [ inl many ↦ rw many tt | inr outside ↦ rw outside tt ]
 ]
 
-wait_not_full : (f : Fault) → (f ≡ Memory) ⊎ (f ≡ TooMany) → IsNotFull f
-wait_not_full f why = elim why [ inl memory ↦ rw memory tt | inr many ↦ rw many tt ]
-
 pub placed_call : (old new : List TokenEntry) (d : Directive) (answer : Result Placed Fault) → IfOk answer (λ placed. new ≡ old ++ listed.Placed d placed ∷ []) → OnErr answer (new ≡ old) → IfErr answer IsNotFull
     → IsTriedAgain (Place d answer) × BeginsWith old new
 placed_call old new d (Ok placed) noted refused again = (tt, (_, noted))
@@ -39,6 +36,3 @@ item_call old new item (Err r) noted refused fault = (item_not_full r.1 fault, s
 
 pub seen_call : (old new : List TokenEntry) (device : ℕ) (counts : List ℕ) → new ≡ old ++ listed.Item (to_record.Seen device counts) shown.Nothing ∷ [] → IsTriedAgain (Wait device counts (Ok true)) × BeginsWith old new
 seen_call old new device counts noted = (tt, (_, noted))
-
-pub unseen_call : (old new : List TokenEntry) (device : ℕ) (counts : List ℕ) (f : Fault) → new ≡ old → (f ≡ Memory) ⊎ (f ≡ TooMany) → IsTriedAgain (Wait device counts (Err f)) × BeginsWith old new
-unseen_call old new device counts f refused fault = (wait_not_full f fault, same_list old new refused)

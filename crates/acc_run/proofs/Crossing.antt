@@ -258,9 +258,6 @@ runtime_shares ℓ κ = shr_send ℓ κ runtime.the_row runtime_syncs
 
 -- ## What hosts hold
 
-pub directive_syncs : IsSync directive.the_row
-directive_syncs = search (sendable, crosses, written_sends, written_syncs) depth 60 fits 9000
-
 act_form_sends : IsSend (Enum (shape act.the_type))
 act_form_sends = search (sendable, crosses, directive_sends) depth 60 fits 9000
 

@@ -70,9 +70,6 @@ last_left (l ∷ ls) done left label e low is =
     some_same : {X : Type 0} {x y : X} → Some x ≡ Some y → x ≡ y
     some_same e = cc
 
-pub nothing_in_lane : (w : WorkView) (at : QueueAt) → KeepsOrder w → last_of (lane_at w at).taken ≡ None → (lane_at w at).left ≡ []
-nothing_in_lane w at k none = none_left (lane_at w at).taken (performed at w.work) (lane_at w at).left (k.order at).in_order none
-
 pub last_in_lane : (w : WorkView) (at : QueueAt) (label : Label) → KeepsOrder w → last_of (lane_at w at).taken ≡ Some label → drop (length label.ops - length (lane_at w at).left) label.ops ≡ (lane_at w at).left
 last_in_lane w at label k is = last_left (lane_at w at).taken (performed at w.work) (lane_at w at).left label (k.order at).in_order (k.order at).batches.begun is
 

@@ -21,7 +21,7 @@ use Rattle.acc_batch.specs.Awaits.{close_label}
 use Rattle.acc_place.proofs.LeftOpen.{place_seat}
 use Rattle.acc_place.specs.declared.directive.PlaceEntry.TheVariants as noted
 use Rattle.acc_place.specs.Batches.{batch_of, labels_with, next_number, walk_at}
-use Rattle.acc_place.specs.Closing.{left_open, is_at_hand, place_after_begin, place_after_close, close_of, handed_out, handed_back, IsCloseOut}
+use Rattle.acc_place.specs.Closing.{left_open, is_at_hand, place_after_begin, place_after_close, handed_out, handed_back, IsCloseOut}
 use Rattle.acc_place.specs.Histories.{is_closed, standing, AllAccepted, IsQueue}
 use Rattle.acc_place.specs.Plans.{PlaceView, PlanView, Fits, label_for, place_after, standing_in}
 use Rattle.acc_place.specs.Standings.{Standing, walk_of}
@@ -204,24 +204,6 @@ hand_back [] n h = cc
 hand_back (b ∷ closes) zero h = refl
 hand_back (b ∷ closes) (suc n) h = hand_back closes n h
 
-pub close_none : (p : PlaceView) (at : QueueAt) → None ≡ close_of p at → is_at_hand p at ≡ false
-close_none p at e = by_hand (is_at_hand p at) e
-  where
-    by_hand : (hand : Bool) → None ≡ cond hand (Some (close_label at (standing_in p).labels)) None → hand ≡ false
-    by_hand true e = absurd cc
-    by_hand false e = refl
-
--- none is handed out where the queue is closed, and then nothing has changed
-pub none_out : (p : PlaceView) (at : QueueAt) → is_at_hand p at ≡ false → handed_out p at ≡ p
-none_out p at h = ap (λ b. record p { closes = cond b (slice_set p.closes (seat at) false) p.closes }) h
-
-pub is_closed_none : (p : PlaceView) (ends : List Line) (at : QueueAt) → IsPlaceSide p ends → IsQueue p.config at → is_at_hand p at ≡ false → is_closed (standing_in p) at ≡ true
-is_closed_none p ends at s there h = not-false (is_closed (standing_in p) at) (sym (s.each at there).at_hand ∙ h)
-  where
-    not-false : (b : Bool) → not b ≡ false → b ≡ true
-    not-false true e = refl
-    not-false false e = cc
-
 -- the close can be sent
 pub close_sends : (p : PlaceView) (ends : List Line) (at : QueueAt) (b : Label) → IsPlaceSide p ends → IsQueue p.config at → b ≡ close_label at (standing_in p).labels → CanSend ends b
 close_sends p ends at b s there is = rw is (record {
@@ -373,9 +355,6 @@ closed_more from old new n answer f c = by_change c.change
           counts = c.counts ∙ f.counts;
           full = full;
         }
-
-pub closed_none : (new : PlaceSideView) → ClosedFrom new new 0
-closed_none new = record { closed = []; history = refl; lines = refl; config = refl; counts = refl; full = λ at low there. absurd (omega (arith, there)) }
 
 -- ## The first of all
 

@@ -14,7 +14,6 @@ use Rattle.acc_batch.proofs.Seats.{each_seat, seat_absent, seat_kept, seat_set, 
 use Rattle.acc_queue.specs.Seen.{HasWord, Raised}
 use Rattle.acc_run.specs.WorkSides.{IsPublished, queue_number, published_by, raised_by}
 use Rattle.acc_run.proofs.WorkSideSteps.{filled_with, seat_lane}
-use Rattle.acc_batch.specs.declared.entry.Told.{Told}
 use Rattle.acc_work.specs.declared.work.Done.{Done}
 use Rattle.acc_work.specs.declared.work.Done.TheVariants as done
 use Rattle.acc_work.specs.Jobs.{JobView, Commits, HasStarted, IsJobNext, IsOut, StartsLoop, given_back, performed_now}
@@ -22,7 +21,7 @@ use Rattle.acc_kernel.specs.Jobs.{Computation, Use}
 use Rattle.acc_kernel.specs.Kernels.{Loop}
 use Rattle.acc_work.specs.Lanes.{LaneView, IsFresh, IsLane, IsLoopNext, last_of, ops_of_last, lane_done, lane_in, lanes_with, lane_with_batch, lane_with_left, lane_with_out, no_lane}
 use Rattle.acc_work.specs.Logs.{batches_done}
-use Rattle.acc_work.specs.Works.{WorkView, HasQueue, HasTold, KeepsOrder, Performs, lane_at, taken_labels}
+use Rattle.acc_work.specs.Works.{WorkView, HasQueue, KeepsOrder, Performs, lane_at, taken_labels}
 use Rattle.acc_work.proofs.KeptSteps.{Advanced, has_advanced, has_waited}
 use Rattle.acc_work.proofs.Lanes.{each_lane, fresh_lane}
 use Rattle.acc_work.proofs.TakenLabels.{done_is}
@@ -53,13 +52,6 @@ word_low w words at p k h =
     omega (arith, word, low, few)
 
 -- ## An item is recorded
-
-pub published_told : (w w' : WorkView) (host : ℕ) (what : Told) (words : List ℕ) → IsPublished w words → KeepsOrder w → KeepsOrder w' → HasTold w w' host what → IsPublished w' words
-published_told w w' host what words p k k' t = record {
-  each = λ at. p.each at ∙ (done_is w at k ∙ (ap (λ ls. lane_done (lane_in ls at)) (sym t.lanes) ∙ sym (done_is w' at k')));
-  few = λ at. rw t.lanes (p.few at);
-  count = rw t.lanes p.count;
-}
 
 -- ## A queue takes a batch
 

@@ -5,7 +5,7 @@ use Rattle.std.proofs.Math.ListN.{get_or}
 use Rattle.std.proofs.lemmas.Bool.{cases_Bool, ltb-true}
 use Rattle.std.proofs.lemmas.Grind.{flat_map-append}
 use Rattle.std.proofs.lemmas.List.{append-nil, append_assoc, length-append, length-map, map-append, take_more}
-use Rattle.acc_steps.specs.declared.picture.TheConstants.{MAX_BOXES, MAX_PICTURE}
+use Rattle.acc_steps.specs.declared.picture.TheConstants.{MAX_BOXES, MAX_BYTES}
 use Rattle.acc_steps.specs.declared.scene.Drawn.{Drawn}
 use Rattle.acc_steps.specs.Pictures.{AreBoxes, PassesALimit, box_text, boxed, joined}
 use Rattle.acc_steps.specs.Scenes.{lines_in}
@@ -53,11 +53,6 @@ boxed_some : (line : List ℕ) → (length line ≡ 0 → ⊥) → boxed line �
 boxed_some [] some = absurd (some refl)
 boxed_some (b ∷ bs) some = refl
 
--- an empty line adds no box, any other one
-pub nothing_added : (boxes : List Drawn) (line : List ℕ) → length line ≡ 0 → lines_in boxes ≡ lines_in boxes ++ boxed line
-nothing_added boxes [] none = sym (append-nil (lines_in boxes))
-nothing_added boxes (b ∷ bs) none = absurd (omega (arith, none))
-
 pub box_added : (boxes : List Drawn) (d : Drawn) (line : List ℕ) → d.line.items ≡ line → (length line ≡ 0 → ⊥)
     → lines_in (boxes ++ d ∷ []) ≡ lines_in boxes ++ boxed line
 box_added boxes d line is some =
@@ -65,14 +60,14 @@ box_added boxes d line is some =
 
 -- ## Limits
 
-pub limit_passed : (boxes : List Drawn) (bytes : ℕ) → (nat_lt MAX_BOXES (length boxes) || nat_lt MAX_PICTURE bytes) ≡ true
+pub limit_passed : (boxes : List Drawn) (bytes : ℕ) → (nat_lt MAX_BOXES (length boxes) || nat_lt MAX_BYTES bytes) ≡ true
     → bytes ≤ length (joined (lines_in boxes)) → PassesALimit (lines_in boxes)
 limit_passed boxes bytes is few = elim (cases_Bool (nat_lt MAX_BOXES (length boxes))) [
   | inl many ↦
       let more : MAX_BOXES < length boxes = ltb-true MAX_BOXES (length boxes) many in
       inl (omega (arith, more, length-map boxes (λ (d : Drawn). d.line.items)))
   | inr few_boxes ↦
-      let long : nat_lt MAX_PICTURE bytes ≡ true = sym (ap (λ t. t || nat_lt MAX_PICTURE bytes) few_boxes) ∙ is in
-      let more : MAX_PICTURE < bytes = ltb-true MAX_PICTURE bytes long in
-      inr (inl (omega (arith, more, few)))
+      let long : nat_lt MAX_BYTES bytes ≡ true = sym (ap (λ t. t || nat_lt MAX_BYTES bytes) few_boxes) ∙ is in
+      let more : MAX_BYTES < bytes = ltb-true MAX_BYTES bytes long in
+      inr (omega (arith, more, few))
 ]

@@ -58,9 +58,6 @@ are_parts p (x ∷ xs) = elim (cases_Bool (p x)) [
 
 -- ## A line
 
-is_feed : ℕ → Bool
-is_feed b = b == 10
-
 -- a schedule of one line
 one_line : (hosts devices : ℕ) (line : List ℕ) → IsPart (λ b. b == 10) MAX_TEXT line
     → schedule_of hosts devices line ≡ (events_behind hosts devices 1 [] line >>= λ more. Ok more)

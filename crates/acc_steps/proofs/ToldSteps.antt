@@ -5,7 +5,7 @@ use Rattle.std.proofs.lemmas.List.{append-nil, append_assoc, length-take-le, tak
 use Rattle.acc_core.specs.Machine.{State, Step}
 use Rattle.acc_host.specs.declared.state.Reply.{Reply}
 use Rattle.acc_report.specs.Puts.{Sink}
-use Rattle.acc_report.proofs.JoinedPuts.{puts_nothing, puts_then}
+use Rattle.acc_report.proofs.JoinedPuts.{puts_then}
 use Rattle.acc_steps.specs.declared.walk.Numbered.{Numbered}
 use Rattle.acc_steps.specs.Deeds.{deed_of, line_at}
 use Rattle.acc_steps.specs.Lines.{Words, step_text}
@@ -25,9 +25,6 @@ pub tells_more : (t : Words) (number : ℕ) (events : List Numbered) (n : Number
     → number ≡ 1 + length events → TellsSteps t events old mid a b → TellsOne t number n mid new b c → TellsSteps t (events ++ n ∷ []) old new a c
 tells_more t number events n old mid new a b c is (text, told, puts) (answer, step, one) =
     (_, told_more t 1 number events n answer old mid new text is told step, puts_then puts one)
-
-pub tells_none : (t : Words) (w : State) (a : Sink) → TellsSteps t [] w w a a
-tells_none t w a = ([], (refl, refl), puts_nothing a)
 
 pub tells_next : (t : Words) (number i : ℕ) (events : List Numbered) (d : Numbered) (old mid new : State) (a b c : Sink) → i < length events
     → number ≡ i + 1 → TellsSteps t (take i events) old mid a b → TellsOne t number (get_or events i d) mid new b c

@@ -3,7 +3,7 @@ use Rattle.std.specs.Prelude.{◌≡◌, ◌⊎◌, ℕ, ◌+◌, ◌<◌, Bool,
 use Rattle.std.specs.List.{flat_map}
 use Rattle.acc_core.specs.Machine.{State, Step}
 use Rattle.acc_host.specs.declared.state.Reply.{Reply}
-use Rattle.acc_steps.specs.declared.picture.TheConstants.{MAX_BOXES, MAX_PICTURE}
+use Rattle.acc_steps.specs.declared.picture.TheConstants.{MAX_BOXES, MAX_BYTES}
 use Rattle.acc_steps.specs.declared.walk.Numbered.{Numbered}
 use Rattle.acc_steps.specs.Deeds.{deed_of, line_at}
 use Rattle.acc_steps.specs.Lines.{Words, step_text}
@@ -84,12 +84,11 @@ pub record IsPicture (t : Words) (events : List Numbered) (old new : State) (pic
   pub drawn : AreDrawn t 1 events old new lines
   pub shows : ShowsLines lines picture
 
--- too many boxes, too long lines, or too large a picture of them
+-- too many boxes, or too many bytes in their lines
 abbrev pub PassesALimit : List (List ℕ) → Type 0
-PassesALimit lines =
-    (MAX_BOXES < length lines) ⊎ ((MAX_PICTURE < length (joined lines)) ⊎ ((picture : List ℕ) × ShowsLines lines picture × (MAX_PICTURE < length picture)))
+PassesALimit lines = (MAX_BOXES < length lines) ⊎ (MAX_BYTES < length (joined lines))
 
--- The machine makes the first of these steps, and their picture would be too large.
+-- The machine makes the first of these steps, and their picture would show too much.
 pub record IsTooLarge (t : Words) (events : List Numbered) (old new : State) : Type 0 where
   pub count : ℕ
   pub lines : List (List ℕ)

@@ -20,5 +20,5 @@ mod words;
 pub use deed::{Deed, take_step};
 pub use laws::{events_are_by_line, pictures_tell_all};
 pub use line::{Telling, put_step};
-pub use picture::{MAX_BOXES, MAX_PICTURE, draw_steps};
+pub use picture::{MAX_BOXES, MAX_BYTES, draw_steps};
 pub use walk::{Numbered, lines_of, numbered_events, tell_steps};

@@ -17,13 +17,13 @@ use std::alloc::{AllocError, Global};
 /// The most boxes that a picture shows.
 pub const MAX_BOXES: usize = 2_000;
 
-/// The most bytes of a picture, and of the lines that it shows.
-pub const MAX_PICTURE: usize = 1_048_576;
+/// The most bytes of the lines that a picture shows.
+pub const MAX_BYTES: usize = 1_048_576;
 
 /// Runs events on a world, and draws them: a lane for each host and each queue that is used, from left to right a box for each event
 /// that is told, whose title is the line of its step, an arrow from what a queue has awaited, and below them what held the ranges of the
-/// directives. There is no picture where it would show more boxes than `MAX_BOXES`, or would have more bytes than `MAX_PICTURE`, or
-/// its lines would; then the events up to there were run.
+/// directives. There is no picture where it would show more boxes than `MAX_BOXES`, or lines of more bytes than `MAX_BYTES`; then the
+/// events up to there were run.
 ///
 /// # Errors
 ///
@@ -51,18 +51,15 @@ pub fn draw_steps(
         }
     }
     let picture = picture_of(alloc, telling.names, &scene)?;
-    if picture.len() > MAX_PICTURE {
-        return Ok(None);
-    }
     Ok(Some(picture))
 }
 
 // Whether a scene has too many boxes, or their lines too many bytes.
 fn is_too_large(scene: &Scene) -> bool
     ensures { result ≡ (nat_lt MAX_BOXES (length scene.now.boxes.items)
-        || nat_lt MAX_PICTURE scene.now.bytes) }
+        || nat_lt MAX_BYTES scene.now.bytes) }
 {
-    scene.boxes.len() > MAX_BOXES || scene.bytes > MAX_PICTURE
+    scene.boxes.len() > MAX_BOXES || scene.bytes > MAX_BYTES
 }
 
 // The picture of a scene.

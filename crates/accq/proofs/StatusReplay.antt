@@ -123,9 +123,3 @@ pub file_sent : (options : Options) (held given : Option (List ℕ)) (old whole 
 file_sent options None given old whole new ended result is answers sent = tt
 file_sent options (Some script) given old whole new ended result is answers sent =
     run_sent options script old whole new ended result (rw is at answers) sent
-
-pub file_refused : (options : Options) (held given : Option (List ℕ)) (old new : Option (List ℕ)) (result : Result Ended DriverFault)
-    → IfSome held (λ bytes. given ≡ Some bytes) → IfSome given (λ script. ScriptAnswers options script old new result)
-    → IfSome held (λ script. ScriptAnswers options script old new result)
-file_refused options None given old new result is answers = tt
-file_refused options (Some script) given old new result is answers = rw is at answers

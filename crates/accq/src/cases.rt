@@ -13,6 +13,10 @@ use std::alloc::Global;
 use std::io::Write;
 
 /// Tests the cases of a folder. What is told of them has gone out then.
+///
+/// # Errors
+///
+/// `Memory` where it is refused to open the folder; else those of `test_all`, and `Output` where the last of it doesn't go out.
 pub fn test_folder<D: Folder + Drop, S: Folders<D>, W: Write>(
     alloc: Global,
     asked: &Test,

@@ -13,6 +13,10 @@ use std::alloc::Global;
 use std::io::{Read, Write};
 
 /// Checks files, which are opened, in the order of the words, before one is read. What is wrong with them has gone out then.
+///
+/// # Errors
+///
+/// `Input` where one can't be opened, with its name; else those of `check` or `check_one`, and `Output` where the last of it doesn't go out.
 pub fn check_files<'a, F: Read + Drop, S: Store<F>, W: Write>(
     alloc: Global,
     asked: &Check<'a>,

@@ -15,6 +15,10 @@ use std::io::{Read, Write};
 
 /// Explores the runs of a script, behind a schedule if one is named. The files are opened, in the order of the words, before one is read.
 /// What is told has gone out then.
+///
+/// # Errors
+///
+/// `Input` where one can't be opened; else those of `explore` or `explore_script`, and `Output` where the last of it doesn't go out.
 pub fn explore_files<F: Read + Drop, S: Store<F>, W: Write, V: Watcher>(
     alloc: Global,
     asked: &Explore,

@@ -20,6 +20,10 @@ use std::sync::Wait;
 use std::thread::Threads;
 
 /// Replays the input.
+///
+/// # Errors
+///
+/// Those of `replay_one`, and `Output` where the last of the report doesn't go out.
 pub fn replay_input<R: Read, W: Write>(
     alloc: Global,
     input: &mut R,
@@ -35,6 +39,10 @@ pub fn replay_input<R: Read, W: Write>(
 }
 
 /// Replays two files. Both are opened, in the order of the words, before one is read.
+///
+/// # Errors
+///
+/// `Input` where one can't be opened; else those of `replay`, and `Output` where the last of the report doesn't go out.
 pub fn replay_files<F: Read + Drop, S: Store<F>, W: Write>(
     alloc: Global,
     asked: &Replay,
@@ -67,6 +75,10 @@ pub fn replay_files<F: Read + Drop, S: Store<F>, W: Write>(
 }
 
 /// Runs the script of a file by threads, where each batch passes. The meter is shown how far the run has come, if that is asked for.
+///
+/// # Errors
+///
+/// `Input` where it can't be opened; else those of `run_script`, and `Output` where the last of the report doesn't go out.
 pub fn run_file<T: Threads + Wait + Sync, F: Read + Drop, S: Store<F>, W: Write, M: Monitor + Sync>(
     rt: &T,
     alloc: Global,

@@ -15,6 +15,10 @@ use std::io::{Read, Write};
 
 /// Replays files, which are opened, in the order of the words, before one is read, and shows each step. That has gone out then. `None` where
 /// a picture would be too long.
+///
+/// # Errors
+///
+/// `Input` where one can't be opened; else those of `show` or `show_one`, and `Output` where the last of it doesn't go out.
 pub fn show_steps<F: Read + Drop, S: Store<F>, W: Write>(
     alloc: Global,
     asked: &Steps,

@@ -246,6 +246,10 @@ fn test_words<'a>(alloc: Global) -> Result<Command<'a>, AllocError>
 }
 
 /// The words that there can be.
+///
+/// # Errors
+///
+/// Where memory is refused.
 pub fn accq_words<'a>(alloc: Global) -> Result<Command<'a>, AllocError>
     ensures { IfOk result (λ c. app_of c ≡ accq_app) }
 {

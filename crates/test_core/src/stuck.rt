@@ -3,14 +3,14 @@
 
 use crate::checks::{check_same, check_steps};
 use crate::worlds::{ROOM, queue, reply_to, world_of};
-use acc_base::QueueAt;
+use acc_base::{QUEUES, QueueAt};
 use acc_core::{Event, Reply, World};
 use std::process::Abort;
 use std::test::Fail;
 
 // A queue of the first device that is enabled.
 fn enabled_queue(world: &World) -> Option<QueueAt> {
-    for number in 0..8u8 {
+    for number in 0..QUEUES {
         if world.enabled(queue(0, number)) {
             return Some(queue(0, number));
         }

@@ -9,7 +9,7 @@ use acc_core::{Event, Reply, World};
 use acc_script::{ReadError, Script, read};
 use std::alloc::Global;
 
-/// How many batches each queue of a world holds, as a rule: a world takes the memory for these.
+/// How many batches each queue of a world holds, as a rule.
 pub const ROOM: u32 = 64;
 
 // A fault of a text is `Unfinished` here.

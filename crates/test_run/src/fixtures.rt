@@ -33,6 +33,20 @@ impl Gate for Shut {
     }
 }
 
+/// The turns after which who waits for another thread gives up: some seconds, as a thread that is ready may not be scheduled for long.
+pub const TURNS: u32 = 30_000_000;
+
+/// Whether so many come within so many turns.
+pub fn have_come(here: &AtomicU64, wanted: u64, turns: u32) -> bool {
+    for _ in 0..turns {
+        if here.load(Ordering::SeqCst) >= wanted {
+            return true;
+        }
+        thread::yield_now();
+    }
+    false
+}
+
 /// So many batches pass, those of all queues together, and then none.
 #[derive(Drop)]
 pub struct Fuse {

@@ -3,7 +3,7 @@
 
 ghost use Rattle.std.specs.Prelude.{◌≡◌, IfOk};
 
-use crate::fixtures::{Open, both, close_all, print, queue, record, serve_all};
+use crate::fixtures::{Open, TURNS, both, close_all, have_come, print, queue, record, serve_all};
 use acc_base::{Config, DeviceId, Fault, QueueAt, Range};
 use acc_place::{Clause, DataItem, Directive, Target, Waits};
 use acc_run::{Gate, HostToken, Runtime};
@@ -160,15 +160,9 @@ impl Gate for Holding {
     }
 }
 
-/// Whether a mark is set within so many turns.
+/// Whether a mark is set within some seconds.
 pub fn comes(mark: &AtomicU64) -> bool {
-    for _ in 0..30_000_000u32 {
-        if mark.load(Ordering::SeqCst) == 1 {
-            return true;
-        }
-        thread::yield_now();
-    }
-    false
+    have_come(mark, 1, TURNS)
 }
 
 // So many batches pass, the first ones of their queue.

@@ -1,6 +1,6 @@
 //! Two workers meet at the gate: each has a thread of its own, and no lock is held there.
 
-use crate::fixtures::{close_all, config_of, entry_of, queue};
+use crate::fixtures::{TURNS, close_all, config_of, entry_of, have_come, queue};
 use acc_base::{DeviceId, Fault, QueueAt};
 use acc_place::Clause;
 use acc_run::{Gate, HostToken, Runtime};
@@ -25,13 +25,9 @@ impl Gate for Meeting {
             return true;
         }
         self.here.fetch_add(1, Ordering::SeqCst);
-        for _ in 0..100_000u32 {
-            if self.here.load(Ordering::SeqCst) >= 2 {
-                return true;
-            }
-            thread::yield_now();
+        if !have_come(&self.here, 2, TURNS) {
+            self.failed.fetch_add(1, Ordering::SeqCst);
         }
-        self.failed.fetch_add(1, Ordering::SeqCst);
         true
     }
 }

@@ -6,7 +6,7 @@ ghost use Rattle.acc_host.specs.Hosts.{AreNumbered, ready};
 ghost use Rattle.acc_run.specs.Running.{Paired};
 
 use crate::finish::finish_later;
-use crate::fixtures::{Open, config_of, directive_with, entries, queue, whole};
+use crate::fixtures::{Open, TURNS, config_of, directive_with, entries, have_come, queue, whole};
 use acc_base::{Config, Fault, HostId, Listed, QUEUES, QueueAt};
 use acc_host::{Act, Host, HostProgram, HostState, Statement, ready_hosts};
 use acc_place::{Clause, Directive, Target, Waits};
@@ -17,7 +17,6 @@ use std::alloc::Global;
 use std::sync::Wait;
 use std::sync::atomic::{AtomicU64, Ordering};
 use std::test::Fail;
-use std::thread;
 use std::thread::Threads;
 use tool_directives::{EXIT, Form, UPDATE, directive_of};
 use tool_scarce::Hoard;
@@ -30,8 +29,8 @@ const HOSTS: u8 = 8;
 /// How often a host does its statements: a thousand directives.
 const ROUNDS: u32 = 250;
 
-/// One round of a host: it writes a cell of its array, enters the array on a queue that all hosts share, updates it on another, waits for
-/// both, lets go of it, and prints it.
+/// One round of a host: it writes a cell of its array, enters the array on a queue that the hosts of its device share, updates it on one of
+/// its own (host 0 on the same), waits for both, lets go of it, and prints it.
 pub(crate) fn push_round(
     alloc: Global,
     host: u8,
@@ -93,7 +92,7 @@ fn programs_of(alloc: Global, hosts: u8) -> Result<Vec<HostProgram>, Fault>
     Ok(programs)
 }
 
-/// How many directives of its own program a token lists in their order, and how many writes and prints.
+/// How many directives a token lists, and how many writes and prints.
 pub(crate) fn count_in(token: &HostToken) -> (u32, u32) {
     let mut directives = 0u32;
     let mut items = 0u32;
@@ -195,15 +194,17 @@ fn hosts_finish_on_queues_with_room_for_sixty_four_batches(rt: HostRuntime) -> R
 #[derive(Drop)]
 pub(crate) struct Start {
     hosts: u8,
+    turns: u32,
     here: AtomicU64,
     failed: AtomicU64,
 }
 
 impl Start {
-    /// For so many hosts.
-    pub(crate) fn new(hosts: u8) -> Start {
+    /// For so many hosts, each of which waits so many turns.
+    pub(crate) fn new(hosts: u8, turns: u32) -> Start {
         Start {
             hosts,
+            turns,
             here: AtomicU64::new(0),
             failed: AtomicU64::new(0),
         }
@@ -217,19 +218,15 @@ impl Gate for Start {
 
     fn host(&self, _host: HostId) {
         self.here.fetch_add(1, Ordering::SeqCst);
-        for _ in 0..100_000u32 {
-            if self.here.load(Ordering::SeqCst) >= u64::from(self.hosts) {
-                return;
-            }
-            thread::yield_now();
+        if !have_come(&self.here, u64::from(self.hosts), self.turns) {
+            self.failed.fetch_add(1, Ordering::SeqCst);
         }
-        self.failed.fetch_add(1, Ordering::SeqCst);
     }
 }
 
 // Whether all hosts stood at the gate at once, each once, and finished then.
 fn start_together<R: Threads + Wait + Sync>(rt: &R, alloc: Global) -> Result<bool, Fault> {
-    let gate = Start::new(HOSTS);
+    let gate = Start::new(HOSTS, TURNS);
     let all_finished = run_with(rt, alloc, 2, &gate)?;
     Ok(
         all_finished

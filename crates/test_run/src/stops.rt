@@ -28,7 +28,7 @@ impl Gate for Turnstile {
     }
 }
 
-// How many batches were stopped, and how many passed, of twenty entries on a queue and its close.
+// How many batches were stopped, and how many passed, of ten entries on a queue.
 fn stopped<R: Wait>(rt: &R, alloc: Global) -> Result<(u64, u64), Fault> {
     let config = config_of(alloc, 1, 1, 64)?;
     let (runtime, mut tokens) = Runtime::new(alloc, &config)?;

@@ -95,7 +95,7 @@ fn answer_of(hosts: &[Host]) -> Result<Answer, Fault> {
 fn answered<R: Threads + Wait + Sync>(rt: &R, alloc: Global) -> Result<Answer, Fault> {
     let config = config_of(alloc, 1, 2, 8)?;
     let (runtime, hosts, tokens) = opened(alloc, &config, both_programs(alloc)?)?;
-    match runtime.run(rt, alloc, &Start::new(2), hosts, tokens) {
+    match runtime.run(rt, alloc, &Start::new(2, 100_000), hosts, tokens) {
         Ok((hosts, tokens)) => match finish_later(rt, runtime, tokens)? {
             (true, _) => answer_of(hosts.as_slice()),
             (false, _) => Err(Fault::Unfinished),

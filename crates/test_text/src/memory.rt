@@ -22,7 +22,7 @@ use std::test::Fail;
 use std::thread::Threads;
 use tool_scarce::{Hoard, Purse, at_each_amount};
 
-/// The queues are short, as a world takes their room.
+/// The queues are short, as those of a run by threads take their room.
 const OPTIONS: Options = Options {
     room: 4,
     ..Options::DEFAULT

@@ -45,7 +45,7 @@ pub fn check_run<R: Abort + Threads + Wait + Sync, G: Gate + Sync>(
 /// A script, the room of its queues, its answer and its report.
 type Worked = (&'static [u8], u32, Answer, &'static [u8]);
 
-/// A value is multiplied on the default queue, which the host waits for.
+/// A value is multiplied on queue `noval`, which the host waits for.
 const ON_NOVAL: &[u8] =
     b"long a[1];\nhost {\na[0] = 7;\n#pragma acc enter data copyin(a) async\n#pragma acc parallel loop present(a) async\nfor (i = 0; i < 1; i++) a[i] = a[i] * 6;\n#pragma acc exit data copyout(a) async\n#pragma acc wait\nprint(a);\n}\n";
 
@@ -120,6 +120,21 @@ fn a_thousand_runs_have_one_report(rt: HostRuntime) -> Result<(), Fail> {
     Ok(())
 }
 
+/// The turns after which who waits for another thread gives up: some seconds, as a thread that is ready may not be scheduled for long.
+const TURNS: u32 = 30_000_000;
+
+// A thread comes, and goes on once so many have come, or notes a failure.
+fn meet(here: &AtomicU64, wanted: u64, failures: &AtomicU64) {
+    here.fetch_add(1, Ordering::SeqCst);
+    for _ in 0..TURNS {
+        if here.load(Ordering::SeqCst) >= wanted {
+            return;
+        }
+        thread::yield_now();
+    }
+    failures.fetch_add(1, Ordering::SeqCst);
+}
+
 /// A gate where both hosts wait for one another; the workers of queues `1` and `2` with their first batch; and all workers with
 /// their close. It notes each that comes, and each that nobody joined.
 #[derive(Drop)]
@@ -130,33 +145,19 @@ struct Meeting {
     failures: AtomicU64,
 }
 
-impl Meeting {
-    // A thread comes, and goes on once so many have come. Behind a hundred thousand turns it notes a failure and goes on.
-    fn meet(&self, here: &AtomicU64, wanted: u64) {
-        here.fetch_add(1, Ordering::SeqCst);
-        for _ in 0..100_000u32 {
-            if here.load(Ordering::SeqCst) >= wanted {
-                return;
-            }
-            thread::yield_now();
-        }
-        self.failures.fetch_add(1, Ordering::SeqCst);
-    }
-}
-
 impl Gate for Meeting {
     fn pass(&self, at: QueueAt, number: u64) -> bool {
         // `1` has number 3, and `2` number 4
         if number == 1 && (at.queue.number() == 3 || at.queue.number() == 4) {
-            self.meet(&self.batches, 2);
+            meet(&self.batches, 2, &self.failures);
         } else {
-            self.meet(&self.closes, u64::from(QUEUES));
+            meet(&self.closes, u64::from(QUEUES), &self.failures);
         }
         true
     }
 
     fn host(&self, _host: HostId) {
-        self.meet(&self.hosts, 2);
+        meet(&self.hosts, 2, &self.failures);
     }
 }
 
@@ -198,14 +199,7 @@ impl Gate for LoopsMeet {
     }
 
     fn work(&self, _at: QueueAt, _number: u64) {
-        self.here.fetch_add(1, Ordering::SeqCst);
-        for _ in 0..100_000u32 {
-            if self.here.load(Ordering::SeqCst) >= 2 {
-                return;
-            }
-            thread::yield_now();
-        }
-        self.failures.fetch_add(1, Ordering::SeqCst);
+        meet(&self.here, 2, &self.failures);
     }
 }
 
