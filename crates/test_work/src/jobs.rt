@@ -168,14 +168,22 @@ enum Way {
     OutWithRoom,
 }
 
-// Performs the loop so, where all memory is refused. The answers: whether room for it was refused, and whether it was performed.
-fn scarce_loop(alloc: Global, work: &mut Work, way: Way) -> Result<(bool, bool), Fault> {
+// Performs the loop so, where all memory is refused if it is scarce. The answers: whether room for it was refused, and whether it was
+// performed.
+fn lone_loop(
+    alloc: Global,
+    work: &mut Work,
+    way: Way,
+    scarce: bool,
+) -> Result<(bool, bool), Fault> {
     let mut made = match way {
         Way::OutWithRoom => room(alloc, work)?,
         Way::InPlace | Way::Out => None,
     };
     let mut hoard = Hoard::new(alloc)?;
-    hoard.fill(alloc);
+    if scarce {
+        hoard.fill(alloc);
+    }
     let refused = room(alloc, work).is_err();
     let done = match way {
         Way::InPlace => work.perform(queue(3)) == Done::Op,
@@ -191,11 +199,14 @@ fn scarce_loop(alloc: Global, work: &mut Work, way: Way) -> Result<(bool, bool),
 /// Where all memory is refused a loop goes out, is computed and comes back all the same, in room that was made before and without.
 #[test]
 fn a_loop_takes_no_memory(rt: HostRuntime) -> Result<(), Fail> {
-    for way in [Way::InPlace, Way::Out, Way::OutWithRoom] {
-        let mut work = work_of(rt.alloc())?;
-        let answers = scarce_loop(rt.alloc(), &mut work, way)?;
-        assert_eq!(rt; answers, (true, true));
-        check(&rt, &work, BEHIND);
+    // first with memory, so that the stack has grown before all is refused
+    for scarce in [false, true] {
+        for way in [Way::InPlace, Way::Out, Way::OutWithRoom] {
+            let mut work = work_of(rt.alloc())?;
+            let answers = lone_loop(rt.alloc(), &mut work, way, scarce)?;
+            assert_eq!(rt; answers, (scarce, true));
+            check(&rt, &work, BEHIND);
+        }
     }
     Ok(())
 }

@@ -13,18 +13,13 @@ pub struct Hoard {
 /// The most blocks of a hoard.
 const MOST_BLOCKS: usize = 200_000;
 
-/// The calls by which a stack grows before a hoard is filled: half a mebibyte.
-const DEEP: u32 = 16_384;
-
 impl Hoard {
-    /// An empty hoard, with the room for what it will hold. The caller's stack grows here, as far as a test needs it: it can't once all
-    /// addresses are taken.
+    /// An empty hoard, with the room for what it will hold.
     ///
     /// # Errors
     ///
     /// Where memory is refused.
     pub fn new(alloc: Global) -> Result<Hoard, AllocError> {
-        deepen(alloc, DEEP);
         Ok(Hoard {
             blocks: Vec::with_capacity(alloc, MOST_BLOCKS)?,
         })
@@ -54,14 +49,6 @@ impl Hoard {
                 Err(_) => return,
             }
         }
-    }
-}
-
-// Goes so many calls down the stack, each with a block that it holds until the one beneath has returned.
-fn deepen(alloc: Global, levels: u32) {
-    let _held = Vec::<u8>::with_capacity(alloc, 1);
-    if levels > 0 {
-        deepen(alloc, levels - 1);
     }
 }
 

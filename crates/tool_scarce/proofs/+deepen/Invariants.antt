@@ -1,4 +1,0 @@
-use Rattle.tool_scarce.proofs.+deepen.Given as goal
-
-abbrev pub decreases-deepen : goal.decreases-deepen
-decreases-deepen l = l.levels
