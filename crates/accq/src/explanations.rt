@@ -116,8 +116,9 @@ pub const NO_REGION: &str =
 
 /// `F11 Memory`.
 pub const MEMORY: &str =
-    "F11 Memory: memory was refused to the statement, so the same question may be answered on another machine. Give the program
-more memory, or ask with shorter arrays. (Where the host was already waiting for the directive's batch, the directive stands.)
+    "F11 Memory: memory was refused to the statement, or with `run` a thread to its host, which then stands at its first one; so the
+same question may be answered on another machine. Give the program more memory, or more threads, or ask with shorter arrays. (Where the
+host was already waiting for the directive's batch, the directive stands.)
 ";
 
 /// `F12 QueueFull`.
