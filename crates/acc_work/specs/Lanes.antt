@@ -1,5 +1,5 @@
 -- The batches that queues took, and what is left of the last one of each (OpenACC API 3.0, 2.16, Asynchronous Behavior).
-use Rattle.std.specs.Prelude.{◌≡◌, ℕ, zero, suc, ◌-◌, ◌<◌, ◌≤◌, nat_lt, Bool, false, List, [], ◌∷◌, ◌++◌, length, All, slice_get, slice_index_or, slice_set, Option, Some, None, if◌then◌else◌}
+use Rattle.std.specs.Prelude.{◌≡◌, ℕ, ◌-◌, ◌<◌, ◌≤◌, nat_lt, Bool, false, List, [], ◌∷◌, ◌++◌, length, All, slice_get, slice_index_or, slice_set, Option, Some, None, if◌then◌else◌}
 use Rattle.std.specs.List.{flat_map, sum_by}
 use Rattle.acc_base.specs.declared.config.TheConstants.{MAX_HOSTS}
 use Rattle.acc_base.specs.declared.ids.QueueAt.{QueueAt}
@@ -60,11 +60,6 @@ IsLoopNext k uses left = next_loop left ≡ Some (k, uses)
 
 abbrev pub last_of : List Label → Option Label
 last_of labels = slice_get labels (length labels - 1)
-
--- the batch with this number, from 1
-abbrev pub nth_taken : List Label → ℕ → Option Label
-nth_taken labels zero = None
-nth_taken labels (suc n) = slice_get labels n
 
 -- how many batches are performed: all that were taken, or all but the last
 abbrev pub lane_done : LaneView → ℕ

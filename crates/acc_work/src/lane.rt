@@ -4,7 +4,7 @@ ghost use Rattle.std.specs.Prelude.{◌≡◌, ◌↔◌, nat_le, IsTrue, true, 
 ghost use Rattle.std.specs.Option.{option_map};
 ghost use Rattle.acc_batch.specs.declared.label.OpLabel.{OpLabel};
 ghost use Rattle.acc_batch.specs.Ops.{first_loop, loop_of, op_label, op_labels, AllReady, IsReady};
-ghost use Rattle.acc_work.specs.Lanes.{IsFresh, IsLoopNext, next_loop, lane_with_batch, lane_with_left, lane_with_out, last_of, lane_done, nth_taken};
+ghost use Rattle.acc_work.specs.Lanes.{IsFresh, IsLoopNext, next_loop, lane_with_batch, lane_with_left, lane_with_out, last_of, lane_done};
 
 use crate::ahead::Ahead;
 use acc_base::{BlockId, Range};
@@ -65,18 +65,6 @@ impl Lane {
         ensures { option_map (λ t. op_label t.now) result ≡ slice_get self.now.left 0 }
     {
         self.left.first()
-    }
-
-    /// The batch with this number, from 1, among those that were taken, by its label.
-    pub(crate) fn nth(&self, number: u64) -> Option<&Label>
-        ensures { option_map (λ l. l.now) result ≡ nth_taken self.now.taken number }
-    {
-        let index = number.checked_sub(1)?;
-        let mut labels = self.taken.iter();
-        for _ in 0..index {
-            let _ = labels.next()?;
-        }
-        labels.next()
     }
 
     /// Whether the labels of those that were taken stand first among these, in this order.

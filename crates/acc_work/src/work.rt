@@ -10,7 +10,7 @@ ghost use Rattle.acc_base.specs.declared.ids.TheConstants.{QUEUES};
 ghost use Rattle.acc_work.specs.declared.log.TheConstants.{MAX_HOST_ITEMS};
 ghost use Rattle.acc_work.specs.Jobs.{StartsLoop, TakesRoom, HasStarted, IsOut, Commits};
 ghost use Rattle.acc_work.specs.Kept.{IsKept};
-ghost use Rattle.acc_work.specs.Lanes.{IsFresh, awaited_next, lane_with_batch, last_of, nth_taken, lanes_with, no_lane};
+ghost use Rattle.acc_work.specs.Lanes.{IsFresh, awaited_next, lane_with_batch, last_of, lanes_with, no_lane};
 ghost use Rattle.acc_work.specs.Logs.{items_of, all_items, batches_done, all_done, value};
 ghost use Rattle.acc_work.specs.Remembering.{Remembers, blocks_in};
 ghost use Rattle.acc_batch.specs.Labels.{on_queue};
@@ -145,18 +145,6 @@ impl Work {
         match self.lane(at) {
             None => 0,
             Some(lane) => lane.ops_left(),
-        }
-    }
-
-    /// The batch with this number, from 1, among those that a queue took, by its label.
-    pub fn taken(&self, at: QueueAt, number: u64) -> Option<&Label>
-        ensures { option_map (λ l. l.now) result
-            ≡ nth_taken (on_queue at (taken_labels self.now)) number }
-    {
-        self.keeps();
-        match self.lane(at) {
-            None => None,
-            Some(lane) => lane.nth(number),
         }
     }
 
