@@ -1,5 +1,5 @@
 -- The operations of a list of labels, and the labels of a queue among them.
-use Rattle.std.proofs.Common.{◌≡◌, ℕ, zero, suc, ◌+◌, ◌-◌, ◌<◌, ◌≤◌, List, [], ◌∷◌, ◌++◌, length, take, drop, refl, sym, ap, ◌∙◌, arith, Some}
+use Rattle.std.proofs.Common.{◌≡◌, ℕ, ◌+◌, ◌-◌, ◌<◌, ◌≤◌, List, [], ◌∷◌, ◌++◌, length, take, drop, refl, sym, ap, ◌∙◌, arith, Some}
 use Rattle.std.proofs.lemmas.List.{append_assoc, length-append, take-append-drop}
 use Rattle.std.proofs.lemmas.List.Elements.{filter-append}
 use Rattle.acc_base.specs.declared.ids.QueueAt.{QueueAt}
@@ -22,13 +22,6 @@ ops_of_all t ls = ap ops_of (sym (take-append-drop t ls)) ∙ ops_of-append (tak
 
 pub ops_of-take-le : (t : ℕ) (ls : List Label) → length (ops_of (take t ls)) ≤ length (ops_of ls)
 ops_of-take-le t ls = omega (arith, ap length (ops_of_all t ls), length-append (ops_of (take t ls)) (ops_of (drop t ls)))
-
--- nothing is left where nothing was placed
-pub no_rest : (taken n : ℕ) → drop n (ops_of (take taken [])) ≡ []
-no_rest zero zero = refl
-no_rest zero (suc n) = refl
-no_rest (suc taken) zero = refl
-no_rest (suc taken) (suc n) = refl
 
 -- the batch of an operation behind those of the first labels
 pub batch_at-append : (xs : List Label) (l : Label) (ys : List Label) (k : ℕ) → k < length l.ops → batch_at (xs ++ l ∷ ys) (length (ops_of xs) + k) ≡ Some l

@@ -29,36 +29,6 @@ one_seat a b low_a low_b same =
     let one : a ≡ b = ap (λ d. record { device = d; queue = a.queue }) device ∙ ap (λ q. record { device = b.device; queue = q }) queue in
     ap (λ q. same_queue q b) one ∙ same_queue_itself b
 
--- What stands at the seat of each queue that is there.
-pub record StandsAt {X : Type 0} (P : QueueAt → X → Type 0) (xs : List X) (at : QueueAt) : Type 0 where
-  pub it : X
-  pub at_seat : slice_get xs (seat at) ≡ Some it
-  pub holds : P at it
-
-abbrev pub AtEachSeat : {X : Type 0} → (QueueAt → X → Type 0) → ℕ → List X → Type 0
-AtEachSeat P devices xs = (at : QueueAt) → at.device < devices → at.queue < QUEUES → StandsAt P xs at
-
--- One queue's is changed, and the others go on to have what is wanted.
-pub seat_changed : {X : Type 0} (P Q : QueueAt → X → Type 0) (devices : ℕ) (xs : List X) (at : QueueAt) (new : X) → at.device < devices → at.queue < QUEUES → AtEachSeat P devices xs
-    → Q at new → ((other : QueueAt) → same_queue at other ≡ false → (x : X) → P other x → Q other x) → AtEachSeat Q devices (slice_set xs (seat at) new)
-seat_changed P Q devices xs at new there low all mine others = λ other device queue.
-    let before = all other device queue in
-    let old = all at there low in
-    elim (cases_Bool (same_queue at other)) [
-      | inl same ↦
-          let one : at ≡ other = same_is at other same in
-          by_one other one
-      | inr differ ↦
-          let apart : seat at ≡ seat other → ⊥ = λ e. (let w : true ≡ false = sym (one_seat at other low queue e) ∙ differ in cc) in
-          record { it = before.it; at_seat = set_there xs (seat at) (seat other) new apart ∙ before.at_seat; holds = others other differ before.it before.holds }
-    ]
-  where
-    same_is : (a b : QueueAt) → same_queue a b ≡ true → a ≡ b
-    same_is a b h = same_queue_is a b h
-
-    by_one : (other : QueueAt) → at ≡ other → StandsAt Q (slice_set xs (seat at) new) other
-    by_one other e = subst (λ q. StandsAt Q (slice_set xs (seat at) new) q) e (record { it = new; at_seat = set_here xs (seat at) (all at there low).it new (all at there low).at_seat; holds = mine })
-
 -- ## What stands at a queue's seat, or something else where the queue isn't there
 
 abbrev pub at_seat : {X : Type 0} → X → List X → QueueAt → X

@@ -1,17 +1,9 @@
 -- What a memory shows of its cells and blocks.
 use Rattle.std.proofs.Common.{◌≡◌, ℕ, zero, suc, ◌+◌, ◌∷◌, refl, ap}
-use Rattle.std.specs.Prelude.{ℤ, IsTrue}
+use Rattle.std.specs.Prelude.{ℤ}
 use Rattle.acc_base.specs.declared.range.Range.{Range}
-use Rattle.acc_memory.specs.Memories.{MemoryView, Shows, is_held, cell_of, rows_on}
-use Rattle.acc_memory.specs.Values.{Cell, Host_cell, Block_cell, values_from, values_of}
-
--- A memory with the same cells shows the same.
-pub shows_same : (m n : MemoryView) (was : Cell → ℤ) → n.arrays ≡ m.arrays → ((d : ℕ) → rows_on n d ≡ rows_on m d) → Shows m was → Shows n was
-shows_same m n was arrays rows shows = λ cell. by_cell cell
-  where
-    by_cell : (c : Cell) → IsTrue (is_held n c) → cell_of n c ≡ was c
-    by_cell (Host_cell array cell) held = rw arrays (shows (Host_cell array cell) held)
-    by_cell (Block_cell d block cell) held = rw (rows d) (shows (Block_cell d block cell) (rw (rows d) at held))
+use Rattle.acc_memory.specs.Memories.{MemoryView, Shows, cell_of}
+use Rattle.acc_memory.specs.Values.{Cell, Host_cell, values_from, values_of}
 
 -- equal values of cells one after another
 same_values : (f g : ℕ → ℤ) (lo n : ℕ) → ((i : ℕ) → f i ≡ g i) → values_from f lo n ≡ values_from g lo n

@@ -1,5 +1,5 @@
 -- Values spread over chains by number: which is found, and what a change of one chain makes of all.
-use Rattle.std.proofs.Common.{◌≡◌, ℕ, zero, suc, ◌+◌, ◌<◌, ◌≤◌, List, [], ◌∷◌, ◌++◌, length, get_or, set, Option, None, refl, sym, ap, subst, ◌∙◌, arith, inl, inr}
+use Rattle.std.proofs.Common.{◌≡◌, ℕ, zero, suc, ◌+◌, ◌<◌, ◌≤◌, List, [], ◌∷◌, length, get_or, set, Option, None, refl, sym, ap, subst, ◌∙◌, arith, inl, inr}
 use Rattle.std.specs.Prelude.{◌==◌}
 use Rattle.std.specs.Option.{option_or}
 use Rattle.std.proofs.lemmas.Bool.{cases_eq, ne_eqb}
@@ -13,13 +13,6 @@ bucket_past : {X : Type 0} (buckets : List (List X)) (k : ℕ) → length bucket
 bucket_past [] k past = refl
 bucket_past (xs ∷ buckets) zero past = absurd (omega (arith, past))
 bucket_past (xs ∷ buckets) (suc k) past = bucket_past buckets k (omega (arith, past))
-
--- an empty chain behind the others is as good as none
-pub one_more : {X : Type 0} (buckets : List (List X)) → HaveSame buckets (buckets ++ [] ∷ [])
-one_more [] zero = refl
-one_more [] (suc k) = refl
-one_more (xs ∷ buckets) zero = refl
-one_more (xs ∷ buckets) (suc k) = one_more buckets k
 
 module _ {X : Type 0} (key : X → ℕ) (last : ℕ) where
   -- ## What is found

@@ -1,26 +1,18 @@
 -- How many queues aren't closed, and which.
-use Rattle.std.proofs.Common.{inl, inr, subst, ◌≡◌, ℕ, zero, suc, ◌+◌, ◌<◌, ◌≤◌, Bool, true, false, cond, [], refl, sym, ap, ◌∙◌, arith}
+use Rattle.std.proofs.Common.{inl, inr, subst, ◌≡◌, ℕ, zero, suc, ◌+◌, ◌<◌, ◌≤◌, Bool, true, false, cond, refl, sym, ap, ◌∙◌, arith}
 use Rattle.std.proofs.lemmas.Bool.{cases_Bool, cases_lt}
 use Rattle.acc_place.specs.Closing.{left_open}
 use Rattle.acc_base.specs.declared.ids.QueueAt.{QueueAt}
 use Rattle.acc_base.specs.declared.ids.TheConstants.{QUEUES}
-use Rattle.acc_base.specs.Configurations.{Configuration}
-use Rattle.acc_base.specs.Queues.{queue_count, same_queue, seat, at_seat}
+use Rattle.acc_base.specs.Queues.{same_queue, seat, at_seat}
 use Rattle.acc_base.proofs.SameQueue.{same_queue_is}
 use Rattle.acc_batch.proofs.Seats.{one_seat}
-use Rattle.acc_place.specs.Histories.{after_close, is_closed, IsQueue}
+use Rattle.acc_place.specs.Histories.{after_close, is_closed}
 use Rattle.acc_place.specs.Standings.{Standing}
 
 -- the seat of the queue at a place is the place
 pub place_seat : (n : ℕ) → seat (at_seat n) ≡ n
 place_seat n = omega arith
-
--- none is closed at first
-pub left_all : (st : Standing) (n : ℕ) → st.closed ≡ [] → left_open st n ≡ n
-left_all st zero none = refl
-left_all st (suc n) none =
-    let early : is_closed st (at_seat n) ≡ false = rw none refl in
-    rw early (omega (arith, left_all st n none))
 
 -- where the same queues are closed
 pub left_same : (before after : Standing) (n : ℕ) → ((at : QueueAt) → is_closed after at ≡ is_closed before at) → left_open after n ≡ left_open before n
@@ -58,10 +50,6 @@ left_fewer st at (suc n) low there early = elim (cases_Bool (same_queue at (at_s
     by_closed : (b : Bool) → left_open (after_close st at) n + 1 ≡ left_open st n → cond b (left_open (after_close st at) n) (left_open (after_close st at) n + 1) + 1 ≡ cond b (left_open st n) (left_open st n + 1)
     by_closed true e = e
     by_closed false e = omega (arith, e)
-
--- so there is one left
-pub left_some : (config : Configuration) (st : Standing) (at : QueueAt) → IsQueue config at → is_closed st at ≡ false → 1 ≤ left_open st (queue_count config)
-left_some config st at there early = (let fewer = left_fewer st at (queue_count config) there.1 (omega (arith, there.0, there.1)) early in omega (arith, fewer))
 
 -- there are no more of them than queues
 pub left_few : (st : Standing) (n : ℕ) → left_open st n ≤ n

@@ -19,14 +19,13 @@ use Rattle.acc_batch.specs.declared.label.OpLabel.TheVariants.{Run}
 use Rattle.acc_batch.specs.Ops.{HasItsCells}
 use Rattle.acc_present.specs.declared.held.Found.{Found}
 use Rattle.acc_present.specs.declared.held.Found.TheVariants as look
-use Rattle.acc_present.specs.Marks.{Mark}
-use Rattle.acc_present.specs.Presences.{Presence, presences, holder, is_present, overlaps_any}
+use Rattle.acc_present.specs.Presences.{Presence, holder, is_present, overlaps_any}
 use Rattle.acc_present.specs.Tables.{IsFound}
 use Rattle.acc_present.proofs.TableFilter.{none_from_absent}
 use Rattle.acc_present.proofs.Holder.{is_present-holder}
 use Rattle.acc_place.specs.declared.directive.DataItem.{DataItem}
 use Rattle.acc_place.specs.Accepting.{reaches_past}
-use Rattle.acc_place.specs.Batches.{found_block, uses_by}
+use Rattle.acc_place.specs.Batches.{found_block}
 use Rattle.acc_place.specs.Implicit.{item_of}
 use Rattle.acc_place.specs.Loops.{IsInside, StaysInside, StaysInsideOf, use_in, uses_among, uses_in}
 
@@ -274,7 +273,3 @@ module _ (items : List DataItem) (ps : List Presence) where
 
   pub run_has_its_cells : (k : Loop) → StaysInside k items → All (λ (i : DataItem). is_present ps i.range ≡ true) items → HasItsCells (Run k (uses_in k items ps))
   run_has_its_cells k stays present = (uses_distinct k, uses_hold k stays present)
-
--- what it uses after marks, in the words of a directive's batch
-pub uses_after : (k : Loop) (items : List DataItem) (marks : List Mark) → uses_by k items marks ≡ uses_in k items (presences marks)
-uses_after k items marks = refl

@@ -25,42 +25,12 @@ behind-miss r p ps miss =
 
 -- ## The index that a search by halves gives
 
-ends_before_entry : (a : Range) (es : List Entry) (j : ℕ) (x : Entry) → ends_before_all a (map entry_presence es) ≡ true → slice_get es j ≡ Some x → ends_before a x.range ≡ true
-ends_before_entry a [] j x h at = cc
-ends_before_entry a (e ∷ es) zero x h at =
-    let same : e ≡ x = cc in ap (λ (y : Entry). ends_before a y.range) (sym same) ∙ (and_parts (ends_before a e.range) (ends_before_all a (map entry_presence es)) h).0
-ends_before_entry a (e ∷ es) (suc j) x h at = ends_before_entry a es j x (and_parts (ends_before a e.range) (ends_before_all a (map entry_presence es)) h).1 at
-
 pub behind_within : (r : Range) (es : List Entry) → behind r (map entry_presence es) ≤ length es
 behind_within r [] = omega arith
 behind_within r (e ∷ es) = elim (cases_Bool (is_before r e.range)) [
   | inl hit ↦ (let first = behind-hit r (entry_presence e) (map entry_presence es) hit in omega (arith, first))
   | inr miss ↦ (let later = behind-miss r (entry_presence e) (map entry_presence es) miss in let rest = behind_within r es in omega (arith, later, rest))
 ]
-
--- the first entry behind the range's first cell comes no later than any such
-pub behind_until : (r : Range) (es : List Entry) (m : ℕ) (x : Entry) → slice_get es m ≡ Some x → is_before r x.range ≡ true → behind r (map entry_presence es) ≤ m
-behind_until r [] m x at h = cc
-behind_until r (e ∷ es) zero x at h =
-    let same : e ≡ x = cc in
-    let first = behind-hit r (entry_presence e) (map entry_presence es) (ap (λ (y : Entry). is_before r y.range) same ∙ h) in omega (arith, first)
-behind_until r (e ∷ es) (suc m) x at h = elim (cases_Bool (is_before r e.range)) [
-  | inl hit ↦ (let first = behind-hit r (entry_presence e) (map entry_presence es) hit in omega (arith, first))
-  | inr miss ↦ (let later = behind-miss r (entry_presence e) (map entry_presence es) miss in let rest = behind_until r es m x at h in omega (arith, later, rest))
-]
-
--- it comes after each that begins no later than the range
-pub behind_from : (r : Range) (es : List Entry) (m : ℕ) (x : Entry) → is_table (map entry_presence es) ≡ true → slice_get es m ≡ Some x → is_before r x.range ≡ false → m < behind r (map entry_presence es)
-behind_from r [] m x t at h = cc
-behind_from r (e ∷ es) zero x t at h =
-    let same : e ≡ x = cc in
-    let later = behind-miss r (entry_presence e) (map entry_presence es) (ap (λ (y : Entry). is_before r y.range) same ∙ h) in omega (arith, later)
-behind_from r (e ∷ es) (suc m) x t at h =
-    let parts = table_parts (entry_presence e) (map entry_presence es) t in
-    elim (cases_Bool (is_before r e.range)) [
-      | inl hit ↦ (let through = before_through r e.range x.range hit (ends_before_entry e.range es m x parts.first at) in cc)
-      | inr miss ↦ (let later = behind-miss r (entry_presence e) (map entry_presence es) miss in let rest = behind_from r es m x parts.others at h in omega (arith, later, rest))
-    ]
 
 -- ## The entry that contains a range
 
@@ -160,14 +130,6 @@ overlaps_is (p ∷ q ∷ ps) r t =
             (overlaps_is (q ∷ ps) r parts.others ∙ ap (met_at (q ∷ ps) r) (behind-miss r q ps further))
       ]
     ]
-
-pub overlaps_is-first : (ps : List Presence) (r : Range) (k : ℕ) → is_table ps ≡ true → k ≡ behind r ps → k ≡ 0 → overlaps_any ps r ≡ overlaps_at ps r 0
-overlaps_is-first ps r k t is none = overlaps_is ps r t ∙ ap (met_at ps r) (sym is ∙ none)
-
-pub overlaps_is-later : (ps : List Presence) (r : Range) (k : ℕ) → is_table ps ≡ true → k ≡ behind r ps → 0 < k → overlaps_any ps r ≡ (overlaps_at ps r (k - 1) || overlaps_at ps r k)
-overlaps_is-later ps r k t is some =
-    let one : suc (k - 1) ≡ k = omega arith in
-    overlaps_is ps r t ∙ (ap (met_at ps r) (sym (one ∙ is)) ∙ ap (λ n. overlaps_at ps r (k - 1) || overlaps_at ps r n) one)
 
 -- ## The same over a table's entries
 

@@ -1,5 +1,5 @@
 -- Puts one after the other are a put of the joined text.
-use Rattle.std.proofs.Common.{◌≡◌, ℕ, ◌+◌, Bool, true, false, List, [], ◌∷◌, ◌++◌, length, take, drop, Option, Some, None, Result, Ok, Err, refl, sym, ap, ◌∙◌, subst}
+use Rattle.std.proofs.Common.{◌≡◌, ℕ, ◌+◌, Bool, true, false, List, [], ◌++◌, length, take, drop, Option, Some, None, Result, Ok, Err, refl, sym, ap, ◌∙◌, subst}
 use Rattle.std.proofs.Math.Seq.{take-append-add, take-append_seam}
 use Rattle.std.proofs.Math.Numerals.{add-one}
 use Rattle.std.proofs.lemmas.List.{append_assoc, append-nil, take-append-drop}
@@ -83,7 +83,3 @@ puts_below text n first second = rw (add-one n) (puts_then first second)
 pub written : (old new : Option (List ℕ)) (failed : Bool) (text : List ℕ) → failed ≡ false → Puts (sink old false) (sink new failed) text → Appends old new text
 written old new true text is puts = absurd cc
 written old new false text is puts = puts.bytes
-
-pub front_written : (old new : Option (List ℕ)) (failed : Bool) (text : List ℕ) → failed ≡ true → Puts (sink old false) (sink new failed) text → AppendsFront old new text
-front_written old new true text is puts = puts.bytes
-front_written old new false text is puts = absurd cc

@@ -1,8 +1,8 @@
 -- The lines of statements, one statement after another.
-use Rattle.std.proofs.Common.{◌≡◌, ℕ, ◌+◌, ◌<◌, ◌≤◌, List, [], ◌∷◌, ◌++◌, length, drop, get_or, sym, ap, subst, ◌∙◌}
+use Rattle.std.proofs.Common.{◌≡◌, ℕ, ◌+◌, ◌<◌, List, ◌∷◌, ◌++◌, length, drop, get_or, sym, ap, ◌∙◌}
 use Rattle.std.specs.List.{flat_map}
 use Rattle.std.proofs.lemmas.Grind.{flat_map-append}
-use Rattle.std.proofs.lemmas.List.{append_assoc, append-nil, drop_all, drop_more}
+use Rattle.std.proofs.lemmas.List.{append_assoc, drop_more}
 use Rattle.acc_host.specs.declared.program.Statement.{Statement}
 use Rattle.acc_host.specs.Engines.{HostEntry}
 use Rattle.acc_report.specs.Lines.{line_text}
@@ -42,11 +42,3 @@ put_more old mid new devices device next i s statements es left total low is beh
       puts = puts_then before.puts puts;
       whole = ap (λ (r : List ℕ). (before.done ++ line) ++ r) same ∙ (append_assoc before.done line rest ∙ (ap (λ (r : List ℕ). before.done ++ r) (sym split) ∙ before.whole));
     }
-
--- all statements
-pub put_all : (old new : Sink) (devices device i : ℕ) (statements : List Statement) (es : List HostEntry) (total : List ℕ)
-    → length statements ≤ i → IsPut old new (left_text devices device (drop i statements) es) total → Puts old new total
-put_all old new devices device i statements es total past before =
-    let none : left_text devices device (drop i statements) es ≡ [] = ap (λ (ss : List Statement). left_text devices device ss es) (drop_all i statements past) in
-    let all : before.done ≡ total = sym (append-nil before.done) ∙ (ap (λ (r : List ℕ). before.done ++ r) (sym none) ∙ before.whole) in
-    subst (Puts old new) all before.puts

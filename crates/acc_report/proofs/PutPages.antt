@@ -5,11 +5,7 @@ use Rattle.std.proofs.lemmas.List.{append_assoc, append-nil}
 use Rattle.std.specs.List.{flat_map}
 use Rattle.acc_report.specs.Puts.{Puts, Sink}
 use Rattle.acc_report.specs.inner.Pages.{IsHandedOn}
-use Rattle.acc_report.proofs.JoinedPuts.{puts_nothing, puts_then}
-
--- All of a text waits.
-pub all_waits : (a : Sink) (text waits : List ℕ) → text ≡ waits → IsHandedOn a a text waits
-all_waits a text waits all = record { done = []; puts = puts_nothing a; rest = all }
+use Rattle.acc_report.proofs.JoinedPuts.{puts_then}
 
 -- Of a text a beginning was put, and the rest waits; more of it joins what waits.
 pub more_waits : {a b c : Sink} (text more waited left waits : List ℕ)

@@ -1,12 +1,12 @@
 -- A history that was accepted can be told once more, entry by entry.
-use Rattle.std.proofs.Common.{◌≡◌, ℕ, ◌+◌, ◌<◌, ◌≤◌, List, [], ◌∷◌, ◌++◌, length, drop, get_or, reverse, refl, sym, ap, subst, ◌∙◌, arith}
-use Rattle.std.proofs.lemmas.List.{append_assoc, append-nil, drop_all, drop_more, length-reverse, reverse-append}
+use Rattle.std.proofs.Common.{◌≡◌, ℕ, ◌+◌, ◌<◌, List, [], ◌∷◌, ◌++◌, length, drop, get_or, reverse, refl, sym, ap, subst, ◌∙◌, arith}
+use Rattle.std.proofs.lemmas.List.{append_assoc, append-nil, drop_more, length-reverse, reverse-append}
 use Rattle.acc_base.specs.Configurations.{Configuration}
 use Rattle.acc_place.specs.Histories.{AllAccepted, standing}
-use Rattle.acc_place.specs.Plans.{PlaceView, standing_in}
+use Rattle.acc_place.specs.Plans.{PlaceView}
 use Rattle.acc_place.specs.declared.directive.PlaceEntry.{PlaceEntry}
 use Rattle.acc_place.specs.declared.directive.PlaceEntry.TheVariants as entry
-use Rattle.acc_report.specs.inner.Retelling.{AllFollow, CanFollow, HasCount, counts_gone, counts_left}
+use Rattle.acc_report.specs.inner.Retelling.{AllFollow, HasCount, counts_gone, counts_left}
 
 -- how many directives a history has
 abbrev pub directives : List PlaceEntry → ℕ
@@ -108,12 +108,6 @@ nothing_told config es counts p same history gone all counted =
 here_is : (es : List PlaceEntry) (i : ℕ) (e : PlaceEntry) → i < length es → e ≡ get_or es i e → drop i es ≡ e ∷ drop (i + 1) es
 here_is es i e low is = drop_more es i e low ∙ ap (λ (x : PlaceEntry). x ∷ drop (i + 1) es) (sym is)
 
-pub next_follows : (config : Configuration) (es : List PlaceEntry) (counts : List ℕ) (i : ℕ) (p : PlaceView) (left : List ℕ) (e : PlaceEntry) → i < length es → e ≡ get_or es i e
-    → IsTold config es counts i p left → CanFollow p.config (standing_in p) e × HasCount e left
-next_follows config es counts i p left e low is told =
-    let all : AllFollow config p.history p.counts (e ∷ drop (i + 1) es) left = subst (λ (xs : List PlaceEntry). AllFollow config p.history p.counts xs left) (here_is es i e low is) told.follow in
-    (subst (λ (k : Configuration). CanFollow k (standing k p.history p.counts) e) (sym told.same) all.0, all.1)
-
 counts_turned : (e : PlaceEntry) (left gone : List ℕ) → HasCount e left → reverse (counts_left e left) ++ counts_gone e left gone ≡ reverse left ++ gone
 counts_turned (entry.Accepted host d) [] gone has = absurd (omega (arith, has))
 counts_turned (entry.Accepted host d) (n ∷ left) gone has = sym (turned n left gone)
@@ -139,18 +133,4 @@ one_told config es counts i p after left rest e low is same history gone less to
       gone =
           ap (λ (ns : List ℕ). reverse ns ++ after.counts) less
           ∙ (ap (λ (ns : List ℕ). reverse (counts_left e left) ++ ns) gone ∙ (counts_turned e left p.counts all.1 ∙ told.gone));
-    }
-
--- all of it is told
-pub record IsWhole (es : List PlaceEntry) (counts : List ℕ) (p : PlaceView) : Type 0 where
-  pub history : p.history ≡ reverse es
-  pub gone : p.counts ≡ reverse counts
-
-pub all_told : (config : Configuration) (es : List PlaceEntry) (counts : List ℕ) (i : ℕ) (p : PlaceView) (left : List ℕ) → length es ≤ i → IsTold config es counts i p left → IsWhole es counts p
-all_told config es counts i p left past told =
-    let none = drop_all i es past in
-    let no_left : left ≡ [] = subst (λ (xs : List PlaceEntry). AllFollow config p.history p.counts xs left) none told.follow in
-    record {
-      history = sym (ap (λ (xs : List PlaceEntry). reverse xs ++ p.history) none) ∙ told.history;
-      gone = sym (ap (λ (ns : List ℕ). reverse ns ++ p.counts) no_left) ∙ told.gone;
     }

@@ -1,5 +1,5 @@
 -- Tokens that are spelled out are read again.
-use Rattle.std.proofs.Common.{◌≡◌, ℕ, ◌+◌, ◌-◌, ◌*◌, ◌/◌, ◌%◌, ◌^◌, ◌<◌, ◌≤◌, Bool, true, false, List, [], ◌∷◌, ◌++◌, length, drop, get_or, Ok, refl, ap, sym, ◌∙◌, arith, ⊎_elim, add-one, eq-eqb, length-append}
+use Rattle.std.proofs.Common.{◌≡◌, ℕ, ◌+◌, ◌-◌, ◌*◌, ◌/◌, ◌%◌, ◌^◌, ◌<◌, ◌≤◌, Bool, true, false, List, [], ◌∷◌, ◌++◌, length, drop, get_or, Ok, refl, sym, ◌∙◌, arith, ⊎_elim, add-one, eq-eqb, length-append}
 use Rattle.std.specs.Prelude.{◌==◌, ◌&&◌, ◌||◌, not, nat_lt, take, bytes_eq, All, codes}
 use Rattle.std.specs.List.{list_any, prefix_len}
 use Rattle.std.specs.Fmt.{decimal}
@@ -153,11 +153,6 @@ pub closing_bracket : (in_directive : Bool) (line : ℕ) (rest : List ℕ)
     → token_at in_directive (record { line = line; bytes = 93 ∷ rest })
     ≡ Ok (record { text = codes "]"; line = line; after = record { line = line; bytes = rest } })
 closing_bracket in_directive line rest = sign_token in_directive line 93 rest refl refl refl refl (not_second (front rest == 61)) refl
-
-pub one_byte : (text : List ℕ) (b : ℕ) (v w : Bool) → (bytes_eq text (b ∷ []) && v && w) ≡ true → length text ≡ 1
-one_byte text b v w is =
-    let known = and_parts (bytes_eq text (b ∷ [])) v (and_parts (bytes_eq text (b ∷ []) && v) w is).0 in
-    ap (λ (bytes : List ℕ). length bytes) ((bytes_eq-Decides text (b ∷ [])).0 known.0)
 
 -- the same of bytes that have the same token
 pub sign_found : (in_directive : Bool) (line : ℕ) (text bytes rest : List ℕ)
