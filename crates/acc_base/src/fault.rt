@@ -34,7 +34,7 @@ pub enum Fault {
     Memory,
     /// The queue holds its room of batches.
     QueueFull,
-    /// A queue has not performed all that was placed on it.
+    /// A queue has not performed its close.
     Unfinished,
     /// The hosts' own lists and the histories differ.
     HostsDiffer,

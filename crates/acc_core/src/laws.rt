@@ -34,8 +34,8 @@ pub fn worked_programs()
 {}
 
 /// The machine computed on programs with several queues: a use that awaits its maker, a release that awaits each use, the
-/// queues that async values name, a host's default queue, waits that are batches, and capacity that a queued release doesn't
-/// hold.
+/// queues that async values name, a host's default async value, waits that are batches, and capacity that a queued release
+/// doesn't hold.
 pub fn worked_queues()
     ensures use_awaits { UseAwaitsItsMaker }
     ensures release_awaits { ReleaseAwaitsEachUse }

@@ -154,7 +154,7 @@ impl Host {
         &self.phase
     }
 
-    /// Its device and default queue.
+    /// Its device and default async value.
     pub fn ids(&self) -> &Ids
         ensures { result.now ≡ self.now.ids }
     {

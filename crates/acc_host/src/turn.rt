@@ -14,7 +14,7 @@ use crate::engine::Engine;
 use crate::program::{Act, Statement};
 use crate::state::{After, Awaited, Ids, Phase, Reply};
 use acc_base::{DeviceId, Fault, HostId, QUEUES, QueueCounts, QueueId, is_nothing};
-use acc_place::{ASYNC_NOVAL, Directive, Kind, Placed};
+use acc_place::{ASYNC_NOVAL, ASYNC_SYNC, Directive, Kind, Placed};
 use acc_work::Item;
 use std::alloc::Global;
 
@@ -79,7 +79,7 @@ fn set_in(act: &mut Act, ids: Ids)
 fn is_async(value: i64) -> bool
     ensures { result ≡ is_async value }
 {
-    value >= -2
+    value >= ASYNC_SYNC
 }
 
 // A default of `acc_async_noval` changes nothing.

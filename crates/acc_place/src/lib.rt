@@ -30,9 +30,10 @@ pub use directive::{
 };
 pub use laws::{
     accepted_closes_are_last, accepted_directives_are_counted, accepted_labels_are_sound,
-    accepted_labels_are_there, accepted_loops_have_their_cells, plans_are_kept,
-    plans_outlast_their_batches, reach_is_judged, worked_batches, worked_clauses, worked_closing,
-    worked_directives, worked_loops, worked_queues, worked_refusals, worked_regions,
+    accepted_labels_are_there, accepted_loops_have_their_cells, ends_take_back_their_entries,
+    plans_are_kept, plans_outlast_their_batches, reach_is_judged, worked_batches, worked_clauses,
+    worked_closing, worked_directives, worked_loops, worked_no_create, worked_queues,
+    worked_refusals, worked_regions,
 };
 pub use place::Place;
 pub use plan::Plan;

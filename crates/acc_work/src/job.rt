@@ -17,7 +17,7 @@ use acc_memory::Memory;
 use std::marker::Model;
 
 /// The next operation of a queue, a loop, taken out to be computed. Contracts see where it stands, and its computation, if
-/// its batch had room for one.
+/// its worker had a room for it.
 #[derive(Drop)]
 pub struct JobOut {
     pub(crate) at: QueueAt,
