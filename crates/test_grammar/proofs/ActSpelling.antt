@@ -1,6 +1,6 @@
 -- Acts that are spelled are read as those acts.
-use Rattle.std.proofs.Common.{◌≡◌, ℕ, suc, ◌+◌, ◌^◌, ◌<◌, ◌≤◌, Bool, true, false, List, [], ◌∷◌, ◌++◌, length, Ok, refl, sym, ap, subst, ◌∙◌, arith}
-use Rattle.std.specs.Prelude.{◌==◌, ◌&&◌, ◌||◌, not, bytes_eq, codes, take, slice_index_or, ℤ, pos, negsuc}
+use Rattle.std.proofs.Common.{◌≡◌, ℕ, ◌+◌, ◌<◌, ◌≤◌, Bool, true, false, List, [], ◌∷◌, ◌++◌, length, Ok, refl, sym, ap, subst, ◌∙◌, arith}
+use Rattle.std.specs.Prelude.{◌==◌, ◌&&◌, ◌||◌, not, bytes_eq, codes, take, slice_index_or, ℤ, negsuc}
 use Rattle.std.specs.List.{prefix_len, list_all, list_any}
 use Rattle.std.specs.Fmt.{decimal}
 use Rattle.std.proofs.lemmas.Bool.{and_parts, or_parts, false≢true, false_from_ne_true, lt-leb, le-ltb, ne_eqb}
@@ -27,7 +27,7 @@ use Rattle.acc_script.specs.declared.clause.Clauses.{Clauses}
 use Rattle.acc_script.specs.declared.directive.TheConstants.{MAX_CONSTRUCTS}
 use Rattle.acc_script.specs.declared.range.TheConstants.{MAX_INDEX}
 use Rattle.acc_token.specs.Tokens.{Spot, Lexeme, front, is_letter, is_digit, is_reserved, gap_at, token_len, token_at, exactly, expect, number_of}
-use Rattle.acc_script.specs.Arrays.{Declared, size_of, value_of}
+use Rattle.acc_script.specs.Arrays.{Declared, size_of}
 use Rattle.acc_script.specs.Ranges.{range_of}
 use Rattle.acc_script.specs.Clauses.{is_plain, waits_for_nothing, needs_item, may_have_async, may_wait, allows}
 use Rattle.acc_script.specs.Directives.{head_of, placed, placed_with, act_behind, directive_at}
@@ -38,11 +38,13 @@ use Rattle.test_grammar.specs.RangeSpellings.{AreNames}
 use Rattle.test_grammar.specs.ExpressionSpellings.{AreApart}
 use Rattle.acc_script.specs.Expressions.{Names}
 use Rattle.test_grammar.specs.LoopSpellings.{spelled_loop, IsSayableLoop}
-use Rattle.test_grammar.specs.ActSpellings.{signed, more_queues, spelled_queues, IsQueue, IsValue, spelled_waits, spelled_target, spelled_items, spelled_clauses, spelled_line, clauses_of, spelled_kind, written_of, spelled, feeds_of, feeds_of_kind, IsSayableRange, AreSayable, IsSayableTarget, IsSayableWritten, IsSayable, ActIsReadAgain, StatementIsReadAgain}
+use Rattle.test_grammar.specs.ActSpellings.{more_queues, spelled_queues, spelled_waits, spelled_target, spelled_items, spelled_clauses, spelled_line, clauses_of, spelled_kind, written_of, spelled, feeds_of, feeds_of_kind, IsSayableRange, AreSayable, IsSayableTarget, IsSayableWritten, IsSayable, ActIsReadAgain, StatementIsReadAgain}
 use Rattle.test_grammar.proofs.RangeSpelling.{array_named, range_is_read_again}
 use Rattle.test_grammar.proofs.LoopSpelling.{loop_is_read_again}
-use Rattle.acc_token.proofs.TokenSpelling.{IsNumber, is_number, digit_bounds, not_second, number_token, word_token, opening_bracket}
-use Rattle.test_grammar.proofs.ClauseSpelling.{at_line, lex, opens, closes, minus, closes_cell, behind_space, queue_here, waits_all, waits_listed, apart_line, apart_target, brackets, range_text, range_behind_here, can_flag, or_true, CanHave, clauses_here, async_here}
+use Rattle.acc_token.proofs.TokenSpelling.{IsNumber, is_number, not_second, number_token, word_token, opening_bracket}
+use Rattle.test_grammar.proofs.ClauseSpelling.{at_line, lex, opens, closes, closes_cell, behind_space, queue_here, waits_all, waits_listed, apart_line, apart_target, brackets, range_text, range_behind_here, can_flag, or_true, CanHave, clauses_here, async_here}
+use Rattle.test_grammar.specs.ValueSpellings.{IsLong, IsSigned, value_text}
+use Rattle.test_grammar.proofs.ValueSpelling.{value_here}
 
 -- an act, with its first token
 pub record IsReadHere (arrays : Declared) (depth line : ℕ) (text : List ℕ) (act : Act) (after : Spot) : Type 0 where
@@ -347,11 +349,11 @@ range_given arrays r line rest names said =
       closes false line rest,
     ) refl
 
-queue_given : (value : ℤ) (line : ℕ) (rest : List ℕ) → IsQueue value → queue_argument (at_line line (40 ∷ (signed value ++ 41 ∷ rest))) ≡ Ok (value, at_line line rest)
+queue_given : (value : ℤ) (line : ℕ) (rest : List ℕ) → IsSigned value → queue_argument (at_line line (40 ∷ (value_text value ++ 41 ∷ rest))) ≡ Ok (value, at_line line rest)
 unfolding queue_argument expect exactly
 queue_given value line rest is =
     let here = queue_here false line value (41 ∷ rest) is refl refl in
-    rw (opens false line (signed value ++ 41 ∷ rest), here.first, here.queue, closes false line rest) refl
+    rw (opens false line (value_text value ++ 41 ∷ rest), here.first, here.queue, closes false line rest) refl
 
 nothing_given : (line : ℕ) (rest : List ℕ) → no_argument (at_line line (40 ∷ 41 ∷ rest)) ≡ Ok (at_line line rest)
 unfolding no_argument expect exactly
@@ -366,11 +368,11 @@ present_asked arrays depth line i behind is names said =
     print_here arrays depth line (codes "acc_is_present(" ++ text) behind (placed kind.IsPresent (i ∷ []) Plain waits.Nothing) (lex (codes "acc_is_present") line (40 ∷ text)) (present_word line text)
     (rw (range_given arrays i.range line (41 ∷ 59 ∷ behind) names said, ← is) refl)
 
-test_asked : (arrays : Declared) (depth line : ℕ) (value : ℤ) (behind : List ℕ) → IsQueue value
-    → IsReadHere arrays depth line (codes "print(acc_async_test(" ++ (signed value ++ 41 ∷ 41 ∷ 59 ∷ behind)) (placed kind.AsyncTest [] Plain (waits.Listed (value ∷ []))) (at_line line behind)
+test_asked : (arrays : Declared) (depth line : ℕ) (value : ℤ) (behind : List ℕ) → IsSigned value
+    → IsReadHere arrays depth line (codes "print(acc_async_test(" ++ (value_text value ++ 41 ∷ 41 ∷ 59 ∷ behind)) (placed kind.AsyncTest [] Plain (waits.Listed (value ∷ []))) (at_line line behind)
 unfolding shown_of question_of
 test_asked arrays depth line value behind is =
-    let text : List ℕ = signed value ++ 41 ∷ 41 ∷ 59 ∷ behind in
+    let text : List ℕ = value_text value ++ 41 ∷ 41 ∷ 59 ∷ behind in
     print_here arrays depth line (codes "acc_async_test(" ++ text) behind (placed kind.AsyncTest [] Plain (waits.Listed (value ∷ []))) (lex (codes "acc_async_test") line (40 ∷ text)) (test_word line text)
     (rw (queue_given value line (41 ∷ 59 ∷ behind) is) refl)
 
@@ -426,11 +428,11 @@ device_set arrays depth line n behind small =
       read = rw (opens false line text, here.first, here.number, closes false line (59 ∷ behind), semicolon line behind) refl;
     }
 
-async_set : (arrays : Declared) (depth line : ℕ) (value : ℤ) (behind : List ℕ) → IsQueue value
-    → IsReadHere arrays depth line (codes "acc_set_default_async(" ++ (signed value ++ 41 ∷ 59 ∷ behind)) (SetAsync value) (at_line line behind)
+async_set : (arrays : Declared) (depth line : ℕ) (value : ℤ) (behind : List ℕ) → IsSigned value
+    → IsReadHere arrays depth line (codes "acc_set_default_async(" ++ (value_text value ++ 41 ∷ 59 ∷ behind)) (SetAsync value) (at_line line behind)
 unfolding act_of simple_of call_of other_call expect exactly
 async_set arrays depth line value behind is =
-    let text : List ℕ = signed value ++ 41 ∷ 59 ∷ behind in
+    let text : List ℕ = value_text value ++ 41 ∷ 59 ∷ behind in
     record {
       token = lex (codes "acc_set_default_async") line (40 ∷ text);
       first = set_async_word line text;
@@ -441,46 +443,15 @@ async_set arrays depth line value behind is =
 
 -- ## Writes
 
-record IsValueHere (value : ℤ) (at after : Spot) : Type 0 where
-  token : Lexeme
-  first : token_at false at ≡ Ok token
-  is : value_of token ≡ Ok (value, after)
-
-fits : (n : ℕ) → n ≤ 9223372036854775808 → n < 2 ^ 64
-fits n small = omega arith
-
-value_here : (line : ℕ) (value : ℤ) (rest : List ℕ) → IsValue value → prefix_len is_digit rest ≡ 0 → is_letter (front rest) ≡ false
-    → IsValueHere value (at_line line (signed value ++ rest)) (at_line line rest)
-unfolding value_of number_of
-value_here line (pos n) rest small ends apart = by (decimal n) (is_number n (fits n (omega arith)))
-  where
-    by : (ds : List ℕ) → IsNumber n ds → IsValueHere (pos n) (at_line line (ds ++ rest)) (at_line line rest)
-    by ds is =
-        let bounds = digit_bounds is.first is.digit in
-        record {
-          token = lex ds line rest;
-          first = number_token false line n ds rest is ends apart;
-          is = rw (is.is, ne_eqb is.first 45 (λ e. omega (arith, bounds.0)), is.digit, is.value, le-ltb 9223372036854775807 n small) refl;
-        }
-value_here line (negsuc n) rest small ends apart = by (decimal (suc n)) (is_number (suc n) (fits (suc n) small))
-  where
-    by : (ds : List ℕ) → IsNumber (suc n) ds → IsValueHere (negsuc n) (at_line line (45 ∷ (ds ++ rest))) (at_line line rest)
-    by ds is =
-        record {
-          token = lex (codes "-") line (ds ++ rest);
-          first = minus false line (ds ++ rest);
-          is = rw (number_token false line (suc n) ds rest is ends apart, is.is, is.digit, is.value, le-ltb 9223372036854775808 (suc n) small) refl;
-        }
-
 equals : (line : ℕ) (rest : List ℕ) → token_at false (at_line line (32 ∷ 61 ∷ 32 ∷ rest)) ≡ Ok (lex (codes "=") line (32 ∷ rest))
 unfolding token_at gap_at token_len
 equals line rest = refl
 
-written_behind : (array line cell : ℕ) (value : ℤ) (behind : List ℕ) → cell ≤ MAX_INDEX → IsValue value
-    → write_at array (at_line line (91 ∷ (decimal cell ++ 93 ∷ 32 ∷ 61 ∷ 32 ∷ (signed value ++ 59 ∷ behind)))) ≡ Ok (Write array cell value, at_line line (59 ∷ behind))
+written_behind : (array line cell : ℕ) (value : ℤ) (behind : List ℕ) → cell ≤ MAX_INDEX → IsLong value
+    → write_at array (at_line line (91 ∷ (decimal cell ++ 93 ∷ 32 ∷ 61 ∷ 32 ∷ (value_text value ++ 59 ∷ behind)))) ≡ Ok (Write array cell value, at_line line (59 ∷ behind))
 unfolding write_at cell_at signed_number_at expect exactly
 written_behind array line cell value behind small valued =
-    let after : List ℕ = 32 ∷ 61 ∷ 32 ∷ (signed value ++ 59 ∷ behind) in
+    let after : List ℕ = 32 ∷ 61 ∷ 32 ∷ (value_text value ++ 59 ∷ behind) in
     let number = number_here line cell (93 ∷ after) small refl refl in
     let here = value_here line value (59 ∷ behind) valued refl refl in
     rw (
@@ -488,19 +459,19 @@ written_behind array line cell value behind small valued =
       number.first,
       number.number,
       closes_cell false line after,
-      equals line (signed value ++ 59 ∷ behind),
-      behind_space false line (signed value ++ 59 ∷ behind),
-      here.first,
-      here.is,
+      equals line (value_text value ++ 59 ∷ behind),
+      behind_space false line (value_text value ++ 59 ∷ behind),
+      here.here,
+      here.reads,
     ) refl
 
-write_here : (arrays : Declared) (depth line array cell : ℕ) (value : ℤ) (behind : List ℕ) → AreNames arrays.names → array < length arrays.names → cell ≤ MAX_INDEX → IsValue value
-    → IsReadHere arrays depth line (slice_index_or arrays.names array [] ++ 91 ∷ (decimal cell ++ 93 ∷ 32 ∷ 61 ∷ 32 ∷ (signed value ++ 59 ∷ behind))) (Write array cell value) (at_line line behind)
+write_here : (arrays : Declared) (depth line array cell : ℕ) (value : ℤ) (behind : List ℕ) → AreNames arrays.names → array < length arrays.names → cell ≤ MAX_INDEX → IsLong value
+    → IsReadHere arrays depth line (slice_index_or arrays.names array [] ++ 91 ∷ (decimal cell ++ 93 ∷ 32 ∷ 61 ∷ 32 ∷ (value_text value ++ 59 ∷ behind))) (Write array cell value) (at_line line behind)
 unfolding act_of simple_of expect exactly
 write_here arrays depth line array cell value behind names within small valued =
     let name : List ℕ = slice_index_or arrays.names array [] in
     let is = names.each array [] within in
-    let text : List ℕ = 91 ∷ (decimal cell ++ 93 ∷ 32 ∷ 61 ∷ 32 ∷ (signed value ++ 59 ∷ behind)) in
+    let text : List ℕ = 91 ∷ (decimal cell ++ 93 ∷ 32 ∷ 61 ∷ 32 ∷ (value_text value ++ 59 ∷ behind)) in
     record {
       token = lex name line text;
       first = word_token false line name text is.first is.word refl;

@@ -26,10 +26,11 @@ use Rattle.acc_script.specs.Ranges.{item, range_behind, item_behind, item_turn}
 use Rattle.acc_script.specs.Queues.{queue_of, queue_behind, queues_turn, waits_at}
 use Rattle.acc_script.specs.Clauses.{allows, is_flag, may_have_async, may_wait, is_plain, waits_for_nothing, is_complete, data_clause, target_at, ranges_at, clause_of, ends_line, clause_turn, no_clauses}
 use Rattle.test_grammar.specs.RangeSpellings.{AreNames, spelled}
-use Rattle.test_grammar.specs.ActSpellings.{signed, more_queues, spelled_queues, IsQueue, word_of, spelled_items, spelled_waits, spelled_target, spelled_flag, spelled_clauses, IsSayableRange, AreSayable, IsSayableTarget}
+use Rattle.test_grammar.specs.ActSpellings.{more_queues, spelled_queues, word_of, spelled_items, spelled_waits, spelled_target, spelled_flag, spelled_clauses, IsSayableRange, AreSayable, IsSayableTarget}
 use Rattle.test_grammar.proofs.RangeSpelling.{array_named, bounds_here}
 use Rattle.acc_token.proofs.TokenSpelling.{IsNumber, is_number, digit_bounds, not_second, number_token, word_token, opening_bracket}
 use Rattle.test_grammar.proofs.ListSpelling.{one_turn, last_turn}
+use Rattle.test_grammar.specs.ValueSpellings.{IsSigned, value_text}
 
 abbrev pub at_line : ℕ → List ℕ → Spot
 at_line line bytes = record { line = line; bytes = bytes }
@@ -76,8 +77,8 @@ pub record IsQueueHere (in_directive : Bool) (value : ℤ) (at after : Spot) : T
   pub queue : queue_of in_directive token ≡ Ok (value, after)
 
 -- a queue, before a byte that ends it
-pub queue_here : (in_directive : Bool) (line : ℕ) (value : ℤ) (rest : List ℕ) → IsQueue value → prefix_len is_digit rest ≡ 0 → is_letter (front rest) ≡ false
-    → IsQueueHere in_directive value (at_line line (signed value ++ rest)) (at_line line rest)
+pub queue_here : (in_directive : Bool) (line : ℕ) (value : ℤ) (rest : List ℕ) → IsSigned value → prefix_len is_digit rest ≡ 0 → is_letter (front rest) ≡ false
+    → IsQueueHere in_directive value (at_line line (value_text value ++ rest)) (at_line line rest)
 unfolding queue_of number_of
 queue_here in_directive line (pos n) rest small ends apart = by (decimal n) (is_number n (fits n small))
   where
@@ -113,52 +114,52 @@ queue_here in_directive line (negsuc n) rest small ends apart = by (decimal (suc
         }
 
 -- a queue of a list, with a comma or the ) behind it
-queue_goes_on : (line : ℕ) (value : ℤ) (so_far : List ℤ) (rest : List ℕ) → IsQueue value → length so_far < MAX_QUEUES
-    → queues_turn so_far (at_line line (signed value ++ 44 ∷ rest)) ≡ Ok (turn true (so_far ++ value ∷ []) (at_line line rest))
+queue_goes_on : (line : ℕ) (value : ℤ) (so_far : List ℤ) (rest : List ℕ) → IsSigned value → length so_far < MAX_QUEUES
+    → queues_turn so_far (at_line line (value_text value ++ 44 ∷ rest)) ≡ Ok (turn true (so_far ++ value ∷ []) (at_line line rest))
 unfolding queues_turn queue_behind
 queue_goes_on line value so_far rest is few =
     let here = queue_here true line value (44 ∷ rest) is refl refl in
     rw (here.first, lt-leb MAX_QUEUES (length so_far) few, here.queue, comma true line rest) refl
 
-queue_ends : (line : ℕ) (value : ℤ) (so_far : List ℤ) (rest : List ℕ) → IsQueue value → length so_far < MAX_QUEUES
-    → queues_turn so_far (at_line line (signed value ++ 41 ∷ rest)) ≡ Ok (turn false (so_far ++ value ∷ []) (at_line line rest))
+queue_ends : (line : ℕ) (value : ℤ) (so_far : List ℤ) (rest : List ℕ) → IsSigned value → length so_far < MAX_QUEUES
+    → queues_turn so_far (at_line line (value_text value ++ 41 ∷ rest)) ≡ Ok (turn false (so_far ++ value ∷ []) (at_line line rest))
 unfolding queues_turn queue_behind exactly
 queue_ends line value so_far rest is few =
     let here = queue_here true line value (41 ∷ rest) is refl refl in
     rw (here.first, lt-leb MAX_QUEUES (length so_far) few, here.queue, closes true line rest) refl
 
 -- the queues of a list that are left
-queues_behind : (line : ℕ) (value : ℤ) (values so_far : List ℤ) (rest : List ℕ) → IsQueue value → All IsQueue values → length so_far + length values < MAX_QUEUES
-    → all_turns queues_turn so_far (at_line line (signed value ++ more_queues values (41 ∷ rest))) ≡ Ok (turn false (so_far ++ value ∷ values) (at_line line rest))
+queues_behind : (line : ℕ) (value : ℤ) (values so_far : List ℤ) (rest : List ℕ) → IsSigned value → All IsSigned values → length so_far + length values < MAX_QUEUES
+    → all_turns queues_turn so_far (at_line line (value_text value ++ more_queues values (41 ∷ rest))) ≡ Ok (turn false (so_far ++ value ∷ values) (at_line line rest))
 unfolding more_queues
 queues_behind line value [] so_far rest is all few =
-    last_turn queues_turn so_far (so_far ++ value ∷ []) (at_line line (signed value ++ 41 ∷ rest)) (at_line line rest) (queue_ends line value so_far rest is (omega arith))
+    last_turn queues_turn so_far (so_far ++ value ∷ []) (at_line line (value_text value ++ 41 ∷ rest)) (at_line line rest) (queue_ends line value so_far rest is (omega arith))
 queues_behind line value (next ∷ values) so_far rest is all few =
-    let behind : List ℕ = signed next ++ more_queues values (41 ∷ rest) in
-    let more = queues_behind line next values (so_far ++ value ∷ []) rest (all 0 next (omega arith)) (All-tail IsQueue next values all) (omega (arith, length-append so_far (value ∷ []))) in
-    one_turn queues_turn so_far (so_far ++ value ∷ []) (at_line line (signed value ++ 44 ∷ behind)) (at_line line behind) (turn false (so_far ++ value ∷ next ∷ values) (at_line line rest))
-    (queue_goes_on line value so_far behind is (omega arith)) (omega (arith, length-append (signed value) (44 ∷ behind)))
+    let behind : List ℕ = value_text next ++ more_queues values (41 ∷ rest) in
+    let more = queues_behind line next values (so_far ++ value ∷ []) rest (all 0 next (omega arith)) (All-tail IsSigned next values all) (omega (arith, length-append so_far (value ∷ []))) in
+    one_turn queues_turn so_far (so_far ++ value ∷ []) (at_line line (value_text value ++ 44 ∷ behind)) (at_line line behind) (turn false (so_far ++ value ∷ next ∷ values) (at_line line rest))
+    (queue_goes_on line value so_far behind is (omega arith)) (omega (arith, length-append (value_text value) (44 ∷ behind)))
     (rw append_assoc at more)
 
-queues_here : (line : ℕ) (values : List ℤ) (rest : List ℕ) → 1 ≤ length values → length values ≤ MAX_QUEUES → All IsQueue values
+queues_here : (line : ℕ) (values : List ℤ) (rest : List ℕ) → 1 ≤ length values → length values ≤ MAX_QUEUES → All IsSigned values
     → all_turns queues_turn [] (at_line line (spelled_queues values (41 ∷ rest))) ≡ Ok (turn false values (at_line line rest))
 unfolding spelled_queues
 queues_here line [] rest some few all = absurd (omega arith)
 queues_here line (value ∷ values) rest some few all =
-    queues_behind line value values [] rest (all 0 value (omega arith)) (All-tail IsQueue value values all) (omega arith)
+    queues_behind line value values [] rest (all 0 value (omega arith)) (All-tail IsSigned value values all) (omega arith)
 
 more_long : (values : List ℤ) (rest : List ℕ) → length rest ≤ length (more_queues values rest)
 unfolding more_queues
 more_long [] rest = omega arith
-more_long (value ∷ values) rest = omega (arith, length-append (signed value) (more_queues values rest), more_long values rest)
+more_long (value ∷ values) rest = omega (arith, length-append (value_text value) (more_queues values rest), more_long values rest)
 
 pub queues_long : (values : List ℤ) (rest : List ℕ) → length rest ≤ length (spelled_queues values rest)
 unfolding spelled_queues
 queues_long [] rest = omega arith
-queues_long (value ∷ values) rest = omega (arith, length-append (signed value) (more_queues values rest), more_long values rest)
+queues_long (value ∷ values) rest = omega (arith, length-append (value_text value) (more_queues values rest), more_long values rest)
 
 -- listed queues behind `wait`
-pub waits_listed : (line : ℕ) (values : List ℤ) (rest : List ℕ) → 1 ≤ length values → length values ≤ MAX_QUEUES → All IsQueue values
+pub waits_listed : (line : ℕ) (values : List ℤ) (rest : List ℕ) → 1 ≤ length values → length values ≤ MAX_QUEUES → All IsSigned values
     → waits_at (at_line line (40 ∷ spelled_queues values (41 ∷ rest))) ≡ Ok (waits.Listed values, at_line line rest)
 unfolding waits_at
 waits_listed line values rest some few all = rw (opens true line (spelled_queues values (41 ∷ rest)), queues_here line values rest some few all) refl
@@ -193,7 +194,7 @@ pub apart_target : (target : Target) (rest : List ℕ) → IsApart rest → IsAp
 unfolding token_at gap_at token_len
 apart_target Plain rest apart = apart
 apart_target Unvalued rest apart = record { text = codes "async"; after = λ line. at_line line (32 ∷ rest); token = λ line. refl; other = refl }
-apart_target (Value value) rest apart = record { text = codes "async"; after = λ line. at_line line (40 ∷ (signed value ++ 41 ∷ 32 ∷ rest)); token = λ line. refl; other = refl }
+apart_target (Value value) rest apart = record { text = codes "async"; after = λ line. at_line line (40 ∷ (value_text value ++ 41 ∷ 32 ∷ rest)); token = λ line. refl; other = refl }
 
 -- ## Ranges
 
@@ -395,11 +396,11 @@ target_alone : (line : ℕ) (rest : List ℕ) → IsApart rest → target_at (at
 unfolding target_at
 target_alone line rest apart = rw (behind_space true line rest, apart.token line, apart.other) refl
 
-target_valued : (line : ℕ) (value : ℤ) (rest : List ℕ) → IsQueue value → target_at (at_line line (40 ∷ (signed value ++ 41 ∷ rest))) ≡ Ok (Value value, at_line line rest)
+target_valued : (line : ℕ) (value : ℤ) (rest : List ℕ) → IsSigned value → target_at (at_line line (40 ∷ (value_text value ++ 41 ∷ rest))) ≡ Ok (Value value, at_line line rest)
 unfolding target_at expect exactly
 target_valued line value rest is =
     let here = queue_here true line value (41 ∷ rest) is refl refl in
-    rw (opens true line (signed value ++ 41 ∷ rest), here.first, here.queue, closes true line rest) refl
+    rw (opens true line (value_text value ++ 41 ∷ rest), here.first, here.queue, closes true line rest) refl
 
 module _ (arrays : Declared) (h : Head) (items : List DataItem) (flagged : Bool) (line : ℕ) (total : Turn Clauses) where
   -- what is read from these clauses on
@@ -439,12 +440,12 @@ module _ (arrays : Declared) (h : Head) (items : List DataItem) (flagged : Bool)
   target_behind (Value value) w rest may said apart read =
       let c : Clauses = clauses items Plain w flagged in
       let more : Clauses = clauses items (Value value) w flagged in
-      let queue : List ℕ = signed value ++ 41 ∷ 32 ∷ rest in
+      let queue : List ℕ = value_text value ++ 41 ∷ 32 ∷ rest in
       let text : List ℕ = 32 ∷ (codes "async" ++ 40 ∷ queue) in
       one_turn (clause_turn arrays h) c more (at_line line text) (at_line line (32 ∷ rest)) total
       (turn_of_clause arrays h c more (at_line line text) (at_line line (32 ∷ rest)) (lex (codes "async") line (40 ∷ queue)) (async_value_token line queue) refl refl
       (async_clause arrays h c line (Value value) (at_line line (40 ∷ queue)) (at_line line (32 ∷ rest)) may refl (target_valued line value (32 ∷ rest) said)))
-      (omega (arith, length-append (signed value) (41 ∷ 32 ∷ rest))) read
+      (omega (arith, length-append (value_text value) (41 ∷ 32 ∷ rest))) read
 
 -- the directives that can have a flag
 abbrev pub can_flag : Head → Bool

@@ -13,11 +13,12 @@ use Rattle.acc_script.specs.declared.expression.Level.{Level}
 use Rattle.acc_script.specs.declared.expression.Level.TheVariants.{Product, Sum, Comparison, Equality}
 use Rattle.acc_token.specs.declared.word.TheConstants.{MAX_NAME}
 use Rattle.acc_script.specs.Expressions.{Names, Reader, Deeper, index_at, number_at, offset_at, read_behind, leaf_of, group_of, primary_of, negated_of, unary_at, operator_of, chain_turn, chain_at, product_at, sum_at, compare_at, equal_at, choice_of, expr_at, deeper, expression_at}
-use Rattle.test_grammar.specs.ExpressionSpellings.{sign_of, array_name, literal, distance, spelled, IsLiteral, IsDistance, IsSayable, AreApart, ExpressionIsReadAgain}
+use Rattle.test_grammar.specs.ExpressionSpellings.{sign_of, array_name, literal, distance, spelled, IsLiteral, IsSayable, AreApart, ExpressionIsReadAgain}
 use Rattle.test_grammar.specs.RangeSpellings.{IsName}
 use Rattle.acc_token.specs.Tokens.{Spot, Lexeme, front, is_letter, is_digit, is_word_byte, gap_at, token_len, token_at, exactly, expect, number_of, name_of}
 use Rattle.test_grammar.proofs.RangeSpelling.{array_named}
 use Rattle.acc_token.proofs.TokenSpelling.{IsNumber, is_number, not_second, number_token, word_token, opening_bracket}
+use Rattle.test_grammar.specs.ValueSpellings.{IsSigned}
 
 abbrev pub at_line : ℕ → List ℕ → Spot
 at_line line bytes = record { line = line; bytes = bytes }
@@ -300,7 +301,7 @@ number_behind line n behind small = by (decimal n) (is_number n (fits n small))
           le-ltb 9223372036854775807 n small,
         ) refl
 
-offset_here : (line : ℕ) (offset : ℤ) (behind : List ℕ) → IsDistance offset
+offset_here : (line : ℕ) (offset : ℤ) (behind : List ℕ) → IsSigned offset
     → offset_at (at_line line (distance offset ++ 93 ∷ behind)) ≡ Ok (offset, at_line line (93 ∷ behind))
 unfolding offset_at
 offset_here line (pos n) behind small =
@@ -314,7 +315,7 @@ unfolding index_at exactly
 index_read index line behind is ends =
     rw (word_token false line index behind is.first is.word ends, name_is index line (at_line line behind) is, same_bytes index) refl
 
-cell_here : (names : Names) (below : Option Deeper) (line array : ℕ) (offset : ℤ) (behind : List ℕ) → AreApart names → array < length names.arrays.names → IsDistance offset
+cell_here : (names : Names) (below : Option Deeper) (line array : ℕ) (offset : ℤ) (behind : List ℕ) → AreApart names → array < length names.arrays.names → IsSigned offset
     → unary_at names below (at_line line (array_name names array ++ 91 ∷ (names.index ++ (distance offset ++ 93 ∷ behind)))) ≡ Ok (Read array offset, at_line line behind)
 unfolding unary_at primary_of leaf_of read_behind expect exactly
 cell_here names below line array offset behind are within small =

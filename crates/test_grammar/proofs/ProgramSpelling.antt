@@ -18,7 +18,7 @@ use Rattle.acc_script.specs.declared.head.Head.TheVariants as head
 use Rattle.acc_script.specs.declared.clause.Clauses.{Clauses}
 use Rattle.acc_token.specs.declared.token.Gap.TheVariants as gap
 use Rattle.acc_token.specs.declared.token.Step.TheVariants.{Stop}
-use Rattle.test_grammar.specs.ActSpellings.{signed, word_of, spelled_items, spelled_waits, spelled_target, spelled_flag, spelled_clauses, words_of, spelled_line, spelled_test, spelled_asked, clauses_of, spelled_kind, written_of, spelled, IsSayableKind, IsSayable}
+use Rattle.test_grammar.specs.ActSpellings.{word_of, spelled_items, spelled_waits, spelled_target, spelled_flag, spelled_clauses, words_of, spelled_line, spelled_test, spelled_asked, clauses_of, spelled_kind, written_of, spelled, IsSayableKind, IsSayable}
 use Rattle.test_grammar.specs.ExpressionSpellings.{AreApart}
 use Rattle.acc_script.specs.Expressions.{Names, names}
 use Rattle.test_grammar.specs.LoopSpellings.{spelled_loop}
@@ -30,6 +30,7 @@ use Rattle.test_grammar.proofs.ClauseSpelling.{queues_long}
 use Rattle.test_grammar.proofs.LoopSpelling.{joined_long, loop_long}
 use Rattle.test_grammar.proofs.ScriptSpelling.{IsReadAgain, sayable_script_is_read_again}
 use Rattle.acc_token.proofs.TokenSpelling.{stops_here, letter_large}
+use Rattle.test_grammar.specs.ValueSpellings.{value_text}
 
 -- ## An act begins at once
 
@@ -54,7 +55,7 @@ unfolding spelled
 act_starts n (Place d) behind apart said = kind_starts n d.kind (written_of d) behind said.written.kinds
 act_starts n (Write array cell value) behind apart said =
     let is = apart.arrays.each array [] said.0 in
-    name_starts (slice_index_or n.arrays.names array []) (91 ∷ (decimal cell ++ 93 ∷ 32 ∷ 61 ∷ 32 ∷ (signed value ++ 59 ∷ behind))) is.first
+    name_starts (slice_index_or n.arrays.names array []) (91 ∷ (decimal cell ++ 93 ∷ 32 ∷ 61 ∷ 32 ∷ (value_text value ++ 59 ∷ behind))) is.first
 act_starts n (Print r) behind apart said = refl
 act_starts n (SetDevice device) behind apart said = refl
 act_starts n (SetAsync value) behind apart said = refl
@@ -80,7 +81,7 @@ waits_long (waits.Listed values) behind = let long = queues_long values (41 ∷ 
 target_long : (target : Target) (behind : List ℕ) → length behind ≤ length (spelled_target target behind)
 target_long Plain behind = omega arith
 target_long Unvalued behind = omega arith
-target_long (Value value) behind = let long = joined_long (signed value) (41 ∷ 32 ∷ behind) (length behind) (omega arith) in omega arith
+target_long (Value value) behind = let long = joined_long (value_text value) (41 ∷ 32 ∷ behind) (length behind) (omega arith) in omega arith
 
 flag_long : (h : Head) (flagged : Bool) (behind : List ℕ) → length behind ≤ length (spelled_flag h flagged behind)
 flag_long head.ExitData true behind = omega arith
@@ -127,14 +128,14 @@ act_long : (n : Names) (act : Act) (behind : List ℕ) → IsSayable n act → l
 unfolding spelled
 act_long n (Place d) behind said = kind_long n d.kind (written_of d) behind said.written.kinds
 act_long n (Write array cell value) behind said =
-    let value_long = joined_long (signed value) (59 ∷ behind) (length behind) (omega arith) in
-    let on : List ℕ = 93 ∷ 32 ∷ 61 ∷ 32 ∷ (signed value ++ 59 ∷ behind) in
+    let value_long = joined_long (value_text value) (59 ∷ behind) (length behind) (omega arith) in
+    let on : List ℕ = 93 ∷ 32 ∷ 61 ∷ 32 ∷ (value_text value ++ 59 ∷ behind) in
     let cell_long = joined_long (decimal cell) on (length behind) (omega arith) in
     let name_long = joined_long (slice_index_or n.arrays.names array []) (91 ∷ (decimal cell ++ on)) (length behind + 1) (omega arith) in
     omega arith
 act_long n (Print r) behind said = let long = joined_long (range.spelled n.arrays.names r) (41 ∷ 59 ∷ behind) (length behind) (omega arith) in omega arith
 act_long n (SetDevice device) behind said = let long = joined_long (decimal device) (41 ∷ 59 ∷ behind) (length behind) (omega arith) in omega arith
-act_long n (SetAsync value) behind said = let long = joined_long (signed value) (41 ∷ 59 ∷ behind) (length behind) (omega arith) in omega arith
+act_long n (SetAsync value) behind said = let long = joined_long (value_text value) (41 ∷ 59 ∷ behind) (length behind) (omega arith) in omega arith
 act_long n ShowDevice behind said = omega arith
 act_long n ShowDevices behind said = omega arith
 

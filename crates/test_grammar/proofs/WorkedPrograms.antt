@@ -13,9 +13,9 @@ use Rattle.acc_token.specs.declared.text.TheConstants.{MAX_TEXT}
 use Rattle.acc_token.specs.Tokens.{is_word_byte}
 use Rattle.acc_script.specs.Expressions.{Names, names}
 use Rattle.test_grammar.specs.RangeSpellings.{IsName, AreNames}
-use Rattle.test_grammar.specs.ValueSpellings.{IsLong}
+use Rattle.test_grammar.specs.ValueSpellings.{IsLong, IsSigned}
 use Rattle.test_grammar.specs.worked.Scripts.{of_clause}
-use Rattle.test_grammar.specs.ActSpellings.{more_queues, spelled_queues, spelled_items, spelled_clauses, spelled_line, spelled as act_spelled, IsQueue, IsSayableRange}
+use Rattle.test_grammar.specs.ActSpellings.{more_queues, spelled_queues, spelled_items, spelled_clauses, spelled_line, spelled as act_spelled, IsSayableRange}
 use Rattle.test_grammar.specs.ArraySpellings.{more_values, values_text, spelled_array, spelled_arrays}
 use Rattle.test_grammar.specs.ExpressionSpellings.{AreApart, spelled as expression_spelled}
 use Rattle.test_grammar.specs.LoopSpellings.{IsSayableAssign, spelled_assign, spelled_assigns, spelled_loop}
@@ -66,8 +66,8 @@ one_item clause =
     All-cons (λ (i : DataItem). IsSayableRange (codes "a" ∷ []) i.range) (of_clause clause both) [] range_said
     (All-nil (λ (i : DataItem). IsSayableRange (codes "a" ∷ []) i.range))
 
-one_queue : All IsQueue (pos 1 ∷ [])
-one_queue = All-cons IsQueue (pos 1) [] (omega arith) (All-nil IsQueue)
+one_queue : All IsSigned (pos 1 ∷ [])
+one_queue = All-cons IsSigned (pos 1) [] (omega arith) (All-nil IsSigned)
 
 assigns_said : All (λ (a : Assign). IsSayableAssign by_name a) tripled.statements
 assigns_said =

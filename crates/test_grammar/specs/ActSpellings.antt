@@ -1,5 +1,5 @@
 -- How what a statement does is spelled in a script, and that it is read so.
-use Rattle.std.specs.Prelude.{◌≡◌, ◌≤◌, ◌<◌, ℕ, ◌+◌, suc, Bool, true, false, List, [], ◌∷◌, ◌++◌, All, length, slice_index_or, Ok, ℤ, pos, negsuc, codes}
+use Rattle.std.specs.Prelude.{◌≡◌, ◌≤◌, ◌<◌, ℕ, ◌+◌, Bool, true, false, List, [], ◌∷◌, ◌++◌, All, length, slice_index_or, Ok, ℤ, negsuc, codes}
 use Rattle.std.specs.Fmt.{decimal}
 use Rattle.acc_base.specs.declared.range.Range.{Range}
 use Rattle.acc_place.specs.Clauses.{is_well_formed}
@@ -30,30 +30,18 @@ use Rattle.test_grammar.specs.LoopSpellings.{spelled_loop, IsSayableLoop}
 use Rattle.test_grammar.specs.RangeSpellings as range
 use Rattle.acc_token.specs.Turns.{turn}
 use Rattle.acc_script.specs.Statements.{Body, act_of, depth_behind, with_statement, statement_turn}
+use Rattle.test_grammar.specs.ValueSpellings.{IsLong, IsSigned, value_text}
 
 -- ## Values and queues
-
--- a number with its sign
-abbrev pub signed : ℤ → List ℕ
-signed (pos n) = decimal n
-signed (negsuc n) = codes "-" ++ decimal (suc n)
 
 -- queues behind the first of a list
 unfoldable pub more_queues : List ℤ → List ℕ → List ℕ
 more_queues [] behind = behind
-more_queues (value ∷ values) behind = codes "," ++ (signed value ++ more_queues values behind)
+more_queues (value ∷ values) behind = codes "," ++ (value_text value ++ more_queues values behind)
 
 unfoldable pub spelled_queues : List ℤ → List ℕ → List ℕ
 spelled_queues [] behind = behind
-spelled_queues (value ∷ values) behind = signed value ++ more_queues values behind
-
-abbrev pub IsQueue : ℤ → Type 0
-IsQueue (pos n) = n ≤ 9223372036854775807
-IsQueue (negsuc n) = suc n ≤ 9223372036854775807
-
-abbrev pub IsValue : ℤ → Type 0
-IsValue (pos n) = n ≤ 9223372036854775807
-IsValue (negsuc n) = suc n ≤ 9223372036854775808
+spelled_queues (value ∷ values) behind = value_text value ++ more_queues values behind
 
 -- ## Clauses, each with a space behind it
 
@@ -82,7 +70,7 @@ spelled_waits (waits.Listed values) behind = codes "wait(" ++ spelled_queues val
 abbrev pub spelled_target : Target → List ℕ → List ℕ
 spelled_target Plain behind = behind
 spelled_target Unvalued behind = codes "async " ++ behind
-spelled_target (Value value) behind = codes "async(" ++ (signed value ++ (codes ") " ++ behind))
+spelled_target (Value value) behind = codes "async(" ++ (value_text value ++ (codes ") " ++ behind))
 
 abbrev pub spelled_flag : Head → Bool → List ℕ → List ℕ
 spelled_flag head.ExitData true behind = codes "finalize " ++ behind
@@ -141,10 +129,10 @@ written_of d = record { kind = d.kind; items = d.items; target = d.target; waits
 unfoldable pub spelled : Names → Act → List ℕ → List ℕ
 spelled n (Place d) behind = spelled_kind n d.kind (written_of d) behind
 spelled n (Write array cell value) behind =
-    slice_index_or n.arrays.names array [] ++ (codes "[" ++ (decimal cell ++ (codes "] = " ++ (signed value ++ (codes ";" ++ behind)))))
+    slice_index_or n.arrays.names array [] ++ (codes "[" ++ (decimal cell ++ (codes "] = " ++ (value_text value ++ (codes ";" ++ behind)))))
 spelled n (Print r) behind = codes "print(" ++ (range.spelled n.arrays.names r ++ (codes ");" ++ behind))
 spelled n (SetDevice device) behind = codes "acc_set_device_num(" ++ (decimal device ++ (codes ");" ++ behind))
-spelled n (SetAsync value) behind = codes "acc_set_default_async(" ++ (signed value ++ (codes ");" ++ behind))
+spelled n (SetAsync value) behind = codes "acc_set_default_async(" ++ (value_text value ++ (codes ");" ++ behind))
 spelled n ShowDevice behind = codes "print(acc_get_device_num());" ++ behind
 spelled n ShowDevices behind = codes "print(acc_get_num_devices());" ++ behind
 
@@ -169,12 +157,12 @@ pub record IsSayableRange (names : List (List ℕ)) (r : Range) : Type 0 where
 abbrev pub AreSayable : Waits → Type 0
 AreSayable waits.Nothing = Unit {0}
 AreSayable waits.All = Unit {0}
-AreSayable (waits.Listed values) = (1 ≤ length values) × (length values ≤ MAX_QUEUES) × All IsQueue values
+AreSayable (waits.Listed values) = (1 ≤ length values) × (length values ≤ MAX_QUEUES) × All IsSigned values
 
 abbrev pub IsSayableTarget : Target → Type 0
 IsSayableTarget Plain = Unit {0}
 IsSayableTarget Unvalued = Unit {0}
-IsSayableTarget (Value value) = IsQueue value
+IsSayableTarget (Value value) = IsSigned value
 
 abbrev pub AsksOne : Waits → Type 0
 AsksOne (waits.Listed values) = length values ≡ 1
@@ -203,10 +191,10 @@ pub record IsSayableDirective (n : Names) (d : Directive) : Type 0 where
 
 abbrev pub IsSayable : Names → Act → Type 0
 IsSayable n (Place d) = IsSayableDirective n d
-IsSayable n (Write array cell value) = (array < length n.arrays.names) × (cell ≤ MAX_INDEX) × IsValue value
+IsSayable n (Write array cell value) = (array < length n.arrays.names) × (cell ≤ MAX_INDEX) × IsLong value
 IsSayable n (Print r) = IsSayableRange n.arrays.names r
 IsSayable n (SetDevice device) = device ≤ MAX_INDEX
-IsSayable n (SetAsync value) = IsQueue value
+IsSayable n (SetAsync value) = IsSigned value
 IsSayable n ShowDevice = Unit {0}
 IsSayable n ShowDevices = Unit {0}
 

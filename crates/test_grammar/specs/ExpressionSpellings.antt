@@ -7,6 +7,7 @@ use Rattle.acc_kernel.specs.declared.operator.Operator.TheVariants.{Plus, Minus,
 use Rattle.acc_kernel.specs.Trees.{Tree, Number, Index, Read, Negate, Binary, Choose, depth_of}
 use Rattle.acc_script.specs.Expressions.{Names, expression_at}
 use Rattle.test_grammar.specs.RangeSpellings.{IsName, AreNames}
+use Rattle.test_grammar.specs.ValueSpellings.{IsSigned}
 
 abbrev pub sign_of : Operator → List ℕ
 sign_of Plus = codes "+"
@@ -48,15 +49,11 @@ abbrev pub IsLiteral : ℤ → Type 0
 IsLiteral (pos n) = n ≤ 9223372036854775807
 IsLiteral (negsuc n) = ⊥
 
-abbrev pub IsDistance : ℤ → Type 0
-IsDistance (pos n) = n ≤ 9223372036854775807
-IsDistance (negsuc n) = suc n ≤ 9223372036854775807
-
 -- what can be spelled
 abbrev pub IsSayable : Names → Tree → Type 0
 IsSayable names (Number value) = IsLiteral value
 IsSayable names Index = Unit {0}
-IsSayable names (Read array offset) = (array < length names.arrays.names) × IsDistance offset
+IsSayable names (Read array offset) = (array < length names.arrays.names) × IsSigned offset
 IsSayable names (Negate part) = IsSayable names part
 IsSayable names (Binary operator left right) = IsSayable names left × IsSayable names right
 IsSayable names (Choose test first second) = IsSayable names test × IsSayable names first × IsSayable names second

@@ -10,3 +10,8 @@ value_text (negsuc n) = codes "-" ++ decimal (suc n)
 abbrev pub IsLong : ℤ → Type 0
 IsLong (pos n) = n ≤ 9223372036854775807
 IsLong (negsuc n) = suc n ≤ 9223372036854775808
+
+-- what a sign says with a number that a cell can hold
+abbrev pub IsSigned : ℤ → Type 0
+IsSigned (pos n) = n ≤ 9223372036854775807
+IsSigned (negsuc n) = suc n ≤ 9223372036854775807
