@@ -1,14 +1,12 @@
 -- The labels that a batch adds.
-use Rattle.std.proofs.Common.{◌≡◌, ℕ, ◌<◌, List, [], ◌∷◌, ◌++◌, length, refl, sym, ap, ◌∙◌, arith}
+use Rattle.std.proofs.Common.{◌≡◌, ℕ, ◌<◌, List, [], ◌∷◌, ◌++◌, length, refl, sym, arith}
 use Rattle.std.specs.Prelude.{All}
 use Rattle.std.proofs.lemmas.List.{append-nil}
 use Rattle.std.proofs.lemmas.List.Elements.{All-nil, All-cons}
 use Rattle.acc_base.specs.declared.ids.QueueAt.{QueueAt}
-use Rattle.acc_batch.proofs.Labels.{ops_of-append}
 use Rattle.acc_batch.specs.declared.label.OpLabel.{OpLabel}
 use Rattle.acc_batch.specs.declared.label.Label.{Label}
 use Rattle.acc_place.specs.Batches.{labels_with, next_number}
-use Rattle.acc_batch.specs.Labels.{ops_of}
 
 -- the labels that a batch adds: one, or none where it is empty
 abbrev pub added : QueueAt → ℕ → ℕ → ℕ → List OpLabel → List Label
@@ -27,16 +25,3 @@ pub labelled_is : (at : QueueAt) (host items_done : ℕ) (labels : List Label) (
     → labels_with at host items_done labels ops ≡ labels ++ added at (next_number at labels) host items_done ops
 labelled_is at host items_done labels [] = sym (append-nil labels)
 labelled_is at host items_done labels (op ∷ ops) = refl
-
--- the labels that a batch adds hold its operations
-ops_of-added : (at : QueueAt) (number host items_done : ℕ) (ops : List OpLabel) → ops_of (added at number host items_done ops) ≡ ops
-ops_of-added at number host items_done [] = refl
-ops_of-added at number host items_done (op ∷ ops) = append-nil (op ∷ ops)
-
--- a batch's operations are placed behind all others
-pub ops_of-labelled : (at : QueueAt) (host items_done : ℕ) (labels : List Label) (ops : List OpLabel)
-    → ops_of (labels_with at host items_done labels ops) ≡ ops_of labels ++ ops
-ops_of-labelled at host items_done labels ops =
-    ap ops_of (labelled_is at host items_done labels ops)
-    ∙ (ops_of-append labels (added at (next_number at labels) host items_done ops)
-    ∙ ap (λ r. ops_of labels ++ r) (ops_of-added at (next_number at labels) host items_done ops))

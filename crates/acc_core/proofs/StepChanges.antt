@@ -28,7 +28,6 @@ use Rattle.acc_core.specs.inner.Closing.{closed_state}
 use Rattle.acc_core.specs.Machine.{State, Outcome, Step, standing_of, labels_of, is_there, batches_held, ops_left, with_item, with_op, unless, place_fault, fault_of_place, with_directive, placed_state, told_of, can_tell, can_perform, item_state, waited_state, host_outcome, host_step, named_step, take_step, perform_step, queue_step, step}
 use Rattle.acc_place.specs.Standings.{walk_of}
 use Rattle.acc_core.proofs.CloseStep.{close_is}
-use Rattle.acc_core.proofs.ClosedState.{close_config}
 
 -- P holds of a state, and of each state that one change may make of it.
 pub record Changes (P : State → Type 0) (w : State) : Type 0 where
@@ -134,18 +133,3 @@ by_step P no_memory w event.Close c = subst (λ (o : Outcome). P o.state) (sym (
 -- So it does for each answer that the machine may give.
 pub Step-by : (P : State → Type 0) (old new : State) (e : Event) (r : Reply) → Changes P old → Step old e r new → P new
 Step-by P old new e r c s = let after = by_step P s.0 old e c in rw s.1 at after
-
--- No step changes the configuration.
-pub step_config : (old new : State) (e : Event) (r : Reply) → Step old e r new → new.config ≡ old.config
-step_config old new e r s =
-    Step-by (λ w. w.config ≡ old.config) old new e r
-    (record {
-      stays = refl;
-      hosts = λ hosts. refl;
-      item = λ hosts h what truth. refl;
-      accepted = λ hosts h d e. refl;
-      taken = λ taken. refl;
-      performed = λ at op ops e allowed. refl;
-      closed = close_config old;
-    })
-    s
