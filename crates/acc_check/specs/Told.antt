@@ -1,14 +1,18 @@
 -- The lines that tell a finding.
-use Rattle.std.specs.Prelude.{ℕ, ◌+◌, ◌-◌, ◌/◌, ◌%◌, Bool, true, false, ◌&&◌, ◌||◌, not, ◌==◌, nat_lt, List, [], ◌∷◌, ◌++◌, length, map, take, drop, Option, Some, None, codes, decimal, if◌then◌else◌}
+use Rattle.std.specs.Prelude.{ℕ, ◌+◌, ◌-◌, ◌/◌, ◌%◌, Bool, ◌&&◌, ◌||◌, not, ◌==◌, nat_lt, List, [], ◌∷◌, ◌++◌, length, map, take, drop, Option, Some, None, codes, decimal, if◌then◌else◌}
 use Rattle.std.specs.Borrow.{Bor}
 use Rattle.std.specs.List.{flat_map, prefix_len}
 use Rattle.acc_schedule.specs.Schedules.{is_space}
+use Rattle.acc_token.specs.Texts.{line_feeds}
 use Rattle.acc_token.specs.Tokens.{front}
+use Rattle.acc_token.specs.declared.text.TheConstants.{MAX_TEXT}
 use Rattle.acc_token.specs.declared.read_fault.ReadKind.{ReadKind}
 use Rattle.acc_token.specs.declared.read_fault.ReadKind.TheVariants.{Text, End, Name, Limit, Form}
 use Rattle.acc_check.specs.declared.finding.Finding.{Finding}
 use Rattle.acc_check.specs.declared.finding.Lack.{Lack}
 use Rattle.acc_check.specs.declared.finding.Lack.TheVariants as lack
+use Rattle.acc_check.specs.declared.language.Language.{Language}
+use Rattle.acc_check.specs.declared.language.Language.TheVariants.{Script, Schedule}
 use Rattle.acc_check.specs.Findings.{begun_line}
 
 -- ## The place, and what is wrong
@@ -26,10 +30,9 @@ numbered n = codes ":" ++ decimal n
 unfoldable pub kind_mark : ReadKind → List ℕ
 kind_mark kind = codes ": " ++ (kind_text kind ++ codes ": ")
 
--- NAME:LINE:COLUMN: KIND: , where the text begins with this line of its file
-unfoldable pub place_text : List ℕ → ℕ → Finding → List ℕ
-place_text name first_line f =
-    name ++ (numbered (first_line + f.line - 1) ++ (numbered f.column ++ kind_mark f.fault.kind))
+-- NAME:LINE:COLUMN: KIND:
+unfoldable pub place_text : List ℕ → ℕ → ℕ → ReadKind → List ℕ
+place_text name line column kind = name ++ (numbered line ++ (numbered column ++ kind_mark kind))
 
 abbrev pub hex_digit : ℕ → ℕ
 hex_digit n = if nat_lt n 10 then 48 + n else 65 + (n - 10)
@@ -153,9 +156,10 @@ help_text f = help_line f.help.now
 abbrev pub rest_of_line : List ℕ → List ℕ
 rest_of_line behind = take (prefix_len (λ b. not (b == 10)) behind) behind
 
--- the place with what is wrong, and its line
+-- the place with what is wrong, and its line, where the text begins with this line of its file
 unfoldable pub fault_text : List ℕ → ℕ → Finding → List ℕ → List ℕ → List ℕ
-fault_text name first_line f begun rest = place_text name first_line f ++ (fault_line f ++ marked_line begun rest)
+fault_text name first_line f begun rest =
+    place_text name (first_line + f.line - 1) f.column f.fault.kind ++ (fault_line f ++ marked_line begun rest)
 
 -- what could stand there, and what helps
 unfoldable pub ways_text : Finding → Bool → List ℕ
@@ -165,3 +169,22 @@ unfoldable pub finding_text : List ℕ → ℕ → List ℕ → Finding → List
 finding_text name first_line text f =
     fault_text name first_line f (begun_line (take f.start text)) (rest_of_line (drop f.start text))
     ++ ways_text f (is_directive_line (begun_line (take f.start text)))
+
+-- ## A text that is too long
+
+abbrev pub article_of : Language → List ℕ
+article_of Script = codes "a script"
+article_of (Schedule hosts devices) = codes "a schedule"
+
+-- how many bytes a text of the language can have
+unfoldable pub length_help : Language → List ℕ
+length_help language = codes "help: " ++ (article_of language ++ (codes " has at most " ++ (decimal MAX_TEXT ++ codes " bytes\n")))
+
+-- the place behind the front of a text that begins with this line of its file
+unfoldable pub length_place : List ℕ → ℕ → List ℕ → List ℕ
+length_place name first_line front = place_text name (first_line + line_feeds front) (1 + length (begun_line front)) Limit
+
+-- what is told of a text that is too long, by its front, of as many bytes as it can have
+unfoldable pub length_text : Language → List ℕ → ℕ → List ℕ → List ℕ
+length_text language name first_line front =
+    length_place name first_line front ++ (codes "the text is too long\n" ++ length_help language)

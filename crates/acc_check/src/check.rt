@@ -1,14 +1,16 @@
-//! The check of a text: its finding is told.
+//! The check of a text: its finding is told, or that it is too long.
 
-ghost use Rattle.std.specs.Prelude.{◌≡◌, ◌↔◌, map, IsTrue, IsNone, IfOk};
-ghost use Rattle.acc_check.specs.Checks.{words_of, Checks, TellsFinding};
+ghost use Rattle.std.specs.Prelude.{◌≡◌, ◌↔◌, map, IsTrue, IsNone, IfOk, IfSome};
+ghost use Rattle.acc_base.specs.Faults.{OnlyMemory};
+ghost use Rattle.acc_check.specs.Checks.{words_of, Checks, Tells};
 ghost use Rattle.acc_check.specs.Languages.{text_fault};
 
 use crate::finding::finding_of;
 use crate::language::Language;
-use crate::told::told_text;
+use crate::told::{length_text, told_text};
 use crate::words::{SCHEDULE_WORDS, WORDS};
 use acc_base::Fault;
+use acc_token::MAX_TEXT;
 use std::alloc::Global;
 use std::io::Write;
 use thiserror::Error;
@@ -48,6 +50,30 @@ fn words_of(language: Language) -> &'static [&'static [u8]]
     }
 }
 
+// The lines that tell what is wrong with a text of a language, which begins with the line of this number, if anything is.
+fn told_of(
+    alloc: Global,
+    language: Language,
+    name: &str,
+    first_line: usize,
+    text: &[u8],
+) -> Result<Option<Vec<u8>>, Fault>
+    ensures whole { IfOk result (λ told. IsNone told ↔ IsNone (text_fault language text.now)) }
+    ensures told { IfOk result (λ told.
+        IfSome told (λ lines. Tells language name.now first_line text.now lines.items)) }
+    ensures fault { OnlyMemory result }
+{
+    if text.len() > MAX_TEXT {
+        let told = length_text(alloc, language, name, first_line, text)?;
+        return Ok(Some(told));
+    }
+    let Some(finding) = finding_of(alloc, language, text, words_of(language))? else {
+        return Ok(None);
+    };
+    let told = told_text(alloc, name, first_line, text, &finding)?;
+    Ok(Some(told))
+}
+
 // Checks a text of a language, which begins with the line of this number.
 fn check<W: Write>(
     alloc: Global,
@@ -59,12 +85,11 @@ fn check<W: Write>(
 ) -> Result<bool, CheckFault>
     ensures whole { IfOk result (λ whole. IsTrue whole ↔ IsNone (text_fault language text.now)) }
     ensures told { Checks (W.contents output.old) (W.contents output.new) result
-        (TellsFinding language name.now first_line text.now) }
+        (Tells language name.now first_line text.now) }
 {
-    let Some(finding) = finding_of(alloc, language, text, words_of(language))? else {
+    let Some(told) = told_of(alloc, language, name, first_line, text)? else {
         return Ok(true);
     };
-    let told = told_text(alloc, name, first_line, text, &finding)?;
     match output.write_all(told.as_slice()) {
         Ok(()) => Ok(false),
         Err(_) => Err(CheckFault::Write),
@@ -72,7 +97,7 @@ fn check<W: Write>(
 }
 
 /// Whether a text is a script. If it is none, what is wrong with it is told: the place, with its line and what could stand
-/// there. `name` stands for the text's file.
+/// there; or, where it has more than `MAX_TEXT` bytes, that alone. `name` stands for the text's file.
 ///
 /// # Errors
 ///
@@ -86,7 +111,7 @@ pub fn check_script<W: Write>(
     ensures script { IfOk result (λ whole. IsTrue whole
         ↔ IsNone (text_fault Language.Script text.now)) }
     ensures told { Checks (W.contents output.old) (W.contents output.new) result
-        (TellsFinding Language.Script name.now 1 text.now) }
+        (Tells Language.Script name.now 1 text.now) }
 {
     check(alloc, Language::Script, name, 1, text, output)
 }
@@ -109,7 +134,7 @@ pub fn check_schedule<W: Write>(
     ensures schedule { IfOk result (λ whole. IsTrue whole
         ↔ IsNone (text_fault (Language.Schedule hosts devices) text.now)) }
     ensures told { Checks (W.contents output.old) (W.contents output.new) result
-        (TellsFinding (Language.Schedule hosts devices) name.now first_line text.now) }
+        (Tells (Language.Schedule hosts devices) name.now first_line text.now) }
 {
     let language = Language::Schedule { hosts, devices };
     check(alloc, language, name, first_line, text, output)

@@ -91,11 +91,12 @@ pub(crate) fn begun_line(text: &[u8]) -> &[u8]
     line
 }
 
-// The line that a text ends in, from 1.
-fn line_of(text: &[u8]) -> usize
-    ensures { result ≡ 1 + line_feeds text.now }
+/// How many line feeds a text has.
+pub(crate) fn line_feeds(text: &[u8]) -> usize
+    ensures count { result ≡ line_feeds text.now }
+    ensures within { result ≤ length text.now }
 {
-    1 + text.iter().filter(|byte| **byte == b'\n').count()
+    text.iter().filter(|byte| **byte == b'\n').count()
 }
 
 // How many bytes stand before the place.
@@ -316,7 +317,7 @@ fn finding_at<'a>(
         place,
         token,
         start,
-        line: line_of(before),
+        line: 1 + line_feeds(before),
         column: 1 + begun_line(before).len(),
         array: name_stands(alloc, language, before, first_name(names))?,
         loop_name,

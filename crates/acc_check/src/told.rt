@@ -1,15 +1,16 @@
-//! The lines that tell a finding.
+//! The lines that tell a finding, or that a text is too long.
 
-ghost use Rattle.std.specs.Prelude.{◌≡◌, ◌≤◌, ◌++◌, decimal, length, map, OnOk, IfOk};
+ghost use Rattle.std.specs.Prelude.{◌≡◌, ◌≤◌, ◌<◌, ◌++◌, decimal, length, map, take, OnOk, IfOk};
 ghost use Rattle.std.specs.List.{prefix_len, flat_map};
 ghost use Rattle.acc_base.specs.Faults.{OnlyMemory};
 ghost use Rattle.acc_schedule.specs.Schedules.{is_space};
 ghost use Rattle.acc_check.specs.Findings.{begun_line};
-ghost use Rattle.acc_check.specs.Told.{answer, answers, byte_text, complaint, finding_text, fault_line, fault_text, help_text, hex_digit, holds, is_directive_line, is_printed, kind_mark, kind_text, marked_line, most_text, names_text, near_text, numbered, other_names, others_text, place_text, quoted, remedy, room_of, shown_byte, stand_text, token_text, tokens_text, ways_text, words_text};
+ghost use Rattle.acc_check.specs.Told.{answer, answers, article_of, byte_text, complaint, finding_text, fault_line, fault_text, help_text, hex_digit, holds, is_directive_line, is_printed, kind_mark, kind_text, length_help, length_place, length_text, marked_line, most_text, names_text, near_text, numbered, other_names, others_text, place_text, quoted, remedy, room_of, shown_byte, stand_text, token_text, tokens_text, ways_text, words_text};
 
-use crate::finding::{Finding, Lack, begun_line};
+use crate::finding::{Finding, Lack, begun_line, line_feeds};
+use crate::language::Language;
 use acc_base::Fault;
-use acc_token::{ReadKind, front, line_len};
+use acc_token::{MAX_TEXT, ReadKind, front, line_len};
 use itoa::Buffer;
 use std::alloc::{AllocError, Global};
 
@@ -61,7 +62,8 @@ fn put_fault(
     ensures { OnOk result (lines.new.items ≡ lines.old.items
         ++ fault_text name.now first_line finding.now begun.now rest.now) }
 {
-    put_place(lines, name, first_line, finding)?;
+    let line = (first_line as u128 + finding.line as u128).saturating_sub(1);
+    put_place(lines, name, line, finding.column, finding.fault.kind)?;
     put_token_fault(lines, finding)?;
     put_line(lines, begun, rest)
 }
@@ -121,17 +123,17 @@ fn put_kind(lines: &mut Vec<u8>, kind: ReadKind) -> Result<(), AllocError>
 fn put_place(
     lines: &mut Vec<u8>,
     name: &[u8],
-    first_line: usize,
-    finding: &Finding,
+    line: u128,
+    column: usize,
+    kind: ReadKind,
 ) -> Result<(), AllocError>
     ensures { OnOk result (lines.new.items ≡ lines.old.items
-        ++ place_text name.now first_line finding.now) }
+        ++ place_text name.now line column kind) }
 {
-    let line = (first_line as u128 + finding.line as u128).saturating_sub(1);
     lines.extend_from_slice(name)?;
     put_numbered(lines, line)?;
-    put_numbered(lines, finding.column as u128)?;
-    put_kind(lines, finding.fault.kind)
+    put_numbered(lines, column as u128)?;
+    put_kind(lines, kind)
 }
 
 fn hex_digit(value: u8) -> u8
@@ -441,4 +443,89 @@ fn put_help(lines: &mut Vec<u8>, finding: &Finding) -> Result<(), AllocError>
     lines.extend_from_slice(b"help: ")?;
     lines.extend_from_slice(finding.help)?;
     lines.extend_from_slice(b"\n")
+}
+
+fn article_of(language: Language) -> &'static [u8]
+    ensures { result.now ≡ article_of language }
+{
+    match language {
+        Language::Script => b"a script",
+        Language::Schedule {
+            hosts: _,
+            devices: _,
+        } => b"a schedule",
+    }
+}
+
+// How many bytes a text of the language can have.
+#[tactic(auto, unfolding(crate::specs::Told::length_help))]
+fn put_length_help(lines: &mut Vec<u8>, language: Language) -> Result<(), AllocError>
+    ensures { OnOk result (lines.new.items ≡ lines.old.items ++ length_help language) }
+{
+    lines.extend_from_slice(b"help: ")?;
+    lines.extend_from_slice(article_of(language))?;
+    lines.extend_from_slice(b" has at most ")?;
+    put_number(lines, MAX_TEXT as u128)?;
+    lines.extend_from_slice(b" bytes\n")
+}
+
+// The place behind the front of a text that is too long.
+#[tactic(auto, unfolding(crate::specs::Told::length_place))]
+fn put_length_place(
+    lines: &mut Vec<u8>,
+    name: &[u8],
+    first_line: usize,
+    front: &[u8],
+) -> Result<(), AllocError>
+    ensures { OnOk result (lines.new.items ≡ lines.old.items
+        ++ length_place name.now first_line front.now) }
+{
+    let line = first_line as u128 + line_feeds(front) as u128;
+    put_place(
+        lines,
+        name,
+        line,
+        1 + begun_line(front).len(),
+        ReadKind::Limit,
+    )
+}
+
+// The place behind the front of a text that is too long, and how many bytes it can have.
+fn put_length(
+    lines: &mut Vec<u8>,
+    language: Language,
+    name: &[u8],
+    first_line: usize,
+    front: &[u8],
+) -> Result<(), AllocError>
+    ensures { OnOk result (lines.new.items ≡ lines.old.items
+        ++ length_text language name.now first_line front.now) }
+{
+    put_length_place(lines, name, first_line, front)?;
+    lines.extend_from_slice(b"the text is too long\n")?;
+    put_length_help(lines, language)
+}
+
+/// The lines that tell that a text is too long, which begins with the line of this number: the place behind as many bytes as it
+/// can have, and how many these are.
+///
+/// # Errors
+///
+/// `Memory` where memory is refused.
+pub(crate) fn length_text(
+    alloc: Global,
+    language: Language,
+    name: &str,
+    first_line: usize,
+    text: &[u8],
+) -> Result<Vec<u8>, Fault>
+    requires { MAX_TEXT < length text.now }
+    ensures text { IfOk result (λ told.
+        told.items ≡ length_text language name.now first_line (take MAX_TEXT text.now)) }
+    ensures fault { OnlyMemory result }
+{
+    let (front, _) = text.split_at(MAX_TEXT);
+    let mut lines = Vec::new(alloc);
+    put_length(&mut lines, language, name.as_bytes(), first_line, front)?;
+    Ok(lines)
 }

@@ -162,3 +162,37 @@ fn mistakes_of_schedules_are_told_in_their_line(rt: HostRuntime) -> std::result:
     }
     Ok(())
 }
+
+// A text whose third line is at fault, with blanks behind it, of so many bytes.
+fn long_text(alloc: Global, count: usize) -> std::result::Result<Vec<u8>, Fail> {
+    let mut text = Vec::from_slice(alloc, b"\n\n?\n")?;
+    text.resize(count, b' ')?;
+    Ok(text)
+}
+
+/// With as many bytes as a text can have its fault is told, and with one more that alone.
+#[test]
+fn texts_that_are_too_long_are_told_so(rt: HostRuntime) -> std::result::Result<(), Fail> {
+    let alloc = rt.alloc();
+    let most = long_text(alloc, 1_048_576)?;
+    let more = long_text(alloc, 1_048_577)?;
+    check_script_told(
+        &rt,
+        alloc,
+        most.as_slice(),
+        b"a:3:1: Form: `?` cannot stand here\n  ?\n  ^\ncould stand: `long`, `host`\n",
+    )?;
+    check_script_told(
+        &rt,
+        alloc,
+        more.as_slice(),
+        b"a:4:1048573: Limit: the text is too long\nhelp: a script has at most 1048576 bytes\n",
+    )?;
+    check_schedule_told(
+        &rt,
+        alloc,
+        more.as_slice(),
+        b"s:10:1048573: Limit: the text is too long\nhelp: a schedule has at most 1048576 bytes\n",
+    )?;
+    Ok(())
+}

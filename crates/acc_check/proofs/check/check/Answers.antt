@@ -2,6 +2,6 @@ use Rattle.acc_check.proofs.check.check.Goals as goal
 
 pub returns-in-Ok-clause-told : goal.returns-in-Ok-clause-told
 returns-in-Ok-clause-told g c =
-    let tells = rw (c.in-Some.is, c.words_of.ensures) at c.in_ok-finding.ensures.told in
+    let tells = rw c.in-Some.is at c.in_ok-told.ensures.told in
     let appends = rw c.as_slice.ensures.value at c.in-Ok.ensures.bytes in
-    (c.in_ok-told.told.items, record { finding = c.in-Some.finding; tells = tells; told = c.in_ok-told.ensures.text }, appends)
+    (c.in-Some.told.items, tells, appends)
