@@ -17,7 +17,7 @@ use crate::stand::{could_stand, stands};
 use crate::tokens::{first_piece, head_token, last_token, tokens_of};
 use crate::words::BESIDE_NAMES;
 use acc_base::Fault;
-use acc_token::{MAX_NAME, ReadFault, ReadKind, front, is, is_digit};
+use acc_token::{MAX_NAME, ReadFault, ReadKind, front, is, is_digit, line_len};
 use std::alloc::Global;
 
 /// What a token lacks, so that it could stand at its place.
@@ -232,20 +232,30 @@ fn most_of(
     Ok(None)
 }
 
+// What stands behind a token: the first piece that is no blank, or `@parts` where the token begins a line `%%`.
+fn next_of<'a>(before: &[u8], token: &[u8], behind: &'a [u8]) -> &'a [u8] {
+    let (rest, _) = behind.split_at(line_len(behind));
+    if begun_line(before).is_empty() && is(token, b"%") && is(rest, b"%") {
+        b"@parts"
+    } else {
+        first_piece(behind)
+    }
+}
+
 // What is seen around a place: the tokens before it and there, what stands behind it, and the words that could stand there.
 fn help_at(
     language: Language,
     lack: Lack,
     tokens: &[&[u8]],
     token: &[u8],
-    behind: &[u8],
+    next: &[u8],
     words: &[&[u8]],
 ) -> &'static [u8] {
     let seen = Seen {
         head: head_token(tokens),
         last: last_token(tokens),
         token,
-        next: first_piece(behind),
+        next,
         words,
     };
     help_of(language, lack == Lack::Within, &seen)
@@ -312,6 +322,7 @@ fn finding_at<'a>(
     let number = number_stands(alloc, language, before)?;
     let in_comment = stands(alloc, language, before, b"@")?;
     let asked = asked_words(alloc, words.as_slice(), loop_name, number, in_comment)?;
+    let next = next_of(before, token, behind);
     Ok(Finding {
         fault,
         place,
@@ -328,7 +339,7 @@ fn finding_at<'a>(
         lack,
         near: near_of(alloc, lack, token, names, words.as_slice())?,
         most: most_of(alloc, language, before, lack, token)?,
-        help: help_at(language, lack, tokens, token, behind, asked.as_slice()),
+        help: help_at(language, lack, tokens, token, next, asked.as_slice()),
         words,
     })
 }

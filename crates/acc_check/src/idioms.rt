@@ -2,13 +2,14 @@
 
 // A line each: the word that the line of the place begins with, or that of the directive; the token before the place, the one
 // there and the one behind; what could stand there; and what helps. `_` is any, `|` parts alternatives, `@word` and `@number`
-// are any word and number, `@line` and `@end` the end of the line and of the text, and `@loop` the loop's name. The first line
-// that fits is told.
+// are any word and number, `@line` and `@end` the end of the line and of the text, `@loop` the loop's name, and `@parts` what is
+// left behind the first `%` of a line `%%`. The first line that fits is told.
 
 /// Of bytes, of the preprocessor, outside of hosts, and of declarations.
 pub(crate) const TEXTS: &[u8] = b"\
 _ _ \\ _ _ write the directive in one line\n\
 _ _ \xEF _ _ save the text without a byte order mark\n\
+_ _ % @parts _ a line `%%` parts the two texts of one file: with two files, or for `run`, leave it out\n\
 _ _ % % _ `%%` stands alone in its line, without a blank or a carriage return\n\
 _ _ /|% _ _ there is no stand-in: leave the loop out where only counters are asked for\n\
 _ _ . _ _ write a whole number\n\
@@ -122,7 +123,7 @@ _ ,|( @word _ _ a directive has at most 64 ranges\n\
 pub(crate) const SCHEDULES: &[u8] = b"\
 _ _ #|//|/* _ _ a comment is a line that begins with `#`\n\
 _ _ \r _ _ write plain line feeds\n\
-_ _ % _ _ one line `%%` parts a script and its schedule\n\
+_ _ % _ _ one line `%%` parts a script and its schedule in one file: leave this one out\n\
 round round @line|@end _ _ write how often: `round 20`\n\
 host host _ _ _ write the host's number, from 0 in the order of the script: with one host, `host 0`\n\
 take|do take|do _ _ _ write the device's number, from 0 (without `--devices` there is one), and the queue: `take 0 sync`\n\

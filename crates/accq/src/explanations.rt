@@ -148,8 +148,8 @@ pub const HOSTS_DIFFER: &str =
 pub const TEXT: &str = "Text, in a script, with its remedy:
   `a[0] = 0.5;` `long café[2];` `a[i] / 2`: a byte at which nothing begins
       whole numbers; names of plain letters, digits, `_`
-  a `%%` with a blank or a carriage return behind it is script, and so is any in a file of its own
-      `%%` alone in its line, and plain line feeds; no `%%` between two files
+  a `%%` with a blank or a carriage return at its line's end is script, and so is any where script and schedule are two files, or for `run`
+      `%%` alone in its line, and plain line feeds; with two files, or for `run`, none
   a `\\` at a line's end
       a directive in one line
 

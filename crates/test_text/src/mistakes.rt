@@ -83,6 +83,14 @@ const SCRIPTS: &[(&[u8], &[u8])] = &[
         b"a:3:1: End: the end of the text, where more has to stand\n  \n  ^\ncould stand: `#`, `print`, `acc_copyin`, `acc_create`, `acc_copyout`, `acc_delete`, `acc_copyout_finalize`, `acc_delete_finalize`, `acc_update_device`, `acc_update_self`, `acc_wait`, `acc_wait_all`, `acc_wait_async`, `acc_set_device_num`, `acc_set_default_async`, `}`, an array's name\nhelp: close each `{` by its `}`\n",
     ),
     (
+        b"host { }\n%%\nround 5\n",
+        b"a:2:1: Text: `%` cannot stand here\n  %%\n  ^\ncould stand: `host`\nhelp: a line `%%` parts the two texts of one file: with two files, or for `run`, leave it out\n",
+    ),
+    (
+        b"host { }\n%% \nround 5\n",
+        b"a:2:1: Text: `%` cannot stand here\n  %% \n  ^\ncould stand: `host`\nhelp: `%%` stands alone in its line, without a blank or a carriage return\n",
+    ),
+    (
         b"long a[4];\n/* open\n",
         b"a:3:1: End: the end of the text, where more has to stand\n  \n  ^\ncould stand: `*/`\nhelp: close the comment by `*/`\n",
     ),
