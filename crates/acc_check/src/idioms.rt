@@ -81,6 +81,8 @@ _ [ _ _ @loop write the loop's name: a loop's cells are at its own index\n\
 _ _ @word _ @loop write its number: a loop knows its own name alone\n\
 _ @word = _ [ write the cell: `a[0] = 3`\n\
 _ _ ; _ + write the result into another array: what a loop assigns it reads at its own index alone\n\
+_ _ } _ host leave it out: each `{` has its `}`\n\
+_ ; } _ _ write the result into another array: what a loop assigns it reads at its own index alone\n\
 _ _ if|else|switch _ _ write out the branch that you ask about\n\
 _ _ return _ _ leave it out: a host ends behind its last statement\n\
 _ _ while|do|goto|break|continue _ _ write its turns out\n\

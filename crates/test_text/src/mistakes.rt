@@ -91,6 +91,14 @@ const SCRIPTS: &[(&[u8], &[u8])] = &[
         b"a:2:1: Text: `%` cannot stand here\n  %% \n  ^\ncould stand: `host`\nhelp: `%%` stands alone in its line, without a blank or a carriage return\n",
     ),
     (
+        b"long a[4];\nhost {\n#pragma acc parallel loop\nfor (i = 0; i < 3; i++) {\n    a[i] = a[i + 1];\n}\n}\n",
+        b"a:6:1: Form: `}` cannot stand here\n  }\n  ^\ncould stand: an array's name\nhelp: write the result into another array: what a loop assigns it reads at its own index alone\n",
+    ),
+    (
+        b"long a[4];\nhost { } }\n",
+        b"a:2:10: Form: `}` cannot stand here\n  host { } }\n           ^\ncould stand: `host`\nhelp: leave it out: each `{` has its `}`\n",
+    ),
+    (
         b"long a[4];\n/* open\n",
         b"a:3:1: End: the end of the text, where more has to stand\n  \n  ^\ncould stand: `*/`\nhelp: close the comment by `*/`\n",
     ),
