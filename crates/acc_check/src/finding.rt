@@ -195,10 +195,11 @@ fn lack_of(kind: ReadKind, token: &[u8], last: &[u8], names: &[&[u8]]) -> Lack {
     }
 }
 
-// What is near the token: a name where it isn't declared, a word where it can't stand.
+// What is near the token: a name where it isn't declared, a word where it can't stand and nothing else is known to help.
 fn near_of<'a>(
     alloc: Global,
     lack: Lack,
+    help: &[u8],
     token: &[u8],
     names: &[&'a [u8]],
     words: &[&'a [u8]],
@@ -207,7 +208,7 @@ fn near_of<'a>(
 {
     match lack {
         Lack::Declared => nearest(alloc, token, names),
-        Lack::Place => nearest(alloc, token, words),
+        Lack::Place if help.is_empty() => nearest(alloc, token, words),
         _ => Ok(b""),
     }
 }
@@ -323,6 +324,7 @@ fn finding_at<'a>(
     let in_comment = stands(alloc, language, before, b"@")?;
     let asked = asked_words(alloc, words.as_slice(), loop_name, number, in_comment)?;
     let next = next_of(before, token, behind);
+    let help = help_at(language, lack, tokens, token, next, asked.as_slice());
     Ok(Finding {
         fault,
         place,
@@ -337,9 +339,9 @@ fn finding_at<'a>(
         in_comment,
         line_end: stands(alloc, language, before, b"\n")?,
         lack,
-        near: near_of(alloc, lack, token, names, words.as_slice())?,
+        near: near_of(alloc, lack, help, token, names, words.as_slice())?,
         most: most_of(alloc, language, before, lack, token)?,
-        help: help_at(language, lack, tokens, token, next, asked.as_slice()),
+        help,
         words,
     })
 }

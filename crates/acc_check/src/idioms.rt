@@ -24,6 +24,7 @@ _ _ # if|ifdef|ifndef|else|endif _ write out the branch that you ask about\n\
 _ _ # pragma host directives stand in a host: `host { .. }`\n\
 _ _ omp _ _ write `acc`: OpenMP isn't known\n\
 _ _ int|void main _ write `host` for `int main(void)`\n\
+_ _ static|extern long|int|double|float|char|short|unsigned|signed|size_t|int64_t|const _ leave it out: an array is `long a[4];`\n\
 _ _ void|static|inline|extern|struct|typedef _ _ write each call out where it stands, with its arrays\n\
 _ _ int|double|float|char|short|unsigned|signed|size_t|int64_t|const _ _ write `long`, before the first `host`, and its length as a number: `long a[4];`\n\
 _ _ round|take|do _ host a schedule stands behind a line `%%`\n\

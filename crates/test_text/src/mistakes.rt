@@ -99,6 +99,15 @@ const SCRIPTS: &[(&[u8], &[u8])] = &[
         b"a:2:10: Form: `}` cannot stand here\n  host { } }\n           ^\ncould stand: `host`\nhelp: leave it out: each `{` has its `}`\n",
     ),
     (
+        b"static long a[4];\n",
+        b"a:1:1: Form: `static` cannot stand here\n  static long a[4];\n  ^\ncould stand: `long`, `host`\nhelp: leave it out: an array is `long a[4];`\n",
+    ),
+    // `host` is near, but no help
+    (
+        b"const long a[4];\n",
+        b"a:1:1: Form: `const` cannot stand here\n  const long a[4];\n  ^\ncould stand: `long`, `host`\nhelp: write `long`, before the first `host`, and its length as a number: `long a[4];`\n",
+    ),
+    (
         b"long a[4];\n/* open\n",
         b"a:3:1: End: the end of the text, where more has to stand\n  \n  ^\ncould stand: `*/`\nhelp: close the comment by `*/`\n",
     ),
