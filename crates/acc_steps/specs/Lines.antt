@@ -1,5 +1,5 @@
 -- The line that tells what an event did, in the words of the report and of the language.
-use Rattle.std.specs.Prelude.{ℕ, ◌+◌, ◌-◌, Bool, true, false, ◌&&◌, ◌||◌, not, nat_lt, ◌==◌, List, [], ◌∷◌, ◌++◌, length, replicate, take, drop, bytes_eq, slice_get, slice_index_or, Option, Some, None, ℤ, codes, decimal, if◌then◌else◌}
+use Rattle.std.specs.Prelude.{ℕ, ◌+◌, ◌-◌, Bool, true, false, ◌&&◌, ◌||◌, not, nat_lt, ◌==◌, List, [], ◌∷◌, ◌++◌, length, map, replicate, take, drop, bytes_eq, slice_get, slice_index_or, Option, Some, None, ℤ, codes, decimal, if◌then◌else◌}
 use Rattle.std.specs.Fmt.{signed_decimal}
 use Rattle.std.specs.List.{flat_map, prefix_len}
 use Rattle.acc_base.specs.Configurations.{has_range}
@@ -34,14 +34,15 @@ use Rattle.acc_host.specs.declared.state.Ids.{Ids}
 use Rattle.acc_host.specs.Hosts.{HostView}
 use Rattle.acc_core.specs.Machine.{State, labels_of, standing_of}
 use Rattle.acc_core.specs.Progress.{next_by}
-use Rattle.acc_schedule.specs.Schedules.{is_space}
 use Rattle.acc_report.specs.Lines.{each_below, queue_name}
 use Rattle.acc_report.specs.Totals.{has_plain_ops}
 use Rattle.acc_script.specs.Arrays.{texts}
-use Rattle.acc_token.specs.Tokens.{front}
+use Rattle.acc_token.specs.Tokens.{front, is_blank}
 use Rattle.acc_steps.specs.declared.line.Telling.{Telling}
 use Rattle.acc_steps.specs.declared.deed.Deed.{Deed}
 use Rattle.acc_steps.specs.declared.deed.Deed.TheVariants as deed
+use Rattle.acc_steps.specs.declared.source.Part.{Part}
+use Rattle.acc_steps.specs.declared.source.Part.TheVariants as part
 use Rattle.acc_steps.specs.Deeds.{statement_of}
 
 -- what steps are told with: the names of the arrays, the lines of the script, and whether events that did nothing are told too
@@ -274,35 +275,57 @@ deed_text names w e (deed.Closed left) = codes "closes; " ++ (decimal left ++ co
 
 -- ## The whole line
 
--- how many bytes stand before a comment that goes to the end of the line
-unfoldable pub code_len : List ℕ → ℕ
-code_len [] = 0
-code_len (b ∷ bs) = if b == 47 && front bs == 47 then 0 else code_len bs + 1
+-- what a byte, before the next one, leaves a line in: code, behind the `/` or in the rest of a comment `/* .. */`, or behind the last `*` of one
+abbrev pub part_after : Part → ℕ → ℕ → Part
+part_after part.Code b next = if b == 47 && next == 42 then part.Opened else part.Code
+part_after part.Opened b next = part.Comment
+part_after part.Comment b next = if b == 42 && next == 47 then part.Closing else part.Comment
+part_after part.Closing b next = part.Code
+
+-- a `//` in code
+abbrev pub ends_code : Part → ℕ → ℕ → Bool
+ends_code part.Code b next = b == 47 && next == 47
+ends_code part.Opened b next = false
+ends_code part.Comment b next = false
+ends_code part.Closing b next = false
+
+-- how many bytes stand before a comment that goes to the end of the line, where what stands before them leaves it in this
+unfoldable pub code_len : Part → List ℕ → ℕ
+code_len part [] = 0
+code_len part (b ∷ bs) = if ends_code part b (front bs) then 0 else code_len (part_after part b (front bs)) bs + 1
 
 -- how many bytes stand up to the last that isn't a blank
 unfoldable pub filled_len : List ℕ → ℕ
 filled_len [] = 0
-filled_len (b ∷ bs) = if is_space b && filled_len bs == 0 then 0 else filled_len bs + 1
+filled_len (b ∷ bs) = if is_blank b && filled_len bs == 0 then 0 else filled_len bs + 1
 
 -- a line without blanks at its ends and without a comment at its end
 abbrev pub unindented : List ℕ → List ℕ
-unindented line = drop (prefix_len is_space line) line
+unindented line = drop (prefix_len is_blank line) line
 
 abbrev pub filled : List ℕ → List ℕ
 filled line = take (filled_len line) line
 
 abbrev pub code_in : List ℕ → List ℕ
-code_in line = filled (take (code_len line) line)
+code_in line = filled (take (code_len part.Code line) line)
 
 -- what a directive says behind `#pragma acc`
 abbrev pub behind_pragma : List ℕ → List ℕ
 behind_pragma line = if bytes_eq (take 12 line) (codes "#pragma acc ") then drop 12 line else line
 
--- line L: the statement's line as it is written
+-- a byte as it is shown: `?` for one that isn't printed, but for a tab
+abbrev pub shown_byte : ℕ → ℕ
+shown_byte b = if nat_lt b 32 && not (b == 9) || b == 127 then 63 else b
+
+-- what is shown of a line
+abbrev pub shown_line : List ℕ → List ℕ
+shown_line line = map shown_byte (behind_pragma (code_in (unindented line)))
+
+-- line L: the statement's line
 unfoldable pub statement_text : List (List ℕ) → ℕ → List ℕ
 statement_text source line =
     if line == 0 then []
-    else codes "line " ++ (decimal line ++ (codes ": " ++ behind_pragma (code_in (unindented (slice_index_or source (line - 1) [])))))
+    else codes "line " ++ (decimal line ++ (codes ": " ++ shown_line (slice_index_or source (line - 1) [])))
 
 abbrev pub did_nothing : Deed → Bool
 did_nothing deed.Nothing = true

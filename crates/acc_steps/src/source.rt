@@ -1,17 +1,18 @@
 //! The lines of the script that are shown with its statements.
 
-ghost use Rattle.std.specs.Prelude.{◌≡◌, ◌≤◌, [], drop, length, slice_index_or};
+ghost use Rattle.std.specs.Prelude.{◌≡◌, ◌≤◌, [], length, map, slice_index_or};
 ghost use Rattle.std.specs.List.{prefix_len};
-ghost use Rattle.acc_schedule.specs.Schedules.{is_space};
 ghost use Rattle.acc_script.specs.Arrays.{texts};
 ghost use Rattle.acc_report.specs.Puts.{Puts, sink};
-ghost use Rattle.acc_steps.specs.Lines.{behind_pragma, code_in, code_len, filled_len, statement_text, unindented};
+ghost use Rattle.acc_steps.specs.Lines.{behind_pragma, code_in, code_len, ends_code, filled_len, part_after, shown_byte, shown_line, statement_text, unindented};
+ghost use Rattle.acc_token.specs.Tokens.{is_blank};
 
 use acc_report::{put, put_number};
 use acc_token::{front, is};
 use std::io::Write;
 
-/// The line of a statement as it is written, without blanks at its ends, a comment at its end, and `#pragma acc`.
+/// The line of a statement, without blanks at its ends, a comment `//` at its end, and `#pragma acc`; a byte that isn't printed is
+/// shown as `?`.
 #[tactic(auto, unfolding(crate::specs::Lines::statement_text))]
 pub(crate) fn put_statement<W: Write>(out: &mut W, failed: &mut bool, source: &[&[u8]], line: u32)
     ensures { Puts (sink (W.contents out.old) failed.old) (sink (W.contents out.new) failed.new)
@@ -23,8 +24,36 @@ pub(crate) fn put_statement<W: Write>(out: &mut W, failed: &mut bool, source: &[
     put(out, failed, b"line ");
     put_number(out, failed, line);
     put(out, failed, b": ");
-    let written = unindented(line_at(source, line - 1));
-    put(out, failed, behind_pragma(code_in(written)));
+    put_line(out, failed, line_at(source, line - 1));
+}
+
+// What is shown of a line.
+fn put_line<W: Write>(out: &mut W, failed: &mut bool, line: &[u8])
+    ensures { Puts (sink (W.contents out.old) failed.old) (sink (W.contents out.new) failed.new)
+        (shown_line line.now) }
+{
+    put_shown(out, failed, behind_pragma(code_in(unindented(line))));
+}
+
+// Bytes as they are shown.
+fn put_shown<W: Write>(out: &mut W, failed: &mut bool, bytes: &[u8])
+    ensures { Puts (sink (W.contents out.old) failed.old) (sink (W.contents out.new) failed.new)
+        (map shown_byte bytes.now) }
+{
+    for byte in bytes {
+        put(out, failed, &[shown(*byte)]);
+    }
+}
+
+// A byte as it is shown.
+fn shown(byte: u8) -> u8
+    ensures { result ≡ shown_byte byte }
+{
+    if byte < b' ' && byte != b'\t' || byte == 127 {
+        b'?'
+    } else {
+        byte
+    }
 }
 
 // The line with this index, or no bytes where there is no such line.
@@ -38,9 +67,9 @@ fn line_at<'a>(source: &[&'a [u8]], index: u32) -> &'a [u8]
 }
 
 fn is_blank(byte: u8) -> bool
-    ensures { result ≡ is_space byte }
+    ensures { result ≡ is_blank byte }
 {
-    byte == b' ' || byte == b'\t'
+    byte == b' ' || byte == b'\t' || byte == b'\r'
 }
 
 fn unindented(line: &[u8]) -> &[u8]
@@ -52,7 +81,7 @@ fn unindented(line: &[u8]) -> &[u8]
 
 // How many blanks stand at the front.
 fn blanks_len(line: &[u8]) -> usize
-    ensures value { result ≡ prefix_len is_space line.now }
+    ensures value { result ≡ prefix_len is_blank line.now }
     ensures within { result ≤ length line.now }
 {
     line.iter().take_while(|byte| is_blank(**byte)).count()
@@ -67,17 +96,53 @@ fn code_in(line: &[u8]) -> &[u8]
     filled
 }
 
-// How many bytes stand before a comment.
+/// What a place in a line is in.
+#[derive(Clone, Copy, Debug, PartialEq, Eq)]
+pub enum Part {
+    Code,
+    /// Behind the `/` of a `/*`.
+    Opened,
+    /// In what follows a `/*`.
+    Comment,
+    /// Behind the `*` of a `*/`.
+    Closing,
+}
+
+impl Part {
+    // What a byte leads to, before the next one.
+    fn after(self, byte: u8, next: u8) -> Part
+        ensures { result ≡ part_after self byte next }
+    {
+        match self {
+            Part::Code if byte == b'/' && next == b'*' => Part::Opened,
+            Part::Comment if byte == b'*' && next == b'/' => Part::Closing,
+            Part::Opened | Part::Comment => Part::Comment,
+            Part::Code | Part::Closing => Part::Code,
+        }
+    }
+
+    // Whether a `//` begins there.
+    fn ends_code(self, byte: u8, next: u8) -> bool
+        ensures { result ≡ ends_code self byte next }
+    {
+        self == Part::Code && byte == b'/' && next == b'/'
+    }
+}
+
+// How many bytes stand before a comment that goes to the end of the line.
 fn code_len(line: &[u8]) -> usize
-    ensures value { result ≡ code_len line.now }
+    ensures value { result ≡ code_len Part.Code line.now }
     ensures within { result ≤ length line.now }
 {
+    let mut part = Part::Code;
     let mut rest = line;
     let mut len = 0usize;
     while let [first, others @ ..] = rest {
-        if *first == b'/' && front(others) == b'/' {
+        let next = front(others);
+        if part.ends_code(*first, next) {
             return len;
         }
+        part = part.after(*first, next);
         len += 1;
         rest = others;
     }

@@ -33,6 +33,14 @@ const CASES: &[Case] = &[
         refused: true,
         written: b"    1  line 1   host 0         line 3: update self(a) async(1) | refused F7 NotPresent | a[0:2] absent\n    2  line 1   host 0         line 3: update self(a) async(1) | does nothing\nhost 0\nrefused 3 F7 NotPresent\nend\n",
     },
+    // what isn't printed, a comment within the line, and a carriage return at its end
+    Case {
+        script: b"long a[2] = {1, 2};\nhost {\n\t/* \x1B[1m // */ print(a); // both\r\n /**/ print(a); /*/ // */ \r\n}\n",
+        schedule: b"host 0 2\n",
+        form: StepsAs::Lines,
+        refused: false,
+        written: b"    1  line 1   host 0         line 3: /* ?[1m // */ print(a); | prints 1 2\n    2  line 1   host 0         line 4: /**/ print(a); /*/ // */ | prints 1 2\nhost 0\n1 2\n1 2\ndone\nend\n",
+    },
     Case {
         script: RACE,
         schedule: b"host 0\ntake 0 sync\ndo 0 sync 2\nhost 0 3\ntake 0 2\ndo 0 2 2\ntake 0 1\ndo 0 1 2\n",
