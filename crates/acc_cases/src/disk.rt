@@ -3,9 +3,10 @@
 ghost use Rattle.std.specs.Prelude.{None};
 
 use crate::folder::{Folder, FolderFault};
-use std::alloc::{AllocError, Global};
+use std::alloc::{AllocError, Allocator, Global};
 use std::fs;
-use std::io::{Error, ErrorKind};
+use std::fs::{DirEntry, Files};
+use std::io::{Error, ErrorKind, Result as IoResult};
 
 /// A folder of the system, by its path. No contract knows what it holds.
 #[derive(Drop)]
@@ -37,11 +38,30 @@ impl<'a> DiskFolder<'a> {
 }
 
 // What an error of the system says of a file or a folder.
-fn fault_of(error: Error) -> FolderFault {
+fn fault_of(error: &Error) -> FolderFault {
     match error.kind() {
         ErrorKind::NotFound => FolderFault::Missing,
         ErrorKind::OutOfMemory => FolderFault::Memory,
         _ => FolderFault::Unusable,
+    }
+}
+
+/// The name of an entry of a folder; none where it isn't UTF-8, which no case's file is.
+///
+/// # Errors
+///
+/// What the error of the system says; `Memory` for want of memory.
+pub(crate) fn name_of<R: Files, A: Allocator>(
+    alloc: Global,
+    entry: &IoResult<DirEntry<R, A>>,
+) -> Result<Option<String>, FolderFault> {
+    match entry {
+        Ok(entry) => match String::from_str(alloc, entry.file_name()) {
+            Ok(name) => Ok(Some(name)),
+            Err(_) => Err(FolderFault::Memory),
+        },
+        Err(error) if error.kind() == ErrorKind::InvalidFilename => Ok(None),
+        Err(error) => Err(fault_of(error)),
     }
 }
 
@@ -51,31 +71,32 @@ impl<'a> Folder for DiskFolder<'a> {
     fn names(&self, alloc: Global) -> Result<Vec<String>, FolderFault> {
         let entries = match fs::read_dir(self.rt, self.path.as_str()) {
             Ok(entries) => entries,
-            Err(error) => return Err(fault_of(error)),
+            Err(error) => return Err(fault_of(&error)),
         };
         let mut names = Vec::new(alloc);
         for entry in entries {
-            let entry = match entry {
-                Ok(entry) => entry,
-                Err(error) => return Err(fault_of(error)),
-            };
-            let Ok(name) = String::from_str(alloc, entry.file_name()) else {
-                return Err(FolderFault::Memory);
-            };
-            let Ok(()) = names.push(name) else {
-                return Err(FolderFault::Memory);
-            };
+            if let Some(name) = name_of(alloc, &entry)? {
+                let Ok(()) = names.push(name) else {
+                    return Err(FolderFault::Memory);
+                };
+            }
         }
         Ok(names)
     }
 
     fn read(&self, _alloc: Global, name: &str) -> Result<Vec<u8>, FolderFault> {
         let path = self.path_of(name)?;
-        fs::read(self.rt, path).map_err(fault_of)
+        match fs::read(self.rt, path) {
+            Ok(bytes) => Ok(bytes),
+            Err(error) => Err(fault_of(&error)),
+        }
     }
 
     fn write(&mut self, name: &str, bytes: &[u8]) -> Result<(), FolderFault> {
         let path = self.path_of(name)?;
-        fs::write(self.rt, path, bytes).map_err(fault_of)
+        match fs::write(self.rt, path, bytes) {
+            Ok(()) => Ok(()),
+            Err(error) => Err(fault_of(&error)),
+        }
     }
 }

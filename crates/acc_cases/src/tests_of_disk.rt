@@ -1,10 +1,13 @@
 //! Folders of the system.
 
-use crate::disk::DiskFolder;
+use crate::disk::{DiskFolder, name_of};
+use crate::folder::FolderFault;
 use crate::run::{Tally, TestFault, test_all};
 use acc_driver::Options;
 use std::alloc::Global;
 use std::fs;
+use std::fs::DirEntry;
+use std::io::{Error, ErrorKind, Result as IoResult};
 use std::process::Abort;
 use std::test::Fail;
 
@@ -67,5 +70,29 @@ fn folders_of_the_system_are_read_and_written(rt: HostRuntime) -> Result<(), Fai
         &mut written,
     );
     assert_eq!(&rt; told, Err(TestFault::Folder));
+    Ok(())
+}
+
+fn check_name(
+    rt: &impl Abort,
+    alloc: Global,
+    kind: ErrorKind,
+    wanted: Result<Option<String>, FolderFault>,
+) {
+    let entry: IoResult<DirEntry> = Err(Error::from(kind));
+    assert_eq!(rt; name_of(alloc, &entry), wanted);
+}
+
+/// A name that isn't UTF-8 doesn't keep a folder from being listed.
+#[test]
+fn names_that_are_not_utf8_are_passed_over(rt: HostRuntime) -> Result<(), Fail> {
+    let alloc = rt.alloc();
+    check_name(&rt, alloc, ErrorKind::InvalidFilename, Ok(None));
+    check_name(
+        &rt,
+        alloc,
+        ErrorKind::PermissionDenied,
+        Err(FolderFault::Unusable),
+    );
     Ok(())
 }
