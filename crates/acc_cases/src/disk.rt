@@ -2,13 +2,16 @@
 
 ghost use Rattle.std.specs.Prelude.{None};
 
+use crate::fault::Kind;
 use crate::folder::{Folder, FolderFault};
+use acc_driver::INPUT_LIMIT;
 use std::alloc::{AllocError, Allocator, Global};
 use std::fs;
-use std::fs::{DirEntry, Files};
-use std::io::{Error, ErrorKind, Result as IoResult};
+use std::fs::{DirEntry, File, Files};
+use std::io::{Error, ErrorKind, Read, Result as IoResult};
 
-/// A folder of the system, by its path. No contract knows what it holds.
+/// A folder of the system, by its path. No contract knows what it holds. Of a file that is no report at most `INPUT_LIMIT` bytes
+/// are read, by which a text is known to be too long; a line of options that has as many can't be read.
 #[derive(Drop)]
 pub struct DiskFolder<'a> {
     rt: &'a HostRuntime,
@@ -65,6 +68,15 @@ pub(crate) fn name_of<R: Files, A: Allocator>(
     }
 }
 
+// The bytes of a file, up to the limit.
+fn read_up_to(alloc: Global, file: File, limit: usize) -> Result<Vec<u8>, FolderFault> {
+    let mut bytes = Vec::new(alloc);
+    match file.take(limit as u64).read_to_end(&mut bytes) {
+        Ok(_) => Ok(bytes),
+        Err(error) => Err(fault_of(&error)),
+    }
+}
+
 impl<'a> Folder for DiskFolder<'a> {
     ghost files = { λ _. None };
 
@@ -84,12 +96,20 @@ impl<'a> Folder for DiskFolder<'a> {
         Ok(names)
     }
 
-    fn read(&self, _alloc: Global, name: &str) -> Result<Vec<u8>, FolderFault> {
+    fn read(&self, alloc: Global, name: &str) -> Result<Vec<u8>, FolderFault> {
         let path = self.path_of(name)?;
-        match fs::read(self.rt, path) {
-            Ok(bytes) => Ok(bytes),
-            Err(error) => Err(fault_of(&error)),
+        let file = match File::open(self.rt, path) {
+            Ok(file) => file,
+            Err(error) => return Err(fault_of(&error)),
+        };
+        if name.ends_with(Kind::Report.ending()) {
+            return read_up_to(alloc, file, usize::MAX);
         }
+        let bytes = read_up_to(alloc, file, INPUT_LIMIT)?;
+        if name.ends_with(Kind::Line.ending()) && bytes.len() == INPUT_LIMIT {
+            return Err(FolderFault::Unusable);
+        }
+        Ok(bytes)
     }
 
     fn write(&mut self, name: &str, bytes: &[u8]) -> Result<(), FolderFault> {

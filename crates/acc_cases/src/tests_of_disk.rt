@@ -8,6 +8,7 @@ use std::alloc::Global;
 use std::fs;
 use std::fs::DirEntry;
 use std::io::{Error, ErrorKind, Result as IoResult};
+use std::os::unix::fs::symlink;
 use std::process::Abort;
 use std::test::Fail;
 
@@ -70,6 +71,38 @@ fn folders_of_the_system_are_read_and_written(rt: HostRuntime) -> Result<(), Fai
         &mut written,
     );
     assert_eq!(&rt; told, Err(TestFault::Folder));
+    Ok(())
+}
+
+/// A folder of files that have no end.
+const ENDLESS: &str = "folder-of-endless-cases";
+
+#[test]
+fn files_without_an_end_are_read_to_their_limit(rt: HostRuntime) -> Result<(), Fail> {
+    let _ = fs::remove_dir_all(&rt, ENDLESS);
+    fs::create_dir_all(&rt, ENDLESS)?;
+    symlink(&rt, "/dev/zero", "folder-of-endless-cases/a.acc")?;
+    fs::write(&rt, "folder-of-endless-cases/a.schedule", "")?;
+    fs::write(
+        &rt,
+        "folder-of-endless-cases/a.report",
+        "accq: script line 1: Limit\n",
+    )?;
+    fs::write(&rt, "folder-of-endless-cases/b.acc", "%%\n")?;
+    symlink(&rt, "/dev/zero", "folder-of-endless-cases/b.options")?;
+    let mut folder = DiskFolder::new(&rt, ENDLESS)?;
+    let mut written = Vec::new(rt.alloc());
+    let told = test_all(
+        rt.alloc(),
+        &mut folder,
+        Options::DEFAULT,
+        false,
+        &mut written,
+    );
+    let wanted: &[u8] = b"ok a\nFAILED b: cannot read b.options\n1 passed, 1 failed\n";
+    assert_eq!(&rt; written.as_slice(), wanted);
+    assert!(&rt; told.is_ok());
+    fs::remove_dir_all(&rt, ENDLESS)?;
     Ok(())
 }
 
