@@ -14,7 +14,7 @@ use Rattle.acc_kernel.proofs.ValueAfter.{within, reaches_at}
 use Rattle.acc_kernel.proofs.WithinLimits.{none_passes}
 
 -- a cell between two that are there
-has_between : (uses : List Use) (array : ℕ) (a b c : ℤ) → uses_have uses array a ≡ true → uses_have uses array b ≡ true
+pub has_between : (uses : List Use) (array : ℕ) (a b c : ℤ) → uses_have uses array a ≡ true → uses_have uses array b ≡ true
     → a ≤ℤ c → c ≤ℤ b → uses_have uses array c ≡ true
 has_between uses array a b c has_a has_b from to =
     between (used_range uses array).lo (used_range uses array).len

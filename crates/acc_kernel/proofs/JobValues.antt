@@ -1,6 +1,6 @@
 -- What a job gives is what its loop gives.
 use Rattle.std.proofs.Common.{◌≡◌, ℕ, ◌+◌, ◌<◌, Bool, true, false, List, [], ◌∷◌, length, get_or, refl, sym, ap, subst, ◌∙◌, arith, inl, inr}
-use Rattle.std.specs.Prelude.{ℤ, pos, ◌+ℤ◌, ◌-ℤ◌, ◌≤ℤ◌, ◌<ℤ◌, ◌&&◌, ◌||◌, ◌==◌, ◌⊎◌, int_le, int_lt, if◌then◌else◌}
+use Rattle.std.specs.Prelude.{ℤ, pos, ◌+ℤ◌, ◌≤ℤ◌, ◌<ℤ◌, ◌&&◌, ◌||◌, ◌==◌, ◌⊎◌, int_le, int_lt, if◌then◌else◌}
 use Rattle.std.specs.List.{All, list_any}
 use Rattle.std.specs.Ordering.{int_eq}
 use Rattle.std.proofs.Math.Path.{fun_ext}
@@ -14,16 +14,16 @@ use Rattle.acc_base.specs.declared.range.Range.{Range}
 use Rattle.acc_kernel.specs.declared.assign.Assign.{Assign}
 use Rattle.acc_kernel.specs.Cells.{with_cell}
 use Rattle.acc_kernel.specs.Faults.{is_assigned, IsLoopWithinLimits}
-use Rattle.acc_kernel.specs.Jobs.{Use, no_use, place_of, used_range, uses_have, cell_in, is_read, is_used, read_uses, written_uses, shown, stored, values_shown, AreDistinct, AreRows, HoldReached}
-use Rattle.acc_kernel.specs.Kernels.{Loop, references, references_at, Reaches, value_after}
+use Rattle.acc_kernel.specs.Jobs.{Use, no_use, place_of, uses_have, cell_in, is_read, is_used, read_uses, written_uses, shown, stored, values_shown, AreDistinct, AreRows, HoldReached}
+use Rattle.acc_kernel.specs.Kernels.{Loop, references, Reaches, value_after}
 use Rattle.acc_kernel.specs.Trees.{Reference, references_of}
 use Rattle.acc_kernel.specs.Values.{value_at, after_turn}
-use Rattle.acc_kernel.specs.inner.JobViews.{has_either, cell_in_either, KeepsUses}
+use Rattle.acc_kernel.specs.inner.JobViews.{cell_in_either, KeepsUses}
 use Rattle.acc_kernel.specs.inner.RowTables.{RowsView}
 use Rattle.acc_kernel.proofs.CellIn.{used, uses_array, value_of}
 use Rattle.acc_kernel.proofs.LoopTurns.{either_way, turn_unassigned}
-use Rattle.acc_kernel.proofs.ReadAndWritten.{and_true, assigned_at_indices, assigned_if_written, distinct_read, distinct_written, read_has, reached_if_assigned, used_read, used_written, written_has, used_if_has}
-use Rattle.acc_kernel.proofs.ShownRows.{any_has, are_values, cell_of_shown, cell_shown, found_range, has_use, rows_shown, stored_at, use_has}
+use Rattle.acc_kernel.proofs.ReadAndWritten.{and_true, assigned_if_written, distinct_reached, reached_has, reached_if_assigned, used_reached, used_if_has}
+use Rattle.acc_kernel.proofs.ShownRows.{any_has, has_any, are_values, cell_of_shown, cell_shown, found_range, has_use, rows_shown, stored_at, use_has}
 use Rattle.acc_kernel.proofs.ValueAfter.{At, AgreeOn, CellsOf, at_statement, reaches_at, values_alike, within, written_alike}
 
 -- ## Over cells that agree where a loop reads, it gives what it assigns the same values
@@ -101,9 +101,9 @@ loop_unassigned k f array cell un = either_way (int_le k.lo cell && int_lt cell 
 -- ## What is stored
 
 -- The values that a loop gives over its inputs, stored in cells that show these, make of them what the loop does.
-pub commits : (k : Loop) (uses : List Use) (inputs : List (List ℤ)) (cells : CellsOf) → AreDistinct uses → HoldReached k uses → inputs ≡ shown (read_uses k uses) cells
+pub commits : (k : Loop) (uses : List Use) (inputs : List (List ℤ)) (cells : CellsOf) → IsLoopWithinLimits k → AreDistinct uses → HoldReached k uses → inputs ≡ shown (read_uses k uses) cells
     → stored (written_uses k uses) (shown (written_uses k uses) (value_after k (cell_in (read_uses k uses) inputs))) cells ≡ value_after k cells
-commits k uses inputs cells distinct reached same =
+commits k uses inputs cells limits distinct reached same =
     fun_ext
     (λ (array : ℕ).
     fun_ext
@@ -111,12 +111,12 @@ commits k uses inputs cells distinct reached same =
   where
     agree : (a : ℕ) (c : ℤ) → is_read k.statements a ≡ true → Reaches k a c → cell_in (read_uses k uses) inputs a c ≡ cells a c
     agree a c read r =
-        ap (λ (rows : List (List ℤ)). cell_in (read_uses k uses) rows a c) same ∙ cell_shown (read_uses k uses) cells a c (read_has k uses a c distinct read (reached a c r))
+        ap (λ (rows : List (List ℤ)). cell_in (read_uses k uses) rows a c) same ∙ cell_shown (read_uses k uses) cells a c (reached_has (is_read k.statements) k uses reached a c distinct read r)
 
     by : (array : ℕ) (cell : ℤ) (b : Bool) → list_any (has_use array cell) (written_uses k uses) ≡ b
         → (if b then value_after k (cell_in (read_uses k uses) inputs) array cell else cells array cell) ≡ value_after k cells array cell
     by array cell true any =
-        let at = assigned_if_written k uses array cell reached any in
+        let at = assigned_if_written k uses array cell limits reached (has_any (written_uses k uses) array cell (distinct_reached (is_assigned k.statements) k uses distinct) any) in
         same_after k (cell_in (read_uses k uses) inputs) cells array cell agree at.0 at.1 at.2
     by array cell false none = sym (left (int_le k.lo cell && int_lt cell k.hi) refl)
       where
@@ -128,7 +128,8 @@ commits k uses inputs cells distinct reached same =
           where
             un : k.lo ≤ℤ cell → cell <ℤ k.hi → (b : Bool) → is_assigned k.statements array ≡ b → b ≡ false
             un from to true assigned =
-                let any : list_any (has_use array cell) (written_uses k uses) ≡ true = any_has (written_uses k uses) array cell (written_has k uses array cell distinct reached assigned from to) in
+                let any : list_any (has_use array cell) (written_uses k uses) ≡ true =
+                any_has (written_uses k uses) array cell (reached_has (is_assigned k.statements) k uses reached array cell distinct assigned (reached_if_assigned k array cell assigned from to)) in
                 let never : ⊥ = cc in
                 absurd never
             un from to false assigned = refl
@@ -155,21 +156,21 @@ module _ (k : Loop) (uses : List Use) (limits : IsLoopWithinLimits k) (distinct 
       own : is_assigned k.statements a ≡ true → cell_in (written_uses k uses) outs a c ≡ read ins a c
       own assigned =
           let ws : List Use = written_uses k uses in
-          let at = assigned_at_indices k a c limits r assigned in
-          let has : uses_have ws a c ≡ true = written_has k uses a c distinct reached assigned at.0 at.1 in
+          let has : uses_have ws a c ≡ true = reached_has (is_assigned k.statements) k uses reached a c distinct assigned r in
           let used_too : is_used (read_uses k uses) a ≡ true =
-          used_read k uses a ∙ and_from (is_read k.statements a) (is_used uses a) is (used_if_has uses a c (reached a c r)) in
+          used_reached (is_read k.statements) k uses a ∙ and_from (is_read k.statements a) (is_used uses a) is (used_if_has uses a c (reached a c r)) in
           let row = begin (place_of ws a) (used ws a c has) (subst (λ (b : ℕ). is_used (read_uses k uses) b ≡ true) (sym (found_range ws a c has)) used_too) in
           cell_of_shown ws outs (read ins) a c has row
 
       by : (b : Bool) → is_used (written_uses k uses) a ≡ b → (if b then cell_in (written_uses k uses) outs a c else read ins a c) ≡ read ins a c
       by false e = refl
-      by true e = own (and_parts (is_assigned k.statements a) (is_used uses a) (sym (used_written k uses a) ∙ e)).0
+      by true e = own (and_parts (is_assigned k.statements a) (is_used uses a) (sym (used_reached (is_assigned k.statements) k uses a) ∙ e)).0
 
   -- after the loop the outputs are what it gives of the inputs
   pub outputs_computed : (ins outs new_ins new_outs : List (List ℤ)) → AreBegun ins outs → AreRows (written_uses k uses) new_outs → seen new_ins new_outs ≡ value_after k (seen ins outs)
       → new_outs ≡ shown (written_uses k uses) (value_after k (read ins))
   outputs_computed ins outs new_ins new_outs begin shape ran =
+      let apart : AreDistinct (written_uses k uses) = distinct_reached (is_assigned k.statements) k uses distinct in
       rows_shown (written_uses k uses) new_outs (value_after k (read ins)) shape.count
       (λ place lt.
       let ws : List Use = written_uses k uses in
@@ -179,9 +180,9 @@ module _ (k : Loop) (uses : List Use) (limits : IsLoopWithinLimits k) (distinct 
       let below : n < u.len = omega (arith, low, shape.lengths place lt) in
       let cell : ℤ = pos (u.lo + n) in
       let same : cell ≡ pos u.lo +ℤ pos n = omega (arith, ints) in
-      let has : uses_have ws u.array cell ≡ true = use_has ws place cell (distinct_written k uses distinct) lt (omega (arith, ints)) (omega (arith, ints, below)) in
-      let at = assigned_if_written k uses u.array cell reached (any_has ws u.array cell has) in
-      sym (value_of ws new_outs (seen ins outs) (distinct_written k uses distinct) place n lt)
+      let has : uses_have ws u.array cell ≡ true = use_has ws place cell apart lt (omega (arith, ints)) (omega (arith, ints, below)) in
+      let at = assigned_if_written k uses u.array cell limits reached has in
+      sym (value_of ws new_outs (seen ins outs) apart place n lt)
       ∙ (sym (ap (λ (b : Bool). if b then cell_in ws new_outs u.array cell else read new_ins u.array cell) (used_if_has ws u.array cell has))
       ∙ (ap (λ (f : CellsOf). f u.array cell) ran
       ∙ (same_after k (seen ins outs) (read ins) u.array cell (begun ins outs begin) at.0 at.1 at.2 ∙ ap (value_after k (read ins) u.array) same)))))
@@ -201,18 +202,19 @@ module _ (k : Loop) (uses : List Use) (limits : IsLoopWithinLimits k) (distinct 
           by false e =
               let rs : List Use = read_uses k uses in
               let u : Range = (get_or rs place no_use).1 in
+              let apart : AreDistinct rs = distinct_reached (is_read k.statements) k uses distinct in
               let in_uses : is_used uses u.array ≡ true =
-              (and_parts (is_read k.statements u.array) (is_used uses u.array) (sym (used_read k uses u.array) ∙ list_any_at (uses_array u.array) rs place no_use lt (eq-eqb u.array u.array refl))).1 in
-              let un : is_assigned k.statements u.array ≡ false = sym (and_true (is_assigned k.statements u.array)) ∙ (ap (λ (b : Bool). is_assigned k.statements u.array && b) (sym in_uses) ∙ (sym (used_written k uses u.array) ∙ e)) in
+              (and_parts (is_read k.statements u.array) (is_used uses u.array) (sym (used_reached (is_read k.statements) k uses u.array) ∙ list_any_at (uses_array u.array) rs place no_use lt (eq-eqb u.array u.array refl))).1 in
+              let un : is_assigned k.statements u.array ≡ false = sym (and_true (is_assigned k.statements u.array)) ∙ (ap (λ (b : Bool). is_assigned k.statements u.array && b) (sym in_uses) ∙ (sym (used_reached (is_assigned k.statements) k uses u.array) ∙ e)) in
               ext_get_or (pos 0) (get_or new_ins place []) (get_or ins place []) (new_shape.lengths place lt ∙ sym (shape.lengths place lt))
               (λ n low.
               let cell : ℤ = pos (u.lo + n) in
-              sym (value_of rs new_ins (seen ins outs) (distinct_read k uses distinct) place n lt)
+              sym (value_of rs new_ins (seen ins outs) apart place n lt)
               ∙ (sym (ap (λ (b : Bool). if b then cell_in (written_uses k uses) new_outs u.array cell else read new_ins u.array cell) e)
               ∙ (ap (λ (f : CellsOf). f u.array cell) ran
               ∙ (loop_unassigned k (seen ins outs) u.array cell un
               ∙ (ap (λ (b : Bool). if b then cell_in (written_uses k uses) outs u.array cell else read ins u.array cell) e
-              ∙ value_of rs ins (seen ins outs) (distinct_read k uses distinct) place n lt)))))
+              ∙ value_of rs ins (seen ins outs) apart place n lt)))))
 
   -- so of the cells of a job: what it begins with, and what its loop leaves
   pub computes : (i o begun_i begun_o new_i new_o : RowsView) → i.uses ≡ read_uses k uses → o.uses ≡ written_uses k uses → begun_i ≡ i → begun_o.uses ≡ o.uses

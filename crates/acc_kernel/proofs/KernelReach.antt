@@ -1,6 +1,6 @@
 -- The span of a loop's offsets to an array, and what the loop reaches.
 use Rattle.std.proofs.Common.{◌≡◌, ℕ, Bool, true, false, List, [], ◌∷◌, ◌++◌, refl, sym, ap, subst, ◌∙◌, inl, inr, arith, append_assoc}
-use Rattle.std.specs.Prelude.{ℤ, pos, ◌+ℤ◌, ◌-ℤ◌, ◌≤ℤ◌, ◌<ℤ◌, ◌==◌, int_lt, if◌then◌else◌, Option, Some, None}
+use Rattle.std.specs.Prelude.{ℤ, pos, negsuc, ◌+ℤ◌, ◌-ℤ◌, ◌≤ℤ◌, ◌<ℤ◌, ◌==◌, int_lt, if◌then◌else◌, Option, Some, None, IfSome}
 use Rattle.std.specs.List.{fold, Contains}
 use Rattle.std.specs.Int.{int_min, int_max}
 use Rattle.std.proofs.lemmas.List.{append-nil}
@@ -127,6 +127,25 @@ module _ (k : Loop) (array : ℕ) where
             let to : r.index <ℤ k.hi = r.to in
             (omega (arith, ints), omega (arith, ints));
       }
+
+  -- both ends of a reach are numbers of few bits, and the first isn't behind the last
+  pub reach_fits : (o : Option Reach) → IsLoopWithinLimits k → IfSome o (IsReach k array) → IfSome o (λ r. (negsuc 131071 ≤ℤ r.first) × (r.first ≤ℤ r.last) × (r.last ≤ℤ pos 131072))
+  reach_fits None limits is = tt
+  reach_fits (Some r) limits is =
+      let first = near r.first is.first in
+      let last = near r.last is.last in
+      let order = is.between r.first is.first in
+      (first.0, order.1, last.1)
+    where
+      near : (cell : ℤ) → Reaches k array cell → (negsuc 131071 ≤ℤ cell) × (cell ≤ℤ pos 131072)
+      near cell at =
+          let offset = All-contains (λ (x : Reference). IsNear x.offset) (references k.statements) at.reference limits.offsets at.named in
+          let lo : IsNear k.lo = limits.lo in
+          let hi : IsNear k.hi = limits.hi in
+          let is : at.index +ℤ at.reference.offset ≡ cell = at.same_cell in
+          let from : k.lo ≤ℤ at.index = at.from in
+          let to : at.index <ℤ k.hi = at.to in
+          (omega (arith, ints, offset), omega (arith, ints, offset))
 
   pub reach_none : IsSpan array (references k.statements) None → (cell : ℤ) → Reaches k array cell → ⊥
   reach_none span cell r = span r.reference.offset (named_of cell r)

@@ -1,8 +1,8 @@
 -- What a loop reads and what it assigns of its uses.
 use Rattle.std.proofs.Common.{◌≡◌, ◌≢◌, ℕ, zero, suc, ◌+◌, ◌<◌, Bool, true, false, List, [], ◌∷◌, ◌++◌, length, map, take, cond, get_or, refl, sym, ap, subst, ◌∙◌, arith, inl, inr}
-use Rattle.std.specs.Prelude.{ℤ, pos, negsuc, ◌+ℤ◌, ◌-ℤ◌, ◌≤ℤ◌, ◌<ℤ◌, ◌&&◌, ◌||◌, ◌==◌, nat_lt, filter, int_lt, unsigned_abs, if◌then◌else◌}
-use Rattle.std.specs.List.{All, Contains, list_any, prefix_len}
-use Rattle.std.specs.Prelude.{not}
+use Rattle.std.specs.Prelude.{ℤ, pos, negsuc, ◌+ℤ◌, ◌-ℤ◌, ◌≤ℤ◌, ◌<ℤ◌, ◌&&◌, ◌||◌, ◌==◌, nat_lt, int_le, int_lt, filter, unsigned_abs, if◌then◌else◌, Option, Some, None}
+use Rattle.std.specs.List.{Contains, list_any}
+use Rattle.std.proofs.Math.Path.{fun_ext}
 use Rattle.std.proofs.lemmas.Bool.Decides.{nat_tests}
 use Rattle.std.proofs.lemmas.Bool.{cases_lt, and_from, and_parts, eqb-true, eq-eqb}
 use Rattle.std.proofs.lemmas.Int.{ints}
@@ -10,17 +10,20 @@ use Rattle.std.proofs.lemmas.List.{get_or-map, length-map, map-append}
 use Rattle.std.proofs.lemmas.List.Elements.{All-contains, All-head, Contains-get_or, filter_more}
 use Rattle.std.proofs.lemmas.List.Folds.{list_any-append}
 use Rattle.std.proofs.lemmas.List.Kept.{AllPairs-filter}
-use Rattle.std.proofs.lemmas.List.Sums.{passes_at_first}
 use Rattle.std.proofs.lemmas.Map.Views.{any-filter_same}
 use Rattle.acc_base.specs.declared.range.Range.{Range}
+use Rattle.acc_base.specs.Ranges.{Includes}
 use Rattle.acc_kernel.specs.declared.assign.Assign.{Assign}
+use Rattle.acc_kernel.specs.declared.reach.Reach.{Reach}
 use Rattle.acc_kernel.specs.Cells.{is_among}
 use Rattle.acc_kernel.specs.Faults.{is_assigned, is_off, IsLoopWithinLimits}
-use Rattle.acc_kernel.specs.Jobs.{Use, no_use, place_of, used_range, uses_have, at_indices, is_read, is_used, read_uses, written_uses, AreDistinct, HoldReached}
-use Rattle.acc_kernel.specs.Kernels.{Loop, references, references_at, Reaches}
+use Rattle.acc_kernel.specs.Jobs.{Use, no_use, place_of, used_range, uses_have, is_read, is_used, range_of, reached_uses, read_uses, written_uses, AreDistinct, HoldReached}
+use Rattle.acc_kernel.specs.Kernels.{Loop, references, references_at, Reaches, IsReach, reach_of}
 use Rattle.acc_kernel.specs.Trees.{Reference, references_of}
-use Rattle.acc_kernel.proofs.CellIn.{uses_array, used}
+use Rattle.acc_kernel.proofs.CellIn.{uses_array, used, its_place}
+use Rattle.acc_kernel.proofs.HeldBy.{has_between}
 use Rattle.acc_kernel.proofs.LoopTurns.{reads_apart}
+use Rattle.acc_kernel.proofs.ReachOf.{Tells, reach_tells}
 use Rattle.acc_kernel.proofs.ShownRows.{any_has, has_any, has_use, use_has}
 use Rattle.acc_kernel.proofs.SplicedRow.{among_in}
 use Rattle.acc_kernel.proofs.ValueAfter.{at_statement, plus_zero, within}
@@ -81,75 +84,82 @@ any-and q z (u ∷ uses) = ap (λ (b : Bool). (q u && z) || b) (any-and q z uses
         by false = refl
     spread false b = refl
 
--- the cells and arrays of what is read
-pub any_read : (k : Loop) (uses : List Use) (array : ℕ) (cell : ℤ) → list_any (has_use array cell) (read_uses k uses) ≡ (is_read k.statements array && list_any (has_use array cell) uses)
-any_read k uses array cell =
-    any-filter_same (has_use array cell) (λ (u : Use). is_read k.statements u.1.array) (is_read k.statements array)
-    (λ u h. ap (is_read k.statements) (eqb-true u.1.array array (and_parts (u.1.array == array) (is_among (pos u.1.lo) u.1.len cell) h).0)) uses
+-- ## The uses of the arrays that are chosen, with the cells that a loop reaches
 
--- the cells and arrays of what is assigned
-pub any_written : (k : Loop) (uses : List Use) (array : ℕ) (cell : ℤ)
-    → list_any (has_use array cell) (written_uses k uses) ≡ (is_assigned k.statements array && (is_used uses array && is_among (pos (at_indices k array).lo) (at_indices k array).len cell))
-any_written k uses array cell =
-    let z : Bool = is_among (pos (at_indices k array).lo) (at_indices k array).len cell in
-    any-map (has_use array cell) (λ u. (u.0, at_indices k u.1.array)) (filter (λ (u : Use). is_assigned k.statements u.1.array) uses)
-    ∙ (any-filter_same (λ (u : Use). (u.1.array == array) && z) (λ (u : Use). is_assigned k.statements u.1.array) (is_assigned k.statements array)
-    (λ u h. ap (is_assigned k.statements) (eqb-true u.1.array array (and_parts (u.1.array == array) z h).0)) uses
-    ∙ ap (λ (b : Bool). is_assigned k.statements array && b) (any-and (uses_array array) z uses))
+pub range_array : (array : ℕ) (o : Option Reach) → (range_of array o).array ≡ array
+range_array array None = refl
+range_array array (Some r) = refl
 
-pub used_written : (k : Loop) (uses : List Use) (array : ℕ) → is_used (written_uses k uses) array ≡ (is_assigned k.statements array && is_used uses array)
-used_written k uses array =
-    any-map (uses_array array) (λ u. (u.0, at_indices k u.1.array)) (filter (λ (u : Use). is_assigned k.statements u.1.array) uses)
-    ∙ any-filter_same (uses_array array) (λ (u : Use). is_assigned k.statements u.1.array) (is_assigned k.statements array)
-    (λ u h. ap (is_assigned k.statements) (eqb-true u.1.array array h)) uses
+abbrev is_in_reach : Loop → ℕ → ℤ → Bool
+is_in_reach k array cell =
+    let r : Range = range_of array (reach_of k array) in
+    is_among (pos r.lo) r.len cell
 
-pub used_read : (k : Loop) (uses : List Use) (array : ℕ) → is_used (read_uses k uses) array ≡ (is_read k.statements array && is_used uses array)
-used_read k uses array =
-    any-filter_same (uses_array array) (λ (u : Use). is_read k.statements u.1.array) (is_read k.statements array)
-    (λ u h. ap (is_read k.statements) (eqb-true u.1.array array h)) uses
+module _ (chosen : ℕ → Bool) (k : Loop) where
+  abbrev part : Use → Use
+  part u = (u.0, range_of u.1.array (reach_of k u.1.array))
 
--- ## One use more
+  abbrev wanted : Use → Bool
+  wanted u = chosen u.1.array
 
-pub next_read : (k : Loop) (uses : List Use) (n : ℕ) (u : Use) → n < length uses → u ≡ get_or uses n u
-    → read_uses k (take (n + 1) uses) ≡ read_uses k (take n uses) ++ cond (is_read k.statements u.1.array) (u ∷ []) []
-next_read k uses n u lt at =
-    filter_more (λ (v : Use). is_read k.statements v.1.array) uses n u lt
-    ∙ ap (λ (v : Use). read_uses k (take n uses) ++ cond (is_read k.statements v.1.array) (v ∷ []) []) (sym at)
+  same_array : (u : Use) → (part u).1.array ≡ u.1.array
+  same_array u = range_array u.1.array (reach_of k u.1.array)
 
-pub next_written : (k : Loop) (uses : List Use) (n : ℕ) (u : Use) → n < length uses → u ≡ get_or uses n u
-    → written_uses k (take (n + 1) uses) ≡ written_uses k (take n uses) ++ cond (is_assigned k.statements u.1.array) ((u.0, at_indices k u.1.array) ∷ []) []
-next_written k uses n u lt at =
-    let p : Use → Bool = λ v. is_assigned k.statements v.1.array in
-    let part : Use → Use = λ v. (v.0, at_indices k v.1.array) in
-    ap (map part) (filter_more p uses n u lt ∙ ap (λ (v : Use). filter p (take n uses) ++ cond (p v) (v ∷ []) []) (sym at))
-    ∙ (map-append part (filter p (take n uses)) (cond (p u) (u ∷ []) []) ∙ ap (λ (l : List Use). written_uses k (take n uses) ++ l) (one (p u)))
-  where
-    part_of : Use → Use
-    part_of v = (v.0, at_indices k v.1.array)
+  pub next_reached : (uses : List Use) (n : ℕ) (u : Use) → n < length uses → u ≡ get_or uses n u
+      → reached_uses chosen k (take (n + 1) uses) ≡ reached_uses chosen k (take n uses) ++ cond (chosen u.1.array) ((u.0, range_of u.1.array (reach_of k u.1.array)) ∷ []) []
+  next_reached uses n u lt at =
+      ap (map part) (filter_more wanted uses n u lt ∙ ap (λ (v : Use). filter wanted (take n uses) ++ cond (wanted v) (v ∷ []) []) (sym at))
+      ∙ (map-append part (filter wanted (take n uses)) (cond (wanted u) (u ∷ []) []) ∙ ap (λ (l : List Use). reached_uses chosen k (take n uses) ++ l) (one (wanted u)))
+    where
+      one : (b : Bool) → map part (cond b (u ∷ []) []) ≡ cond b (part u ∷ []) []
+      one true = refl
+      one false = refl
 
-    one : (b : Bool) → map part_of (cond b (u ∷ []) []) ≡ cond b (part_of u ∷ []) []
-    one true = refl
-    one false = refl
+  pub distinct_reached : (uses : List Use) → AreDistinct uses → AreDistinct (reached_uses chosen k uses)
+  distinct_reached uses distinct = apart (filter wanted uses) (AllPairs-filter (λ u v. u.1.array ≢ v.1.array) wanted uses distinct)
+    where
+      at : (us : List Use) (i : ℕ) (d : Use) → i < length us → (get_or (map part us) i d).1.array ≡ (get_or us i no_use).1.array
+      at us i d lt = ap (λ (u : Use). u.1.array) (get_or-map part us i no_use d lt) ∙ same_array (get_or us i no_use)
 
--- ## They differ in their arrays
+      apart : (us : List Use) → AreDistinct us → AreDistinct (map part us)
+      apart us h i j d lt inside same =
+          let long : length (map part us) ≡ length us = length-map us part in
+          let there : j < length us = omega (arith, inside, long) in
+          h i j no_use lt there (sym (at us i d (omega (arith, lt, there))) ∙ (same ∙ at us j d there))
 
-pub distinct_read : (k : Loop) (uses : List Use) → AreDistinct uses → AreDistinct (read_uses k uses)
-distinct_read k uses distinct = AllPairs-filter (λ u v. u.1.array ≢ v.1.array) (λ (u : Use). is_read k.statements u.1.array) uses distinct
+  pub used_reached : (uses : List Use) (array : ℕ) → is_used (reached_uses chosen k uses) array ≡ (chosen array && is_used uses array)
+  used_reached uses array =
+      any-map (uses_array array) part (filter wanted uses)
+      ∙ (ap (λ (q : Use → Bool). list_any q (filter wanted uses)) (fun_ext (λ (u : Use). ap (λ (n : ℕ). n == array) (same_array u)))
+      ∙ any-filter_same (uses_array array) wanted (chosen array) (λ u h. ap chosen (eqb-true u.1.array array h)) uses)
 
-pub distinct_written : (k : Loop) (uses : List Use) → AreDistinct uses → AreDistinct (written_uses k uses)
-distinct_written k uses distinct =
-    apart (filter (λ (u : Use). is_assigned k.statements u.1.array) uses)
-    (AllPairs-filter (λ u v. u.1.array ≢ v.1.array) (λ (u : Use). is_assigned k.statements u.1.array) uses distinct)
-  where
-    at : (us : List Use) (i : ℕ) (d : Use) → i < length us → (get_or (map (λ (u : Use). (u.0, at_indices k u.1.array)) us) i d).1.array ≡ (get_or us i no_use).1.array
-    at us i d lt = ap (λ (u : Use). u.1.array) (get_or-map (λ (u : Use). (u.0, at_indices k u.1.array)) us i no_use d lt)
+  any_reached : (uses : List Use) (array : ℕ) (cell : ℤ) → list_any (has_use array cell) (reached_uses chosen k uses) ≡ (chosen array && (is_used uses array && is_in_reach k array cell))
+  any_reached uses array cell =
+      let z : Bool = is_in_reach k array cell in
+      any-map (has_use array cell) part (filter wanted uses)
+      ∙ (ap (λ (q : Use → Bool). list_any q (filter wanted uses)) (fun_ext (λ (u : Use). ap (λ (n : ℕ). (n == array) && is_in_reach k u.1.array cell) (same_array u) ∙ own u (u.1.array == array) refl))
+      ∙ (any-filter_same (λ (u : Use). (u.1.array == array) && z) wanted (chosen array) (λ u h. ap chosen (eqb-true u.1.array array (and_parts (u.1.array == array) z h).0)) uses
+      ∙ ap (λ (b : Bool). chosen array && b) (any-and (uses_array array) z uses)))
+    where
+      own : (u : Use) (b : Bool) → (u.1.array == array) ≡ b → ((u.1.array == array) && is_in_reach k u.1.array cell) ≡ ((u.1.array == array) && is_in_reach k array cell)
+      own u true e = ap (λ (a : ℕ). (u.1.array == array) && is_in_reach k a cell) (eqb-true u.1.array array e)
+      own u false e = rw e refl
 
-    apart : (us : List Use) → AreDistinct us → AreDistinct (map (λ (u : Use). (u.0, at_indices k u.1.array)) us)
-    apart us h i j d lt inside same =
-        let parts : Use → Use = λ u. (u.0, at_indices k u.1.array) in
-        let long : length (map parts us) ≡ length us = length-map us parts in
-        let there : j < length us = omega (arith, inside, long) in
-        h i j no_use lt there (sym (at us i d (omega (arith, lt, there))) ∙ (same ∙ at us j d there))
+-- the cells that are assigned, of an array that is read
+pub begun_has : (k : Loop) (uses : List Use) (place n : ℕ) → AreDistinct uses → place < length (written_uses k uses)
+    → is_used (read_uses k uses) (get_or (written_uses k uses) place no_use).1.array ≡ true → n < (get_or (written_uses k uses) place no_use).1.len
+    → uses_have (read_uses k uses) (get_or (written_uses k uses) place no_use).1.array (pos (get_or (written_uses k uses) place no_use).1.lo +ℤ pos n) ≡ true
+begun_has k uses place n distinct lt known below =
+    let r : Range = (get_or (written_uses k uses) place no_use).1 in
+    let cell : ℤ = pos r.lo +ℤ pos n in
+    let read : Bool = is_read k.statements r.array in
+    let assigned : Bool = is_assigned k.statements r.array in
+    let inside : Bool = is_used uses r.array && is_in_reach k r.array cell in
+    let has = use_has (written_uses k uses) place cell (distinct_reached (is_assigned k.statements) k uses distinct) lt (omega (arith, ints)) (omega (arith, ints, below)) in
+    has_any (read_uses k uses) r.array cell (distinct_reached (is_read k.statements) k uses distinct)
+    (any_reached (is_read k.statements) k uses r.array cell
+    ∙ and_from read inside (and_parts read (is_used uses r.array) (sym (used_reached (is_read k.statements) k uses r.array) ∙ known)).0
+    (and_parts assigned inside (sym (any_reached (is_assigned k.statements) k uses r.array cell) ∙ any_has (written_uses k uses) r.array cell has)).1)
 
 -- ## What a loop reaches
 
@@ -219,104 +229,110 @@ assigned_at_indices k array cell limits r assigned =
       | inr un ↦ (let never : ⊥ = let same = ap (is_assigned k.statements) r.same_array in cc in absurd never)
     ]
 
--- ## The cells of what is read and of what is assigned
+-- ## The cells of what a loop reaches
 
-pub read_has : (k : Loop) (uses : List Use) (array : ℕ) (cell : ℤ) → AreDistinct uses → is_read k.statements array ≡ true → uses_have uses array cell ≡ true → uses_have (read_uses k uses) array cell ≡ true
-read_has k uses array cell distinct read has =
-    has_any (read_uses k uses) array cell (distinct_read k uses distinct)
-    (any_read k uses array cell ∙ (ap (λ (b : Bool). b && list_any (has_use array cell) uses) read ∙ any_has uses array cell has))
+-- a cell that isn't before the least one that a loop reaches of its array, nor behind the greatest
+pub record IsInReach (k : Loop) (array : ℕ) (cell : ℤ) : Type 0 where
+  pub reach : Reach
+  pub ends : IsReach k array reach
+  pub low : reach.first ≤ℤ cell
+  pub high : cell ≤ℤ reach.last
 
-pub has_if_read : (k : Loop) (uses : List Use) (array : ℕ) (cell : ℤ) → AreDistinct uses → uses_have (read_uses k uses) array cell ≡ true → uses_have uses array cell ≡ true
-has_if_read k uses array cell distinct has =
-    has_any uses array cell distinct
-    (and_parts (is_read k.statements array) (list_any (has_use array cell) uses) (sym (any_read k uses array cell) ∙ any_has (read_uses k uses) array cell has)).1
+module _ (k : Loop) (uses : List Use) (reached : HoldReached k uses) where
+  -- no cell that is reached is below zero
+  not_below : (array : ℕ) (cell : ℤ) → Reaches k array cell → pos 0 ≤ℤ cell
+  not_below array cell r =
+      let low : pos (used_range uses array).lo ≤ℤ cell = (within (pos (used_range uses array).lo) (pos ((used_range uses array).lo + (used_range uses array).len)) cell (reached array cell r)).0 in
+      omega (arith, ints)
 
--- where an array is assigned, the loop's indices aren't below zero
-pub at_lo : (k : Loop) (uses : List Use) (array : ℕ) → HoldReached k uses → is_assigned k.statements array ≡ true → k.lo <ℤ k.hi
-    → (pos (at_indices k array).lo ≡ k.lo) × (k.lo +ℤ pos (at_indices k array).len ≡ k.hi)
-at_lo k uses array reached assigned some =
-    let has = reached array k.lo (reached_if_assigned k array k.lo assigned (omega (arith, ints)) some) in
-    let low : pos (used_range uses array).lo ≤ℤ k.lo = (within (pos (used_range uses array).lo) (pos ((used_range uses array).lo + (used_range uses array).len)) k.lo has).0 in
-    (first k.lo (omega (arith, ints)), last (k.hi -ℤ k.lo) refl)
-  where
-    first : (n : ℤ) → pos 0 ≤ℤ n → pos (unsigned_abs n) ≡ n
-    first (pos n) h = refl
-    first (negsuc n) h = absurd (omega (arith, ints))
+  above : (n : ℤ) → pos 0 ≤ℤ n → pos (unsigned_abs n) ≡ n
+  above (pos n) h = refl
+  above (negsuc n) h = absurd (omega (arith, ints))
 
-    under : int_lt k.lo k.hi ≡ true
-    under = grind (arith, ints)
+  -- the range of a reach begins and ends with it
+  spread : (array : ℕ) (r : Reach) → IsReach k array r → (pos (range_of array (Some r)).lo ≡ r.first) × (pos (range_of array (Some r)).lo +ℤ pos (range_of array (Some r)).len ≡ r.last +ℤ pos 1)
+  spread array r is =
+      let order : r.first ≤ℤ r.last = (is.between r.first is.first).1 in
+      let first : pos (unsigned_abs r.first) ≡ r.first = above r.first (not_below array r.first is.first) in
+      let count : pos (unsigned_abs ((r.last +ℤ pos 1) -ℤ r.first)) ≡ (r.last +ℤ pos 1) -ℤ r.first = above ((r.last +ℤ pos 1) -ℤ r.first) (omega (arith, ints)) in
+      (first, omega (arith, ints))
 
-    last : (d : ℤ) → k.hi -ℤ k.lo ≡ d → k.lo +ℤ pos (if int_lt k.lo k.hi then unsigned_abs (k.hi -ℤ k.lo) else 0) ≡ k.hi
-    last (pos n) e =
-        let far : (if int_lt k.lo k.hi then unsigned_abs (k.hi -ℤ k.lo) else 0) ≡ n = ap (λ (b : Bool). if b then unsigned_abs (k.hi -ℤ k.lo) else 0) under ∙ ap unsigned_abs e in
-        omega (arith, ints)
-    last (negsuc n) e = absurd (omega (arith, ints))
+  among : (array : ℕ) (cell : ℤ) (o : Option Reach) → Tells k array o → Reaches k array cell → is_among (pos (range_of array o).lo) (range_of array o).len cell ≡ true
+  among array cell None none r = absurd (none cell r)
+  among array cell (Some s) is r =
+      let ends = spread array s is in
+      let inside = is.between cell r in
+      among_in (pos (range_of array (Some s)).lo) cell (range_of array (Some s)).len (omega (arith, ints, ends, inside)) (omega (arith, ints, ends, inside))
 
--- the cells of what is assigned are those of the arrays that are assigned, at the loop's indices
-pub written_has : (k : Loop) (uses : List Use) (array : ℕ) (cell : ℤ) → AreDistinct uses → HoldReached k uses → is_assigned k.statements array ≡ true → k.lo ≤ℤ cell → cell <ℤ k.hi
-    → uses_have (written_uses k uses) array cell ≡ true
-written_has k uses array cell distinct reached assigned from to =
-    let ends = at_lo k uses array reached assigned (omega (arith, ints)) in
-    let first : pos (at_indices k array).lo ≡ k.lo = ends.0 in
-    let last : k.lo +ℤ pos (at_indices k array).len ≡ k.hi = ends.1 in
-    let among : is_among (pos (at_indices k array).lo) (at_indices k array).len cell ≡ true =
-    among_in (pos (at_indices k array).lo) cell (at_indices k array).len (omega (arith, ints)) (omega (arith, ints)) in
-    let here : is_used uses array ≡ true = used_if_has uses array cell (reached array cell (reached_if_assigned k array cell assigned from to)) in
-    has_any (written_uses k uses) array cell (distinct_written k uses distinct)
-    (any_written k uses array cell ∙ and_from (is_assigned k.statements array) (is_used uses array && is_among (pos (at_indices k array).lo) (at_indices k array).len cell) assigned
-    (and_from (is_used uses array) (is_among (pos (at_indices k array).lo) (at_indices k array).len cell) here among))
+  inside : (array : ℕ) (cell : ℤ) (o : Option Reach) → Tells k array o → is_among (pos (range_of array o).lo) (range_of array o).len cell ≡ true → IsInReach k array cell
+  inside array cell None none h = let w = within (pos 0) (pos 0 +ℤ pos 0) cell h in absurd (omega (arith, ints, w))
+  inside array cell (Some s) is h =
+      let ends = spread array s is in
+      let w = within (pos (range_of array (Some s)).lo) (pos (range_of array (Some s)).lo +ℤ pos (range_of array (Some s)).len) cell h in
+      record { reach = s; ends = is; low = omega (arith, ints, ends, w); high = omega (arith, ints, ends, w) }
 
-pub assigned_if_written : (k : Loop) (uses : List Use) (array : ℕ) (cell : ℤ) → HoldReached k uses → list_any (has_use array cell) (written_uses k uses) ≡ true
+  -- the uses have it
+  has_in_reach : (array : ℕ) (cell : ℤ) → IsInReach k array cell → uses_have uses array cell ≡ true
+  has_in_reach array cell at =
+      has_between uses array at.reach.first at.reach.last cell (reached array at.reach.first at.ends.first) (reached array at.reach.last at.ends.last) at.low at.high
+
+  -- a use includes what the loop reaches of its array
+  pub use_includes : (place : ℕ) → AreDistinct uses → place < length uses
+      → Includes (get_or uses place no_use).1 (range_of (get_or uses place no_use).1.array (reach_of k (get_or uses place no_use).1.array))
+  use_includes place distinct lt array cell is =
+      let u : Range = (get_or uses place no_use).1 in
+      let r : Range = range_of u.array (reach_of k u.array) in
+      let among : is_among (pos r.lo) r.len (pos cell) ≡ true = among_in (pos r.lo) (pos cell) r.len (omega (arith, ints, is)) (omega (arith, ints, is)) in
+      let has = has_in_reach u.array (pos cell) (inside u.array (pos cell) (reach_of k u.array) (reach_tells k u.array) among) in
+      let there = subst (λ (p : ℕ). (int_le (pos (get_or uses p no_use).1.lo) (pos cell) && int_lt (pos cell) (pos ((get_or uses p no_use).1.lo + (get_or uses p no_use).1.len))) ≡ true) (its_place uses place distinct lt) has in
+      let ends = within (pos u.lo) (pos (u.lo + u.len)) (pos cell) there in
+      (is.0 ∙ range_array u.array (reach_of k u.array), omega (arith, ints, ends), omega (arith, ints, ends))
+
+module _ (chosen : ℕ → Bool) (k : Loop) (uses : List Use) (reached : HoldReached k uses) where
+  -- the cells that the loop reaches of the arrays are there
+  pub reached_has : (array : ℕ) (cell : ℤ) → AreDistinct uses → chosen array ≡ true → Reaches k array cell → uses_have (reached_uses chosen k uses) array cell ≡ true
+  reached_has array cell distinct is r =
+      has_any (reached_uses chosen k uses) array cell (distinct_reached chosen k uses distinct)
+      (any_reached chosen k uses array cell
+      ∙ and_from (chosen array) (is_used uses array && is_in_reach k array cell) is
+      (and_from (is_used uses array) (is_in_reach k array cell) (used_if_has uses array cell (reached array cell r)) (among k uses reached array cell (reach_of k array) (reach_tells k array) r)))
+
+  -- and no others but those between them
+  pub chosen_in_reach : (array : ℕ) (cell : ℤ) → uses_have (reached_uses chosen k uses) array cell ≡ true → (chosen array ≡ true) × IsInReach k array cell
+  chosen_in_reach array cell has =
+      let parts = and_parts (chosen array) (is_used uses array && is_in_reach k array cell) (sym (any_reached chosen k uses array cell) ∙ any_has (reached_uses chosen k uses) array cell has) in
+      (parts.0, inside k uses reached array cell (reach_of k array) (reach_tells k array) (and_parts (is_used uses array) (is_in_reach k array cell) parts.1).1)
+
+  -- which the uses have
+  pub has_if_reached : (array : ℕ) (cell : ℤ) → uses_have (reached_uses chosen k uses) array cell ≡ true → uses_have uses array cell ≡ true
+  has_if_reached array cell has = has_in_reach k uses reached array cell (chosen_in_reach array cell has).1
+
+-- what is assigned are the cells at the loop's indices of the arrays that it assigns
+pub assigned_if_written : (k : Loop) (uses : List Use) (array : ℕ) (cell : ℤ) → IsLoopWithinLimits k → HoldReached k uses → uses_have (written_uses k uses) array cell ≡ true
     → (is_assigned k.statements array ≡ true) × (k.lo ≤ℤ cell) × (cell <ℤ k.hi)
-assigned_if_written k uses array cell reached any =
-    let parts = and_parts (is_assigned k.statements array) (is_used uses array && is_among (pos (at_indices k array).lo) (at_indices k array).len cell) (sym (any_written k uses array cell) ∙ any) in
-    let more = and_parts (is_used uses array) (is_among (pos (at_indices k array).lo) (at_indices k array).len cell) parts.1 in
-    let inside = within (pos (at_indices k array).lo) (pos (at_indices k array).lo +ℤ pos (at_indices k array).len) cell more.1 in
-    let low : pos (at_indices k array).lo ≤ℤ cell = inside.0 in
-    let high : cell <ℤ (pos (at_indices k array).lo +ℤ pos (at_indices k array).len) = inside.1 in
-    let some : k.lo <ℤ k.hi = some_turn (int_lt k.lo k.hi) refl low high in
-    let ends = at_lo k uses array reached parts.0 some in
-    let first : pos (at_indices k array).lo ≡ k.lo = ends.0 in
-    let last : k.lo +ℤ pos (at_indices k array).len ≡ k.hi = ends.1 in
-    (parts.0, omega (arith, ints), omega (arith, ints))
-  where
-    some_turn : (b : Bool) → int_lt k.lo k.hi ≡ b → pos (at_indices k array).lo ≤ℤ cell → cell <ℤ (pos (at_indices k array).lo +ℤ pos (at_indices k array).len) → k.lo <ℤ k.hi
-    some_turn true e low high = grind (arith, ints)
-    some_turn false e low high =
-        let none : (at_indices k array).len ≡ 0 = ap (λ (b : Bool). if b then unsigned_abs (k.hi -ℤ k.lo) else 0) e in
-        absurd (omega (arith, ints))
-
-pub has_if_written : (k : Loop) (uses : List Use) (array : ℕ) (cell : ℤ) → HoldReached k uses → uses_have (written_uses k uses) array cell ≡ true → uses_have uses array cell ≡ true
-has_if_written k uses array cell reached has =
-    let at = assigned_if_written k uses array cell reached (any_has (written_uses k uses) array cell has) in
-    reached array cell (reached_if_assigned k array cell at.0 at.1 at.2)
-
--- the cells that are assigned, of an array that is read
-pub begun_has : (k : Loop) (uses : List Use) (place n : ℕ) → AreDistinct uses → HoldReached k uses → place < length (written_uses k uses)
-    → is_used (read_uses k uses) (get_or (written_uses k uses) place no_use).1.array ≡ true → n < (get_or (written_uses k uses) place no_use).1.len
-    → uses_have (read_uses k uses) (get_or (written_uses k uses) place no_use).1.array (pos (get_or (written_uses k uses) place no_use).1.lo +ℤ pos n) ≡ true
-begun_has k uses place n distinct reached lt known below =
-    let r : Range = (get_or (written_uses k uses) place no_use).1 in
-    let has = use_has (written_uses k uses) place (pos r.lo +ℤ pos n) (distinct_written k uses distinct) lt (omega (arith, ints)) (omega (arith, ints, below)) in
-    read_has k uses r.array (pos r.lo +ℤ pos n) distinct (and_parts (is_read k.statements r.array) (is_used uses r.array) (sym (used_read k uses r.array) ∙ known)).0
-    (has_if_written k uses r.array (pos r.lo +ℤ pos n) reached has)
+assigned_if_written k uses array cell limits reached has =
+    let at = chosen_in_reach (is_assigned k.statements) k uses reached array cell has in
+    let first = (assigned_at_indices k array at.1.reach.first limits at.1.ends.first at.0).0 in
+    let last = (assigned_at_indices k array at.1.reach.last limits at.1.ends.last at.0).1 in
+    let low : at.1.reach.first ≤ℤ cell = at.1.low in
+    let high : cell ≤ℤ at.1.reach.last = at.1.high in
+    (at.0, omega (arith, ints), omega (arith, ints))
 
 -- a job has all cells that its loop reaches, among its outputs or its inputs
-pub either_has : (k : Loop) (uses : List Use) → IsLoopWithinLimits k → AreDistinct uses → HoldReached k uses → (array : ℕ) (cell : ℤ) → Reaches k array cell
+pub either_has : (k : Loop) (uses : List Use) → AreDistinct uses → HoldReached k uses → (array : ℕ) (cell : ℤ) → Reaches k array cell
     → (if is_used (written_uses k uses) array then uses_have (written_uses k uses) array cell else uses_have (read_uses k uses) array cell) ≡ true
-either_has k uses limits distinct reached array cell r = by (is_assigned k.statements array) refl
+either_has k uses distinct reached array cell r = by (is_assigned k.statements array) refl
   where
-    has : uses_have uses array cell ≡ true
-    has = reached array cell r
-
     written : is_used (written_uses k uses) array ≡ is_assigned k.statements array
-    written = used_written k uses array ∙ (ap (λ (b : Bool). is_assigned k.statements array && b) (used_if_has uses array cell has) ∙ and_true (is_assigned k.statements array))
+    written =
+        used_reached (is_assigned k.statements) k uses array
+        ∙ (ap (λ (b : Bool). is_assigned k.statements array && b) (used_if_has uses array cell (reached array cell r)) ∙ and_true (is_assigned k.statements array))
 
     by : (b : Bool) → is_assigned k.statements array ≡ b
         → (if is_used (written_uses k uses) array then uses_have (written_uses k uses) array cell else uses_have (read_uses k uses) array cell) ≡ true
     by true e =
-        let at = assigned_at_indices k array cell limits r e in
-        ap (λ (b : Bool). if b then uses_have (written_uses k uses) array cell else uses_have (read_uses k uses) array cell) (written ∙ e) ∙ written_has k uses array cell distinct reached e at.0 at.1
+        ap (λ (b : Bool). if b then uses_have (written_uses k uses) array cell else uses_have (read_uses k uses) array cell) (written ∙ e)
+        ∙ reached_has (is_assigned k.statements) k uses reached array cell distinct e r
     by false e =
         ap (λ (b : Bool). if b then uses_have (written_uses k uses) array cell else uses_have (read_uses k uses) array cell) (written ∙ e)
-        ∙ read_has k uses array cell distinct (read_if_reached k array cell r e) has
+        ∙ reached_has (is_read k.statements) k uses reached array cell distinct (read_if_reached k array cell r e) r

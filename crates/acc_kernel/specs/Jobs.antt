@@ -1,11 +1,12 @@
 -- A loop with the cells that it uses: the values before it, and those that it gives.
-use Rattle.std.specs.Prelude.{◌≡◌, ◌≢◌, ℕ, ℤ, ◌+◌, ◌<◌, ◌+ℤ◌, ◌-ℤ◌, pos, not, ◌==◌, ◌&&◌, int_le, int_lt, unsigned_abs, Bool, IsTrue, List, [], ◌∷◌, filter, length, map, replicate, slice_index_or, if◌then◌else◌}
+use Rattle.std.specs.Prelude.{◌≡◌, ◌≢◌, ℕ, ℤ, ◌+◌, ◌<◌, ◌+ℤ◌, ◌-ℤ◌, pos, not, ◌==◌, ◌&&◌, int_le, int_lt, unsigned_abs, Bool, IsTrue, List, [], ◌∷◌, filter, length, map, replicate, slice_index_or, Option, Some, None}
 use Rattle.std.specs.List.{AllPairs, list_any, position_or_len, range_with_len}
 use Rattle.acc_base.specs.declared.range.Range.{Range}
 use Rattle.acc_kernel.specs.declared.assign.Assign.{Assign}
+use Rattle.acc_kernel.specs.declared.reach.Reach.{Reach}
 use Rattle.acc_kernel.specs.Cells.{value_in, with_cells}
 use Rattle.acc_kernel.specs.Faults.{is_assigned}
-use Rattle.acc_kernel.specs.Kernels.{Loop, Reaches, value_after}
+use Rattle.acc_kernel.specs.Kernels.{Loop, Reaches, reach_of, value_after}
 use Rattle.acc_kernel.specs.Trees.{Reference, references_of}
 
 -- a use: the block that has the cells of a range
@@ -58,21 +59,24 @@ pub record AreRows (uses : List Use) (rows : List (List ℤ)) : Type 0 where
 abbrev pub is_read : List Assign → ℕ → Bool
 is_read statements array = list_any (λ s. list_any (λ (r : Reference). r.array == array) (references_of s.value)) statements
 
--- the uses of the arrays that a loop reads
+-- the cells of an array from the first to the last of a reach, or none
+abbrev pub range_of : ℕ → Option Reach → Range
+range_of array None = record { array = array; lo = 0; len = 0 }
+range_of array (Some r) = record { array = array; lo = unsigned_abs r.first; len = unsigned_abs ((r.last +ℤ pos 1) -ℤ r.first) }
+
+-- of the uses of the arrays that are chosen, the cells that a loop reaches, from the least to the greatest
+abbrev pub reached_uses : (ℕ → Bool) → Loop → List Use → List Use
+reached_uses chosen k uses = map (λ u. (u.0, range_of u.1.array (reach_of k u.1.array))) (filter (λ u. chosen u.1.array) uses)
+
+-- what a loop reads of its uses, and what it assigns of them: an array that it assigns is reached at the indices alone
 abbrev pub read_uses : Loop → List Use → List Use
-read_uses k uses = filter (λ u. is_read k.statements u.1.array) uses
+read_uses k = reached_uses (is_read k.statements) k
 
--- an array's cells at the indices of a loop
-abbrev pub at_indices : Loop → ℕ → Range
-at_indices k array =
-    record { array = array; lo = unsigned_abs k.lo; len = if int_lt k.lo k.hi then unsigned_abs (k.hi -ℤ k.lo) else 0 }
-
--- what a loop assigns of its uses: of each array that it assigns, the cells at its indices
 abbrev pub written_uses : Loop → List Use → List Use
-written_uses k uses = map (λ u. (u.0, at_indices k u.1.array)) (filter (λ u. is_assigned k.statements u.1.array) uses)
+written_uses k = reached_uses (is_assigned k.statements) k
 
--- A loop with the cells that it uses: the inputs are the values, before it, of the arrays that it reads; the outputs are those
--- that it assigns.
+-- A loop with the cells that it uses: the inputs are the values, before it, of the cells that it reads; the outputs are those that
+-- it assigns.
 pub record Computation : Type 0 where
   pub kernel : Loop
   pub uses : List Use

@@ -14,7 +14,7 @@ use acc_base::{BlockId, Fault, Listed, Range, Shared};
 use std::alloc::Global;
 use std::marker::Model;
 
-/// A loop with room for the inputs, which are the values, before it, of the arrays that it reads, and for the outputs, which are
+/// A loop with room for the inputs, which are the values, before it, of the cells that it reads, and for the outputs, which are
 /// those that it assigns.
 #[derive(Drop)]
 pub struct Job {
@@ -124,7 +124,8 @@ impl Job {
         self.uses.get().as_slice()
     }
 
-    /// The uses of which it has inputs, those of the arrays that the loop reads.
+    /// The uses of which it has inputs: of the arrays that the loop reads the cells that it reaches, from the least to the
+    /// greatest.
     pub fn read_uses(&self) -> &[(BlockId, Range)]
         ensures { result.now ≡ read_uses self.now.kernel self.now.uses }
     {
@@ -200,6 +201,7 @@ impl Job {
         ensures cells { W.cells window.new ≡ value_after self.now.kernel (W.cells window.old) }
     {
         self.keeps();
+        self.kernel.get().keeps();
         if self.same(window) {
             self.store(window);
         } else {
@@ -226,7 +228,7 @@ impl Job {
     }
 }
 
-// The uses of the arrays that a loop reads.
+// Of the arrays that a loop reads the cells that it reaches.
 fn read_uses(
     alloc: Global,
     kernel: &Kernel,
@@ -238,7 +240,7 @@ fn read_uses(
     let mut read = Vec::new(alloc);
     for (block, range) in uses {
         if kernel.reads(range.array) {
-            read.push((*block, *range))?;
+            read.push((*block, kernel.reached(range.array)))?;
         }
     }
     Ok(read)
@@ -256,7 +258,7 @@ fn written_uses(
     let mut written = Vec::new(alloc);
     for (block, range) in uses {
         if kernel.assigns(range.array) {
-            written.push((*block, kernel.at_indices(range.array)))?;
+            written.push((*block, kernel.reached(range.array)))?;
         }
     }
     Ok(written)

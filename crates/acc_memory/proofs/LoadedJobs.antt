@@ -1,15 +1,16 @@
--- A job whose inputs are made the values of the blocks that it uses, use by use.
-use Rattle.std.proofs.Common.{inl, inr, ◌≡◌, ℕ, ◌+◌, ◌-◌, ◌<◌, ◌≤◌, true, List, [], length, get_or, set, map, refl, sym, ap, subst, ◌∙◌, arith}
-use Rattle.std.specs.Prelude.{ℤ, pos, slice_get}
+-- A job whose inputs are made the values of what it reads of the blocks that it uses, use by use.
+use Rattle.std.proofs.Common.{inl, inr, ◌≡◌, ℕ, ◌+◌, ◌-◌, ◌<◌, ◌≤◌, Bool, true, List, [], length, get_or, set, map, refl, sym, ap, subst, ◌∙◌, arith}
+use Rattle.std.specs.Prelude.{ℤ, pos, filter, slice_get}
 use Rattle.std.specs.List.{All, slice_range}
 use Rattle.std.proofs.lemmas.Bool.{cases_lt}
 use Rattle.std.proofs.lemmas.List.{ext_get_or, get_or-set_other, get_or-set_same, get_or_default, length-set}
-use Rattle.std.proofs.lemmas.List.Elements.{All-filter}
+use Rattle.std.proofs.lemmas.List.Elements.{All-filter, All-map}
 use Rattle.std.proofs.lemmas.List.FromFn.{get_or-map-range_with_len, length-map-range_with_len}
 use Rattle.acc_base.specs.declared.range.Range.{Range}
-use Rattle.acc_kernel.specs.Jobs.{Computation, Use, AreDistinct, no_use, is_read, read_uses, shown, values_shown}
-use Rattle.acc_kernel.specs.Kernels.{Loop}
+use Rattle.acc_kernel.specs.Jobs.{Computation, Use, AreDistinct, HoldReached, no_use, is_read, range_of, read_uses, shown, values_shown}
+use Rattle.acc_kernel.specs.Kernels.{Loop, reach_of}
 use Rattle.acc_kernel.proofs.CellIn.{its_place}
+use Rattle.acc_kernel.proofs.ReadAndWritten.{range_array, use_includes}
 use Rattle.acc_kernel.proofs.ShownRows.{part_at, rows_shown}
 use Rattle.acc_kernel.proofs.SplicedRow.{length_range}
 use Rattle.acc_memory.specs.Memories.{Row, HasRange, HasRanges, ShowsRows, made_of, row_cell}
@@ -36,24 +37,37 @@ range_shown device rows n r x was h size shows =
     ∙ (ap (λ o. row_cell o (r.lo + k)) (sym h.found)
     ∙ (shows n (r.lo + k) (rw h.found inside) ∙ sym (get_or-map-range_with_len (λ i. was (Block_cell device n i)) r.lo r.len k (r.lo + k) (pos 0) low refl))))))
 
--- a use of a job: its block has its range, and no other block is used for the array
+-- a use of a job, or a part of one: its block has its range, and no other block is used for the array
 pub record IsOwn (rows : List Row) (uses : List Use) (u : Use) : Type 0 where
   pub held : HasRange (map made_of rows) u.0 u.1
   pub block : block_of uses u.1.array ≡ u.0
 
--- so is each use that the loop reads
-pub read_own : (rows : List Row) (k : Loop) (uses : List Use) (place : ℕ) (u : Use) → HasRanges (map made_of rows) uses → AreDistinct uses → place < length (read_uses k uses) → u ≡ get_or (read_uses k uses) place u
-    → IsOwn rows uses u
-read_own rows k uses place u held distinct low at =
-    subst (IsOwn rows uses) (sym at) (All-filter (λ u. is_read k.statements u.1.array) (IsOwn rows uses) uses all place u low)
+-- so is what the loop reads of each use
+pub read_own : (rows : List Row) (k : Loop) (uses : List Use) (place : ℕ) (u : Use) → HasRanges (map made_of rows) uses → AreDistinct uses → HoldReached k uses
+    → place < length (read_uses k uses) → u ≡ get_or (read_uses k uses) place u → IsOwn rows uses u
+read_own rows k uses place u held distinct reached low at =
+    subst (IsOwn rows uses) (sym at)
+    (All-map (IsOwn rows uses) part (filter wanted uses) (All-filter wanted (λ v. IsOwn rows uses (part v)) uses all) place u low)
   where
-    all : All (IsOwn rows uses) uses
-    all j d inside = record {
-      held = held j d inside;
-      block =
-          subst (λ (u : Use). block_of uses u.1.array ≡ u.0) (get_or_default uses j no_use d inside)
-          (ap (λ p. (get_or uses p no_use).0) (its_place uses j distinct inside));
-    }
+    wanted : Use → Bool
+    wanted v = is_read k.statements v.1.array
+
+    part : Use → Use
+    part v = (v.0, range_of v.1.array (reach_of k v.1.array))
+
+    own : (j : ℕ) → j < length uses → IsOwn rows uses (part (get_or uses j no_use))
+    own j inside =
+        let v : Use = get_or uses j no_use in
+        let whole = held j no_use inside in
+        record {
+          held = record { whole_range = whole.whole_range; held = whole.held; inside = λ array cell is. whole.inside array cell (use_includes k uses reached j distinct inside array cell is) };
+          block =
+              ap (block_of uses) (range_array v.1.array (reach_of k v.1.array))
+              ∙ ap (λ p. (get_or uses p no_use).0) (its_place uses j distinct inside);
+        }
+
+    all : All (λ v. IsOwn rows uses (part v)) uses
+    all j d inside = subst (λ (v : Use). IsOwn rows uses (part v)) (get_or_default uses j no_use d inside) (own j inside)
 
 -- so many inputs are set
 pub record IsLoading (rows : List Row) (old new : Computation) (count : ℕ) : Type 0 where

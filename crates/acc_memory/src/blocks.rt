@@ -143,7 +143,7 @@ impl Blocks {
         self.buckets.remove(block.number());
     }
 
-    /// Makes a job's inputs the values of the blocks that it uses. Takes no memory.
+    /// Makes a job's inputs the values of what it reads of the blocks that it uses. Takes no memory.
     pub(crate) fn load(&self, job: &mut Job)
         requires { HasRanges (map made_of self.now) job.old.uses }
         ensures { (device : ℕ) (was : Cell → ℤ) → ShowsRows device self.now was

@@ -102,7 +102,7 @@ impl Memory {
         }
     }
 
-    /// Makes a job's inputs the values of the cells that it uses on a device, which are there, by `finds_blocks`. Takes
+    /// Makes a job's inputs the values of the cells that it reads on a device; what it uses is there, by `finds_blocks`. Takes
     /// no memory.
     pub fn load(&self, device: DeviceId, job: &mut Job)
         requires device { device < length self.now.devices }

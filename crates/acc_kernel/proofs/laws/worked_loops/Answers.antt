@@ -16,6 +16,9 @@ returns-clause-both_parts c = refl
 pub returns-clause-nothing : goal.returns-clause-nothing
 returns-clause-nothing c = refl
 
+pub returns-clause-uses : goal.returns-clause-uses
+returns-clause-uses c = (refl, refl, refl)
+
 pub returns-clause-arrays : goal.returns-clause-arrays
 returns-clause-arrays c = refl
 

@@ -7,7 +7,7 @@ use Rattle.acc_kernel.proofs.job.Job.commit.Goals as goal
 pub run-requires : goal.run-requires
 run-requires g c = record {
   has = λ array cell reached.
-      let here = subst (λ (k : Loop). Reaches k array cell) (c.get.ensures ∙ ap (λ j. j.kernel) c.self.view_is) reached in
+      let here = subst (λ (k : Loop). Reaches k array cell) (c.get-else-same.ensures ∙ ap (λ j. j.kernel) c.self.view_is) reached in
       c.requires.has array cell (c.keeps.ensures.reached array cell here);
 }
 
@@ -17,4 +17,4 @@ returns-then-same-clause-cells g c =
     let cells = g.W.Window.cells c.args.window.now in
     c.store.ensures.cells
     ∙ (ap (λ rows. stored (written_uses job.kernel job.uses) rows cells) c.requires.computed
-    ∙ commits job.kernel job.uses job.inputs cells c.keeps.ensures.distinct c.keeps.ensures.reached (c.same.ensures.0 c.if-same.true))
+    ∙ commits job.kernel job.uses job.inputs cells (rw (c.get.ensures ∙ ap (λ j. j.kernel) c.self.view_is) at c.keeps-2.ensures.limits) c.keeps.ensures.distinct c.keeps.ensures.reached (c.same.ensures.0 c.if-same.true))

@@ -1,27 +1,22 @@
-use Rattle.std.proofs.Common.{◌≡◌, ℕ, ◌<◌, List, true, length, get_or, ◌∙◌, ap, sym, subst}
-use Rattle.std.specs.Prelude.{ℤ, pos, ◌+ℤ◌}
-use Rattle.acc_kernel.specs.Faults.{IsLoopWithinLimits}
-use Rattle.acc_kernel.specs.Jobs.{Use, Computation, AreRows, no_use, computed, uses_have, is_used, read_uses, written_uses}
-use Rattle.acc_kernel.specs.Kernels.{Loop, Reaches, value_after}
-use Rattle.acc_kernel.specs.inner.JobViews.{cell_in_either}
+use Rattle.std.proofs.Common.{◌≡◌, List, ◌∙◌, ap, sym, subst}
+use Rattle.std.specs.Prelude.{ℤ}
+use Rattle.acc_kernel.specs.Jobs.{Use, Computation, AreRows, computed}
 use Rattle.acc_kernel.proofs.JobValues.{computes}
 use Rattle.acc_kernel.proofs.ReadAndWritten.{begun_has, either_has}
-use Rattle.acc_kernel.proofs.ValueAfter.{CellsOf}
 use Rattle.acc_kernel.proofs.job.Job.compute.Goals as goal
 
 pub start-requires : goal.start-requires
 start-requires c =
     let k = c.self.inside.kernel in
     let uses = c.self.inside.uses in
-    rw (c.self.invariant.2, c.self.invariant.3) (record { has = λ place lt known n below. begun_has k uses place n c.self.invariant.0 c.self.invariant.1 lt known below })
+    rw (c.self.invariant.2, c.self.invariant.3) (record { has = λ place lt known n below. begun_has k uses place n c.self.invariant.0 lt known below })
 
 pub run-requires : goal.run-requires
 run-requires c =
     let k = c.self.inside.kernel in
     let uses = c.self.inside.uses in
-    let limits = rw c.get.ensures at c.keeps-2.ensures.limits in
     rw (c.get-2.ensures, c.start.ensures.inputs, c.start.ensures.uses, c.self.invariant.2, c.self.invariant.3)
-    (record { has = either_has k uses limits c.self.invariant.0 c.self.invariant.1 })
+    (record { has = either_has k uses c.self.invariant.0 c.self.invariant.1 })
 
 pub returns : goal.returns
 returns c =

@@ -1,18 +1,18 @@
-use Rattle.std.proofs.Common.{◌≡◌, List, ap, ◌∙◌, sym, subst, rules}
-use Rattle.acc_kernel.specs.Jobs.{Use, AreDistinct, HoldReached, read_uses, written_uses}
-use Rattle.acc_kernel.specs.Kernels.{Loop}
-use Rattle.acc_kernel.proofs.ReadAndWritten.{distinct_read, distinct_written}
+use Rattle.std.proofs.Common.{◌≡◌, sym, subst, rules}
+use Rattle.acc_kernel.specs.Faults.{is_assigned}
+use Rattle.acc_kernel.specs.Jobs.{AreDistinct, is_read, read_uses, written_uses}
+use Rattle.acc_kernel.proofs.ReadAndWritten.{distinct_reached}
 use Rattle.acc_kernel.proofs.job.Job.renewed.Goals as goal
 
 pub renewed-requires : goal.renewed-requires
 renewed-requires c =
     let read : c.in_ok-read_uses.field-0.items ≡ read_uses c.args.kernel.now c.args.uses.now = search rules in
-    record { distinct = subst AreDistinct (sym read) (distinct_read c.args.kernel.now c.args.uses.now c.requires.distinct) }
+    record { distinct = subst AreDistinct (sym read) (distinct_reached (is_read c.args.kernel.now.statements) c.args.kernel.now c.args.uses.now c.requires.distinct) }
 
 pub renewed-requires-2 : goal.renewed-requires-2
 renewed-requires-2 c =
     let written : c.in_ok-written_uses.field-0.items ≡ written_uses c.args.kernel.now c.args.uses.now = search rules in
-    record { distinct = subst AreDistinct (sym written) (distinct_written c.args.kernel.now c.args.uses.now c.requires.distinct) }
+    record { distinct = subst AreDistinct (sym written) (distinct_reached (is_assigned c.args.kernel.now.statements) c.args.kernel.now c.args.uses.now c.requires.distinct) }
 
 pub invariant_of-result : goal.invariant_of-result
 invariant_of-result c =
