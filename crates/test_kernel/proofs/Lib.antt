@@ -1,2 +1,1 @@
-pub mod Singles
-pub mod Several
+pub mod Lines

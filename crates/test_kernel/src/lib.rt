@@ -12,6 +12,8 @@ mod computed;
 #[cfg(test)]
 mod faults;
 #[cfg(test)]
+mod inputs;
+#[cfg(test)]
 mod memory;
 #[cfg(test)]
 mod window;
