@@ -229,8 +229,12 @@ impl Place {
         self.trial.plan(self.alloc, &known, host, items_done, directive, with_batch)
     }
 
-    // The queue of a host's directive, if closing hasn't begun and its device is there.
-    fn queue_for(&self, host: HostId, directive: &Directive) -> Result<QueueAt, Fault>
+    /// The queue of a host's directive, if closing hasn't begun and its device is there.
+    ///
+    /// # Errors
+    ///
+    /// The directive's fault, where that is `Closed` or `BadDevice`.
+    pub fn queue_for(&self, host: HostId, directive: &Directive) -> Result<QueueAt, Fault>
         ensures refused { IfErr result (λ fault.
             refusal self.now.config (standing_in self.now) host directive.now ≡ Some fault) }
         ensures early { OnOk result ((standing_in self.now).closing ≡ false) }

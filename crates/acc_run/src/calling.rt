@@ -7,7 +7,6 @@ ghost use Rattle.acc_run.specs.Calling.{IsNotFull, Went};
 ghost use Rattle.acc_run.specs.Running.{CameBack};
 ghost use Rattle.acc_run.specs.declared.token.TokenEntry.TheVariants as listed;
 
-use crate::pause::Pause;
 use crate::runtime::Runtime;
 use crate::token::HostToken;
 use acc_base::{DeviceId, Fault, HostId, QueueCounts};
@@ -74,7 +73,7 @@ impl<'a, R: Wait> Engine for Calling<'a, R> {
     }
 }
 
-// Places a directive, again and again while its queue is full.
+// Places a directive: once more where its queue is full, and then each time that the queue has taken a batch.
 fn place_again<R: Wait>(
     runtime: &Runtime,
     rt: &R,
@@ -87,10 +86,12 @@ fn place_again<R: Wait>(
     ensures refused { OnErr result (token.new.entries ≡ token.old.entries) }
     ensures again { IfErr result IsNotFull }
 {
-    let mut pause = Pause::new();
+    let mut heard = None;
     for _ in rt.forever() {
         match runtime.place(rt, token, directive) {
-            Err(Fault::QueueFull) => pause.wait(rt),
+            Err(Fault::QueueFull) => {
+                heard = runtime.await_room(rt, token.host(), directive, heard);
+            }
             answer => return answer,
         }
     }

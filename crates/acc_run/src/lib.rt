@@ -5,6 +5,7 @@ mod abandon;
 mod agreement;
 mod calling;
 mod ends;
+mod event_count;
 mod finish;
 mod gate;
 mod hosts;

@@ -4,6 +4,7 @@ ghost use Rattle.std.specs.Prelude.{◌≡◌, ◌≤◌};
 ghost use Rattle.acc_base.specs.Faults.{OnlyMemory};
 ghost use Rattle.acc_run.specs.declared.pause.TheConstants.{LONGEST_SLEEP, SHORTEST_SLEEP};
 
+use crate::event_count::LONGEST_REST;
 use acc_base::{Config, Fault};
 use crossbeam_utils::Backoff;
 use std::alloc::Global;
@@ -18,14 +19,18 @@ pub(crate) const SHORTEST_SLEEP: u64 = 16;
 /// The longest sleep, in microseconds: a millisecond.
 pub(crate) const LONGEST_SLEEP: u64 = 1_000;
 
-/// How long a thread sleeps that is woken where there is something for it, in microseconds.
-pub(crate) const LONGEST_REST: u64 = 50_000;
+// How often a thread spins before it sleeps, each time longer, some ten microseconds in all.
+const SPINS: u32 = 20;
 
-/// Pauses between looks in vain, each with a limit: the thread spins, then yields its processor, then sleeps, each time longer. A contract
-/// sees for how many microseconds it sleeps next.
+/// Pauses between looks in vain, each with a limit: the thread spins, then sleeps, each time longer. A contract sees for how many
+/// microseconds it sleeps next.
 #[derive(Drop)]
 pub(crate) struct Pause {
     backoff: Backoff,
+    // how often it has spun
+    spins: u32,
+    // whether it has rested
+    rested: bool,
     // nothing unparks it
     parker: Parker,
     sleep: u64,
@@ -49,6 +54,8 @@ impl Pause {
     {
         Pause {
             backoff: Backoff::new(),
+            spins: 0,
+            rested: false,
             parker: Parker::new(),
             sleep: SHORTEST_SLEEP,
         }
@@ -59,6 +66,8 @@ impl Pause {
         ensures { self.new ≡ SHORTEST_SLEEP }
     {
         self.backoff.reset();
+        self.spins = 0;
+        self.rested = false;
         self.sleep = SHORTEST_SLEEP;
     }
 
@@ -66,8 +75,7 @@ impl Pause {
     pub(crate) fn wait<R: Wait>(&mut self, rt: &R)
         ensures { self.new ≤ LONGEST_SLEEP }
     {
-        if !self.backoff.is_completed() {
-            self.backoff.snooze();
+        if self.spun() {
             return;
         }
         self.parker
@@ -79,11 +87,29 @@ impl Pause {
     pub(crate) fn rest<R: Wait>(&mut self, rt: &R, parker: &Parker)
         ensures { self.new ≡ self.old }
     {
-        if !self.backoff.is_completed() {
-            self.backoff.snooze();
+        if self.spun() {
             return;
         }
-        parker.park_timeout(rt, Duration::from_micros(LONGEST_REST));
+        parker.park_timeout(rt, Duration::from_millis(LONGEST_REST));
+        self.rested = true;
+    }
+
+    /// Whether it has rested since it began.
+    pub(crate) fn has_rested(&self) -> bool {
+        self.rested
+    }
+
+    // Spins, if it hasn't often enough.
+    fn spun(&mut self) -> bool
+        ensures sleep { self.new ≡ self.old }
+        ensures short { self.new ≤ LONGEST_SLEEP }
+    {
+        if self.spins >= SPINS {
+            return false;
+        }
+        self.spins += 1;
+        self.backoff.spin();
+        true
     }
 }
 

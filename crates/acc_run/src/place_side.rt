@@ -102,6 +102,11 @@ impl PlaceSide {
         }
     }
 
+    /// The queue of a host's directive, if closing hasn't begun and its device is there.
+    pub fn queue_for(&self, host: HostId, directive: &Directive) -> Option<QueueAt> {
+        self.place.queue_for(host, directive).ok()
+    }
+
     /// Places a directive of a host, which has so many items: its batch is sent, and it is accepted.
     ///
     /// # Errors

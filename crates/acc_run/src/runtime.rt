@@ -16,13 +16,14 @@ ghost use Rattle.acc_work.specs.declared.item.Shown.TheVariants as shown;
 
 use crate::abandon::abandon_sides;
 use crate::ends::ends_of;
+use crate::event_count::{EventCount, event_counts_of};
 use crate::finish::{Sides, SidesRefused, finish_sides};
 use crate::marks::Marks;
 use crate::pause::{Pause, parkers_of};
 use crate::place_side::PlaceSide;
 use crate::token::{HostToken, tokens_of};
 use crate::work_side::WorkSide;
-use acc_base::{Config, DeviceId, Fault, QueueAt, QueueCounts};
+use acc_base::{Config, DeviceId, Fault, HostId, QueueAt, QueueCounts};
 use acc_host::Outcome;
 use acc_place::{Directive, Placed};
 use acc_queue::{Progress, Reader};
@@ -41,6 +42,9 @@ pub struct Runtime {
     pub(crate) work: Mutex<WorkSide>,
     // where the worker of each queue sleeps that finds it empty, by device, then in queue order
     pub(crate) parkers: Vec<Parker>,
+    // who wait until each queue has taken a batch, and until it has performed so many, likewise
+    pub(crate) taken: Vec<EventCount>,
+    pub(crate) performed: Vec<EventCount>,
     // a reader of how many batches each queue has performed, off which workers split theirs
     pub(crate) watch: Mutex<Reader>,
     // and the first, until it is taken; behind a lock, as threads share the runtime
@@ -53,6 +57,8 @@ struct Frame {
     alloc: Global,
     config: Config,
     parkers: Vec<Parker>,
+    taken: Vec<EventCount>,
+    performed: Vec<EventCount>,
     watch: Mutex<Reader>,
     reader: Option<Mutex<Reader>>,
 }
@@ -89,6 +95,8 @@ impl Runtime {
     {
         let copy = config.try_clone()?;
         let parkers = parkers_of(alloc, config)?;
+        let taken = event_counts_of(alloc, config)?;
+        let performed = event_counts_of(alloc, config)?;
         let (place, work, mut reader, tokens) = sides_of(alloc, config)?;
         let Ok(watch) = reader.split() else {
             return Err(Fault::Memory);
@@ -99,6 +107,8 @@ impl Runtime {
             place: Mutex::new(place),
             work: Mutex::new(work),
             parkers,
+            taken,
+            performed,
             watch: Mutex::new(watch),
             reader: Some(Mutex::new(reader)),
         };
@@ -183,8 +193,7 @@ impl Runtime {
         Ok(())
     }
 
-    // Tries again until the item is recorded, with a pause behind each look in vain. While what is published shows that the wait isn't
-    // over, the lock isn't asked for.
+    // Tries again until the item is recorded. While what is published shows that the wait isn't over, the lock isn't asked for.
     #[tactic(auto, using(crate::proofs::Refusals::seen_faults))]
     fn until_seen<R: Wait>(
         &self,
@@ -199,10 +208,9 @@ impl Runtime {
         let host = token.host();
         let mut pause = Pause::new();
         for _ in rt.forever() {
-            if token.is_due(device, &counts) {
-                if self.work.lock(rt).see(host, device, counts)? {
-                    return Ok(());
-                }
+            token.wait_seen(rt, self.performed.as_slice(), device, &counts);
+            if self.work.lock(rt).see(host, device, counts)? {
+                return Ok(());
             }
             pause.wait(rt);
         }
@@ -278,11 +286,31 @@ impl Runtime {
         self.config.queue_count()
     }
 
-    // Each worker is woken that sleeps.
+    // Each worker is woken that sleeps, and each host that waits for room.
     pub(crate) fn wake_all(&self) {
         for parker in &self.parkers {
             parker.unpark();
         }
+        for taken in &self.taken {
+            taken.notify(0);
+        }
+    }
+
+    // Waits where a host's directive was refused for want of room: until its queue has taken a batch since what was heard of it, if
+    // anything was. What is heard by then.
+    pub(crate) fn await_room<R: Wait>(
+        &self,
+        rt: &R,
+        host: HostId,
+        directive: &Directive,
+        heard: Option<u64>,
+    ) -> Option<u64> {
+        let at = self.place.lock(rt).queue_for(host, directive)?;
+        let taken = self.taken.get(at.seat())?;
+        if let Some(heard) = heard {
+            taken.wait_past(rt, heard);
+        }
+        Some(taken.listen(0))
     }
 
     // Pauses once, until the worker of the queue with this seat is woken, and for fifty milliseconds at most.
@@ -361,6 +389,8 @@ impl Runtime {
             place,
             work,
             parkers,
+            taken,
+            performed,
             watch,
             reader,
         } = self;
@@ -373,6 +403,8 @@ impl Runtime {
                 alloc,
                 config,
                 parkers,
+                taken,
+                performed,
                 watch,
                 reader,
             },
@@ -401,6 +433,8 @@ fn runtime_of(frame: Frame, refused: SidesRefused) -> FinishRefused
             place: Mutex::new(sides.place),
             work: Mutex::new(sides.work),
             parkers: frame.parkers,
+            taken: frame.taken,
+            performed: frame.performed,
             watch: frame.watch,
             reader: frame.reader,
         },

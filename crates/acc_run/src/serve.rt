@@ -3,8 +3,8 @@
 use crate::gate::Gate;
 use crate::pause::Pause;
 use crate::runtime::Runtime;
-use crate::turn::{Turn, take_turn};
-use crate::watch::Watch;
+use crate::turn::{Turn, commit, take_turn};
+use crate::watch::wait_seen;
 use acc_base::QueueAt;
 use acc_kernel::Job;
 use acc_queue::Reader;
@@ -14,9 +14,9 @@ use std::sync::Wait;
 impl Runtime {
     /// A worker of a queue: takes its batches, passes the gate with each, and performs them, one operation for each time that the lock
     /// is got, but for loops, which it computes with no lock held, where it has memory for what they read and assign. Where its next
-    /// operation can't go on it pauses, each time longer, for a millisecond at most, and doesn't ask for the lock while it sees that
-    /// what it awaits isn't performed; where it finds nothing it sleeps until a batch is placed, for fifty milliseconds at most. Ends
-    /// behind the queue's close, where the gate answers false, or where there is no such queue.
+    /// operation awaits a batch it sleeps until that is performed, and where it finds nothing until a batch is placed; after fifty
+    /// milliseconds of that it gives the memory back. Ends behind the queue's close, where the gate answers false, or where there is
+    /// no such queue.
     pub fn serve<R: Wait, G: Gate>(&self, rt: &R, at: QueueAt, gate: &G) {
         let QueueAt { device, queue } = at;
         let Some(parker) = self.parkers.get(QueueAt { device, queue }.seat()) else {
@@ -24,21 +24,34 @@ impl Runtime {
         };
         let mut passed = 0u64; // the last batch that passed the gate
         let mut room = None; // where its last loop was computed
-        let mut watch = Watch::new(self.one_more_reader(rt));
+        let mut reader = self.one_more_reader(rt);
         let mut pause = Pause::new();
         for _ in rt.forever() {
-            if !watch.is_due(device) {
-                pause.wait(rt);
-                continue;
-            }
             match self.turn(rt, QueueAt { device, queue }, passed, &mut room) {
-                Turn::Did => pause.begin_anew(),
-                Turn::Blocked { awaited } => {
-                    watch.begin(awaited);
-                    pause.wait(rt);
+                Turn::Did { ended } => {
+                    if ended {
+                        self.tell_performed(QueueAt { device, queue }, passed);
+                    }
+                    pause.begin_anew();
                 }
-                Turn::Idle => pause.rest(rt, parker),
+                Turn::Blocked { awaited } => match (&mut reader, awaited) {
+                    (Some(reader), Some((queue, number))) => wait_seen(
+                        rt,
+                        self.performed.as_slice(),
+                        reader,
+                        QueueAt { device, queue },
+                        number,
+                    ),
+                    _ => pause.wait(rt),
+                },
+                Turn::Idle => {
+                    if pause.has_rested() {
+                        room = None;
+                    }
+                    pause.rest(rt, parker);
+                }
                 Turn::Holds { number, ahead } => {
+                    self.tell_taken(QueueAt { device, queue });
                     if !gate.pass(QueueAt { device, queue }, number) {
                         return;
                     }
@@ -75,10 +88,26 @@ impl Runtime {
         let mut job = job;
         gate.work(job.queue(), job.number());
         job.compute();
-        let mut work = self.work.lock(rt);
-        if !work.has_queue(job.queue()) {
-            return None;
+        let QueueAt { device, queue } = job.queue();
+        let number = job.number();
+        let (back, ended) = commit(&mut self.work.lock(rt), job);
+        if ended {
+            self.tell_performed(QueueAt { device, queue }, number);
         }
-        work.commit_job(job).ok()
+        back
+    }
+
+    // A queue has performed so many batches: those who wait for that are woken.
+    fn tell_performed(&self, at: QueueAt, number: u64) {
+        if let Some(performed) = self.performed.get(at.seat()) {
+            performed.notify(number);
+        }
+    }
+
+    // A queue has taken a batch: those who wait for room are woken.
+    fn tell_taken(&self, at: QueueAt) {
+        if let Some(taken) = self.taken.get(at.seat()) {
+            taken.notify(0);
+        }
     }
 }

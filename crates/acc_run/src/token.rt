@@ -6,13 +6,15 @@ ghost use Rattle.acc_base.specs.declared.config.TheConstants.{MAX_HOSTS};
 ghost use Rattle.acc_run.specs.Tokens.{items_in, has_room, AreTokens};
 ghost use Rattle.acc_run.specs.declared.token.TokenEntry.TheVariants as listed;
 
-use crate::watch::are_seen;
+use crate::event_count::EventCount;
+use crate::watch::wait_all_seen;
 use acc_base::{Config, DeviceId, Fault, HostId, QueueCounts};
 use acc_place::{Directive, Placed};
 use acc_queue::Reader;
 use acc_work::{ItemLabel, Shown};
 use std::alloc::Global;
 use std::marker::Model;
+use std::sync::Wait;
 
 /// What a host has done: a directive with its answer, or an item with its answer.
 #[derive(Drop)]
@@ -69,11 +71,17 @@ impl HostToken {
         }
     }
 
-    // Whether each queue of a device has published that it has performed so many batches: no more than a reason to ask.
-    pub(crate) fn is_due(&mut self, device: DeviceId, counts: &QueueCounts) -> bool
+    // Waits until each queue of a device has published that it has performed so many batches: no more than a reason to ask.
+    pub(crate) fn wait_seen<R: Wait>(
+        &mut self,
+        rt: &R,
+        performed: &[EventCount],
+        device: DeviceId,
+        counts: &QueueCounts,
+    )
         ensures { self.new ≡ self.old }
     {
-        are_seen(&mut self.reader, device, counts)
+        wait_all_seen(rt, performed, &mut self.reader, device, counts);
     }
 
     /// Which host it is.

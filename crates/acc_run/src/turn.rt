@@ -11,7 +11,8 @@ use std::sync::Wait;
 
 /// What a worker did in its turn.
 pub(crate) enum Turn {
-    Did,
+    /// An operation is performed; and whether it was the last one of its batch.
+    Did { ended: bool },
     /// The next operation can't go on yet; and what it awaits, if it is an await.
     Blocked { awaited: Option<(QueueId, u64)> },
     /// Nothing is in the lane, and the queue gave nothing.
@@ -62,10 +63,22 @@ fn go_on(work: &mut WorkSide, at: QueueAt, room: &mut Option<Box<Job>>) -> Turn
     match work.start_job(QueueAt { device, queue }, room) {
         Some(job) => Turn::Starts { job },
         None => match work.perform(QueueAt { device, queue }) {
-            Done::Op => Turn::Did,
+            Done::Op => Turn::Did {
+                ended: work.in_lane(QueueAt { device, queue }).is_none(),
+            },
             Done::Idle => Turn::Blocked {
                 awaited: work.awaited(QueueAt { device, queue }),
             },
         },
     }
+}
+
+/// A loop that was computed comes back. Its room, if its lane still waited for it; and whether nothing is left of its batch.
+pub(crate) fn commit(work: &mut WorkSide, job: JobOut) -> (Option<Option<Box<Job>>>, bool) {
+    let QueueAt { device, queue } = job.queue();
+    if !work.has_queue(QueueAt { device, queue }) {
+        return (None, false);
+    }
+    let back = work.commit_job(job).ok();
+    (back, work.in_lane(QueueAt { device, queue }).is_none())
 }
