@@ -1,6 +1,6 @@
 //! The place, the queues and the work side as one: the machine without its hosts, and their engine.
 
-ghost use Rattle.std.specs.Prelude.{reverse, ◌≡◌, ◌+◌, ◌<◌, [], IfOk, IfErr, IfSome, OnOk, OnErr, OnSome, true, false, is_some, slice_get, IsTrue, ◌^◌, Ok, length};
+ghost use Rattle.std.specs.Prelude.{reverse, ◌≡◌, ◌+◌, ◌<◌, [], IfOk, IfErr, IfSome, OnErr, OnSome, true, false, is_some, slice_get, IsTrue, ◌^◌, Ok, length};
 ghost use Rattle.acc_base.specs.declared.ids.QueueAt.{QueueAt};
 ghost use Rattle.acc_base.specs.Queues.{queue_count};
 ghost use Rattle.acc_base.specs.declared.config.TheConstants.{MAX_HOSTS};
@@ -14,11 +14,9 @@ ghost use Rattle.acc_place.specs.BlockNotes.{note_of};
 ghost use Rattle.acc_base.specs.Configurations.{has_range};
 ghost use Rattle.acc_memory.specs.Memories.{find_block, has_cell};
 ghost use Rattle.acc_memory.specs.Values.{Block_cell, Host_cell};
-ghost use Rattle.acc_work.specs.declared.log.TheConstants.{MAX_HOST_ITEMS};
-ghost use Rattle.acc_work.specs.Items.{shown_by};
 ghost use Rattle.acc_work.specs.Logs.{all_done, all_items, value};
 ghost use Rattle.acc_work.specs.Remembering.{blocks_in};
-ghost use Rattle.acc_core.specs.Machine.{idle, is_there, state_at_first, standing_of, labels_of, can_tell, told_of, with_item};
+ghost use Rattle.acc_core.specs.Machine.{idle, is_there, state_at_first, standing_of, labels_of};
 ghost use Rattle.std.specs.Option.{option_map};
 ghost use Rattle.acc_base.specs.Faults.{OnlyMemory};
 ghost use Rattle.acc_present.specs.Notes.{entry_note};
@@ -27,7 +25,7 @@ ghost use Rattle.acc_present.specs.Tables.{entry_presence};
 
 use crate::queue::{Queue, queues_of};
 use acc_base::{BlockId, Config, DeviceId, Fault, HostId, QueueAt, QueueCounts, Range};
-use acc_batch::{OpLabel, Page};
+use acc_batch::OpLabel;
 use acc_host::Engine;
 use acc_place::{Directive, Place, Placed};
 use acc_present::Entry;
@@ -64,7 +62,6 @@ impl Model for Accelerator {
 }
 
 impl Accelerator {
-    ghost use Rattle.acc_base.specs.declared.fault.Fault.TheVariants.{Memory as no_memory};
     ghost use Rattle.acc_host.specs.declared.event.Event.TheVariants as event;
 
     /// Nothing is accepted, performed or shown yet.
@@ -137,13 +134,8 @@ impl Accelerator {
         ensures refused { OnErr result (self.new ≡ self.old) }
         ensures back { IfErr result (λ r. r.0 ≡ item) }
     {
-        if self.work.is_full_of_items() {
-            return Err((item, Fault::TooMany));
-        }
-        if !self.work.has_cells(item.label()) {
-            return Err((item, Fault::BadRange));
-        }
-        self.tell(host, item)
+        self.work.keeps();
+        self.work.tell(self.alloc, host, item)
     }
 
     // Records that each queue of a device has performed so many batches, if it has.
@@ -153,39 +145,8 @@ impl Accelerator {
         ensures refused { OnErr result (self.new ≡ self.old) }
         ensures idle { result ≡ Ok false → self.new ≡ self.old }
     {
-        if !self.reached(device, &counts) {
-            return Ok(false);
-        }
-        if self.work.is_full_of_items() {
-            return Err(Fault::TooMany);
-        }
-        let item = Item::seen(self.alloc, device, counts)?;
-        match self.tell(host, item) {
-            Ok(_) => Ok(true),
-            Err((_, fault)) => Err(fault),
-        }
-    }
-
-    // Records an item that can be told, while the run may have one more, with a page for the log where it needs one.
-    fn tell(&mut self, host: HostId, item: Item) -> Result<Shown, (Item, Fault)>
-        requires host { host < MAX_HOSTS }
-        requires item { can_tell self.old item ≡ true }
-        requires few { all_items self.old.work < MAX_HOST_ITEMS }
-        ensures told { IfOk result (λ shown. shown ≡ shown_by (told_of self.old item)) }
-        ensures recorded { OnOk result (self.new ≡ with_item self.old host
-            (told_of self.old item)) }
-        ensures refused { OnErr result (self.new ≡ self.old) }
-        ensures back { IfErr result (λ r. r ≡ (item, no_memory)) }
-    {
         self.work.keeps();
-        self.place.config().keeps();
-        match self.work.try_item(host, item) {
-            Ok(shown) => Ok(shown),
-            Err(item) => match Page::new(self.alloc, 1) {
-                Ok(page) => Ok(self.work.host_item(host, item, page)),
-                Err(fault) => Err((item, fault)),
-            },
-        }
+        self.work.see(self.alloc, host, device, counts)
     }
 
     /// The structured and the dynamic counter on a device of the range, or of the present range that contains it.
@@ -241,6 +202,13 @@ impl Accelerator {
         ensures { result.now.items ≡ reverse self.now.work }
     {
         self.work.log()
+    }
+
+    /// How many items the hosts have.
+    pub(crate) fn items(&self) -> u64
+        ensures { result ≡ all_items self.now.work }
+    {
+        self.work.items()
     }
 
     /// Whether each queue of a device has performed its count of batches.

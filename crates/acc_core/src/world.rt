@@ -16,11 +16,11 @@ ghost use Rattle.acc_base.specs.Queues.{queue_count};
 ghost use Rattle.acc_core.specs.Following.{AllStand};
 ghost use Rattle.acc_place.specs.BlockNotes.{note_of};
 ghost use Rattle.acc_host.specs.declared.state.Reply.{Reply};
-ghost use Rattle.acc_host.specs.Hosts.{bare_statements, ready, state_of};
+ghost use Rattle.acc_host.specs.Hosts.{bare_statements, state_of};
 ghost use Rattle.acc_base.specs.Configurations.{has_range};
 ghost use Rattle.acc_memory.specs.Memories.{find_block, has_cell};
 ghost use Rattle.acc_memory.specs.Values.{Block_cell, Host_cell};
-ghost use Rattle.acc_work.specs.Logs.{all_done, performed, value};
+ghost use Rattle.acc_work.specs.Logs.{all_done, all_items, value};
 ghost use Rattle.acc_work.specs.Remembering.{blocks_in};
 ghost use Rattle.acc_core.specs.Worlds.{OnePerHost, OutsideIsZero, first_state, statements_in, Ran};
 
@@ -284,6 +284,13 @@ impl World {
         ensures { option_map (λ op. op.now) result ≡ next_by self.now at }
     {
         self.accelerator.next_op(at)
+    }
+
+    /// How many items the hosts have.
+    pub fn items(&self) -> u64
+        ensures { result ≡ all_items self.now.work }
+    {
+        self.accelerator.items()
     }
 
     /// Whether each queue of a device has performed so many batches.

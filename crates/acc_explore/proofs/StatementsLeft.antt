@@ -1,21 +1,14 @@
 -- How many statements the hosts have still to end, behind the step of one of them.
-use Rattle.std.proofs.Common.{◌≡◌, ℕ, zero, suc, ◌+◌, ◌-◌, ◌≤◌, true, List, [], ◌∷◌, length, reverse, take, add-one, refl, ap, ◌∙◌, Some, None, Option, Ok, Err, Result, slice_get, slice_set, arith}
-use Rattle.std.proofs.lemmas.Bool.{le-leb}
-use Rattle.std.proofs.lemmas.List.{length-reverse}
+use Rattle.std.proofs.Common.{◌≡◌, ℕ, zero, suc, ◌+◌, ◌-◌, ◌≤◌, List, [], ◌∷◌, length, take, add-one, refl, ap, ◌∙◌, Some, None, Option, Ok, Err, Result, slice_get, slice_set, arith}
 use Rattle.std.proofs.lemmas.Option.{slice_get_within}
 use Rattle.acc_base.specs.declared.fault.Fault.{Fault}
 use Rattle.acc_batch.proofs.Seats.{set_there}
-use Rattle.acc_batch.specs.declared.entry.WorkEntry.{WorkEntry}
-use Rattle.acc_batch.specs.declared.entry.WorkEntry.TheVariants as entry
-use Rattle.acc_core.specs.Machine.{State}
 use Rattle.acc_host.specs.declared.program.Statement.{Statement}
 use Rattle.acc_host.specs.declared.state.After.{After}
 use Rattle.acc_host.specs.declared.state.After.TheVariants as go
 use Rattle.acc_host.specs.Hosts.{HostView, wants, wants_at, host_after}
 use Rattle.acc_host.specs.Steps.{stays}
-use Rattle.acc_work.specs.declared.log.TheConstants.{MAX_HOST_ITEMS}
-use Rattle.acc_work.specs.Logs.{all_items}
-use Rattle.acc_explore.specs.ReachedWaits.{items_fit, statements_left}
+use Rattle.acc_explore.specs.ReachedWaits.{statements_left}
 
 abbrev pub left_by : HostView → ℕ
 left_by host = length host.statements - host.ended
@@ -82,13 +75,3 @@ left_more hosts n host there = ap (λ k. statements_left (take k hosts)) (add-on
         let count : left_by first ≡ left_by host = ap left_by same in
         omega (arith, count)
     by (first ∷ hosts) (suc n) there = omega (arith, by hosts n there)
-
--- a log has no more items than entries
-pub items_within : (work : List WorkEntry) → all_items work ≤ length work
-items_within [] = omega arith
-items_within (entry.Op at op ∷ work) = omega (arith, items_within work)
-items_within (entry.Item host what ∷ work) = omega (arith, items_within work)
-
-pub told_fit : (w : State) (entries : List WorkEntry) (left : ℕ) → entries ≡ reverse w.work → left ≡ statements_left w.hosts → left ≤ MAX_HOST_ITEMS → length entries ≤ MAX_HOST_ITEMS - left → items_fit w ≡ true
-told_fit w entries left is count low few =
-    le-leb (all_items w.work + statements_left w.hosts) MAX_HOST_ITEMS (omega (arith, items_within w.work, ap length is, length-reverse w.work, count, low, few))

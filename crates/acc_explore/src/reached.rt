@@ -1,13 +1,12 @@
 //! Whether a host waits, or asks, for what is performed.
 
-ghost use Rattle.std.specs.Prelude.{◌≡◌, ◌+◌, ◌-◌, ◌≤◌, IfSome, IsTrue, length};
+ghost use Rattle.std.specs.Prelude.{◌≡◌, ◌-◌, IfSome, IsTrue, length};
 ghost use Rattle.acc_explore.specs.ReachedWaits.{is_at_reached, is_reached, items_fit, statements_left};
 ghost use Rattle.acc_host.specs.Hosts.{wants};
 
 use acc_base::HostId;
 use acc_core::{MAX_HOST_ITEMS, World};
 use acc_host::{Host, Phase};
-use acc_work::WorkLog;
 
 // Whether a host waits or asks for what each queue has performed.
 fn is_reached(world: &World, host: &Host) -> bool
@@ -49,30 +48,14 @@ fn statements_left(world: &World) -> Option<u64>
     Some(count)
 }
 
-// Whether a log has so many entries at most.
-fn is_within(log: &WorkLog, most: u64) -> bool
-    ensures { IsTrue result → length log.now.items ≤ most }
-{
-    let mut room = most;
-    let mut entries = log.iter();
-    while entries.next().is_some() {
-        if room == 0 {
-            return false;
-        }
-        room -= 1;
-    }
-    true
-}
-
-// Whether the items of all statements to come are within the limit, with what the log has.
-#[tactic(auto, using(crate::proofs::StatementsLeft::told_fit))]
+// Whether the items of all statements to come are within the limit, with those that the hosts have.
 fn items_fit(world: &World) -> bool
     ensures { IsTrue result → IsTrue (items_fit world.now) }
 {
     let Some(left) = statements_left(world) else {
         return false;
     };
-    left <= MAX_HOST_ITEMS && is_within(world.log(), MAX_HOST_ITEMS - left)
+    left <= MAX_HOST_ITEMS && world.items() <= MAX_HOST_ITEMS - left
 }
 
 /// Whether a host's step may go first, as what it waits or asks for is performed. It takes no memory.

@@ -2,5 +2,5 @@ mod BareStatements
 mod WorkedHosts
 mod GoOn
 mod HostStands
-pub mod MayTell
+pub mod NotesNothing
 mod OwnRead

@@ -1,9 +1,8 @@
 //! What the work lock holds: a work side, and the end of each queue that takes.
 
-ghost use Rattle.std.specs.Prelude.{Bool, replicate, slice_index, ◌≡◌, ◌<◌, ◌^◌, IfOk, IfErr, IfSome, IfNone, OnOk, OnErr, Some, Ok, None, true, false, [], length, OnSome, IsTrue, ◌↔◌, ◌⊎◌, ◌==◌};
+ghost use Rattle.std.specs.Prelude.{Bool, replicate, slice_index, ◌≡◌, ◌<◌, ◌^◌, IfOk, IfErr, IfSome, IfNone, OnOk, OnErr, Some, Ok, None, true, false, [], length, IsTrue, ◌↔◌, ◌==◌};
 ghost use Rattle.std.specs.Option.{option_map};
 ghost use Rattle.acc_base.specs.Faults.{OnlyMemory};
-ghost use Rattle.acc_base.specs.declared.fault.Fault.TheVariants.{Memory};
 ghost use Rattle.acc_base.specs.declared.config.TheConstants.{MAX_HOSTS};
 ghost use Rattle.acc_base.specs.declared.ids.QueueAt.{QueueAt};
 ghost use Rattle.acc_base.specs.Queues.{queue_count, seat};
@@ -15,17 +14,17 @@ ghost use Rattle.acc_work.specs.declared.item.ItemLabel.TheVariants as to_record
 ghost use Rattle.acc_work.specs.declared.item.Shown.TheVariants as shown;
 ghost use Rattle.acc_work.specs.Items.{has_cells};
 ghost use Rattle.acc_work.specs.Jobs.{Commits, IsOut, StartsLoop, TakesRoom};
-ghost use Rattle.acc_work.specs.Logs.{all_done, all_items, batches_done};
+ghost use Rattle.acc_work.specs.Logs.{all_done, batches_done};
 ghost use Rattle.acc_work.specs.Kept.{IsKept};
 ghost use Rattle.acc_work.specs.Remembering.{Remembers};
-ghost use Rattle.acc_work.specs.Works.{CanTell, HasQueue, KeepsOrder, Performs, lane_at, taken_labels, item_fault};
-ghost use Rattle.acc_work.specs.Lanes.{awaited_next, last_of};
+ghost use Rattle.acc_work.specs.Works.{HasQueue, KeepsOrder, Performs, lane_at, taken_labels, item_fault};
+ghost use Rattle.acc_work.specs.Lanes.{awaited_next};
 
-use acc_base::{Config, DeviceId, Fault, HostId, QUEUES, QueueAt, QueueCounts, QueueId, Range};
-use acc_batch::{OpLabel, Page};
+use acc_base::{Config, DeviceId, Fault, HostId, QUEUES, QueueAt, QueueCounts, QueueId};
+use acc_batch::OpLabel;
 use acc_kernel::Job;
 use acc_queue::{Publisher, Taker};
-use acc_work::{Ahead, Done, Item, ItemLabel, JobOut, Shown, Work};
+use acc_work::{Ahead, Done, Item, JobOut, Shown, Work};
 use std::alloc::Global;
 use std::marker::Model;
 use std::sync::Wait;
@@ -268,14 +267,7 @@ impl WorkSide {
             × (item_fault lacks self.old.work.work (has_cells self.old.work.arrays item)
             ≡ Some r.1)) }
     {
-        if self.work.is_full_of_items() {
-            return Err((item, Fault::TooMany));
-        }
-        self.work.keeps();
-        if !self.work.has_cells(item.label()) {
-            return Err((item, Fault::BadRange));
-        }
-        self.tell(host, item)
+        self.work.tell(self.alloc, host, item)
     }
 
     /// Records that each queue of a device has performed so many batches, if it has.
@@ -299,34 +291,7 @@ impl WorkSide {
         ensures fault { IfErr result (λ f. (lacks : Bool)
             × (item_fault lacks self.old.work.work true ≡ Some f)) }
     {
-        if !self.work.all_reached(device, &counts) {
-            return Ok(false);
-        }
-        if self.work.is_full_of_items() {
-            return Err(Fault::TooMany);
-        }
-        let item = Item::seen(self.alloc, device, counts)?;
-        match self.tell(host, item) {
-            Ok(_) => Ok(true),
-            Err((_, fault)) => Err(fault),
-        }
-    }
-
-    // Records an item that can be recorded, with a page for the log where it needs one.
-    fn tell(&mut self, host: HostId, item: Item) -> Result<Shown, (Item, Fault)>
-        requires host { host < MAX_HOSTS }
-        requires item { CanTell self.old.work item }
-        requires few { all_items self.old.work.work < 2 ^ 63 }
-        ensures told { IfOk result (λ shown. HasLogged self.old self.new host item shown) }
-        ensures back { IfErr result (λ r. (r.0 ≡ item) × (r.1 ≡ Memory) × (self.new ≡ self.old)) }
-    {
-        match self.work.try_item(host, item) {
-            Ok(shown) => Ok(shown),
-            Err(item) => match Page::new(self.alloc, 1) {
-                Ok(page) => Ok(self.work.host_item(host, item, page)),
-                Err(fault) => Err((item, fault)),
-            },
-        }
+        self.work.see(self.alloc, host, device, counts)
     }
 }
 

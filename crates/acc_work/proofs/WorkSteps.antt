@@ -5,7 +5,7 @@ use Rattle.std.specs.Prelude.{ℤ, All}
 use Rattle.std.proofs.lemmas.List.{length-set}
 use Rattle.std.proofs.lemmas.List.Elements.{All-head, All-nil, All-tail}
 use Rattle.std.proofs.lemmas.List.Sums.{sum_by-cons}
-use Rattle.acc_base.specs.declared.config.TheConstants.{MAX_HOSTS}
+use Rattle.acc_base.specs.declared.config.TheConstants.{MAX_CELLS, MAX_HOSTS}
 use Rattle.acc_base.specs.declared.ids.QueueAt.{QueueAt}
 use Rattle.acc_base.specs.declared.ids.TheConstants.{QUEUES}
 use Rattle.acc_base.specs.Queues.{seat}
@@ -34,9 +34,10 @@ none_left [] h = refl
 none_left (l ∷ ls) h = sum_by-cons (λ (x : LaneView). length x.left) l ls ∙ omega (arith, ap length (All-head IsFresh l ls h).left, none_left ls (All-tail IsFresh l ls h))
 
 -- Nothing is taken, performed or told.
-pub work_first : (arrays : List (List ℤ)) (memory : MemoryView) (lanes : List LaneView) (free : ℕ) → memory.arrays ≡ arrays → ((d : ℕ) → rows_on memory d ≡ []) → ((d b : ℕ) → was_made_on memory d b ≡ false) → All IsFresh lanes
+pub work_first : (arrays : List (List ℤ)) (memory : MemoryView) (lanes : List LaneView) (free : ℕ) → All (λ (cells : List ℤ). (1 ≤ length cells) × (length cells ≤ MAX_CELLS)) arrays → memory.arrays ≡ arrays → ((d : ℕ) → rows_on memory d ≡ []) → ((d b : ℕ) → was_made_on memory d b ≡ false) → All IsFresh lanes
     → length lanes ≡ length memory.devices * QUEUES → IsWork (record { arrays = arrays; memory = memory; work = []; lanes = lanes }) free 0
-work_first arrays memory lanes free same rows none fresh count = record {
+work_first arrays memory lanes free limits same rows none fresh count = record {
+  limits = limits;
   order = λ at. (let lane = fresh_lane lanes at fresh in record {
     in_order = rw (lane.taken, lane.left) refl;
     on_queue = rw lane.taken tt;
@@ -64,6 +65,7 @@ work_offered w at b new_free new_unclaimed i h here filled host empty claimed =
     let w' : WorkView = record w { lanes = lanes_with w.lanes at new } in
     let extends = taken_extends w w' at b (keeps_order w i.order i.count) (keeps_order w' order count) h.1 low refl filled in
     record {
+      limits = i.limits;
       order = order;
       out_due = due_with w.work w.work w.lanes at new h.1 low i.out_due (not_out w.work new refl) (λ last allows. allows);
       count = count;
@@ -88,6 +90,7 @@ work_performed w w' at op ops i h next due live p =
     let low = seat_low at (length w.memory.devices) (length w.lanes) h.0 h.1 i.count in
     let new = lane_with_left (lane_at w at) ops in
     record {
+      limits = rw p.opening i.limits;
       order = λ other. rw (p.work, p.lanes) (order_performed w.work w.lanes at op ops h.1 low i.order next other);
       out_due = λ other. rw (p.work, p.lanes)
           (due_with w.work (entry.Op at op ∷ w.work) w.lanes at new h.1 low i.out_due (not_out (entry.Op at op ∷ w.work) new refl) (λ last. allows_performed last at op w.work) other);
@@ -104,6 +107,7 @@ work_out w at out i h due =
     let low = seat_low at (length w.memory.devices) (length w.lanes) h.0 h.1 i.count in
     let new = lane_with_out (lane_at w at) out in
     record {
+      limits = i.limits;
       order = order_out w.work w.lanes at out h.1 low i.order;
       out_due = due_with w.work w.work w.lanes at new h.1 low i.out_due due (λ last allows. allows);
       count = length-set w.lanes (seat at) new ∙ i.count;
@@ -116,6 +120,7 @@ work_out w at out i h due =
 pub work_told : {free unclaimed : ℕ} (w w' : WorkView) (host : ℕ) (what : Told) (new_free new_unclaimed : ℕ) → IsWork w free unclaimed → HasTold w w' host what → ShowsTruth w.arrays (taken_labels w) what w.work
     → free + new_unclaimed + 1 ≡ new_free + unclaimed → IsWork w' (new_free - 1) new_unclaimed
 work_told w w' host what new_free new_unclaimed i t truth claimed = record {
+  limits = rw t.opening i.limits;
   order = λ at. rw (t.work, t.lanes) (let o = i.order at in record { in_order = o.in_order; on_queue = o.on_queue; batches = o.batches });
   out_due = λ at. rw (t.work, t.lanes) (λ out. allows_told (last_of (lane_at w at).taken) host what w.work (i.out_due at out));
   count = ap length t.lanes ∙ (i.count ∙ ap (λ ds. length ds * QUEUES) (sym t.devices));

@@ -1,5 +1,5 @@
 -- What a work side shows: the memory, the log, and the lanes of the queues.
-use Rattle.std.specs.Prelude.{◌≡◌, ℕ, ◌+◌, ◌*◌, ◌<◌, ◌≤◌, nat_le, Bool, true, false, ◌&&◌, not, IsTrue, MatchBool, List, [], ◌∷◌, ◌++◌, length, map, Option, Some, None, ℤ, if◌then◌else◌}
+use Rattle.std.specs.Prelude.{◌≡◌, ℕ, ◌+◌, ◌*◌, ◌<◌, ◌≤◌, nat_le, All, Bool, true, false, ◌&&◌, not, IsTrue, MatchBool, List, [], ◌∷◌, ◌++◌, length, map, Option, Some, None, ℤ, if◌then◌else◌}
 use Rattle.acc_base.specs.declared.config.TheConstants.{MAX_CELLS}
 use Rattle.acc_base.specs.declared.fault.Fault.{Fault}
 use Rattle.acc_base.specs.declared.fault.Fault.TheVariants.{BadRange, TooMany, Memory}
@@ -110,6 +110,13 @@ CanTell w (to_record.Print range) = (has_array w.memory range ≡ true) × (rang
 CanTell w (to_record.Seen device counts) = IsTrue (all_done (taken_labels w) w.work device 0 counts)
 CanTell w (to_record.Test device counts) = Unit {0}
 
+-- What an item notes as performed is.
+abbrev pub IsReached : WorkView → ItemLabel → Type 0
+IsReached w (to_record.Write array cell value) = Unit {0}
+IsReached w (to_record.Print range) = Unit {0}
+IsReached w (to_record.Seen device counts) = IsTrue (all_done (taken_labels w) w.work device 0 counts)
+IsReached w (to_record.Test device counts) = Unit {0}
+
 -- What an item tells: a print the values that the memory shows, a test whether each queue has performed its count.
 abbrev pub Tells : WorkView → ItemLabel → Told → Type 0
 Tells w (to_record.Write array cell value) what = what ≡ told.Write array cell value
@@ -138,10 +145,11 @@ pub record KeepsOrder (w : WorkView) : Type 0 where
 abbrev pub OutIsDue : List WorkEntry → LaneView → Type 0
 OutIsDue work lane = IsTrue lane.out → IsTrue (host_allows (last_of lane.taken) work)
 
--- What every work side keeps: a lane for each queue of each device, and the order; a loop that is out is due; its log keeps what
--- every log does against the batches that were taken; the memory shows it; and there is room on the log's pages for all
--- operations that are left, beside what is unclaimed.
+-- What every work side keeps: its arrays have a cell, and no more than an array may have; a lane for each queue of each device, and
+-- the order; a loop that is out is due; its log keeps what every log does against the batches that were taken; the memory shows it;
+-- and there is room on the log's pages for all operations that are left, beside what is unclaimed.
 pub record IsWork (w : WorkView) (free unclaimed : ℕ) : Type 0 where
+  pub limits : All (λ cells. (1 ≤ length cells) × (length cells ≤ MAX_CELLS)) w.arrays
   pub order : (at : QueueAt) → IsInOrder w.work at (lane_at w at)
   pub out_due : (at : QueueAt) → OutIsDue w.work (lane_at w at)
   pub count : length w.lanes ≡ length w.memory.devices * QUEUES

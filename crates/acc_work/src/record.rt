@@ -1,19 +1,22 @@
 //! Items of hosts are recorded.
 
-ghost use Rattle.std.specs.Prelude.{◌≡◌, ◌<◌, IfOk, IfErr, IfSome, OnErr, ◌^◌};
+ghost use Rattle.std.specs.Prelude.{◌≡◌, ◌<◌, Bool, true, false, Some, None, Ok, IfOk, IfErr, IfSome, OnOk, OnErr, ◌^◌};
 ghost use Rattle.acc_base.specs.declared.config.TheConstants.{MAX_HOSTS};
 ghost use Rattle.acc_work.specs.Items.{HasRoom, has_cells, label_of, shown_by};
-ghost use Rattle.acc_work.specs.Logs.{all_items};
+ghost use Rattle.acc_work.specs.Logs.{all_done, all_items};
 ghost use Rattle.acc_batch.specs.Pages.{HasRoomFor};
 ghost use Rattle.acc_work.specs.inner.Telling.{HasChanged, HasItsCells, IsTold, answer_to};
-ghost use Rattle.acc_work.specs.Works.{CanTell, HasRecorded};
+ghost use Rattle.acc_work.specs.Works.{CanTell, HasRecorded, IsReached, item_fault, taken_labels};
+ghost use Rattle.acc_work.specs.declared.item.ItemLabel.TheVariants as to_record;
+ghost use Rattle.acc_work.specs.declared.item.Shown.TheVariants as shown;
 
 use crate::item::{Form, Item, ItemLabel, Shown};
 use crate::work::Work;
-use acc_base::{HostId, Range};
+use acc_base::{DeviceId, Fault, HostId, QueueCounts, Range};
 use acc_batch::{Page, Told, Values};
 use acc_memory::Memory;
 use acc_raw::Node;
+use std::alloc::Global;
 
 impl Work {
     /// Whether the cells of an item are there.
@@ -47,19 +50,73 @@ impl Work {
         }
     }
 
-    /// Records an item of a host as `host_item` does, where the log has room for it, and else gives it back. It takes no memory.
+    /// Records an item of a host as `host_item` does, with a page that is made where the log needs one, and nowhere else. What is
+    /// noted as seen is performed, by `all_reached`.
     ///
     /// # Errors
     ///
-    /// The item, where it needs a page; then nothing changes.
-    pub fn try_item(&mut self, host: HostId, item: Item) -> Result<Shown, Item>
+    /// The item, with `Memory` where memory is refused, `TooMany` behind the last item of a run, `BadRange` for cells that aren't
+    /// there; then nothing changes.
+    pub fn tell(&mut self, alloc: Global, host: HostId, item: Item) -> Result<Shown, (Item, Fault)>
         requires host { host < MAX_HOSTS }
-        requires item { CanTell self.old item }
-        requires few { all_items self.old.work < 2 ^ 63 }
+        requires reached { IsReached self.old item }
         ensures recorded { IfOk result (λ shown. HasRecorded self.old self.new host item shown) }
-        ensures back { IfErr result (λ back. (back ≡ item) × (self.new ≡ self.old)) }
+        ensures may { OnOk result
+            (item_fault false self.old.work (has_cells self.old.arrays item) ≡ None) }
+        ensures fault { IfErr result (λ r. (lacks : Bool)
+            × (item_fault lacks self.old.work (has_cells self.old.arrays item) ≡ Some r.1)) }
+        ensures back { IfErr result (λ r. r.0 ≡ item) }
+        ensures kept { OnErr result (self.new ≡ self.old) }
     {
-        self.record(host, item, None)
+        self.keeps();
+        if self.is_full_of_items() {
+            return Err((item, Fault::TooMany));
+        }
+        if !self.has_cells(item.label()) {
+            return Err((item, Fault::BadRange));
+        }
+        match self.record(host, item, None) {
+            Ok(shown) => Ok(shown),
+            Err(item) => match Page::new(alloc, 1) {
+                Ok(page) => Ok(self.host_item(host, item, page)),
+                Err(fault) => Err((item, fault)),
+            },
+        }
+    }
+
+    /// Records that each queue of a device has performed so many batches, if it has.
+    ///
+    /// # Errors
+    ///
+    /// `Memory` where memory is refused, `TooMany` behind the last item of a run; then nothing changes.
+    pub fn see(
+        &mut self,
+        alloc: Global,
+        host: HostId,
+        device: DeviceId,
+        counts: QueueCounts,
+    ) -> Result<bool, Fault>
+        requires host { host < MAX_HOSTS }
+        ensures answer { IfOk result (λ seen.
+            seen ≡ all_done (taken_labels self.old) self.old.work device 0 counts) }
+        ensures seen { result ≡ Ok true
+            → HasRecorded self.old self.new host (to_record.Seen device counts) shown.Nothing }
+        ensures may { result ≡ Ok true → item_fault false self.old.work true ≡ None }
+        ensures not_yet { result ≡ Ok false → self.new ≡ self.old }
+        ensures reached { OnErr result
+            (all_done (taken_labels self.old) self.old.work device 0 counts ≡ true) }
+        ensures fault { IfErr result (λ f. (lacks : Bool)
+            × (item_fault lacks self.old.work true ≡ Some f)) }
+        ensures kept { OnErr result (self.new ≡ self.old) }
+    {
+        if !self.all_reached(device, &counts) {
+            return Ok(false);
+        }
+        let item = Item::seen(alloc, device, counts)?;
+        match self.tell(alloc, host, item) {
+            Ok(_) => Ok(true),
+            Err((_, fault)) => Err(fault),
+        }
     }
 
     // Records an item, with a page if there is one. Without a page it may come back.

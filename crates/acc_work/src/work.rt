@@ -5,7 +5,7 @@ ghost use Rattle.std.specs.Option.{option_map};
 ghost use Rattle.acc_base.specs.Faults.{OnlyMemory};
 ghost use Rattle.acc_base.specs.Queues.{queue_count, seat};
 ghost use Rattle.acc_base.specs.Configurations.{has_range};
-ghost use Rattle.acc_base.specs.declared.config.TheConstants.{MAX_HOSTS};
+ghost use Rattle.acc_base.specs.declared.config.TheConstants.{MAX_CELLS, MAX_HOSTS};
 ghost use Rattle.acc_base.specs.declared.ids.TheConstants.{QUEUES};
 ghost use Rattle.acc_work.specs.declared.log.TheConstants.{MAX_HOST_ITEMS};
 ghost use Rattle.acc_work.specs.Jobs.{StartsLoop, TakesRoom, HasStarted, IsOut, Commits};
@@ -101,14 +101,15 @@ impl Work {
     pub fn is_full_of_items(&self) -> bool
         ensures { result ≡ nat_le MAX_HOST_ITEMS (all_items self.now.work) }
     {
-        self.log.all_items() >= MAX_HOST_ITEMS
+        self.items() >= MAX_HOST_ITEMS
     }
 
-    /// Every work side keeps the order of its queues. Its log keeps, against the
-    /// batches that were taken, what every log does: each operation stands behind all that it awaits and behind its host's items,
-    /// and uses live blocks, and each item shows what is so. The memory has the values that the log gives over the opening ones,
-    /// and the blocks that it left.
+    /// The host arrays of every work side have a cell, and no more than an array may have. It keeps the order of its queues. Its
+    /// log keeps, against the batches that were taken, what every log does: each operation stands behind all that it awaits and
+    /// behind its host's items, and uses live blocks, and each item shows what is so. The memory has the values that the log gives
+    /// over the opening ones, and the blocks that it left.
     pub fn keeps(&self)
+        ensures limits { All (λ cells. (1 ≤ length cells) × (length cells ≤ MAX_CELLS)) self.now.arrays }
         ensures order { KeepsOrder self.now }
         ensures kept { IsKept self.now.arrays (taken_labels self.now) self.now.work }
         ensures memory { Remembers self.now.arrays self.now.work self.now.memory }
@@ -217,6 +218,13 @@ impl Work {
                     && self.reached_from(device, queue + 1, rest)
             }
         }
+    }
+
+    /// How many items all hosts have.
+    pub fn items(&self) -> u64
+        ensures { result ≡ all_items self.now.work }
+    {
+        self.log.all_items()
     }
 
     /// How many items a host has.
