@@ -16,6 +16,7 @@ use Rattle.acc_script.specs.Scripts.{ScriptView, script_of}
 use Rattle.acc_steps.specs.Lines.{Words}
 use Rattle.acc_steps.specs.Walks.{AreTold, TellsSteps}
 use Rattle.acc_steps.specs.declared.walk.Numbered.{Numbered}
+use Rattle.acc_explore.specs.Runs.{left_to_tell}
 use Rattle.acc_driver.specs.declared.fault.DriverFault.{DriverFault}
 use Rattle.acc_driver.specs.declared.fault.DriverFault.TheVariants as fault
 use Rattle.acc_driver.specs.declared.fault.ReplayFault.{ReplayFault}
@@ -26,7 +27,7 @@ use Rattle.acc_driver.specs.declared.replays.TheConstants.{INPUT_LIMIT, TEXT_LIM
 use Rattle.acc_driver.specs.declared.steps.StepsAs.{StepsAs}
 use Rattle.acc_driver.specs.declared.steps.StepsAs.TheVariants as shown_as
 use Rattle.acc_driver.specs.Inputs.{Parts, parts}
-use Rattle.acc_driver.specs.Replays.{IsRun, configured, driver_fault, events_in, left_in}
+use Rattle.acc_driver.specs.Replays.{IsRun, configured, driver_fault, events_in}
 use Rattle.acc_driver.specs.Steps.{ShowsSteps, StepsAnswer, StepsOfProgram, StepsOfTexts, numbered_in, words_for}
 use Rattle.acc_driver.specs.inner.Scripts.{IsScriptFault, ReportsWorld}
 use Rattle.acc_driver.specs.inner.Steps.{StepsOfSchedule, StepsOfWorld, TellsLines, WorldBegun}
@@ -82,14 +83,14 @@ world_told form lines words events begun final told old mid new (Ok ended) steps
   steps = steps;
   legal = legal;
   follow = follow;
-  written = λ programs is. (told ++ report words.names programs (left_in final), lines_shown form lines told _, appends_then old mid new told _ first (answer.0 programs is));
+  written = λ programs is. (told ++ report words.names programs (left_to_tell final), lines_shown form lines told _, appends_then old mid new told _ first (answer.0 programs is));
   status = answer.1;
 }
 world_told form lines words events begun final told old mid new (Err fault.Output) steps first legal follow answer = record {
   final = final;
   told = told;
   steps = steps;
-  written = λ programs is. (told ++ report words.names programs (left_in final), lines_shown form lines told _, front_later old mid new told _ first (answer programs is));
+  written = λ programs is. (told ++ report words.names programs (left_to_tell final), lines_shown form lines told _, front_later old mid new told _ first (answer programs is));
 }
 world_told form lines words events begun final told old mid new (Err fault.Memory) steps first legal follow answer =
     let all : take (length events) events ≡ events = take_all (length events) events (omega arith) in

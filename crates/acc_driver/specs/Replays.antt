@@ -1,5 +1,5 @@
 -- From bytes to bytes: the texts are read, the machine runs, and the report of what it leaves is written.
-use Rattle.std.specs.Prelude.{◌≡◌, ◌≤◌, ℕ, Bool, true, false, List, [], length, map, Option, Some, Result, Ok, Err}
+use Rattle.std.specs.Prelude.{◌≡◌, ◌≤◌, ℕ, Bool, List, [], length, Option, Some, Result, Ok, Err}
 use Rattle.std.specs.Io.KnownBytes.{Appends}
 use Rattle.std.specs.List.{list_any}
 use Rattle.acc_base.specs.declared.config.TheConstants.{MAX_CAPACITY, MAX_DEVICES, MAX_ROOM}
@@ -9,7 +9,8 @@ use Rattle.acc_host.specs.declared.state.Reply.{Reply}
 use Rattle.acc_core.specs.Legality.{AllFollow, IsLegalState}
 use Rattle.acc_core.specs.Machine.{State, Runs}
 use Rattle.acc_core.specs.Worlds.{first_state}
-use Rattle.acc_host.specs.Hosts.{is_refused, state_of}
+use Rattle.acc_host.specs.Hosts.{is_refused}
+use Rattle.acc_explore.specs.Runs.{left_to_tell}
 use Rattle.acc_driver.specs.declared.fault.DriverFault.{DriverFault}
 use Rattle.acc_driver.specs.declared.fault.DriverFault.TheVariants as fault
 use Rattle.acc_driver.specs.declared.fault.ReplayFault.{ReplayFault}
@@ -19,7 +20,7 @@ use Rattle.acc_driver.specs.declared.options.Ended.{Ended}
 use Rattle.acc_driver.specs.declared.options.Options.{Options}
 use Rattle.acc_driver.specs.Inputs.{Parts}
 use Rattle.acc_report.specs.Puts.{AppendsFront}
-use Rattle.acc_report.specs.Reports.{Left, report}
+use Rattle.acc_report.specs.Reports.{report}
 use Rattle.acc_schedule.specs.Schedules.{schedule_of}
 use Rattle.acc_script.specs.Scripts.{ScriptView, script_of}
 
@@ -89,18 +90,14 @@ pub record EndsIn (options : Options) (program : ScriptView) (events : List Even
   pub replies : List Reply
   pub runs : Runs (first_state (configured options program) program.programs) events replies final
 
--- what is left of the machine: both histories, and where each host stands
-abbrev pub left_in : State → Left
-left_in w = record { config = w.config; history = w.history; counts = w.counts; work = w.work; hosts = map state_of w.hosts; discarded = [] }
-
 -- the whole report of a run, and whether a host was refused
 pub record Reported (options : Options) (program : ScriptView) (events : List Event) (old new : Option (List ℕ)) (refused : Bool) : Type 0 where
   pub final : State
   pub ends : EndsIn options program events final
   pub legal : IsLegalState final
   pub follow : AllFollow final 0 final.hosts
-  pub written : Appends old new (report program.names program.programs (left_in final))
-  pub status : refused ≡ list_any is_refused (left_in final).hosts
+  pub written : Appends old new (report program.names program.programs (left_to_tell final))
+  pub status : refused ≡ list_any is_refused (left_to_tell final).hosts
 
 -- the report of a run, up to where the writer failed
 pub record CutOff (options : Options) (program : ScriptView) (events : List Event) (old new : Option (List ℕ)) : Type 0 where
@@ -108,7 +105,7 @@ pub record CutOff (options : Options) (program : ScriptView) (events : List Even
   pub ends : EndsIn options program events final
   pub legal : IsLegalState final
   pub follow : AllFollow final 0 final.hosts
-  pub written : AppendsFront old new (report program.names program.programs (left_in final))
+  pub written : AppendsFront old new (report program.names program.programs (left_to_tell final))
 
 -- What is answered to a program and events, and what the writer then holds.
 abbrev pub RunAnswers : Options → ScriptView → List Event → Option (List ℕ) → Option (List ℕ) → Result Ended DriverFault → Type 0

@@ -16,6 +16,7 @@ use Rattle.acc_steps.specs.Lines.{Words}
 use Rattle.acc_steps.specs.Pictures.{IsTooLarge, ShowsLines, joined}
 use Rattle.acc_steps.specs.Walks.{AreTold, numbered_events}
 use Rattle.acc_steps.specs.declared.walk.Numbered.{Numbered}
+use Rattle.acc_explore.specs.Runs.{left_to_tell}
 use Rattle.acc_driver.specs.declared.fault.DriverFault.{DriverFault}
 use Rattle.acc_driver.specs.declared.fault.DriverFault.TheVariants as fault
 use Rattle.acc_driver.specs.declared.options.Ended.{Ended}
@@ -23,7 +24,7 @@ use Rattle.acc_driver.specs.declared.options.Options.{Options}
 use Rattle.acc_driver.specs.declared.steps.StepsAs.{StepsAs}
 use Rattle.acc_driver.specs.declared.steps.StepsAs.TheVariants as shown_as
 use Rattle.acc_driver.specs.Inputs.{Parts}
-use Rattle.acc_driver.specs.Replays.{SaysNoEvents, configured, events_in, left_in}
+use Rattle.acc_driver.specs.Replays.{SaysNoEvents, configured, events_in}
 
 -- whether events that did nothing are told
 abbrev pub tells_idle : StepsAs → Bool
@@ -54,7 +55,7 @@ AreStepsOf options form script program events final told =
 pub record AllSteps (options : Options) (form : StepsAs) (texts : Parts) (program : ScriptView) (final : State) (shown : List ℕ) : Type 0 where
   pub told : List ℕ
   pub steps : AreStepsOf options form texts.script program (numbered_in options program texts.schedule) final told
-  pub shows : ShowsSteps form told (report program.names program.programs (left_in final)) shown
+  pub shows : ShowsSteps form told (report program.names program.programs (left_to_tell final)) shown
 
 -- All steps were shown, and it is told whether a host was refused.
 pub record StepsShown (options : Options) (form : StepsAs) (texts : Parts) (program : ScriptView) (old new : Option (List ℕ)) (refused : Bool) : Type 0 where
@@ -64,7 +65,7 @@ pub record StepsShown (options : Options) (form : StepsAs) (texts : Parts) (prog
   pub legal : IsLegalState final
   pub follow : AllFollow final 0 final.hosts
   pub written : Appends old new shown
-  pub status : refused ≡ list_any is_refused (left_in final).hosts
+  pub status : refused ≡ list_any is_refused (left_to_tell final).hosts
 
 -- They were shown up to where the writer failed.
 pub record StepsCutOff (options : Options) (form : StepsAs) (texts : Parts) (program : ScriptView) (old new : Option (List ℕ)) : Type 0 where

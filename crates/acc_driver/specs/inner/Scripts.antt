@@ -10,13 +10,14 @@ use Rattle.acc_host.specs.Hosts.{bare_statements, is_refused}
 use Rattle.acc_report.specs.Puts.{AppendsFront}
 use Rattle.acc_report.specs.Reports.{report}
 use Rattle.acc_script.specs.Scripts.{ScriptView, script_of}
+use Rattle.acc_explore.specs.Runs.{left_to_tell}
 use Rattle.acc_driver.specs.declared.fault.DriverFault.{DriverFault}
 use Rattle.acc_driver.specs.declared.fault.DriverFault.TheVariants as fault
 use Rattle.acc_driver.specs.declared.fault.ReplayFault.{ReplayFault}
 use Rattle.acc_driver.specs.declared.fault.ReplayFault.TheVariants as replay
 use Rattle.acc_driver.specs.declared.options.Ended.{Ended}
 use Rattle.acc_driver.specs.declared.options.Options.{Options}
-use Rattle.acc_driver.specs.Replays.{RunAnswers, events_in, left_in}
+use Rattle.acc_driver.specs.Replays.{RunAnswers, events_in}
 
 -- Why a script says no program.
 abbrev pub IsScriptFault : List ℕ → ReplayFault → Type 0
@@ -45,10 +46,10 @@ ScheduleAnswers options program schedule old new (Err fault.Input) = ⊥
 -- is told whether a host was refused.
 abbrev pub ReportsWorld : List (List ℕ) → State → Option (List ℕ) → Option (List ℕ) → Result Ended DriverFault → Type 0
 ReportsWorld names w old new (Ok ended) =
-    ((programs : List HostProgram) → map bare_statements programs ≡ statements_in w → Appends old new (report names programs (left_in w)))
-    × (ended.refused ≡ list_any is_refused (left_in w).hosts)
+    ((programs : List HostProgram) → map bare_statements programs ≡ statements_in w → Appends old new (report names programs (left_to_tell w)))
+    × (ended.refused ≡ list_any is_refused (left_to_tell w).hosts)
 ReportsWorld names w old new (Err fault.Output) =
-    (programs : List HostProgram) → map bare_statements programs ≡ statements_in w → AppendsFront old new (report names programs (left_in w))
+    (programs : List HostProgram) → map bare_statements programs ≡ statements_in w → AppendsFront old new (report names programs (left_to_tell w))
 ReportsWorld names w old new (Err fault.Memory) = Appends old new []
 ReportsWorld names w old new (Err (fault.Runtime f)) = ⊥
 ReportsWorld names w old new (Err (fault.Script f)) = ⊥

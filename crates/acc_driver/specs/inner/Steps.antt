@@ -16,6 +16,7 @@ use Rattle.acc_steps.specs.Lines.{Words}
 use Rattle.acc_steps.specs.Pictures.{IsTooLarge}
 use Rattle.acc_steps.specs.Walks.{AreTold}
 use Rattle.acc_steps.specs.declared.walk.Numbered.{Numbered}
+use Rattle.acc_explore.specs.Runs.{left_to_tell}
 use Rattle.acc_driver.specs.declared.fault.DriverFault.{DriverFault}
 use Rattle.acc_driver.specs.declared.fault.DriverFault.TheVariants as fault
 use Rattle.acc_driver.specs.declared.options.Ended.{Ended}
@@ -23,7 +24,7 @@ use Rattle.acc_driver.specs.declared.options.Options.{Options}
 use Rattle.acc_driver.specs.declared.steps.StepsAs.{StepsAs}
 use Rattle.acc_driver.specs.declared.steps.StepsAs.TheVariants as shown_as
 use Rattle.acc_driver.specs.Inputs.{Parts}
-use Rattle.acc_driver.specs.Replays.{events_in, left_in}
+use Rattle.acc_driver.specs.Replays.{events_in}
 use Rattle.acc_driver.specs.Steps.{ShowsSteps, StepsOfProgram}
 
 -- It is shown by lines.
@@ -49,8 +50,8 @@ pub record WorldShown (form : StepsAs) (words : Words) (events : List Numbered) 
   pub legal : IsLegalState final
   pub follow : AllFollow final 0 final.hosts
   pub written : (programs : List HostProgram) → map bare_statements programs ≡ statements_in final
-      → (shown : List ℕ) × ShowsSteps form told (report words.names programs (left_in final)) shown × Appends old new shown
-  pub status : refused ≡ list_any is_refused (left_in final).hosts
+      → (shown : List ℕ) × ShowsSteps form told (report words.names programs (left_to_tell final)) shown × Appends old new shown
+  pub status : refused ≡ list_any is_refused (left_to_tell final).hosts
 
 -- It was written up to where the writer failed.
 pub record WorldCutOff (form : StepsAs) (words : Words) (events : List Numbered) (begun : State) (old new : Option (List ℕ)) : Type 0 where
@@ -58,7 +59,7 @@ pub record WorldCutOff (form : StepsAs) (words : Words) (events : List Numbered)
   pub told : List ℕ
   pub steps : AreTold words 1 events begun final told
   pub written : (programs : List HostProgram) → map bare_statements programs ≡ statements_in final
-      → (shown : List ℕ) × ShowsSteps form told (report words.names programs (left_in final)) shown × AppendsFront old new shown
+      → (shown : List ℕ) × ShowsSteps form told (report words.names programs (left_to_tell final)) shown × AppendsFront old new shown
 
 -- The first steps were told, none perhaps, or a beginning of their lines was written, where the writer had failed.
 pub record WorldBegun (words : Words) (events : List Numbered) (begun : State) (old new : Option (List ℕ)) : Type 0 where

@@ -6,8 +6,9 @@ use Rattle.acc_core.specs.Machine.{State}
 use Rattle.acc_core.specs.Worlds.{first_state}
 use Rattle.acc_token.specs.declared.read_fault.ReadFault.{ReadFault}
 use Rattle.acc_token.specs.Faults.{◌>>=◌}
+use Rattle.acc_explore.specs.Runs.{left_to_tell}
 use Rattle.acc_driver.specs.Inputs.{parts}
-use Rattle.acc_driver.specs.Replays.{configured, defaults, events_in, left_in}
+use Rattle.acc_driver.specs.Replays.{configured, defaults, events_in}
 use Rattle.acc_report.specs.Reports.{report}
 use Rattle.acc_script.specs.Scripts.{ScriptView, script_of}
 
@@ -20,7 +21,7 @@ abbrev pub replayed : List ℕ → Result (List ℕ) ReadFault
 replayed text =
     script_of (parts text).script >>= λ program.
     events_in defaults program (parts text).schedule >>= λ events.
-    Ok (report program.names program.programs (left_in (left_by program events)))
+    Ok (report program.names program.programs (left_to_tell (left_by program events)))
 
 abbrev pub reports : List ℕ → List ℕ → Type 0
 reports text lines = replayed text ≡ Ok lines
