@@ -295,9 +295,8 @@ fn asked_in_subcommand<'a>(matches: &ArgMatches<'a>) -> Option<Task<'a>>
 // Why they ask for nothing, where a parser lets them pass.
 fn why_none(matches: &ArgMatches) -> &'static str {
     match matches.subcommand() {
-        Some(("explore", _)) => {
-            "a number is written in digits alone, and --depth stands without --short"
-        }
+        Some(("explore", found)) if has_flag(found, "short") && text_of(found, "depth").is_some() =>
+            { "--depth stands without --short" }
         _ => "a number is written in digits alone",
     }
 }

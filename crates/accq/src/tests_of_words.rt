@@ -148,11 +148,11 @@ const FAULTY_WORDS: &[(&[&str], &[u8])] = &[
     ),
     (
         &["accq", "explore", "script", "--depth", "+1"],
-        b"error: a number is written in digits alone",
+        b"error: a number is written in digits alone\n",
     ),
     (
         &["accq", "explore", "script", "--short", "--depth", "1"],
-        b"error: a number is written in digits alone, and --depth stands without --short",
+        b"error: --depth stands without --short\n",
     ),
     (
         &["accq", "explore", "script", "--depth"],
