@@ -15,7 +15,7 @@ pub(crate) const LONGEST_REST: u64 = 50;
 /// who comes to a number notifies those who listen. No wake-up is lost between the look and the sleep.
 #[derive(Drop)]
 pub(crate) struct EventCount {
-    // the least number that somebody listens for
+    // the least number that was listened for since all were last woken
     wanted: AtomicU64,
     // how often all who listened were woken
     woken: AtomicU64,
@@ -43,16 +43,6 @@ impl EventCount {
         let low = (heard % (1 << 32)) as u32;
         self.woken
             .park_timeout(rt, low, Duration::from_millis(LONGEST_REST));
-    }
-
-    /// Sleeps until more is heard than by then, however long that takes.
-    pub(crate) fn wait_past<R: Wait>(&self, rt: &R, heard: u64) {
-        for _ in rt.forever() {
-            if self.woken.load(Ordering::SeqCst) != heard {
-                return;
-            }
-            self.wait(rt, heard);
-        }
     }
 
     /// Wakes all who listen, where one of them listens for this number or for one before it.

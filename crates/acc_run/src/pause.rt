@@ -19,7 +19,7 @@ pub(crate) const SHORTEST_SLEEP: u64 = 16;
 /// The longest sleep, in microseconds: a millisecond.
 pub(crate) const LONGEST_SLEEP: u64 = 1_000;
 
-// How often a thread spins before it sleeps, each time longer, some ten microseconds in all.
+// How often a thread spins before it sleeps, the first seven times longer each time, some ten microseconds in all.
 const SPINS: u32 = 20;
 
 /// Pauses between looks in vain, each with a limit: the thread spins, then sleeps, each time longer. A contract sees for how many
@@ -29,8 +29,8 @@ pub(crate) struct Pause {
     backoff: Backoff,
     // how often it has spun
     spins: u32,
-    // whether it has rested
-    rested: bool,
+    // how often it has rested
+    rests: u32,
     // nothing unparks it
     parker: Parker,
     sleep: u64,
@@ -55,7 +55,7 @@ impl Pause {
         Pause {
             backoff: Backoff::new(),
             spins: 0,
-            rested: false,
+            rests: 0,
             parker: Parker::new(),
             sleep: SHORTEST_SLEEP,
         }
@@ -67,7 +67,7 @@ impl Pause {
     {
         self.backoff.reset();
         self.spins = 0;
-        self.rested = false;
+        self.rests = 0;
         self.sleep = SHORTEST_SLEEP;
     }
 
@@ -91,12 +91,12 @@ impl Pause {
             return;
         }
         parker.park_timeout(rt, Duration::from_millis(LONGEST_REST));
-        self.rested = true;
+        self.rests = self.rests.saturating_add(1);
     }
 
-    /// Whether it has rested since it began.
+    /// Whether a whole rest has gone by since it began. The first may end at once, by what was told of a batch that was taken before.
     pub(crate) fn has_rested(&self) -> bool {
-        self.rested
+        self.rests > 1
     }
 
     // Spins, if it hasn't often enough.

@@ -103,7 +103,7 @@ impl PlaceSide {
     }
 
     /// The queue of a host's directive, if closing hasn't begun and its device is there.
-    pub fn queue_for(&self, host: HostId, directive: &Directive) -> Option<QueueAt> {
+    pub(crate) fn queue_for(&self, host: HostId, directive: &Directive) -> Option<QueueAt> {
         self.place.queue_for(host, directive).ok()
     }
 

@@ -286,7 +286,7 @@ impl Runtime {
         self.config.queue_count()
     }
 
-    // Each worker is woken that sleeps, and each host that waits for room.
+    // Each worker is woken that found its queue empty, and each host that waits for room.
     pub(crate) fn wake_all(&self) {
         for parker in &self.parkers {
             parker.unpark();
@@ -297,7 +297,7 @@ impl Runtime {
     }
 
     // Waits where a host's directive was refused for want of room: until its queue has taken a batch since what was heard of it, if
-    // anything was. What is heard by then.
+    // anything was, and for fifty milliseconds at most. What is heard by then.
     pub(crate) fn await_room<R: Wait>(
         &self,
         rt: &R,
@@ -308,7 +308,7 @@ impl Runtime {
         let at = self.place.lock(rt).queue_for(host, directive)?;
         let taken = self.taken.get(at.seat())?;
         if let Some(heard) = heard {
-            taken.wait_past(rt, heard);
+            taken.wait(rt, heard);
         }
         Some(taken.listen(0))
     }

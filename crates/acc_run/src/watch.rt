@@ -1,4 +1,4 @@
-//! What a thread looks at before it asks for the work lock: how many batches queues have performed. It is no more than a reason to ask.
+//! How a thread waits until queues have performed so many batches. What it sees is no more than a reason to ask for the work lock.
 
 use crate::event_count::EventCount;
 use acc_base::{DeviceId, QUEUES, QueueAt, QueueCounts, QueueId};

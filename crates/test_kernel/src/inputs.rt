@@ -2,7 +2,7 @@
 //! loop.
 
 use crate::checks::check_same;
-use acc_base::{BlockId, Fault, Listed, Range, Shared};
+use acc_base::{BlockId, Listed, Range, Shared};
 use acc_kernel::{Job, Kernel};
 use std::alloc::Global;
 use std::process::Abort;

@@ -138,7 +138,7 @@ fn is_same_after(job: &Job, line: &mut Line, cell: usize, value: i64) -> bool
     job.same(line)
 }
 
-// The cells that a loop uses and doesn't reach are no inputs.
+// The cells that lie outside what a loop reaches are no inputs.
 #[test]
 fn a_job_sees_what_its_loop_reaches(rt: HostRuntime) -> Result<(), Fail> {
     let mut line = line_of(rt.alloc(), 4)?;
