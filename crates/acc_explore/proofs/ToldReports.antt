@@ -1,10 +1,9 @@
 -- Endings are told one after another, each report once.
-use Rattle.std.proofs.Common.{inl, inr, ◌≡◌, ◌≤◌, ◌+◌, ◌||◌, ℕ, zero, suc, Bool, true, false, List, [], ◌∷◌, ◌++◌, length, map, take, get_or, refl, sym, ap, ◌∙◌, arith}
+use Rattle.std.proofs.Common.{◌≡◌, ◌≤◌, ◌+◌, ◌||◌, ℕ, Bool, true, false, List, [], ◌∷◌, ◌++◌, length, map, take, get_or, refl, sym, ap, ◌∙◌, arith}
 use Rattle.std.specs.Prelude.{bytes_eq, Vec, if◌then◌else◌}
 use Rattle.std.specs.List.{list_any}
-use Rattle.std.proofs.lemmas.List.{append_assoc, append-nil, length-append, length-map, map-append, take_more}
+use Rattle.std.proofs.lemmas.List.{append_assoc, append-nil, length-map, map-append, take_more}
 use Rattle.std.proofs.lemmas.List.Folds.{list_any-append}
-use Rattle.std.proofs.lemmas.Bool.{cases_Bool}
 use Rattle.indexmap.specs.IndexSet.{insert_key}
 use Rattle.acc_report.specs.Puts.{Puts, Sink}
 use Rattle.acc_report.proofs.JoinedPuts.{puts_then}
@@ -12,7 +11,7 @@ use Rattle.acc_explore.specs.declared.arrival.Arrival.{Arrival}
 use Rattle.acc_explore.specs.declared.reports.Form.{Form}
 use Rattle.acc_explore.specs.declared.reports.Tally.{Tally}
 use Rattle.acc_explore.specs.Endings.{Ending, Setting, ending_text, endings_text, refuses}
-use Rattle.acc_explore.specs.inner.Telling.{IsTally, TellsFirst, ending_at, new_endings, reports_of, seen_by, told_behind, told_of}
+use Rattle.acc_explore.specs.inner.Telling.{IsTally, count_of, TellsFirst, ending_at, new_endings, reports_of, seen_by, told_behind, told_of}
 use Rattle.acc_explore.proofs.ToldEndings.{new_more}
 
 -- ## Reports that were seen
@@ -44,6 +43,11 @@ one_more f schedule endings e count is =
     text_more f schedule 1 endings (e ∷ [])
     ∙ ap (λ t. endings_text f schedule 1 endings ++ t) (append-nil (ending_text f schedule (1 + length endings) e) ∙ ap (λ k. ending_text f schedule k e) number)
 
+-- as many were told as reports were seen
+pub count_is : {x : Setting} {f : Form} {schedule : List ℕ} {endings : List Ending} {tally : Tally} {old new : Sink} → IsTally x f schedule endings tally old new → count_of tally ≡ length endings
+count_is {x} {f} {schedule} {endings} {tally} t =
+    sym (length-map tally.seen.keys (λ report. report.items)) ∙ (ap length t.seen_is ∙ length-map endings (λ (e : Ending). e.report))
+
 module _ (x : Setting) (f : Form) (schedule : List ℕ) (arrivals : List Arrival) where
   -- ## One end
 
@@ -67,16 +71,15 @@ module _ (x : Setting) (f : Form) (schedule : List ℕ) (arrivals : List Arrival
     pub told_nothing : (told : Bool) × Puts old mid (endings_text f schedule 1 (endings ++ (if told then told_behind x arrivals endings n else [])))
     told_nothing = (false, rw (append-nil endings) t.told)
 
-    told_both : (new : Sink) → Puts mid new (ending_text f schedule (before.count + 1) one) → Puts old new (endings_text f schedule 1 (endings ++ one ∷ []))
-    told_both new puts = rw (one_more f schedule endings one before.count t.count_is) (puts_then t.told puts)
+    told_both : (new : Sink) → Puts mid new (ending_text f schedule (count_of before + 1) one) → Puts old new (endings_text f schedule 1 (endings ++ one ∷ []))
+    told_both new puts = rw (one_more f schedule endings one (count_of before) (count_is t)) (puts_then t.told puts)
 
     pub told_now : (behind : Tally) (new : Sink) → list_any (bytes_eq one.report) (seen_by before) ≡ false → seen_by behind ≡ seen_by before ++ one.report ∷ []
-        → behind.count ≡ before.count + 1 → behind.refused ≡ (before.refused || refuses x.start one) → Puts mid new (ending_text f schedule (before.count + 1) one)
+        → behind.refused ≡ (before.refused || refuses x.start one) → Puts mid new (ending_text f schedule (count_of before + 1) one)
         → IsTally x f schedule (endings ++ told_behind x arrivals endings n) behind old new
-    told_now behind new fresh seen count refused puts =
+    told_now behind new fresh seen refused puts =
         let told : IsTally x f schedule (endings ++ one ∷ []) behind old new = record {
           seen_is = seen ∙ ap (λ s. s ++ one.report ∷ []) t.seen_is ∙ sym (map-append (λ (e : Ending). e.report) endings (one ∷ []));
-          count_is = omega (arith, count, t.count_is, length-append endings (one ∷ []));
           refused_is = refused ∙ ap (λ b. b || refuses x.start one) t.refused_is ∙ sym (any_more endings);
           told = told_both new puts;
         } in
@@ -87,7 +90,7 @@ module _ (x : Setting) (f : Form) (schedule : List ℕ) (arrivals : List Arrival
             list_any-append (refuses x.start) es (one ∷ [])
             ∙ ap (λ b. list_any (refuses x.start) es || b) (elim (refuses x.start one) as (λ b. (b || false) ≡ b) [ true ↦ refl | false ↦ refl ])
 
-    pub told_cut : (new : Sink) → list_any (bytes_eq one.report) (seen_by before) ≡ false → Puts mid new (ending_text f schedule (before.count + 1) one)
+    pub told_cut : (new : Sink) → list_any (bytes_eq one.report) (seen_by before) ≡ false → Puts mid new (ending_text f schedule (count_of before + 1) one)
         → (told : Bool) × Puts old new (endings_text f schedule 1 (endings ++ (if told then told_behind x arrivals endings n else [])))
     told_cut new fresh puts = (true, rw (behind_new fresh) (told_both new puts))
 
@@ -108,20 +111,3 @@ module _ (x : Setting) (f : Form) (schedule : List ℕ) (arrivals : List Arrival
       → TellsFirst x f schedule arrivals ends old new
   told_first ends i n old new low is (true, puts) = (i + 1, rw (told_more ends i n low is) puts)
   told_first ends i n old new low is (false, puts) = (i, rw (append-nil (told_of x arrivals (take i ends))) at puts)
-
-  -- no more are told than there are
-  few_new : (seen : List (List ℕ)) (endings : List Ending) → length (new_endings seen endings) ≤ length endings
-  few_new seen [] = omega arith
-  few_new seen (e ∷ endings) = elim (cases_Bool (list_any (bytes_eq e.report) seen)) [
-    | inl old ↦ rw old (omega (arith, few_new seen endings))
-    | inr new ↦ rw new (omega (arith, few_new (seen ++ e.report ∷ []) endings))
-  ]
-
-  pub few_told : (ends : List ℕ) (i : ℕ) → length (told_of x arrivals (take i ends)) ≤ i
-  few_told ends i =
-      omega (arith, few_new [] (map (ending_at x arrivals) (take i ends)), length-map (take i ends) (ending_at x arrivals), length_take ends i)
-    where
-      length_take : (xs : List ℕ) (k : ℕ) → length (take k xs) ≤ k
-      length_take xs zero = omega arith
-      length_take [] (suc k) = omega arith
-      length_take (y ∷ xs) (suc k) = omega (arith, length_take xs k)

@@ -1,6 +1,6 @@
 //! All reports of the ends that a state leads to, each with a schedule.
 
-ghost use Rattle.std.specs.Prelude.{◌≡◌, ◌≤◌, ◌<◌, ◌+◌, ◌^◌, All, IfOk, OnOk, OnErr, length, map, reverse};
+ghost use Rattle.std.specs.Prelude.{◌≡◌, ◌≤◌, All, IfOk, OnOk, OnErr, length, map, reverse};
 ghost use Rattle.std.specs.List.{list_any};
 ghost use Rattle.acc_base.specs.Faults.{OnlyMemory};
 ghost use Rattle.acc_core.specs.Worlds.{OnePerHost};
@@ -175,11 +175,10 @@ fn put_ending<W: Write>(
     }
 }
 
-// What was told so far: the reports, how many they are, and whether a host was refused in one.
+// What was told so far: the reports, and whether a host was refused in one.
 #[derive(Drop)]
 struct Tally {
     seen: IndexSet<Vec<u8>>,
-    count: usize,
     refused: bool,
 }
 
@@ -196,7 +195,6 @@ fn tell_end<W: Write>(
 ) -> Result<(), Fault>
     requires hosts { OnePerHost origin.now.config.now origin.now.script.now.programs.items }
     requires there { end ≤ length arrivals.now }
-    requires few { tally.old.count + 1 < 2 ^ 64 }
     ensures told { OnOk result (TellsOne (setting_from origin.now) form origin.now.schedule.now
         (reverse arrivals.now) end tally.old tally.new (sink (W.contents out.old) failed.old)
         (sink (W.contents out.new) failed.new)) }
@@ -217,9 +215,8 @@ fn tell_end<W: Write>(
         Ok(events) => events,
         Err(fault) => return Err(fault),
     };
-    tally.count += 1;
     tally.refused |= refused;
-    let number = tally.count;
+    let number = tally.seen.len() + 1;
     put_ending(
         out,
         failed,
@@ -259,7 +256,6 @@ fn tell_ends<W: Write>(
 {
     let mut tally = Tally {
         seen: IndexSet::new(alloc),
-        count: 0,
         refused: false,
     };
     for end in ends {
@@ -396,8 +392,9 @@ pub fn tell_reports<W: Write, V: Watcher>(
         Ok(tally) => tally,
         Err(fault) => return Err(fault),
     };
+    let reports = tally.seen.len();
     let counts = Counts {
-        reports: tally.count,
+        reports,
         states: arrivals.len() + 1,
         whole,
         refused: tally.refused,

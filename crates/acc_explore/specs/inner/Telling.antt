@@ -31,10 +31,12 @@ seen_by t = map (λ report. report.items) t.seen.keys
 abbrev pub reports_of : List Ending → List (List ℕ)
 reports_of endings = map (λ (e : Ending). e.report) endings
 
--- Endings were told, and it is known which reports they have, how many they are, and whether a host was refused in one.
+abbrev pub count_of : Tally → ℕ
+count_of t = length t.seen.keys
+
+-- Endings were told, and it is known which reports they have, and whether a host was refused in one.
 pub record IsTally (x : Setting) (f : Form) (schedule : List ℕ) (endings : List Ending) (t : Tally) (old new : Sink) : Type 0 where
   pub seen_is : seen_by t ≡ reports_of endings
-  pub count_is : t.count ≡ length endings
   pub refused_is : t.refused ≡ list_any (refuses x.start) endings
   pub told : Puts old new (endings_text f schedule 1 endings)
 

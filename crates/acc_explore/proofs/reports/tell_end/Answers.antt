@@ -1,4 +1,4 @@
-use Rattle.std.proofs.Common.{◌||◌, ap, map, refl, reverse, sym, ◌∙◌}
+use Rattle.std.proofs.Common.{◌||◌, ap, map, reverse, sym, ◌∙◌}
 use Rattle.std.specs.Prelude.{bytes_eq}
 use Rattle.std.specs.List.{list_any}
 use Rattle.acc_core.specs.Machine.{State}
@@ -23,12 +23,12 @@ returns-in-Ok-insert-clause-told g c = λ endings old t.
     let refuses = λ (w : State). list_any is_refused (map state_of w.hosts) in
     let there = (events_lead x.start (reverse c.args.arrivals.now) c.args.end).0 in
     told_now x c.args.form c.args.origin.now.schedule.now (reverse c.args.arrivals.now) c.args.end c.args.tally.now endings old _ t _ _
-    (rw c.in-Ok.ensures.report at new) (rw c.in-Ok.ensures.report at seen) refl (ap (λ b. c.args.tally.now.refused || b) (c.in-Ok.ensures.refused ∙ ap refuses (sym there)))
-    (rw (c.as_slice-2.ensures.value, c.as_slice-3.ensures.value, c.in-Ok.ensures.report, c.in-Ok-path.ensures.events) at c.put_ending.ensures)
+    (rw c.in-Ok.ensures.report at new) (rw c.in-Ok.ensures.report at seen) (ap (λ b. c.args.tally.now.refused || b) (c.in-Ok.ensures.refused ∙ ap refuses (sym there)))
+    (rw (c.as_slice-2.ensures.value, c.as_slice-3.ensures.value, c.in-Ok.ensures.report, c.in-Ok-path.ensures.events, c.len-number.ensures.len) at c.put_ending.ensures)
 
 pub returns-clause-begun : goal.returns-clause-begun
 returns-clause-begun g c = λ endings old t.
     let x = setting_from c.args.origin.now in
     let new = sym (any_items (bytes_eq c.as_slice.result.now) c.args.tally.now.seen.keys) ∙ (sym c.contains.ensures ∙ c.if-contains.false) in
     told_cut x c.args.form c.args.origin.now.schedule.now (reverse c.args.arrivals.now) c.args.end c.args.tally.now endings old _ t _
-    (rw (c.as_slice.ensures.value, c.in-Ok.ensures.report) at new) (rw (c.as_slice-2.ensures.value, c.as_slice-3.ensures.value, c.in-Ok.ensures.report, c.in-Ok-path.ensures.events) at c.put_ending.ensures)
+    (rw (c.as_slice.ensures.value, c.in-Ok.ensures.report) at new) (rw (c.as_slice-2.ensures.value, c.as_slice-3.ensures.value, c.in-Ok.ensures.report, c.in-Ok-path.ensures.events, c.len-number.ensures.len) at c.put_ending.ensures)

@@ -1,14 +1,8 @@
 use Rattle.std.proofs.Common.{arith, refl, reverse, take}
 use Rattle.acc_explore.specs.Origins.{setting_from}
 use Rattle.acc_explore.specs.inner.Telling.{told_of}
-use Rattle.acc_explore.proofs.ToldReports.{few_told, told_first, told_more}
+use Rattle.acc_explore.proofs.ToldReports.{told_first, told_more}
 use Rattle.acc_explore.proofs.reports.tell_ends.Goals as goal
-
-pub tell_end-requires-clause-few : goal.tell_end-requires-clause-few
-tell_end-requires-clause-few g c =
-    let x = setting_from c.args.origin.now in
-    let few = few_told x c.args.form c.args.origin.now.schedule.now (reverse c.args.arrivals.now) c.args.ends.now c.loop-end.end-index in
-    omega (arith, few, c.loop-end.invariant.count_is, c.loop-end-test.true, c.type_inv.ends)
 
 pub returns-in-Err-clause-begun : goal.returns-in-Err-clause-begun
 returns-in-Err-clause-begun g c =

@@ -1,4 +1,4 @@
-use Rattle.std.proofs.Common.{◌-◌, ◌^◌, [], arith, refl, reverse, take}
+use Rattle.std.proofs.Common.{◌-◌, ◌^◌, [], arith, refl, reverse, take, ◌∙◌}
 use Rattle.std.proofs.lemmas.List.{length-reverse}
 use Rattle.acc_core.specs.Legality.{IsLegalState}
 use Rattle.acc_core.specs.Worlds.{first_state}
@@ -7,6 +7,7 @@ use Rattle.acc_explore.specs.Origins.{setting_from}
 use Rattle.acc_explore.specs.inner.Telling.{told_of}
 use Rattle.acc_explore.proofs.Explored.{legal_after}
 use Rattle.acc_explore.proofs.ToldEndings.{are_endings, are_some}
+use Rattle.acc_explore.proofs.ToldReports.{count_is}
 use Rattle.acc_explore.proofs.reports.tell_reports.Goals as goal
 
 pub returns-in-Err-tell_ends-clause-begun : goal.returns-in-Err-tell_ends-clause-begun
@@ -36,7 +37,7 @@ returns-clause-told g c =
       are = are_endings x o.most (2 ^ 64 - 1) arrivals found.ends.items found.followed found.whole s (omega arith) (legal_after o.events.now begun legal);
       few = omega (arith, s.few, count, c.len.ensures);
       stopped = λ not_whole. let all = s.stopped not_whole in omega (arith, all, count, c.len.ensures);
-      reports = t.count_is;
+      reports = c.len-reports.ensures.len ∙ count_is t;
       refused = t.refused_is;
       told = puts_then t.told c.put_counts.ensures;
     }
