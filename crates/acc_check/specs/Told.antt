@@ -1,9 +1,9 @@
 -- The lines that tell a finding, or that a text is too long.
-use Rattle.std.specs.Prelude.{ℕ, ◌+◌, ◌-◌, ◌/◌, ◌%◌, Bool, ◌&&◌, ◌||◌, not, ◌==◌, nat_lt, List, [], ◌∷◌, ◌++◌, length, map, take, drop, Option, Some, None, codes, decimal, if◌then◌else◌}
+use Rattle.std.specs.Prelude.{ℕ, ◌+◌, ◌-◌, ◌/◌, ◌%◌, Bool, ◌&&◌, not, ◌==◌, nat_lt, List, [], ◌∷◌, ◌++◌, length, map, take, drop, Option, Some, None, codes, decimal, if◌then◌else◌}
 use Rattle.std.specs.Borrow.{Bor}
 use Rattle.std.specs.List.{flat_map, prefix_len}
 use Rattle.acc_schedule.specs.Schedules.{is_space}
-use Rattle.acc_token.specs.Texts.{line_feeds}
+use Rattle.acc_token.specs.Texts.{line_feeds, shown_byte}
 use Rattle.acc_token.specs.Tokens.{front}
 use Rattle.acc_token.specs.declared.text.TheConstants.{MAX_TEXT}
 use Rattle.acc_token.specs.declared.read_fault.ReadKind.{ReadKind}
@@ -98,10 +98,6 @@ fault_line f = token_text f.token.now ++ (complaint f.lack ++ (remedy f ++ codes
 -- whether a line is a directive's
 abbrev pub is_directive_line : List ℕ → Bool
 is_directive_line line = front (drop (prefix_len is_space line) line) == 35
-
--- a byte as it is shown: `?` for one that isn't printed, but for a tab
-abbrev pub shown_byte : ℕ → ℕ
-shown_byte b = if nat_lt b 32 && not (b == 9) || b == 127 then 63 else b
 
 -- as much room as a byte takes: none where it goes on with a character
 abbrev pub room_of : ℕ → List ℕ

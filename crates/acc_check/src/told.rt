@@ -4,13 +4,14 @@ ghost use Rattle.std.specs.Prelude.{◌≡◌, ◌≤◌, ◌<◌, ◌++◌, dec
 ghost use Rattle.std.specs.List.{prefix_len, flat_map};
 ghost use Rattle.acc_base.specs.Faults.{OnlyMemory};
 ghost use Rattle.acc_schedule.specs.Schedules.{is_space};
+ghost use Rattle.acc_token.specs.Texts.{shown_byte};
 ghost use Rattle.acc_check.specs.Findings.{begun_line};
-ghost use Rattle.acc_check.specs.Told.{answer, answers, article_of, byte_text, complaint, finding_text, fault_line, fault_text, help_text, hex_digit, holds, is_directive_line, is_printed, kind_mark, kind_text, length_help, length_place, length_text, marked_line, most_text, names_text, near_text, numbered, other_names, others_text, place_text, quoted, remedy, room_of, shown_byte, stand_text, token_text, tokens_text, ways_text, words_text};
+ghost use Rattle.acc_check.specs.Told.{answer, answers, article_of, byte_text, complaint, finding_text, fault_line, fault_text, help_text, hex_digit, holds, is_directive_line, is_printed, kind_mark, kind_text, length_help, length_place, length_text, marked_line, most_text, names_text, near_text, numbered, other_names, others_text, place_text, quoted, remedy, room_of, stand_text, token_text, tokens_text, ways_text, words_text};
 
 use crate::finding::{Finding, Lack, begun_line, line_feeds};
 use crate::language::Language;
 use acc_base::Fault;
-use acc_token::{MAX_TEXT, ReadKind, front, line_len};
+use acc_token::{MAX_TEXT, ReadKind, front, line_len, shown};
 use itoa::Buffer;
 use std::alloc::{AllocError, Global};
 
@@ -282,17 +283,6 @@ fn is_directive(line: &[u8]) -> bool
 {
     let (_, rest) = line.split_at(blanks_len(line));
     front(rest) == b'#'
-}
-
-// A byte of a line as it is shown.
-fn shown(byte: u8) -> u8
-    ensures { result ≡ shown_byte byte }
-{
-    if byte < b' ' && byte != b'\t' || byte == 127 {
-        b'?'
-    } else {
-        byte
-    }
 }
 
 fn put_shown(lines: &mut Vec<u8>, bytes: &[u8]) -> Result<(), AllocError>

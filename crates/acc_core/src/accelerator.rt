@@ -62,8 +62,6 @@ impl Model for Accelerator {
 }
 
 impl Accelerator {
-    ghost use Rattle.acc_host.specs.declared.event.Event.TheVariants as event;
-
     /// Nothing is accepted, performed or shown yet.
     ///
     /// # Errors

@@ -1,6 +1,5 @@
 //! One turn of a worker, under the work lock.
 
-ghost use Rattle.std.specs.Prelude.{◌≡◌};
 ghost use Rattle.acc_work.specs.Works.{HasQueue};
 
 use crate::work_side::WorkSide;

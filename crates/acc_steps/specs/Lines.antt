@@ -1,5 +1,5 @@
 -- The line that tells what an event did, in the words of the report and of the language.
-use Rattle.std.specs.Prelude.{ℕ, ◌+◌, ◌-◌, Bool, true, false, ◌&&◌, ◌||◌, not, nat_lt, ◌==◌, List, [], ◌∷◌, ◌++◌, length, map, replicate, take, drop, bytes_eq, slice_get, slice_index_or, Option, Some, None, ℤ, codes, decimal, if◌then◌else◌}
+use Rattle.std.specs.Prelude.{ℕ, ◌+◌, ◌-◌, Bool, true, false, ◌&&◌, not, nat_lt, ◌==◌, List, [], ◌∷◌, ◌++◌, length, map, replicate, take, drop, bytes_eq, slice_get, slice_index_or, Option, Some, None, ℤ, codes, decimal, if◌then◌else◌}
 use Rattle.std.specs.Fmt.{signed_decimal}
 use Rattle.std.specs.List.{flat_map, prefix_len}
 use Rattle.acc_base.specs.Configurations.{has_range}
@@ -37,6 +37,7 @@ use Rattle.acc_core.specs.Progress.{next_by}
 use Rattle.acc_report.specs.Lines.{each_below, queue_name}
 use Rattle.acc_report.specs.Totals.{has_plain_ops}
 use Rattle.acc_script.specs.Arrays.{texts}
+use Rattle.acc_token.specs.Texts.{shown_byte}
 use Rattle.acc_token.specs.Tokens.{front, is_blank}
 use Rattle.acc_steps.specs.declared.line.Telling.{Telling}
 use Rattle.acc_steps.specs.declared.deed.Deed.{Deed}
@@ -312,10 +313,6 @@ code_in line = filled (take (code_len part.Code line) line)
 -- what a directive says behind `#pragma acc`
 abbrev pub behind_pragma : List ℕ → List ℕ
 behind_pragma line = if bytes_eq (take 12 line) (codes "#pragma acc ") then drop 12 line else line
-
--- a byte as it is shown: `?` for one that isn't printed, but for a tab
-abbrev pub shown_byte : ℕ → ℕ
-shown_byte b = if nat_lt b 32 && not (b == 9) || b == 127 then 63 else b
 
 -- what is shown of a line
 abbrev pub shown_line : List ℕ → List ℕ

@@ -4,11 +4,12 @@ ghost use Rattle.std.specs.Prelude.{◌≡◌, ◌≤◌, [], length, map, slice
 ghost use Rattle.std.specs.List.{prefix_len};
 ghost use Rattle.acc_script.specs.Arrays.{texts};
 ghost use Rattle.acc_report.specs.Puts.{Puts, sink};
-ghost use Rattle.acc_steps.specs.Lines.{behind_pragma, code_in, code_len, ends_code, filled_len, part_after, shown_byte, shown_line, statement_text, unindented};
+ghost use Rattle.acc_steps.specs.Lines.{behind_pragma, code_in, code_len, ends_code, filled_len, part_after, shown_line, statement_text, unindented};
+ghost use Rattle.acc_token.specs.Texts.{shown_byte};
 ghost use Rattle.acc_token.specs.Tokens.{is_blank};
 
 use acc_report::{put, put_number};
-use acc_token::{front, is};
+use acc_token::{front, is, shown};
 use std::io::Write;
 
 /// The line of a statement, without blanks at its ends, a comment `//` at its end, and `#pragma acc`; a byte that isn't printed is
@@ -42,17 +43,6 @@ fn put_shown<W: Write>(out: &mut W, failed: &mut bool, bytes: &[u8])
 {
     for byte in bytes {
         put(out, failed, &[shown(*byte)]);
-    }
-}
-
-// A byte as it is shown.
-fn shown(byte: u8) -> u8
-    ensures { result ≡ shown_byte byte }
-{
-    if byte < b' ' && byte != b'\t' || byte == 127 {
-        b'?'
-    } else {
-        byte
     }
 }
 

@@ -9,7 +9,7 @@ mod word;
 
 pub use at::At;
 pub use read_fault::{ReadError, ReadFault, ReadKind};
-pub use text::{MAX_TEXT, check_length, line_len};
+pub use text::{MAX_TEXT, check_length, line_len, shown};
 pub use token::{
     Gap, Step, Token, fault, front, is, is_digit, is_letter, number_at, sign_at, token_at,
 };

@@ -1,8 +1,8 @@
-//! The limit of a text, and its lines.
+//! The limit of a text, its lines, and how its bytes are shown.
 
 ghost use Rattle.std.specs.Prelude.{◌≡◌, ◌+◌, ◌≤◌, ◌<◌, ◌==◌, not, length, take, OnOk, IfErr};
 ghost use Rattle.std.specs.List.{prefix_len};
-ghost use Rattle.acc_token.specs.Texts.{line_feeds};
+ghost use Rattle.acc_token.specs.Texts.{line_feeds, shown_byte};
 
 use crate::read_fault::{ReadFault, ReadKind};
 
@@ -40,4 +40,15 @@ pub fn line_len(text: &[u8]) -> usize
     ensures within { result ≤ length text.now }
 {
     text.iter().take_while(|byte| **byte != b'\n').count()
+}
+
+/// A byte as it is shown: `?` for one that isn't printed, but for a tab.
+pub fn shown(byte: u8) -> u8
+    ensures { result ≡ shown_byte byte }
+{
+    if byte < b' ' && byte != b'\t' || byte == 127 {
+        b'?'
+    } else {
+        byte
+    }
 }

@@ -145,7 +145,7 @@ pub record KeepsOrder (w : WorkView) : Type 0 where
 abbrev pub OutIsDue : List WorkEntry → LaneView → Type 0
 OutIsDue work lane = IsTrue lane.out → IsTrue (host_allows (last_of lane.taken) work)
 
--- What every work side keeps: its arrays have a cell, and no more than an array may have; a lane for each queue of each device, and
+-- What every work side keeps: each array has a cell, and no more than an array may have; a lane for each queue of each device, and
 -- the order; a loop that is out is due; its log keeps what every log does against the batches that were taken; the memory shows it;
 -- and there is room on the log's pages for all operations that are left, beside what is unclaimed.
 pub record IsWork (w : WorkView) (free unclaimed : ℕ) : Type 0 where

@@ -19,8 +19,8 @@ use acc_raw::Node;
 use std::alloc::Global;
 
 impl Work {
-    /// Whether the cells of an item are there.
-    pub fn has_cells(&self, item: ItemLabel) -> bool
+    // Whether the cells of an item are there.
+    fn has_cells(&self, item: ItemLabel) -> bool
         ensures { result ≡ has_cells self.now.arrays item }
     {
         match item {
@@ -34,10 +34,10 @@ impl Work {
         }
     }
 
-    /// Records an item of a host, and answers a test. The cells of a write and of a print are there; a print has no more than
-    /// 65,536; what is noted as seen is performed, by `all_reached`. It takes no memory: the log has the page, and where it doesn't
-    /// need it frees it.
-    pub fn host_item(&mut self, host: HostId, item: Item, page: Node<Page>) -> Shown
+    // Records an item of a host, and answers a test. The cells of a write and of a print are there; a print has no more than
+    // 65,536; what is noted as seen is performed, by `all_reached`. It takes no memory: the log has the page, and where it doesn't
+    // need it frees it.
+    fn host_item(&mut self, host: HostId, item: Item, page: Node<Page>) -> Shown
         requires host { host < MAX_HOSTS }
         requires item { CanTell self.old item }
         requires page { HasRoomFor page 1 }
@@ -50,8 +50,8 @@ impl Work {
         }
     }
 
-    /// Records an item of a host as `host_item` does, with a page that is made where the log needs one, and nowhere else. What is
-    /// noted as seen is performed, by `all_reached`.
+    /// Records an item of a host, and answers a test. A page is made where the log needs one, and nowhere else. What is noted as
+    /// seen is performed, by `all_reached`.
     ///
     /// # Errors
     ///

@@ -67,9 +67,6 @@ impl Model for Work {
 }
 
 impl Work {
-    ghost use Rattle.acc_batch.specs.declared.entry.Told.TheVariants as told;
-    ghost use Rattle.acc_batch.specs.declared.entry.WorkEntry.TheVariants as entry;
-
     /// Nothing is taken, performed or shown yet.
     ///
     /// # Errors
@@ -97,14 +94,14 @@ impl Work {
         })
     }
 
-    /// Whether the run has as many items as it may have.
-    pub fn is_full_of_items(&self) -> bool
+    // Whether the run has as many items as it may have.
+    pub(crate) fn is_full_of_items(&self) -> bool
         ensures { result ≡ nat_le MAX_HOST_ITEMS (all_items self.now.work) }
     {
         self.items() >= MAX_HOST_ITEMS
     }
 
-    /// The host arrays of every work side have a cell, and no more than an array may have. It keeps the order of its queues. Its
+    /// Each host array of every work side has a cell, and no more than an array may have. It keeps the order of its queues. Its
     /// log keeps, against the batches that were taken, what every log does: each operation stands behind all that it awaits and
     /// behind its host's items, and uses live blocks, and each item shows what is so. The memory has the values that the log gives
     /// over the opening ones, and the blocks that it left.

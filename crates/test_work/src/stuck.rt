@@ -6,7 +6,6 @@ ghost use Rattle.acc_base.specs.declared.config.TheConstants.{MAX_HOSTS};
 use crate::words::Word::{self, Await, CopyIn, CopyOut, Make, Release, Run};
 use crate::words::{A, B, Span, entries, offer, offer_behind, performed, queue, work_side};
 use acc_base::{DeviceId, Fault, HostId, QUEUES, QueueAt, QueueId};
-use acc_batch::Page;
 use acc_kernel::Job;
 use acc_work::{Done, Item, Work};
 use std::alloc::Global;
@@ -220,11 +219,10 @@ fn ask(alloc: Global, work: &mut Work, host: u8) -> Result<(), Fault>
     requires { host < MAX_HOSTS }
 {
     let item = Item::test(alloc, DeviceId::new(0), [0; QUEUES as usize])?;
-    let page = Page::new(alloc, 1)?;
-    if !work.is_full_of_items() {
-        let _ = work.host_item(HostId::new(host), item, page);
+    match work.tell(alloc, HostId::new(host), item) {
+        Ok(_) => Ok(()),
+        Err((_, fault)) => Err(fault),
     }
-    Ok(())
 }
 
 /// So does one of a host that lacks items, behind the last of these; another host's don't count.

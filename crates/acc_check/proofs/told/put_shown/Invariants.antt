@@ -1,5 +1,5 @@
 use Rattle.std.proofs.Common.{◌≡◌, ◌++◌, take, map}
-use Rattle.acc_check.specs.Told.{shown_byte}
+use Rattle.acc_token.specs.Texts.{shown_byte}
 use Rattle.acc_check.proofs.told.put_shown.Given as goal
 
 abbrev pub invariant-loop-byte : goal.invariant-loop-byte

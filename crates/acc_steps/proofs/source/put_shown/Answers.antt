@@ -1,7 +1,7 @@
 use Rattle.std.proofs.Common.{[], ◌∷◌, get_or, take}
 use Rattle.std.proofs.lemmas.List.{map-append, take_more}
 use Rattle.acc_report.proofs.JoinedPuts.{puts_then}
-use Rattle.acc_steps.specs.Lines.{shown_byte}
+use Rattle.acc_token.specs.Texts.{shown_byte}
 use Rattle.acc_steps.proofs.source.put_shown.Goals as goal
 
 pub loop-byte-preserved : goal.loop-byte-preserved

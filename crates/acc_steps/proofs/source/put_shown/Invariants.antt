@@ -1,6 +1,6 @@
 use Rattle.std.proofs.Common.{map, take}
 use Rattle.acc_report.specs.Puts.{Puts, sink}
-use Rattle.acc_steps.specs.Lines.{shown_byte}
+use Rattle.acc_token.specs.Texts.{shown_byte}
 use Rattle.acc_steps.proofs.source.put_shown.Given as goal
 
 abbrev pub invariant-loop-byte : goal.invariant-loop-byte
