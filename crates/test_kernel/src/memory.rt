@@ -78,6 +78,8 @@ fn a_loop_is_refused_until_there_is_memory(rt: HostRuntime) -> Result<(), Fail> 
 #[test]
 fn an_expression_is_refused_until_there_is_memory(rt: HostRuntime) -> Result<(), Fail> {
     let alloc = rt.alloc();
+    let same = expr_of(alloc, &[Index, Number(5), TIMES, Negate])?;
+    check_values(&rt, alloc, same, &[0, -5])?;
     let (refusals, five) = at_each_amount(alloc, || Expr::number(alloc, 5))?;
     check_refused(&rt, refusals, 1);
     let (refusals, mut expr) = at_each_amount(alloc, || Expr::index(alloc))?;
@@ -93,6 +95,8 @@ fn an_expression_is_refused_until_there_is_memory(rt: HostRuntime) -> Result<(),
 #[test]
 fn a_choice_is_refused_until_there_is_memory(rt: HostRuntime) -> Result<(), Fail> {
     let alloc = rt.alloc();
+    let same = expr_of(alloc, &[Index, Number(5), TIMES, Negate])?;
+    check_values(&rt, alloc, same, &[0, -5])?;
     let (refusals, first) = at_each_amount(alloc, || Expr::read(alloc, 1, 2))?;
     check_refused(&rt, refusals, 1);
     let second = Expr::read(alloc, 1, 0)?;
@@ -105,7 +109,8 @@ fn a_choice_is_refused_until_there_is_memory(rt: HostRuntime) -> Result<(), Fail
     check_values(&rt, alloc, copy, &[10, 40])
 }
 
-// `x[i] = value` from 0 to 1, where y, the array 1, holds 10, 20, 30, 40.
+// `x[i] = value` from 0 to 1, where y, the array 1, holds 10, 20, 30, 40. A test does this before memory is
+// refused too: the stack has grown then, which it can't while all addresses are taken.
 fn check_values(
     rt: &impl Abort,
     alloc: Global,
